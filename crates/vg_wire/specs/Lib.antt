@@ -1,0 +1,6 @@
+pub mod Numbers
+pub mod Header
+pub mod TwoD
+pub mod Request
+pub mod Modes
+pub mod Response

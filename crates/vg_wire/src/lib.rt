@@ -1,0 +1,20 @@
+//! The requests and responses of a virtio-gpu device as bytes (VIRTIO 1.2, 5.7.6), in both directions.
+//!
+//! All fields are little-endian (VIRTIO 1.2, 1.4).
+#![tactic(auto)]
+
+mod fields;
+mod header;
+mod modes;
+mod request;
+// mod response;
+mod two_d;
+
+pub use header::{Header, read_header};
+pub use modes::Modes;
+pub use request::{Command, Malformed, Queue, read_request, write_request};
+// pub use response::{Response, read_response, write_response};
+pub use two_d::{Command2d, read_2d};
+
+// #[cfg(test)]
+// mod tests;
