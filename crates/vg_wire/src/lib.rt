@@ -7,14 +7,14 @@ mod fields;
 mod header;
 mod modes;
 mod request;
-// mod response;
+mod response;
 mod two_d;
 
 pub use header::{Header, read_header};
 pub use modes::Modes;
 pub use request::{Command, Malformed, Queue, read_request, write_request};
-// pub use response::{Response, read_response, write_response};
+pub use response::{Response, read_response, write_response};
 pub use two_d::{Command2d, read_2d};
 
-// #[cfg(test)]
-// mod tests;
+#[cfg(test)]
+mod tests;

@@ -1,0 +1,170 @@
+use Rattle.std.proofs.Common.{◌≡◌, ℕ, suc, zero, ◌+◌, ◌-◌, ◌*◌, ◌<◌, ◌≤◌, ◌^◌, List, [], ◌∷◌, ◌++◌, length, replicate, map, Option, Some, None, Bool, false, true, cond, nat_eq, nat_le, ◌==◌, ◌&&◌, subst, refl, ap, sym, ◌∙◌, arith, append_assoc, length-append}
+use Rattle.std.specs.List.{flat_map, range_with_len}
+use Rattle.std.proofs.lemmas.Bool.Decides.{nat_tests}
+use Rattle.vg_wire.specs.Numbers.{number_at, le32}
+use Rattle.vg_wire.specs.Modes.{Mode, IsModes, FitsMode, AllFit, mode_bytes, modes_bytes, sixteen, slot_at, slots, slots_of, trimmed, before_trimmed, ends_in_none}
+use Rattle.std.proofs.lemmas.List.{append-nil, length-replicate}
+use Rattle.vg_wire.specs.declared.header.Header.{Header}
+use Rattle.vg_wire.specs.declared.response.Response.{Response}
+use Rattle.vg_wire.specs.declared.response.Response.TheVariants.{DisplayInfo, Error}
+use Rattle.vg_wire.specs.Header.{IsHeader, header_of, header_bytes}
+use Rattle.vg_wire.specs.Response.{IsResponse, FitsResponse, Spells, body_of, response_body, response_bytes, response_kind}
+use Rattle.vg_wire.proofs.HeaderLemmas.{length-le32, number_at-le32, length-header_bytes, header_of-header_bytes}
+use Rattle.vg_wire.proofs.ModesLemmas.{trimmed-none, slots-all, length-trimmed, length-slots_of, ends_in_none-trimmed}
+
+-- six numbers in a row
+six : ℕ → ℕ → ℕ → ℕ → ℕ → ℕ → List ℕ
+six a b c d e f = le32 a ++ le32 b ++ le32 c ++ le32 d ++ le32 e ++ le32 f
+
+-- the third, the fourth and the fifth of six
+third : (front rest : List ℕ) (a b c d e f at : ℕ) → length front ≡ at → c < 2 ^ 32 → number_at 4 (at + 8) (front ++ (six a b c d e f ++ rest)) ≡ c
+unfolding six
+third front rest a b c d e f at here fits =
+    let long : length ((front ++ le32 a) ++ le32 b) ≡ at + 8 = simp length-append (omega (arith, length-le32 a, length-le32 b)) in
+    simp append_assoc (simp append_assoc at (number_at-le32 ((front ++ le32 a) ++ le32 b) (le32 d ++ (le32 e ++ (le32 f ++ rest))) (at + 8) c long fits))
+
+fourth : (front rest : List ℕ) (a b c d e f at : ℕ) → length front ≡ at → d < 2 ^ 32 → number_at 4 (at + 12) (front ++ (six a b c d e f ++ rest)) ≡ d
+unfolding six
+fourth front rest a b c d e f at here fits =
+    let long : length (((front ++ le32 a) ++ le32 b) ++ le32 c) ≡ at + 12 = simp length-append (omega (arith, length-le32 a, length-le32 b, length-le32 c)) in
+    simp append_assoc (simp append_assoc at (number_at-le32 (((front ++ le32 a) ++ le32 b) ++ le32 c) (le32 e ++ (le32 f ++ rest)) (at + 12) d long fits))
+
+fifth : (front rest : List ℕ) (a b c d e f at : ℕ) → length front ≡ at → e < 2 ^ 32 → number_at 4 (at + 16) (front ++ (six a b c d e f ++ rest)) ≡ e
+unfolding six
+fifth front rest a b c d e f at here fits =
+    let long : length ((((front ++ le32 a) ++ le32 b) ++ le32 c) ++ le32 d) ≡ at + 16 = simp length-append (omega (arith, length-le32 a, length-le32 b, length-le32 c, length-le32 d)) in
+    simp append_assoc (simp append_assoc at (number_at-le32 ((((front ++ le32 a) ++ le32 b) ++ le32 c) ++ le32 d) (le32 f ++ rest) (at + 16) e long fits))
+
+none-six : mode_bytes None ≡ six 0 0 0 0 0 0
+unfolding six le32 mode_bytes
+none-six = refl
+
+some-six : (width height : ℕ) → mode_bytes (Some (width, height)) ≡ six 0 0 width height 1 0
+unfolding six mode_bytes
+some-six width height = refl
+
+length-six : (a b c d e f : ℕ) → length (six a b c d e f) ≡ 24
+unfolding six
+length-six a b c d e f = simp length-append (omega (arith, length-le32 a, length-le32 b, length-le32 c, length-le32 d, length-le32 e, length-le32 f))
+
+pub length-mode_bytes : (mode : Mode) → length (mode_bytes mode) ≡ 24
+length-mode_bytes None = ap length none-six ∙ length-six 0 0 0 0 0 0
+length-mode_bytes (Some (width, height)) = ap length (some-six width height) ∙ length-six 0 0 width height 1 0
+
+-- what is written of a mode is read as itself
+slot_at-mode_bytes : (mode : Mode) (front rest : List ℕ) (at : ℕ) → length front ≡ at → FitsMode mode → slot_at (front ++ (mode_bytes mode ++ rest)) at ≡ mode
+slot_at-mode_bytes None front rest at here fits = rw (none-six, fifth front rest 0 0 0 0 0 0 at here (omega arith)) refl
+slot_at-mode_bytes (Some (width, height)) front rest at here fits =
+    rw (some-six width height, fifth front rest 0 0 width height 1 0 at here (omega arith), third front rest 0 0 width height 1 0 at here fits.0, fourth front rest 0 0 width height 1 0 at here fits.1) refl
+
+-- the slots of modes that were written one after another
+slots-run : (modes : List Mode) (front : List ℕ) (a : ℕ) → length front ≡ 24 + 24 * a → AllFit modes
+    → map (λ slot. slot_at (front ++ flat_map mode_bytes modes) (24 + 24 * slot)) (range_with_len a (length modes)) ≡ modes
+slots-run [] front a here fits = refl
+slots-run (mode ∷ more) front a here fits =
+    let next : length (front ++ mode_bytes mode) ≡ 24 + 24 * (a + 1) = simp length-append (omega (arith, length-mode_bytes mode)) in
+    let rest = slots-run more (front ++ mode_bytes mode) (a + 1) next fits.1 in
+    let first = slot_at-mode_bytes mode front (flat_map mode_bytes more) (24 + 24 * a) here fits.0 in
+    let moved = simp append_assoc at rest in
+    cc (first, moved)
+
+all_fit-padded : (modes : List Mode) (n : ℕ) → AllFit modes → AllFit (modes ++ replicate n None)
+all_fit-padded [] zero fits = tt
+all_fit-padded [] (suc n) fits = (tt, all_fit-padded [] n tt)
+all_fit-padded (mode ∷ more) n fits = (fits.0, all_fit-padded more n fits.1)
+
+length-padded : (modes : List Mode) (n : ℕ) → length (modes ++ replicate n None) ≡ length modes + n
+length-padded modes n = simp (length-append, length-replicate)
+
+-- what follows a header is read as the modes that were written
+slots_of-modes_bytes : (front : List ℕ) (modes : List Mode) → length front ≡ 24 → length modes ≤ 16 → AllFit modes → slots_of (front ++ modes_bytes modes) ≡ sixteen modes
+unfolding slots_of modes_bytes
+slots_of-modes_bytes front modes here within fits =
+    let long : length (sixteen modes) ≡ 16 = omega (arith, length-padded modes (16 - length modes)) in
+    let run = slots-run (sixteen modes) front 0 (omega arith) (all_fit-padded modes (16 - length modes) fits) in
+    ap (λ (n : ℕ). slots n (front ++ flat_map mode_bytes (sixteen modes))) (sym long) ∙ run
+
+trimmed-nones : (modes : List Mode) (n : ℕ) → trimmed (modes ++ replicate n None) ≡ trimmed modes
+trimmed-nones modes zero = ap trimmed (append-nil modes)
+trimmed-nones modes (suc n) =
+    let one : List Mode = None ∷ [] in
+    let moved : modes ++ (None ∷ replicate n None) ≡ (modes ++ one) ++ replicate n None = simp append_assoc in
+    ap trimmed moved ∙ trimmed-nones (modes ++ one) n ∙ trimmed-none modes
+
+trimmed-same : (modes : List Mode) → ends_in_none modes ≡ false → trimmed modes ≡ modes
+trimmed-same [] e = refl
+trimmed-same (None ∷ []) e = cc
+trimmed-same (Some size ∷ []) e = refl
+trimmed-same (mode ∷ next ∷ more) e = ap (before_trimmed mode) (trimmed-same (next ∷ more) e) ∙ kept mode
+  where
+    kept : (first : Mode) → before_trimmed first (next ∷ more) ≡ first ∷ next ∷ more
+    kept None = refl
+    kept (Some size) = refl
+
+length-modes_bytes : (modes : List Mode) → length modes ≤ 16 → length (modes_bytes modes) ≡ 384
+unfolding modes_bytes
+length-modes_bytes modes within =
+    let long : length (sixteen modes) ≡ 16 = omega (arith, length-padded modes (16 - length modes)) in
+    length-run (sixteen modes) ∙ omega (arith, long)
+  where
+    length-run : (xs : List Mode) → length (flat_map mode_bytes xs) ≡ 24 * length xs
+    length-run [] = refl
+    length-run (mode ∷ more) = simp length-append (omega (arith, length-mode_bytes mode, length-run more))
+
+display_body : (kind : ℕ) (bytes : List ℕ) → kind ≡ 0x1101 → length bytes ≡ 408 → body_of kind bytes ≡ Some (DisplayInfo (trimmed (slots_of bytes)))
+display_body kind bytes e long = rw (e, long) refl
+
+error_body : (kind : ℕ) (bytes : List ℕ) → 0x1200 ≤ kind → kind ≤ 0x1205 → body_of kind bytes ≡ Some (Error kind)
+error_body kind bytes low high = grind (arith, nat_tests)
+
+-- the fields behind a header are those that were written
+body_of-response_bytes : (header : Header) (response : Response) → FitsResponse response → IsResponse response → header.kind ≡ response_kind response
+    → body_of header.kind (response_bytes header response) ≡ Some response
+body_of-response_bytes header (DisplayInfo modes) fits valid kind =
+    let long : length (header_bytes header ++ modes_bytes modes) ≡ 408 = simp length-append (omega (arith, length-header_bytes header, length-modes_bytes modes valid.0)) in
+    let read = slots_of-modes_bytes (header_bytes header) modes (length-header_bytes header) valid.0 fits in
+    let same = ap trimmed read ∙ trimmed-nones modes (16 - length modes) ∙ trimmed-same modes valid.1 in
+    display_body header.kind (header_bytes header ++ modes_bytes modes) kind long ∙ ap (λ (items : List Mode). Some (DisplayInfo items)) same
+body_of-response_bytes header (Error code) fits valid kind =
+    error_body header.kind (header_bytes header ++ []) (omega arith) (omega arith) ∙ ap (λ (k : ℕ). Some (Error k)) kind
+
+-- what reading finds in the bytes of a response
+pub record Found (bytes : List ℕ) (header : Header) (response : Response) : Type 0 where
+  pub long : 24 ≤ length bytes
+  pub header_is : header_of bytes ≡ header
+  pub body_is : body_of (header_of bytes).kind bytes ≡ Some response
+
+pub spelled-found : (bytes : List ℕ) (header : Header) (response : Response) → IsHeader header → FitsResponse response → Spells header response bytes → Found bytes header response
+spelled-found bytes header response good fits spells =
+    let here : header_of bytes ≡ header = ap header_of spells.spelled ∙ header_of-header_bytes header (response_body response) good in
+    record {
+      long = rw spells.spelled (simp length-append (omega (arith, length-header_bytes header)));
+      header_is = here;
+      body_is = ap (λ (h : Header). body_of h.kind bytes) here ∙ ap (body_of header.kind) spells.spelled ∙ body_of-response_bytes header response fits spells.valid spells.kind;
+    }
+
+valid_by : (first second : Bool) (kind : ℕ) (items : List Mode) (response : Response) → IsModes items → (first ≡ true → kind ≡ 0x1101) → (second ≡ true → (0x1200 ≤ kind) × (kind ≤ 0x1205))
+    → cond first (Some (DisplayInfo items)) (cond second (Some (Error kind)) None) ≡ Some response → IsResponse response × (kind ≡ response_kind response)
+valid_by true second kind items response modes known range e =
+    let same : DisplayInfo items ≡ response = cc in
+    let P : Response → Type 0 = λ r. IsResponse r × (kind ≡ response_kind r) in
+    subst P same (modes, known refl)
+valid_by false true kind items response modes known range e =
+    let same : Error kind ≡ response = cc in
+    let P : Response → Type 0 = λ r. IsResponse r × (kind ≡ response_kind r) in
+    subst P same (range refl, refl)
+valid_by false false kind items response modes known range e = cc
+
+display_kind : (kind long : ℕ) → (kind == 0x1101 && long == 408) ≡ true → kind ≡ 0x1101
+display_kind kind long h = grind (arith, nat_tests)
+
+error_kind : (kind : ℕ) → (nat_le 0x1200 kind && nat_le kind 0x1205) ≡ true → (0x1200 ≤ kind) × (kind ≤ 0x1205)
+error_kind kind h = (grind (arith, nat_tests), grind (arith, nat_tests))
+
+slots-modes : (bytes : List ℕ) → IsModes (trimmed (slots_of bytes))
+slots-modes bytes = (omega (arith, length-trimmed (slots_of bytes), length-slots_of bytes), ends_in_none-trimmed (slots_of bytes))
+
+-- what is found is a response of the header's kind
+pub body_of-valid : (kind : ℕ) (bytes : List ℕ) (response : Response) → body_of kind bytes ≡ Some response → IsResponse response × (kind ≡ response_kind response)
+body_of-valid kind bytes response e =
+    valid_by (kind == 0x1101 && length bytes == 408) (nat_le 0x1200 kind && nat_le kind 0x1205) kind (trimmed (slots_of bytes)) response (slots-modes bytes) (display_kind kind (length bytes)) (error_kind kind) e
