@@ -1,9 +1,9 @@
-use Rattle.std.proofs.Common.{◌≡◌, ℕ, ◌+◌, ◌<◌, ◌≤◌, ◌^◌, List, [], ◌∷◌, ◌++◌, length, take, drop, get_or, refl, ap, sym, ◌∙◌, arith, append_assoc, length-append}
+use Rattle.std.proofs.Common.{◌≡◌, ℕ, ◌<◌, ◌^◌, List, [], ◌∷◌, ◌++◌, length, get_or, refl, ap, sym, ◌∙◌, arith, append_assoc, length-append}
 use Rattle.std.proofs.lemmas.List.{drop_at, get_or_at}
 use Rattle.byteorder.specs.Endian.{little_bytes, little_from}
 use Rattle.byteorder.specs.Numbers.{length-bytes_low_first, little_number-reads_back}
 use Rattle.vg_wire.specs.declared.header.Header.{Header}
-use Rattle.vg_wire.specs.Numbers.{number, number_at, le32, le64}
+use Rattle.vg_wire.specs.Numbers.{number_at, le32, le64}
 use Rattle.vg_wire.specs.Header.{header_of, header_bytes, IsHeader}
 use Rattle.vg_wire.proofs.Numbers.{field_at}
 

@@ -1,4 +1,4 @@
-use Rattle.std.proofs.Common.{◌≡◌, ℕ, suc, zero, ◌+◌, ◌-◌, ◌*◌, ◌<◌, ◌≤◌, ◌^◌, List, [], ◌∷◌, ◌++◌, length, replicate, map, Option, Some, None, Bool, false, true, cond, nat_eq, nat_le, ◌==◌, ◌&&◌, subst, refl, ap, sym, ◌∙◌, arith, append_assoc, length-append}
+use Rattle.std.proofs.Common.{◌≡◌, ℕ, suc, zero, ◌+◌, ◌-◌, ◌*◌, ◌<◌, ◌≤◌, ◌^◌, List, [], ◌∷◌, ◌++◌, length, replicate, map, Some, None, Bool, false, true, cond, nat_le, ◌==◌, ◌&&◌, subst, refl, ap, sym, ◌∙◌, arith, append_assoc, length-append}
 use Rattle.std.specs.List.{flat_map, range_with_len}
 use Rattle.std.proofs.lemmas.Bool.Decides.{nat_tests}
 use Rattle.vg_wire.specs.Numbers.{number_at, le32}
@@ -10,7 +10,7 @@ use Rattle.vg_wire.specs.declared.response.Response.TheVariants.{DisplayInfo, Er
 use Rattle.vg_wire.specs.Header.{IsHeader, header_of, header_bytes}
 use Rattle.vg_wire.specs.Response.{IsResponse, FitsResponse, Spells, body_of, response_body, response_bytes, response_kind}
 use Rattle.vg_wire.proofs.HeaderLemmas.{length-le32, number_at-le32, length-header_bytes, header_of-header_bytes}
-use Rattle.vg_wire.proofs.ModesLemmas.{trimmed-none, slots-all, length-trimmed, length-slots_of, ends_in_none-trimmed}
+use Rattle.vg_wire.proofs.ModesLemmas.{trimmed-none, length-trimmed, length-slots_of, ends_in_none-trimmed}
 
 -- six numbers in a row
 six : ℕ → ℕ → ℕ → ℕ → ℕ → ℕ → List ℕ

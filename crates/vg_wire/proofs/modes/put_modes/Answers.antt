@@ -1,4 +1,4 @@
-use Rattle.std.proofs.Common.{◌≡◌, ◌∙◌, ◌++◌, ap, append_assoc, List, ℕ}
+use Rattle.std.proofs.Common.{◌∙◌, ◌++◌, ap, append_assoc, List, ℕ}
 use Rattle.vg_wire.proofs.ModesLemmas.{modes_bytes-parts}
 use Rattle.vg_wire.proofs.modes.put_modes.Goals as goal
 

@@ -1,4 +1,4 @@
-use Rattle.std.proofs.Common.{◌≡◌, ℕ, ◌+◌, ◌*◌, ◌≤◌, ap, ◌∙◌, sym, refl, arith, length, is_some, cond}
+use Rattle.std.proofs.Common.{◌≡◌, ◌+◌, ◌*◌, ap, ◌∙◌, sym, arith, length, is_some, cond}
 use Rattle.std.proofs.lemmas.List.FromFn.{map-range_with_len_more}
 use Rattle.vg_wire.specs.Modes.{slot_at, slots_of}
 use Rattle.vg_wire.proofs.ModesLemmas.{take-enabled, ends_in_none-trimmed, length-trimmed, length-slots, length-slots_of, trimmed-all}

@@ -1,4 +1,4 @@
-use Rattle.std.proofs.Common.{◌≡◌, ◌∙◌, sym, ap, Some, None, Option, arith, length, refl, ℕ, ◌<◌, List}
+use Rattle.std.proofs.Common.{◌≡◌, ◌∙◌, sym, ap, Some, Option, arith, length, refl, ℕ, ◌<◌, List}
 use Rattle.std.proofs.lemmas.Slice.Eq.{bytes_eq-Decides}
 use Rattle.vg_wire.specs.declared.header.Header.{Header}
 use Rattle.vg_wire.specs.declared.response.Response.{Response}
