@@ -1,0 +1,77 @@
+use Rattle.std.specs.Prelude.{◌≡◌, ◌≢◌, ◌≤◌, ◌<◌, ◌+◌, ◌-◌, ◌==◌, ℕ, Bool, true, false, List, [], ◌∷◌, ◌++◌, map, filter, count_by, All, IsPermutation}
+use Rattle.std.specs.List.{range_with_len}
+use Rattle.vg_machine.specs.declared.setup.Setup.{Setup}
+use Rattle.vg_machine.specs.declared.act.Act.TheVariants.{Enter, Leave}
+use Rattle.vg_machine.specs.declared.history.Entry.{Entry}
+use Rattle.vg_machine.specs.declared.history.Entry.TheVariants as entries
+use Rattle.vg_machine.specs.Lane.{lane_of}
+use Rattle.vg_machine.specs.Replay.{Agrees}
+
+abbrev pub client_of : Entry → ℕ
+client_of (entries.Act client call act reply) = client
+client_of (entries.Command client call request reply) = client
+
+abbrev pub call_of : Entry → ℕ
+call_of (entries.Act client call act reply) = call
+call_of (entries.Command client call request reply) = call
+
+abbrev pub is_of_lane : ℕ → Entry → Bool
+is_of_lane lane (entries.Act client call act reply) = false
+is_of_lane lane (entries.Command client call request reply) = request.lane == lane
+
+abbrev pub is_leave : Entry → Bool
+is_leave (entries.Act client call Enter reply) = false
+is_leave (entries.Act client call Leave reply) = true
+is_leave (entries.Command client call request reply) = false
+
+-- The client begins, with its first number.
+abbrev pub IsFirst : Entry → Type 0
+IsFirst (entries.Act client call Enter reply) = call ≡ 1
+IsFirst (entries.Act client call Leave reply) = ⊥
+IsFirst (entries.Command client call request reply) = ⊥
+
+-- A client's entries.
+abbrev pub of_client : ℕ → List Entry → List Entry
+of_client client H = filter (λ e. client_of e == client) H
+
+-- A command's lane is that of its bytes, and its ordinal one more than the number of commands of that lane before it.
+abbrev pub LaneOrder : List Entry → Entry → Type 0
+LaneOrder before (entries.Act client call act reply) = Unit {0}
+LaneOrder before (entries.Command client call request reply) =
+    (request.lane ≡ lane_of request.queue request.bytes) × (request.ordinal ≡ count_by (is_of_lane request.lane) before + 1)
+
+-- Those of a client's entries whose numbers an entry of it is above: an act is above all, a command above the commands of its lane.
+abbrev pub numbers_below : Entry → List Entry → List Entry
+numbers_below (entries.Act client call act reply) mine = mine
+numbers_below (entries.Command client call request reply) mine = filter (is_of_lane request.lane) mine
+
+-- An entry's number is its client's next: no other entry has it, the client's first entry is enter with number 1, and
+-- nothing of it follows its leave.
+pub record CallOrder (before : List Entry) (entry : Entry) : Type 0 where
+  pub counted : 1 ≤ call_of entry
+  pub fresh : All (λ e. call_of e ≢ call_of entry) (of_client (client_of entry) before)
+  pub rising : All (λ e. call_of e < call_of entry) (numbers_below entry (of_client (client_of entry) before))
+  pub first : of_client (client_of entry) before ≡ [] → IsFirst entry
+  pub present : All (λ e. is_leave e ≡ false) (of_client (client_of entry) before)
+
+-- An act that gives up a hold stands after all of its client's earlier calls.
+abbrev pub GiveUp : List Entry → Entry → Type 0
+GiveUp before (entries.Act client call Enter reply) = Unit {0}
+GiveUp before (entries.Act client call Leave reply) = IsPermutation (map call_of (of_client client before)) (range_with_len 1 (call - 1))
+GiveUp before (entries.Command client call request reply) = Unit {0}
+
+-- An entry stands rightly behind those before it.
+pub record IsInOrder (before : List Entry) (entry : Entry) : Type 0 where
+  pub lane : LaneOrder before entry
+  pub call : CallOrder before entry
+  pub give_up : GiveUp before entry
+
+-- Each of these entries does, behind those before them all.
+abbrev pub AreInOrder : List Entry → List Entry → Type 0
+AreInOrder before [] = Unit {0}
+AreInOrder before (entry ∷ more) = IsInOrder before entry × AreInOrder (before ++ entry ∷ []) more
+
+-- A history that the display and its clients can have.
+pub record Sound (setup : Setup) (H : List Entry) : Type 0 where
+  pub agrees : Agrees setup H
+  pub order : AreInOrder [] H

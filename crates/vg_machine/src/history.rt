@@ -1,0 +1,44 @@
+//! One entry of a history: an act of a client, or a command that the device has run.
+
+use crate::act::{Act, ActReply};
+use crate::shape::Shape;
+use vg_list::Seq;
+use vg_wire::Queue;
+
+/// A command as it came to the device.
+#[derive(Debug, Drop)]
+pub struct Request {
+    pub queue: Queue,
+    /// The lane that it belongs to, 0 to 65.
+    pub lane: u32,
+    /// Its number among the commands of its lane, from 1.
+    pub ordinal: u64,
+    /// How many bytes there are for the response.
+    pub room: u32,
+    pub shape: Shape,
+    pub bytes: Seq<u8>,
+}
+
+/// What a command is answered.
+#[derive(Debug, Drop)]
+pub enum Reply {
+    /// The response's bytes, cut to the request's room.
+    Response { bytes: Seq<u8> },
+}
+
+/// An entry, with the client that it belongs to and the client's own number for it, from 1.
+#[derive(Debug, Drop)]
+pub enum Entry {
+    Act {
+        client: u32,
+        call: u64,
+        act: Act,
+        reply: ActReply,
+    },
+    Command {
+        client: u32,
+        call: u64,
+        request: Request,
+        reply: Reply,
+    },
+}
