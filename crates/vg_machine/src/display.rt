@@ -1,6 +1,6 @@
 //! The device on one thread.
 
-ghost use Rattle.std.specs.Prelude.{◌≡◌, ◌<◌, ◌-◌, ◌^◌, Some, map, IfOk, OnErr};
+ghost use Rattle.std.specs.Prelude.{◌≡◌, ◌==◌, ◌<◌, ◌-◌, ◌^◌, if◌then◌else◌, bit_and, Some, map, IfOk, OnErr};
 ghost use Rattle.vg_wire.specs.Request.{request_of};
 ghost use Rattle.vg_wire.specs.Response.{response_kind};
 ghost use Rattle.vg_wire.specs.declared.response.Response.TheVariants as responses;
@@ -148,11 +148,7 @@ fn header_of_answer(request: &[u8], kind: u32) -> Header
             flags: header.flags & 3,
             fence_id: header.fence_id,
             ctx_id: header.ctx_id,
-            ring_idx: if header.flags & 2 == 2 {
-                header.ring_idx
-            } else {
-                0
-            },
+            ring_idx: ring_of(&header),
         },
         _ => Header {
             kind,
@@ -161,6 +157,17 @@ fn header_of_answer(request: &[u8], kind: u32) -> Header
             ctx_id: 0,
             ring_idx: 0,
         },
+    }
+}
+
+/// The ring index of a header that has one, and else 0.
+fn ring_of(header: &Header) -> u8
+    ensures { result ≡ (if bit_and header.now.flags 2 == 2 then header.now.ring_idx else 0) }
+{
+    if header.flags & 2 == 2 {
+        header.ring_idx
+    } else {
+        0
     }
 }
 

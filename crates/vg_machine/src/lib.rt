@@ -19,5 +19,5 @@ pub use scanout::Frame;
 pub use setup::Setup;
 pub use shape::Shape;
 
-// #[cfg(test)]
-// mod tests;
+#[cfg(test)]
+mod tests;
