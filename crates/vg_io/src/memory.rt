@@ -28,7 +28,10 @@ impl Model for MemSource {
     ghost Value = { Feed };
 
     ghost view = { λ s. record {
-        rest = drop s.at s.bytes.items; fail_at = s.fail_at.items; calls = s.calls; faults = s.faults
+      rest = drop s.at s.bytes.items;
+      fail_at = s.fail_at.items;
+      calls = s.calls;
+      faults = s.faults;
     } };
 
     ghost invariant = { λ s. s.at ≤ vec_len s.bytes };
@@ -108,7 +111,11 @@ impl Model for MemSink {
     ghost Value = { Store };
 
     ghost view = { λ s. record {
-        bytes = s.bytes.items; room = s.room; fail_at = s.fail_at.items; calls = s.calls; faults = s.faults
+      bytes = s.bytes.items;
+      room = s.room;
+      fail_at = s.fail_at.items;
+      calls = s.calls;
+      faults = s.faults;
     } };
 
     ghost invariant = { λ s. (vec_len s.bytes ≤ s.room) × (s.room ≤ vec_capacity s.bytes) };

@@ -41,7 +41,12 @@ impl From<Failed> for ReadError {
 ///
 /// It reads in pieces of at most 65,536 bytes, and takes at most one byte past the limit, which makes
 /// the answer `TooLong`. Only want of memory comes without a cause.
-pub fn read_all<S: Source>(alloc: Global, source: &mut S, limit: usize) -> Result<Vec<u8>, ReadError>
+#[tactic(auto, using(crate::proofs::StreamLemmas::gives_both))]
+pub fn read_all<S: Source>(
+    alloc: Global,
+    source: &mut S,
+    limit: usize,
+) -> Result<Vec<u8>, ReadError>
     ensures all { IfOk result (λ v. Gives (S.left source.old) (S.left source.new) v.items) }
     ensures end { OnOk result (IsAtEnd (S.left source.new)) }
     ensures within { IfOk result (λ v. length v.items ≤ limit) }
@@ -56,8 +61,9 @@ pub fn read_all<S: Source>(alloc: Global, source: &mut S, limit: usize) -> Resul
     let mut piece = zeroed(alloc, limit.min(PIECE - 1) + 1)?;
     let mut bytes = Vec::new(alloc);
     while bytes.len() <= limit {
-        let ask = (limit - bytes.len()).min(PIECE - 1) + 1;
-        let n = source.read(&mut piece.as_mut_slice()[..ask])?;
+        // No read asks for a second byte past the limit.
+        piece.truncate((limit - bytes.len()).saturating_add(1));
+        let n = source.read(piece.as_mut_slice())?;
         if n == 0 {
             return Ok(bytes);
         }

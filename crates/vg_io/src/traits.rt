@@ -13,6 +13,7 @@ pub struct Failed;
 /// never falls. A count that stands at 2^64 - 1 counts as one that rose.
 pub trait Source {
     ghost left: { Self → Option (List ℕ) };
+
     ghost faults: { Self → ℕ };
 
     /// Puts the next bytes at the front of `buf`, and answers how many. An answer 0 where `buf` isn't
@@ -32,6 +33,7 @@ pub trait Source {
 /// never falls. A count that stands at 2^64 - 1 counts as one that rose.
 pub trait Sink {
     ghost held: { Self → Option (List ℕ) };
+
     ghost faults: { Self → ℕ };
 
     /// Takes bytes from the front of `bytes`, and answers how many: at least one, where there is one.

@@ -10,6 +10,7 @@ const PIECE: usize = 65_536;
 
 /// Writes all of `bytes`, in pieces of at most 65,536 bytes. Where it fails, the sink has taken a front
 /// of them.
+#[tactic(auto, using(crate::proofs::StreamLemmas::takes_next))]
 pub fn write_all<K: Sink>(sink: &mut K, bytes: &[u8]) -> Result<(), Failed>
     ensures ok { OnOk result (Takes (K.held sink.old) (K.held sink.new) bytes.now) }
     ensures failed { OnErr result (TakesSome (K.held sink.old) (K.held sink.new) bytes.now) }

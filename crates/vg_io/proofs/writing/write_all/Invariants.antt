@@ -7,7 +7,7 @@ invariant-loop-at g l =
     record {
       range : l.at ≤ length l.bytes;
       bytes : Takes (g.K.Sink.held l.fn.sink) (g.K.Sink.held l.sink) (take l.at l.bytes);
-      count : g.K.Sink.faults l.fn.sink ≤ g.K.Sink.faults l.sink
+      count : g.K.Sink.faults l.fn.sink ≤ g.K.Sink.faults l.sink;
     }
 
 abbrev pub decreases-loop-at : goal.decreases-loop-at
