@@ -1,5 +1,5 @@
 -- A source and a sink in memory, as contracts see them.
-use Rattle.std.specs.Prelude.{ℕ, ◌≡◌, ◌<◌, ◌≤◌, ◌⊎◌, List, length, Contains}
+use Rattle.std.specs.Prelude.{ℕ, ◌<◌, ◌≤◌, ◌⊎◌, List, length, Contains}
 use Rattle.vg_io.specs.Streams.{next_count}
 
 -- A source: the bytes left, the numbers of the calls that fail, how many calls were made and failed.

@@ -195,12 +195,10 @@ fn reads_a_reader(rt: HostRuntime) -> Result<(), Fail> {
 fn writes_a_writer(rt: HostRuntime) -> Result<(), Fail> {
     let alloc = rt.alloc();
     let mut written = Vec::new(alloc);
-    let mut sink = StdSink::new(&mut written);
-    write_all(&mut sink, b"end\n")?;
-    let StdSink {
-        writer: _,
-        faults: _,
-    } = sink;
+    {
+        let mut sink = StdSink::new(&mut written);
+        write_all(&mut sink, b"end\n")?;
+    }
     assert_eq!(rt; written.as_slice(), b"end\n".as_slice());
     let mut room = [0u8; 2];
     let mut full = StdSink::new(room.as_mut_slice());
