@@ -50,12 +50,14 @@ pub fn read_all<S: Source>(
     ensures all { IfOk result (λ v. Gives (S.left source.old) (S.left source.new) v.items) }
     ensures end { OnOk result (IsAtEnd (S.left source.new)) }
     ensures within { IfOk result (λ v. length v.items ≤ limit) }
-    ensures long { IsErrOf result ReadError.TooLong → IfSome (S.left source.old) (λ xs. limit < length xs) }
+    ensures long { IsErrOf result ReadError.TooLong →
+        IfSome (S.left source.old) (λ xs. limit < length xs) }
     ensures fault { IsErrOf result ReadError.Fault → Rose (S.faults source.old) (S.faults source.new) }
     ensures count { S.faults source.old ≤ S.faults source.new }
 
     // What was taken: never a second byte past the limit.
-    ensures past { IsErrOf result ReadError.TooLong → GivesCount (S.left source.old) (S.left source.new) (limit + 1) }
+    ensures past { IsErrOf result ReadError.TooLong →
+        GivesCount (S.left source.old) (S.left source.new) (limit + 1) }
     ensures taken { GivesUpTo (S.left source.old) (S.left source.new) (limit + 1) }
 {
     let mut piece = zeroed(alloc, limit.min(PIECE - 1) + 1)?;
