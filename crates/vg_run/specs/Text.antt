@@ -1,0 +1,87 @@
+use Rattle.std.specs.Prelude.{ℕ, ◌+◌, List, [], ◌∷◌, ◌++◌, length, codes, decimal}
+use Rattle.hex.specs.Hex.{encode_lower}
+use Rattle.vg_wire.specs.declared.request.Queue.{Queue}
+use Rattle.vg_machine.specs.declared.setup.Setup.{Setup}
+use Rattle.vg_machine.specs.declared.scanout.Frame.{Frame}
+use Rattle.vg_machine.specs.declared.shape.Shape.{Shape}
+use Rattle.vg_machine.specs.declared.shape.Shape.TheVariants.{Plain}
+use Rattle.vg_machine.specs.declared.act.Act.{Act}
+use Rattle.vg_machine.specs.declared.act.Act.TheVariants.{Enter, Leave}
+use Rattle.vg_machine.specs.declared.act.ActReply.{ActReply}
+use Rattle.vg_machine.specs.declared.act.ActReply.TheVariants as act_replies
+use Rattle.vg_machine.specs.declared.history.Entry.{Entry}
+use Rattle.vg_machine.specs.declared.history.Entry.TheVariants as entries
+use Rattle.vg_machine.specs.declared.history.Request.{Request}
+use Rattle.vg_machine.specs.declared.history.Reply.{Reply}
+use Rattle.vg_machine.specs.declared.history.Reply.TheVariants.{Response}
+use Rattle.vg_run.specs.declared.journal.Journal.{Journal}
+
+-- The texts of things one after another, each with its number.
+abbrev pub numbered : {X : Type 0} → (ℕ → X → List ℕ) → ℕ → List X → List ℕ
+numbered text n [] = []
+numbered text n (x ∷ xs) = text n x ++ numbered text (n + 1) xs
+
+-- Bytes as lower-case hexadecimal digits, `-` for none.
+abbrev pub hex_text : List ℕ → List ℕ
+hex_text [] = codes "-"
+hex_text (byte ∷ bytes) = encode_lower (byte ∷ bytes)
+
+abbrev pub act_text : Act → List ℕ
+act_text Enter = codes "enter"
+act_text Leave = codes "leave"
+
+abbrev pub act_reply_text : ActReply → List ℕ
+act_reply_text act_replies.Ok = codes "ok"
+
+abbrev pub shape_text : Shape → List ℕ
+shape_text Plain = codes "plain"
+
+abbrev pub reply_text : Reply → List ℕ
+reply_text (Response bytes) = hex_text bytes
+
+-- `LANE ORDINAL ROOM SHAPE HEX`
+unfoldable pub request_text : Request → List ℕ
+request_text request =
+    decimal request.lane ++ codes " " ++ decimal request.ordinal ++ codes " " ++ decimal request.room ++ codes " "
+    ++ shape_text request.shape ++ codes " " ++ hex_text request.bytes
+
+-- `N C K act TEXT = REPLY` and `N C K cmd LANE ORDINAL ROOM SHAPE HEX = HEX`
+unfoldable pub entry_line : ℕ → Entry → List ℕ
+entry_line n (entries.Act client call act reply) =
+    decimal n ++ codes " " ++ decimal client ++ codes " " ++ decimal call ++ codes " act " ++ act_text act ++ codes " = " ++ act_reply_text reply ++ codes "\n"
+entry_line n (entries.Command client call request reply) =
+    decimal n ++ codes " " ++ decimal client ++ codes " " ++ decimal call ++ codes " cmd " ++ request_text request ++ codes " = " ++ reply_text reply ++ codes "\n"
+
+-- `display S W H`
+unfoldable pub display_line : ℕ → ℕ × ℕ → List ℕ
+display_line n size = codes "display " ++ decimal n ++ codes " " ++ decimal size.0 ++ codes " " ++ decimal size.1 ++ codes "\n"
+
+-- `frame I S W H E`
+unfoldable pub frame_line : ℕ → Frame → List ℕ
+frame_line n frame =
+    codes "frame " ++ decimal n ++ codes " " ++ decimal frame.scanout ++ codes " " ++ decimal frame.width ++ codes " " ++ decimal frame.height
+    ++ codes " " ++ decimal frame.entry ++ codes "\n"
+
+-- A frame's line, its pixels as they are, and a line end.
+abbrev pub frame_text : ℕ → Frame → List ℕ
+frame_text n frame = frame_line n frame ++ frame.pixels ++ codes "\n"
+
+-- The lines before the entries: the version, the displays from 0, the pages and the clients.
+unfoldable pub head_text : Setup → List ℕ
+head_text setup =
+    codes "vgpu-journal 1\n" ++ numbered display_line 0 setup.displays ++ codes "memory " ++ decimal setup.pages ++ codes "\n"
+    ++ codes "clients " ++ decimal setup.clients ++ codes "\n"
+
+-- `rings A B` and `frames M`
+unfoldable pub counts_text : ℕ → ℕ → ℕ → List ℕ
+counts_text control cursor frames =
+    codes "rings " ++ decimal control ++ codes " " ++ decimal cursor ++ codes "\n" ++ codes "frames " ++ decimal frames ++ codes "\n"
+
+-- The journal: its setup, its history, how many of its commands were on each queue, and the frames.
+abbrev pub journal_text : Setup → List Entry → ℕ → ℕ → List Frame → List ℕ
+journal_text setup H control cursor frames =
+    head_text setup ++ numbered entry_line 1 H ++ counts_text control cursor (length frames) ++ numbered frame_text 1 frames ++ codes "end\n"
+
+-- The text of a journal.
+abbrev pub text_of : Journal → List ℕ
+text_of journal = journal_text journal.setup journal.entries journal.control journal.cursor journal.frames

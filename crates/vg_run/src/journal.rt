@@ -1,0 +1,36 @@
+//! The journal of a run as text.
+
+ghost use Rattle.std.specs.Prelude.{◌≡◌, ◌≤◌, IfOk, OnOk, OnErr};
+ghost use Rattle.vg_io.specs.Streams.{Rose, Takes, TakesSome};
+ghost use Rattle.vg_run.specs.Text.{text_of};
+
+use std::alloc::{AllocError, Global};
+use vg_io::{Failed, Sink};
+use vg_list::Seq;
+use vg_machine::{Entry, Frame, Setup};
+
+/// A run: its setup, its history, how many of its commands were on each queue, and its frames.
+#[derive(Debug, Drop)]
+pub struct Journal {
+    pub setup: Setup,
+    pub entries: Seq<Entry>,
+    pub control: u64,
+    pub cursor: u64,
+    pub frames: Seq<Frame>,
+}
+
+/// Writes the journal's text in pieces of at most 65,536 bytes. After a fault or want of memory a front
+/// of the text is written.
+pub fn print<K: Sink>(
+    alloc: Global,
+    journal: &Journal,
+    sink: &mut K,
+) -> Result<Result<(), Failed>, AllocError>
+    ensures done { IfOk result (λ printed. OnOk printed (Takes (K.held sink.old) (K.held sink.new) (text_of journal.now))) }
+    ensures failed { IfOk result (λ printed. OnErr printed (TakesSome (K.held sink.old) (K.held sink.new) (text_of journal.now))) }
+    ensures memory { OnErr result (TakesSome (K.held sink.old) (K.held sink.new) (text_of journal.now)) }
+    ensures cause { IfOk result (λ printed. OnErr printed (Rose (K.faults sink.old) (K.faults sink.new))) }
+    ensures count { K.faults sink.old ≤ K.faults sink.new }
+{
+    Err(AllocError)
+}
