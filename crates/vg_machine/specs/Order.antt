@@ -1,5 +1,5 @@
-use Rattle.std.specs.Prelude.{◌≡◌, ◌≢◌, ◌≤◌, ◌<◌, ◌+◌, ◌-◌, ◌==◌, ℕ, Bool, true, false, List, [], ◌∷◌, ◌++◌, map, filter, count_by, All, IsPermutation}
-use Rattle.std.specs.List.{range_with_len}
+use Rattle.std.specs.Prelude.{◌≡◌, ◌≢◌, ◌≤◌, ◌<◌, ◌+◌, ◌-◌, ◌==◌, ℕ, Bool, true, false, List, [], ◌∷◌, ◌++◌, map, filter, count_by, nat_le, if◌then◌else◌}
+use Rattle.std.specs.List.{range_with_len, AllByRecursion}
 use Rattle.vg_machine.specs.declared.setup.Setup.{Setup}
 use Rattle.vg_machine.specs.declared.act.Act.TheVariants.{Enter, Leave}
 use Rattle.vg_machine.specs.declared.history.Entry.{Entry}
@@ -34,6 +34,16 @@ IsFirst (entries.Command client call request reply) = ⊥
 abbrev pub of_client : ℕ → List Entry → List Entry
 of_client client H = filter (λ e. client_of e == client) H
 
+-- An entry among others that stand by rising number.
+abbrev pub placed : Entry → List Entry → List Entry
+placed entry [] = entry ∷ []
+placed entry (next ∷ more) = if nat_le (call_of entry) (call_of next) then entry ∷ next ∷ more else next ∷ placed entry more
+
+-- Entries by rising number.
+abbrev pub by_call : List Entry → List Entry
+by_call [] = []
+by_call (entry ∷ more) = placed entry (by_call more)
+
 -- A command's lane is that of its bytes, and its ordinal one more than the number of commands of that lane before it.
 abbrev pub LaneOrder : List Entry → Entry → Type 0
 LaneOrder before (entries.Act client call act reply) = Unit {0}
@@ -49,15 +59,15 @@ numbers_below (entries.Command client call request reply) mine = filter (is_of_l
 -- nothing of it follows its leave.
 pub record CallOrder (before : List Entry) (entry : Entry) : Type 0 where
   pub counted : 1 ≤ call_of entry
-  pub fresh : All (λ e. call_of e ≢ call_of entry) (of_client (client_of entry) before)
-  pub rising : All (λ e. call_of e < call_of entry) (numbers_below entry (of_client (client_of entry) before))
+  pub fresh : AllByRecursion (λ e. call_of e ≢ call_of entry) (of_client (client_of entry) before)
+  pub rising : AllByRecursion (λ e. call_of e < call_of entry) (numbers_below entry (of_client (client_of entry) before))
   pub first : of_client (client_of entry) before ≡ [] → IsFirst entry
-  pub present : All (λ e. is_leave e ≡ false) (of_client (client_of entry) before)
+  pub present : AllByRecursion (λ e. is_leave e ≡ false) (of_client (client_of entry) before)
 
--- An act that gives up a hold stands after all of its client's earlier calls.
+-- An act that gives up a hold stands after all of its client's earlier calls: those have the numbers below its own, each once.
 abbrev pub GiveUp : List Entry → Entry → Type 0
 GiveUp before (entries.Act client call Enter reply) = Unit {0}
-GiveUp before (entries.Act client call Leave reply) = IsPermutation (map call_of (of_client client before)) (range_with_len 1 (call - 1))
+GiveUp before (entries.Act client call Leave reply) = map call_of (by_call (of_client client before)) ≡ range_with_len 1 (call - 1)
 GiveUp before (entries.Command client call request reply) = Unit {0}
 
 -- An entry stands rightly behind those before it.

@@ -67,6 +67,13 @@ impl Display {
         self.scanouts.frames()
     }
 
+    /// The frames, which the display gives up.
+    pub fn into_frames(self) -> Vec<Frame>
+        ensures { result.items ≡ self.scanouts.frames }
+    {
+        self.scanouts.into_frames()
+    }
+
     /// Runs the request that came on this queue, and gives its response as far as `room` bytes hold it.
     /// A longer response is cut, and the command runs all the same (VIRTIO 1.2, 5.7.6).
     pub fn command(

@@ -49,4 +49,11 @@ impl Scanouts {
     {
         self.frames.as_slice()
     }
+
+    /// The frames, which the scanouts give up.
+    pub(crate) fn into_frames(self) -> Vec<Frame>
+        ensures { result.items ≡ self.frames }
+    {
+        self.frames
+    }
 }
