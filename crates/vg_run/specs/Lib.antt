@@ -1,1 +1,5 @@
 pub mod Text
+pub mod Grammar
+pub mod Calls
+pub mod Legal
+pub mod Headline

@@ -2,8 +2,10 @@
 #![tactic(auto)]
 
 mod journal;
+mod script;
 
 pub use journal::{Journal, print};
+pub use script::{Line, Script, ScriptFault, Step, parse};
 
 #[cfg(test)]
 mod tests;

@@ -1,0 +1,26 @@
+use Rattle.std.specs.Prelude.{◌≡◌, ℕ, List, [], ◌∷◌, codes, Option, Some, None, IfSome}
+use Rattle.vg_io.specs.Streams.{IsAtEnd, Takes, TakesSome}
+use Rattle.vg_machine.specs.declared.history.Entry.{Entry}
+use Rattle.vg_run.specs.declared.script.Script.{Script}
+use Rattle.vg_run.specs.Grammar.{Parses}
+use Rattle.vg_run.specs.Legal.{Legal, journal_of}
+use Rattle.vg_run.specs.Text.{text_of}
+
+-- The words after the program's name are the one word `run`.
+abbrev pub IsRun : List (List ℕ) → Type 0
+IsRun words = words ≡ codes "run" ∷ []
+
+-- The bytes are a script, and the sink took the journal of one history that is legal for it.
+abbrev pub Writes : Option (List ℕ) → Option (List ℕ) → List ℕ → Type 0
+Writes held held' bytes = (script : Script) × Parses bytes script × ((H : List Entry) × Legal script H × Takes held held' (text_of (journal_of script H)))
+
+-- A run from a source to a sink: the source was read to its end, and what it gave was run and written.
+abbrev pub Runs : Option (List ℕ) → Option (List ℕ) → Option (List ℕ) → Option (List ℕ) → Type 0
+Runs left left' held held' = IsAtEnd left' × IfSome left (Writes held held')
+
+-- The same as far as a front of the journal: nothing, or more.
+abbrev pub WritesSome : Option (List ℕ) → Option (List ℕ) → List ℕ → Type 0
+WritesSome held held' bytes = (script : Script) × Parses bytes script × ((H : List Entry) × Legal script H × TakesSome held held' (text_of (journal_of script H)))
+
+abbrev pub RunsPartly : Option (List ℕ) → Option (List ℕ) → Option (List ℕ) → Option (List ℕ) → Type 0
+RunsPartly left left' held held' = IsAtEnd left' × IfSome left (WritesSome held held')
