@@ -2,4 +2,5 @@ pub mod Text
 pub mod Grammar
 pub mod Calls
 pub mod Legal
+pub mod Session
 pub mod Headline

@@ -3,6 +3,7 @@
 
 mod journal;
 mod script;
+mod session;
 
 pub use journal::{Journal, print};
 pub use script::{Line, Script, ScriptFault, Step, parse};
