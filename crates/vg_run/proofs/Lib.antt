@@ -1,2 +1,4 @@
 pub mod DigitLemmas
 pub mod ReplayLemmas
+pub mod OrderLemmas
+pub mod LaneLemmas

@@ -72,7 +72,8 @@ replay-more display new H commands count entry is step reply lane =
     let agrees : Agrees display.setup (H ++ entry ∷ []) = agrees-more (start display.setup) H entry is.agrees (subst P is.state reply) in
     let Q : Setup → Type 0 = λ s. Agrees s (H ++ entry ∷ []) in
     record {
-        state = next ∙ ap (λ (s : Setup). replay s (H ++ entry ∷ [])) (sym setup);
-        agrees = subst Q (sym setup) agrees;
-        count = ap (λ (s : State). s.entries) step ∙ after-entries display entry ∙ simp length-append (omega (arith, is.count));
-        lane = lane ∙ sym (count_by-more (is_of_lane 0) H entry ∙ ap (λ (n : ℕ). n + cond (is_of_lane 0 entry) 1 0) (sym is.lane)); }
+      state = next ∙ ap (λ (s : Setup). replay s (H ++ entry ∷ [])) (sym setup);
+      agrees = subst Q (sym setup) agrees;
+      count = ap (λ (s : State). s.entries) step ∙ after-entries display entry ∙ simp length-append (omega (arith, is.count));
+      lane = lane ∙ sym (count_by-more (is_of_lane 0) H entry ∙ ap (λ (n : ℕ). n + cond (is_of_lane 0 entry) 1 0) (sym is.lane));
+    }

@@ -1,6 +1,7 @@
 //! Runs a script on the display machine, and writes its journal.
 #![tactic(auto)]
 
+mod calls;
 mod journal;
 mod script;
 mod session;

@@ -11,5 +11,5 @@ invariant_of-self-2 c =
     let step = c.in_ok-reply.ensures.step in
     rw (pushed, c.reserve.ensures.items)
     (replay-more c.self.inside.display c.act.new.self c.self.inside.history.items c.self.inside.commands c.self.inside.commands
-        (entries.Act c.args.client c.args.call c.args.act c.in_ok-reply.reply) c.self.invariant
-        (ap (λ (p : State × ActReply). p.0) step) (ap (λ (p : State × ActReply). p.1) step) (omega arith))
+    (entries.Act c.args.client c.args.call c.args.act c.in_ok-reply.reply) c.self.invariant
+    (ap (λ (p : State × ActReply). p.0) step) (ap (λ (p : State × ActReply). p.1) step) (omega arith))

@@ -25,8 +25,8 @@ invariant_of-self-2 c =
     let made = done c.self.inside.display c.command.new.self c.args.request c.as_slice.result.now c.in_ok-bytes.bytes.items c.from_vec.result c.as_slice.ensures c.from_vec.ensures c.in_ok-bytes.ensures.step in
     rw (pushed, c.reserve.ensures.items)
     (replay-more c.self.inside.display c.command.new.self c.self.inside.history.items c.self.inside.commands c.counted-self-inside.result
-        (entries.Command c.args.client c.args.call c.args.request (Response c.from_vec.result)) c.self.invariant
-        (ap (λ (p : State × Reply). p.0) made) (ap (λ (p : State × Reply). p.1) made) c.counted-self-inside.ensures)
+    (entries.Command c.args.client c.args.call c.args.request (Response c.from_vec.result)) c.self.invariant
+    (ap (λ (p : State × Reply). p.0) made) (ap (λ (p : State × Reply). p.1) made) c.counted-self-inside.ensures)
 
 pub returns-clause-entry : goal.returns-clause-entry
 returns-clause-entry c =

@@ -1,0 +1,142 @@
+use Rattle.std.proofs.Common.{◌≡◌, ◌≢◌, ◌+◌, ◌-◌, ◌<◌, ◌≤◌, ◌==◌, ◌∙◌, sym, ap, refl, subst, arith, ℕ, zero, suc, Bool, true, false, cond, List, [], ◌∷◌, ◌++◌, length, map, filter, count_by, append_assoc, nat_le}
+use Rattle.std.specs.List.{AllByRecursion, range_with_len}
+use Rattle.std.proofs.lemmas.List.{append-nil, length-map}
+use Rattle.std.proofs.lemmas.List.FromFn.{length-range_with_len}
+use Rattle.std.proofs.lemmas.Bool.Decides.{nat_tests}
+use Rattle.vg_machine.specs.declared.act.Act.TheVariants.{Enter, Leave}
+use Rattle.vg_machine.specs.declared.history.Entry.{Entry}
+use Rattle.vg_machine.specs.declared.history.Entry.TheVariants as entries
+use Rattle.vg_machine.specs.Order.{AreInOrder, CallOrder, GiveUp, IsFirst, IsInOrder, LaneOrder, by_call, call_of, client_of, is_leave, is_of_lane, numbers_below, of_client, placed}
+use Rattle.vg_run.specs.Calls.{AreInPlace}
+use Rattle.vg_run.specs.Session.{IsPresent, IsRun}
+
+-- a history of one client alone is all its own
+pub of_client-all : (client : ℕ) (H : List Entry) → AllByRecursion (λ e. client_of e ≡ client) H → of_client client H ≡ H
+of_client-all client [] mine = refl
+of_client-all client (entry ∷ more) mine =
+    let test : (client_of entry == client) ≡ true = grind (arith, nat_tests, mine.0) in
+    rw test (ap (λ (rest : List Entry). entry ∷ rest) (of_client-all client more mine.1))
+
+-- the numbers of entries that are numbered one after another
+all_above : (H : List Entry) (k first count : ℕ) → map call_of H ≡ range_with_len first count → k < first → AllByRecursion (λ later. k < call_of later) H
+all_above [] k first count numbers h = tt
+all_above (entry ∷ more) k first zero numbers h = absurd (cc)
+all_above (entry ∷ more) k first (suc count) numbers h =
+    let head : call_of entry ≡ first = cc in
+    let rest : map call_of more ≡ range_with_len (first + 1) count = cc in
+    (omega arith, all_above more k (first + 1) count rest (omega arith))
+
+all_below : (H : List Entry) (k first count : ℕ) → map call_of H ≡ range_with_len first count → first + count ≤ k → AllByRecursion (λ e. call_of e < k) H
+all_below [] k first count numbers h = tt
+all_below (entry ∷ more) k first zero numbers h = absurd (cc)
+all_below (entry ∷ more) k first (suc count) numbers h =
+    let head : call_of entry ≡ first = cc in
+    let rest : map call_of more ≡ range_with_len (first + 1) count = cc in
+    (omega arith, all_below more k (first + 1) count rest (omega arith))
+
+-- entries that are numbered one after another are in place
+pub in_place-numbered : (H : List Entry) (first count : ℕ) → map call_of H ≡ range_with_len first count → AreInPlace H
+in_place-numbered [] first count numbers = tt
+in_place-numbered (entry ∷ more) first zero numbers = absurd (cc)
+in_place-numbered (entry ∷ more) first (suc count) numbers =
+    let head : call_of entry ≡ first = cc in
+    let rest : map call_of more ≡ range_with_len (first + 1) count = cc in
+    (all_above more (call_of entry) (first + 1) count rest (omega arith), in_place-numbered more (first + 1) count rest)
+
+-- and they stand by their numbers
+placed-before : (entry : Entry) (more : List Entry) → AllByRecursion (λ later. call_of entry < call_of later) more → placed entry more ≡ entry ∷ more
+placed-before entry [] above = refl
+placed-before entry (next ∷ more) above =
+    let test : nat_le (call_of entry) (call_of next) ≡ true = grind (arith, nat_tests, above.0) in
+    rw test refl
+
+pub by_call-in_place : (H : List Entry) → AreInPlace H → by_call H ≡ H
+by_call-in_place [] place = refl
+by_call-in_place (entry ∷ more) place = ap (placed entry) (by_call-in_place more place.1) ∙ placed-before entry more place.0
+
+-- one number more
+range-suc : (first count : ℕ) → range_with_len first count ++ (first + count) ∷ [] ≡ range_with_len first (suc count)
+range-suc first zero = let e : first + 0 ≡ first = omega arith in ap (λ (n : ℕ). n ∷ []) e
+range-suc first (suc count) =
+    let e : first + suc count ≡ (first + 1) + count = omega arith in
+    ap (λ (n : ℕ). first ∷ (range_with_len (first + 1) count ++ n ∷ [])) e ∙ ap (λ (rest : List ℕ). first ∷ rest) (range-suc (first + 1) count)
+
+range-more : (first count n : ℕ) → first + count ≡ n → range_with_len first count ++ n ∷ [] ≡ range_with_len first (count + 1)
+range-more first count n e =
+    let next : suc count ≡ count + 1 = omega arith in
+    ap (λ (m : ℕ). range_with_len first count ++ m ∷ []) (sym e) ∙ range-suc first count ∙ ap (range_with_len first) next
+
+map-more : (H : List Entry) (entry : Entry) → map call_of (H ++ entry ∷ []) ≡ map call_of H ++ call_of entry ∷ []
+map-more [] entry = refl
+map-more (first ∷ more) entry = ap (λ (rest : List ℕ). call_of first ∷ rest) (map-more more entry)
+
+all-more : (P : Entry → Type 0) (H : List Entry) (entry : Entry) → AllByRecursion P H → P entry → AllByRecursion P (H ++ entry ∷ [])
+all-more P [] entry all here = (here, tt)
+all-more P (first ∷ more) entry all here = (all.0, all-more P more entry all.1 here)
+
+all-filter : (P : Entry → Type 0) (test : Entry → Bool) (H : List Entry) → AllByRecursion P H → AllByRecursion P (filter test H)
+all-filter P test [] all = tt
+all-filter P test (first ∷ more) all = by_test (test first) (all-filter P test more all.1)
+  where
+    by_test : (b : Bool) → AllByRecursion P (filter test more) → AllByRecursion P (cond b (first ∷ filter test more) (filter test more))
+    by_test true rest = (all.0, rest)
+    by_test false rest = rest
+
+all-map : (P Q : Entry → Type 0) (H : List Entry) → ((e : Entry) → P e → Q e) → AllByRecursion P H → AllByRecursion Q H
+all-map P Q [] f all = tt
+all-map P Q (first ∷ more) f all = (f first all.0, all-map P Q more f all.1)
+
+order-more : (before H : List Entry) (entry : Entry) → AreInOrder before H → IsInOrder (before ++ H) entry → AreInOrder before (H ++ entry ∷ [])
+order-more before [] entry order here = let P : List Entry → Type 0 = λ xs. IsInOrder xs entry in (subst P (append-nil before) here, tt)
+order-more before (first ∷ more) entry order here =
+    let moved : before ++ (first ∷ more) ≡ (before ++ first ∷ []) ++ more = simp append_assoc in
+    let P : List Entry → Type 0 = λ xs. IsInOrder xs entry in
+    (order.0, order-more (before ++ first ∷ []) more entry order.1 (subst P moved here))
+
+pub length-run : (client used : ℕ) (H : List Entry) → IsRun client used H → length H ≡ used
+length-run client used H run = let e : length (map call_of H) ≡ length H = simp length-map in sym e ∙ ap length run.numbers ∙ length-range_with_len 1 used
+
+not-same : (k : ℕ) (e : Entry) → call_of e < k → call_of e ≢ k
+not-same k e below = λ same. absurd (omega arith)
+
+below-all : (H : List Entry) (entry : Entry) → AllByRecursion (λ e. call_of e < call_of entry) H → AllByRecursion (λ e. call_of e < call_of entry) (numbers_below entry H)
+below-all H (entries.Act client call act reply) all = all
+below-all H (entries.Command client call request reply) all = all-filter (λ e. call_of e < call) (is_of_lane request.lane) H all
+
+-- one entry more of the client, with its next number
+pub run-more : (client used : ℕ) (H : List Entry) (entry : Entry) → IsRun client used H → IsPresent H → client_of entry ≡ client → call_of entry ≡ used + 1
+    → LaneOrder H entry → (H ≡ [] → IsFirst entry) → GiveUp H entry → IsRun client (used + 1) (H ++ entry ∷ [])
+run-more client used H entry run present owner number lane first give_up =
+    let mine : of_client (client_of entry) H ≡ H = ap (λ (n : ℕ). of_client n H) owner ∙ of_client-all client H run.mine in
+    let below : AllByRecursion (λ e. call_of e < call_of entry) H = all_below H (call_of entry) 1 used run.numbers (omega arith) in
+    let Fresh : List Entry → Type 0 = λ xs. AllByRecursion (λ e. call_of e ≢ call_of entry) xs in
+    let Rising : List Entry → Type 0 = λ xs. AllByRecursion (λ e. call_of e < call_of entry) (numbers_below entry xs) in
+    let First : List Entry → Type 0 = λ xs. xs ≡ [] → IsFirst entry in
+    let Present : List Entry → Type 0 = λ xs. AllByRecursion (λ e. is_leave e ≡ false) xs in
+    let call : CallOrder H entry = record {
+        counted = omega arith;
+        fresh = subst Fresh (sym mine) (all-map (λ e. call_of e < call_of entry) (λ e. call_of e ≢ call_of entry) H (not-same (call_of entry)) below);
+        rising = subst Rising (sym mine) (below-all H entry below);
+        first = subst First (sym mine) first;
+        present = subst Present (sym mine) present; } in
+    record {
+        order = order-more [] H entry run.order (record { lane = lane; call = call; give_up = give_up });
+        numbers = map-more H entry ∙ ap (λ (xs : List ℕ). xs ++ call_of entry ∷ []) run.numbers ∙ range-more 1 used (call_of entry) (omega arith);
+        mine = all-more (λ e. client_of e ≡ client) H entry run.mine owner; }
+
+pub present-more : (H : List Entry) (entry : Entry) → IsPresent H → is_leave entry ≡ false → IsPresent (H ++ entry ∷ [])
+present-more H entry present here = all-more (λ e. is_leave e ≡ false) H entry present here
+
+-- a history with numbers drawn isn't empty
+pub run-begun : (client used : ℕ) (H : List Entry) → IsRun client used H → 1 ≤ used → H ≢ []
+run-begun client used H run begun = λ none. absurd (omega (arith, length-run client used H run, ap length none))
+
+-- a history without entries is a run of no numbers
+pub run-none : (client : ℕ) → IsRun client 0 []
+run-none client = record { order = tt; numbers = refl; mine = tt }
+
+-- what a client gives up stands after all its calls
+pub give_up-run : (client used : ℕ) (H : List Entry) → IsRun client used H → map call_of (by_call (of_client client H)) ≡ range_with_len 1 used
+give_up-run client used H run =
+    let mine = of_client-all client H run.mine in
+    ap (λ (xs : List Entry). map call_of (by_call xs)) mine ∙ ap (map call_of) (by_call-in_place H (in_place-numbered H 1 used run.numbers)) ∙ run.numbers
