@@ -2,3 +2,4 @@ pub mod DigitLemmas
 pub mod ReplayLemmas
 pub mod OrderLemmas
 pub mod LaneLemmas
+pub mod GivesLemmas

@@ -114,15 +114,17 @@ run-more client used H entry run present owner number lane first give_up =
     let First : List Entry → Type 0 = λ xs. xs ≡ [] → IsFirst entry in
     let Present : List Entry → Type 0 = λ xs. AllByRecursion (λ e. is_leave e ≡ false) xs in
     let call : CallOrder H entry = record {
-        counted = omega arith;
-        fresh = subst Fresh (sym mine) (all-map (λ e. call_of e < call_of entry) (λ e. call_of e ≢ call_of entry) H (not-same (call_of entry)) below);
-        rising = subst Rising (sym mine) (below-all H entry below);
-        first = subst First (sym mine) first;
-        present = subst Present (sym mine) present; } in
+      counted = omega arith;
+      fresh = subst Fresh (sym mine) (all-map (λ e. call_of e < call_of entry) (λ e. call_of e ≢ call_of entry) H (not-same (call_of entry)) below);
+      rising = subst Rising (sym mine) (below-all H entry below);
+      first = subst First (sym mine) first;
+      present = subst Present (sym mine) present;
+    } in
     record {
-        order = order-more [] H entry run.order (record { lane = lane; call = call; give_up = give_up });
-        numbers = map-more H entry ∙ ap (λ (xs : List ℕ). xs ++ call_of entry ∷ []) run.numbers ∙ range-more 1 used (call_of entry) (omega arith);
-        mine = all-more (λ e. client_of e ≡ client) H entry run.mine owner; }
+      order = order-more [] H entry run.order (record { lane = lane; call = call; give_up = give_up });
+      numbers = map-more H entry ∙ ap (λ (xs : List ℕ). xs ++ call_of entry ∷ []) run.numbers ∙ range-more 1 used (call_of entry) (omega arith);
+      mine = all-more (λ e. client_of e ≡ client) H entry run.mine owner;
+    }
 
 pub present-more : (H : List Entry) (entry : Entry) → IsPresent H → is_leave entry ≡ false → IsPresent (H ++ entry ∷ [])
 present-more H entry present here = all-more (λ e. is_leave e ≡ false) H entry present here

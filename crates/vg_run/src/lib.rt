@@ -3,6 +3,7 @@
 
 mod calls;
 mod journal;
+mod run;
 mod script;
 mod session;
 

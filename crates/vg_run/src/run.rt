@@ -1,0 +1,130 @@
+//! A script's run, from its first client to its journal.
+
+ghost use Rattle.std.specs.Prelude.{◌≡◌, ◌≤◌, [], length, count_by, IfOk, OnOk};
+ghost use Rattle.std.specs.List.{AllByRecursion};
+ghost use Rattle.vg_machine.specs.Order.{AreInOrder, client_of};
+ghost use Rattle.vg_run.specs.Calls.{Follows};
+ghost use Rattle.vg_run.specs.Grammar as grammar;
+ghost use Rattle.vg_run.specs.Legal as legal;
+ghost use Rattle.vg_run.specs.Legal.{FollowAll, IsLegalJournal, IsOfClients};
+ghost use Rattle.vg_run.specs.Session.{IsRunnable, ShortLines};
+
+use crate::calls::{call, end, enter};
+use crate::journal::Journal;
+use crate::script::{Line, Script};
+use crate::session::Session;
+use std::alloc::{AllocError, Global};
+use vg_list::Seq;
+use vg_machine::{Entry, Setup};
+use vg_wire::Queue;
+
+/// Runs a script on a display of its own.
+pub(crate) fn play(alloc: Global, script: &Script) -> Result<Journal, AllocError>
+    requires { IsRunnable script.now }
+    ensures { IfOk result (IsLegalJournal script.now) }
+{
+    let setup = setup_of(alloc, script)?;
+    let mut session = Session::new(alloc, &setup)?;
+    play_clients(alloc, &mut session, script.clients.as_slice())?;
+    let (entries, frames) = session.close();
+    let control = count_control(entries.as_slice());
+    let cursor = count_cursor(entries.as_slice());
+    Ok(Journal {
+        setup,
+        entries: Seq::from_vec(entries),
+        control,
+        cursor,
+        frames: Seq::from_vec(frames),
+    })
+}
+
+/// What a script settles before its first client enters.
+fn setup_of(alloc: Global, script: &Script) -> Result<Setup, AllocError>
+    requires { IsRunnable script.now }
+    ensures { IfOk result (λ setup. setup ≡ grammar.setup_of script.now) }
+{
+    let _ = alloc;
+    Ok(Setup {
+        displays: script.displays.clone()?,
+        pages: script.pages,
+        accepted: 0x11000001f,
+        clients: script.clients.len() as u32,
+    })
+}
+
+/// Runs the clients, of whom there is one at most.
+fn play_clients(
+    alloc: Global,
+    session: &mut Session,
+    clients: &[Seq<Line>],
+) -> Result<(), AllocError>
+    requires none { session.old.history ≡ [] }
+    requires one { length clients.now ≤ 1 }
+    requires short { ShortLines clients.now }
+    ensures setup { session.new.setup ≡ session.old.setup }
+    ensures follows { OnOk result (FollowAll 1 clients.now session.new.history) }
+    ensures order { OnOk result (AreInOrder [] session.new.history) }
+    ensures owners { OnOk result (AllByRecursion (λ e. (1 ≤ client_of e) × (client_of e ≤ length clients.now)) session.new.history) }
+{
+    match clients {
+        [lines] => play_client(alloc, session, lines.as_slice()),
+        _ => Ok(()),
+    }
+}
+
+/// Runs client 1.
+fn play_client(alloc: Global, session: &mut Session, lines: &[Line]) -> Result<(), AllocError>
+    requires none { session.old.history ≡ [] }
+    requires short { length lines.now ≤ 100000 }
+    ensures setup { session.new.setup ≡ session.old.setup }
+    ensures follows { OnOk result (Follows lines.now session.new.history 1) }
+    ensures order { OnOk result (AreInOrder [] session.new.history) }
+    ensures owners { OnOk result (AllByRecursion (λ e. client_of e ≡ 1) session.new.history) }
+{
+    let mut client = enter(session, 1)?;
+    for line in lines {
+        call(alloc, session, &mut client, &line.step)?;
+    }
+    end(session, client)?;
+    Ok(())
+}
+
+/// Whether the entry is a command on this queue.
+fn is_control(entry: &Entry) -> bool
+    ensures { result ≡ legal.is_on_control entry.now }
+{
+    match entry {
+        Entry::Act { .. } => false,
+        Entry::Command { request, .. } => match request.queue {
+            Queue::Control => true,
+            Queue::Cursor => false,
+        },
+    }
+}
+
+/// Whether the entry is a command on the cursor queue.
+fn is_cursor(entry: &Entry) -> bool
+    ensures { result ≡ legal.is_on_cursor entry.now }
+{
+    match entry {
+        Entry::Act { .. } => false,
+        Entry::Command { request, .. } => match request.queue {
+            Queue::Control => false,
+            Queue::Cursor => true,
+        },
+    }
+}
+
+/// How many commands are on the control queue.
+fn count_control(entries: &[Entry]) -> u64
+    ensures { result ≡ count_by legal.is_on_control entries.now }
+{
+    entries.iter().filter(|entry| is_control(entry)).count() as u64
+}
+
+/// How many commands are on the cursor queue.
+fn count_cursor(entries: &[Entry]) -> u64
+    ensures { result ≡ count_by legal.is_on_cursor entries.now }
+{
+    entries.iter().filter(|entry| is_cursor(entry)).count() as u64
+}
