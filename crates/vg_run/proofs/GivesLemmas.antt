@@ -21,12 +21,14 @@ pub gives-more : (client : ℕ) (lines : List Line) (i : ℕ) (line : Line) (bef
     → GivesRest client lines i first before → Gives client line.step front → after ≡ before ++ front → GivesRest client lines (i + 1) first after
 gives-more client lines i line before after front first here given gives history =
     let Rest : List Entry → List Line → Type 0 = λ xs ls. GivesAll client ls xs in
-    let All : List Entry → Type 0 = λ xs. GivesAll client lines xs in
-    (given.0 ++ front, history ∙ ap (λ (xs : List Entry). xs ++ front) given.1,
+    let All : List Entry → Type 0 = λ xs. GivesAll client lines xs in (
+      given.0 ++ front,
+      history ∙ ap (λ (xs : List Entry). xs ++ front) given.1,
       λ rest left.
-        let with_front : GivesAll client (drop i lines) (front ++ rest) = subst (Rest (front ++ rest)) (sym here) (front, rest, refl, gives, left) in
-        let regrouped : given.0 ++ (front ++ rest) ≡ (given.0 ++ front) ++ rest = simp append_assoc in
-        subst All regrouped (given.2 (front ++ rest) with_front))
+          let with_front : GivesAll client (drop i lines) (front ++ rest) = subst (Rest (front ++ rest)) (sym here) (front, rest, refl, gives, left) in
+          let regrouped : given.0 ++ (front ++ rest) ≡ (given.0 ++ front) ++ rest = simp append_assoc in
+          subst All regrouped (given.2 (front ++ rest) with_front),
+    )
 
 -- a run of one client follows the lines that gave its entries
 pub follows-run : (client used : ℕ) (lines : List Line) (H : List Entry) → IsRun client used H → GivesCalls client lines H → Follows lines H client
@@ -37,9 +39,10 @@ follows-run client used lines H run calls =
     let long : used ≡ length (of_client client H) = sym (ap length mine ∙ length-run client used H run) in
     let Calls : List Entry → Type 0 = λ xs. GivesCalls client lines xs in
     record {
-        numbers = ap (map call_of) sorted ∙ run.numbers ∙ ap (range_with_len 1) long;
-        calls = subst Calls (sym sorted) calls;
-        in_place = subst AreInPlace (sym mine) place; }
+      numbers = ap (map call_of) sorted ∙ run.numbers ∙ ap (range_with_len 1) long;
+      calls = subst Calls (sym sorted) calls;
+      in_place = subst AreInPlace (sym mine) place;
+    }
 
 -- once no line is left, the client's entries are whole with its leave
 pub gives-end : (lines : List Line) (i : ℕ) (before after : List Entry) (first last : ℕ) → GivesRest 1 lines i (entries.Act 1 first Enter act_replies.Ok) before → length lines ≤ i

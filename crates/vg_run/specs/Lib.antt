@@ -3,4 +3,5 @@ pub mod Grammar
 pub mod Calls
 pub mod Legal
 pub mod Session
+pub mod Status
 pub mod Headline

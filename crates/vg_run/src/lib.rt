@@ -6,9 +6,11 @@ mod journal;
 mod run;
 mod script;
 mod session;
+mod top;
 
 pub use journal::{Journal, print};
 pub use script::{Line, Script, ScriptFault, Step, parse};
+pub use top::{Status, vgpu};
 
 #[cfg(test)]
 mod tests;

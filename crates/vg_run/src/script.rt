@@ -1,9 +1,11 @@
 //! The script: what is asked of the display, and by whom.
 
-ghost use Rattle.std.specs.Prelude.{◌≡◌, ◌==◌, ◌||◌, ◌-◌, ◌^◌, ◌<◌, true, not, length, slice_index, map, min, option_map, IfOk, IfErr};
+ghost use Rattle.std.specs.Prelude.{◌≡◌, ◌==◌, ◌||◌, ◌-◌, ◌^◌, ◌<◌, true, not, length, slice_index, map, min, option_map, IfOk, IfErr, IfSome, ◌≤◌};
 ghost use Rattle.std.specs.Char.{is_ascii_digit};
 ghost use Rattle.std.specs.List.{list_all, slice_split};
 ghost use Rattle.std.specs.Str.Parse.{digits_value};
+ghost use Rattle.vg_machine.specs.Setup.{IsDisplay};
+ghost use Rattle.vg_run.specs.Session.{IsRunnable};
 ghost use Rattle.vg_run.specs.Grammar as grammar;
 ghost use Rattle.vg_run.specs.Grammar.{Faulty, Parses, before_last_end, script_of, script_of_lines, words_of};
 
@@ -44,6 +46,7 @@ pub struct ScriptFault {
 pub fn parse(alloc: Global, bytes: &[u8]) -> Result<Result<Script, ScriptFault>, AllocError>
     ensures parsed { IfOk result (λ read. IfOk read (Parses bytes.now)) }
     ensures faulty { IfOk result (λ read. IfErr read (λ fault. Faulty bytes.now fault.line fault.kind)) }
+    ensures runnable { IfOk result (λ read. IfOk read IsRunnable) }
 {
     match read_display(alloc, bytes)? {
         Some(display) => Ok(Ok(info_script(alloc, display)?)),
@@ -53,7 +56,9 @@ pub fn parse(alloc: Global, bytes: &[u8]) -> Result<Result<Script, ScriptFault>,
 
 /// The script of one display and of one client that asks for the display information.
 fn info_script(alloc: Global, display: (u32, u32)) -> Result<Script, AllocError>
-    ensures { IfOk result (λ script. script ≡ grammar.info_script display) }
+    requires { IsDisplay display }
+    ensures value { IfOk result (λ script. script ≡ grammar.info_script display) }
+    ensures runnable { IfOk result IsRunnable }
 {
     let line = Line {
         number: 3,
@@ -69,7 +74,8 @@ fn info_script(alloc: Global, display: (u32, u32)) -> Result<Script, AllocError>
 /// The display of a text that spells a script.
 #[tactic(auto, unfolding(crate::specs::Grammar::lines_of))]
 fn read_display(alloc: Global, bytes: &[u8]) -> Result<Option<(u32, u32)>, AllocError>
-    ensures { IfOk result (λ display. script_of bytes.now ≡ option_map grammar.info_script display) }
+    ensures value { IfOk result (λ display. script_of bytes.now ≡ option_map grammar.info_script display) }
+    ensures range { IfOk result (λ display. IfSome display IsDisplay) }
 {
     if bytes.len() > 28 {
         return Ok(None);
@@ -80,7 +86,8 @@ fn read_display(alloc: Global, bytes: &[u8]) -> Result<Option<(u32, u32)>, Alloc
 
 /// The display of the lines of a script.
 fn display_of_lines(alloc: Global, lines: &[&[u8]]) -> Result<Option<(u32, u32)>, AllocError>
-    ensures { IfOk result (λ display. script_of_lines (map (λ line. line.now) lines.now) ≡ option_map grammar.info_script display) }
+    ensures value { IfOk result (λ display. script_of_lines (map (λ line. line.now) lines.now) ≡ option_map grammar.info_script display) }
+    ensures range { IfOk result (λ display. IfSome display IsDisplay) }
 {
     match lines {
         [display, client, info] => {
@@ -114,7 +121,8 @@ fn pieces(alloc: Global, bytes: &[u8], at: u8) -> Result<Vec<&[u8]>, AllocError>
 #[tactic(auto, unfolding(crate::specs::Grammar::words_of))]
 /// The display of a line `display W H`.
 fn display_of(alloc: Global, line: &[u8]) -> Result<Option<(u32, u32)>, AllocError>
-    ensures { IfOk result (λ display. display ≡ grammar.display_of (words_of line.now)) }
+    ensures value { IfOk result (λ display. display ≡ grammar.display_of (words_of line.now)) }
+    ensures range { IfOk result (λ display. IfSome display IsDisplay) }
 {
     let words = pieces(alloc, line, b' ')?;
     Ok(size_of_words(words.as_slice()))
@@ -122,7 +130,8 @@ fn display_of(alloc: Global, line: &[u8]) -> Result<Option<(u32, u32)>, AllocErr
 
 /// The display of the words `display`, W and H.
 fn size_of_words(words: &[&[u8]]) -> Option<(u32, u32)>
-    ensures { result ≡ grammar.display_of (map (λ word. word.now) words.now) }
+    ensures value { result ≡ grammar.display_of (map (λ word. word.now) words.now) }
+    ensures range { IfSome result IsDisplay }
 {
     match words {
         [name, width, height] if *name == b"display".as_slice() => {
@@ -136,7 +145,8 @@ fn size_of_words(words: &[&[u8]]) -> Option<(u32, u32)>
 
 /// The number from 1 to `high` that a word spells.
 fn number_to(high: u32, word: &[u8]) -> Option<u32>
-    ensures { result ≡ grammar.number_to high word.now }
+    ensures value { result ≡ grammar.number_to high word.now }
+    ensures range { IfSome result (λ n. (1 ≤ n) × (n ≤ high)) }
 {
     let n = number_of(word)?;
     if 1 <= n && n <= u64::from(high) {

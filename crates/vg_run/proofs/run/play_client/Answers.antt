@@ -26,12 +26,13 @@ loop-line-preserved c =
     let Given : ℕ → Type 0 = λ n. Gives n line.step done.0 in
     let one = subst Given c.loop-line.invariant.number done.1 in
     record {
-        setup = c.call.ensures.setup ∙ c.loop-line.invariant.setup;
-        number = c.call.ensures.number ∙ c.loop-line.invariant.number;
-        used = c.in_ok-call.ensures.used ∙ omega (arith, c.loop-line.invariant.used);
-        run = c.in_ok-call.ensures.run;
-        present = c.in_ok-call.ensures.present;
-        gives = gives-more 1 lines i line c.loop-line.session.history c.call.new.session.history done.0 first (drop_more lines i (record { number = 0; step = Info }) (omega arith)) c.loop-line.invariant.gives one done.2; }
+      setup = c.call.ensures.setup ∙ c.loop-line.invariant.setup;
+      number = c.call.ensures.number ∙ c.loop-line.invariant.number;
+      used = c.in_ok-call.ensures.used ∙ omega (arith, c.loop-line.invariant.used);
+      run = c.in_ok-call.ensures.run;
+      present = c.in_ok-call.ensures.present;
+      gives = gives-more 1 lines i line c.loop-line.session.history c.call.new.session.history done.0 first (drop_more lines i (record { number = 0; step = Info }) (omega arith)) c.loop-line.invariant.gives one done.2;
+    }
 
 -- the client's number is 1
 left : (number used : ℕ) (H : List Entry) → number ≡ 1 → IsRun number used H → IsRun 1 used H
