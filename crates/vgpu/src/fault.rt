@@ -1,0 +1,82 @@
+//! What is said on standard error, and the exit status.
+
+ghost use Rattle.std.specs.Prelude.{◌≡◌, ◌↔◌, IsNone};
+ghost use Rattle.vgpu.specs.Codes.{exit_code};
+
+use thiserror::Error;
+use vg_run::Status;
+
+/// Why a call didn't end well.
+#[derive(Clone, Copy, Debug, PartialEq, Eq, Error)]
+pub enum Fault {
+    #[error("usage: vgpu run")]
+    Usage,
+    #[error("script line {line}: {kind}")]
+    Script { line: u32, kind: Kind },
+    #[error("read fault")]
+    ReadFault,
+    #[error("write fault")]
+    WriteFault,
+    #[error("out of memory")]
+    NoMemory,
+}
+
+/// What is wrong with a line of a script.
+#[derive(Clone, Copy, Debug, PartialEq, Eq, Error)]
+pub enum Kind {
+    #[error("text")]
+    Text,
+    #[error("word")]
+    Word,
+    #[error("number")]
+    Number,
+    #[error("limit")]
+    Limit,
+    #[error("name")]
+    Name,
+    #[error("wait cycle")]
+    WaitCycle,
+}
+
+/// The kind of a fault's number, which goes from 1 to 6.
+fn kind_of(number: u8) -> Kind {
+    match number {
+        1 => Kind::Text,
+        2 => Kind::Word,
+        3 => Kind::Number,
+        4 => Kind::Limit,
+        5 => Kind::Name,
+        _ => Kind::WaitCycle,
+    }
+}
+
+/// What is said of a status; nothing where all is done.
+pub fn fault_of(status: Status) -> Option<Fault>
+    ensures { IsNone result ↔ (status ≡ Status.Done) }
+{
+    match status {
+        Status::Done => None,
+        Status::Usage => Some(Fault::Usage),
+        Status::Script { line, kind } => Some(Fault::Script {
+            line,
+            kind: kind_of(kind),
+        }),
+        Status::ReadFault => Some(Fault::ReadFault),
+        Status::WriteFault => Some(Fault::WriteFault),
+        Status::NoMemory => Some(Fault::NoMemory),
+    }
+}
+
+/// The exit status of the program.
+pub fn code_of(status: Status) -> u8
+    ensures { result ≡ exit_code status }
+{
+    match status {
+        Status::Done => 0,
+        Status::Usage => 2,
+        Status::Script { .. } => 3,
+        Status::ReadFault => 4,
+        Status::WriteFault => 5,
+        Status::NoMemory => 7,
+    }
+}
