@@ -3,3 +3,4 @@ pub mod ReplayLemmas
 pub mod OrderLemmas
 pub mod LaneLemmas
 pub mod GivesLemmas
+pub mod LawLemmas

@@ -3,12 +3,14 @@
 
 mod calls;
 mod journal;
+mod laws;
 mod run;
 mod script;
 mod session;
 mod top;
 
 pub use journal::{Journal, print};
+pub use laws::at_most_one_history;
 pub use script::{Line, Script, ScriptFault, Step, parse};
 pub use top::{Status, vgpu};
 

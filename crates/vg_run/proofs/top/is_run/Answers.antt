@@ -11,11 +11,10 @@ one f (first ∷ next ∷ more) x long is = absurd (omega arith)
 pub returns-in-len1 : goal.returns-in-len1
 returns-in-len1 c =
     let whole = one string_bytes c.args.words.now c.word-item.result (omega arith) c.word-item.is in
-    let decides = bytes_eq-Decides c.as_str.result.now (codes "run") in
-    (
-        λ yes. whole ∙ ap (λ (bytes : List ℕ). bytes ∷ []) (sym c.as_str.ensures.value ∙ decides.0 (sym c.eq.ensures ∙ yes)),
-        λ same.
-            let joined = sym whole ∙ same in
-            let bytes : string_bytes c.word-item.result ≡ codes "run" = cc joined in
-            c.eq.ensures ∙ decides.1 (c.as_str.ensures.value ∙ bytes),
+    let decides = bytes_eq-Decides c.as_str.result.now (codes "run") in (
+      λ yes. whole ∙ ap (λ (bytes : List ℕ). bytes ∷ []) (sym c.as_str.ensures.value ∙ decides.0 (sym c.eq.ensures ∙ yes)),
+      λ same.
+          let joined = sym whole ∙ same in
+          let bytes : string_bytes c.word-item.result ≡ codes "run" = cc joined in
+          c.eq.ensures ∙ decides.1 (c.as_str.ensures.value ∙ bytes),
     )
