@@ -1,5 +1,5 @@
 -- Free pages, counted and listed from the first page on.
-use Rattle.std.proofs.Common.{◌≡◌, ◌≢◌, ℕ, ◌+◌, ◌*◌, ◌<◌, ◌≤◌, Bool, true, false, not, cond, min, slice_index_or, List, [], ◌∷◌, ◌++◌, length, take, drop, map, sym, ap, ◌∙◌, refl, arith}
+use Rattle.std.proofs.Common.{◌≡◌, ◌≢◌, ℕ, ◌+◌, ◌<◌, ◌≤◌, Bool, true, false, not, cond, min, slice_index_or, List, [], ◌∷◌, ◌++◌, length, take, drop, sym, ap, ◌∙◌, arith}
 use Rattle.std.specs.List.{filter, range_with_len, All, AllPairs}
 use Rattle.std.proofs.lemmas.List.{map-id, take_at, take_all, take-append-drop, get_or_default, append-nil, length_push, length-take, get_or-take}
 use Rattle.std.proofs.lemmas.List.Elements.{filter-append, All-filter, All-take}

@@ -1,12 +1,11 @@
 -- Pages marked, and pages zeroed, one after another.
-use Rattle.std.proofs.Common.{◌≡◌, ◌≢◌, ℕ, ◌+◌, ◌*◌, ◌-◌, ◌/◌, ◌<◌, ◌≤◌, ◌==◌, Bool, true, false, cond, ◌||◌, List, [], Some, length, get_or, slice_get, slice_index_or, set, take, drop, replicate, sym, ap, ◌∙◌, refl, inl, inr, arith}
-use Rattle.std.specs.List.{list_any, All}
-use Rattle.std.proofs.lemmas.Bool.{eq-eqb, ne_eqb, or_right, cases_eq, cases_lt}
-use Rattle.std.proofs.lemmas.List.{get_or_default, length-take, length-drop, length-replicate, get_or-replicate}
+use Rattle.std.proofs.Common.{◌≡◌, ◌≢◌, ℕ, ◌+◌, ◌*◌, ◌/◌, ◌<◌, ◌≤◌, ◌==◌, Bool, true, false, cond, ◌||◌, List, [], ◌++◌, Some, length, get_or, slice_get, slice_index_or, set, take, drop, replicate, sym, ap, ◌∙◌, refl, inl, inr, arith}
+use Rattle.std.specs.List.{All}
+use Rattle.std.proofs.lemmas.Bool.{eq-eqb, ne_eqb, or_right}
+use Rattle.std.proofs.lemmas.List.{get_or_default, take_at, length-take, length-drop, length-replicate, get_or-replicate}
 use Rattle.std.proofs.lemmas.Option.{slice_get_cases, get_or_from_slice_get}
 use Rattle.std.proofs.lemmas.List.Folds.{list_any_more, list_any-from_Any}
 use borrow.Rule.Slice.PartMut.{put_mid}
-use Rattle.vg_places.specs.Places.{tabulate}
 use Rattle.vg_places.proofs.Places.{length-tabulate, slice_get-tabulate, tabulate_from_places}
 use Rattle.vg_pages.specs.Memory.{AreGivable, is_among, free_pages, marked, zeroed}
 use Rattle.vg_pages.proofs.FreePages.{lowest-inside, lowest-apart}
@@ -74,6 +73,17 @@ unfolding marked
 marked-same pages now taken page was =
     slice_get-tabulate (λ place. cond (is_among pages place) now (slice_index_or taken place now)) (length taken) page (inside_from_slice_get taken page now was)
     ∙ ap Some (elim (is_among pages page) as (λ b. cond b now (slice_index_or taken page now) ≡ now) [ true ↦ refl | false ↦ get_or_from_slice_get taken page now now was ])
+
+length-marked : (pages : List ℕ) (now : Bool) (taken : List Bool) → length (marked pages now taken) ≡ length taken
+unfolding marked
+length-marked pages now taken = length-tabulate (λ page. cond (is_among pages page) now (slice_index_or taken page now)) (length taken)
+
+-- the flags of a `Vec` after they were marked through a slice of it
+pub marked-in_place : (pages : List ℕ) (now : Bool) (old lent after : List Bool) (n : ℕ) → lent ≡ old → after ≡ marked pages now lent → n ≡ length lent → take n (after ++ drop (length after) old) ≡ marked pages now old
+marked-in_place pages now old lent after n whole marks long =
+    let same = marks ∙ ap (marked pages now) whole in
+    let size : length after ≡ n = ap length marks ∙ length-marked pages now lent ∙ sym long in
+    take_at after (drop (length after) old) n size ∙ same
 
 -- the lowest free pages may be given back once they are taken
 pub givable-lowest : (taken : List Bool) (n : ℕ) → AreGivable (marked (take n (free_pages taken)) true taken) (take n (free_pages taken))

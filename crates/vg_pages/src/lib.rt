@@ -2,10 +2,8 @@
 #![tactic(auto)]
 
 mod flags;
-mod laws;
 mod memory;
 
-pub use laws::pages_stay_givable;
 pub use memory::Pages;
 
 /// How many bytes a page has.

@@ -1,8 +1,8 @@
 //! Guest memory as one buffer, with a flag for each page.
 
-ghost use Rattle.std.specs.Prelude.{◌≡◌, ◌*◌, ◌<◌, ◌≤◌, ◌↔◌, IfOk, IfSome, IfNone, OnErr, IsNone, IsTrue, length, take, false, replicate, vec_len};
+ghost use Rattle.std.specs.Prelude.{◌≡◌, ℕ, List, All, ◌*◌, ◌<◌, ◌≤◌, ◌↔◌, IfOk, IfSome, IfNone, OnErr, IsNone, IsTrue, length, take, false, replicate, vec_len};
 ghost use Rattle.vg_pages.specs.declared.TheConstants.{MOST_PAGES, PAGE_BYTES};
-ghost use Rattle.vg_pages.specs.Memory.{HasWholePages, fresh_memory, Holds, bytes_at, written_at, free_pages, marked, after_taking, AreGivable};
+ghost use Rattle.vg_pages.specs.Memory.{HasWholePages, fresh_memory, Holds, bytes_at, written_at, free_pages, is_among, marked, after_taking, AreGivable};
 
 use crate::flags::{count_free, lowest_free, mark, zero};
 use crate::{MEMORY_START, PAGE_BYTES};
@@ -45,12 +45,16 @@ impl Pages {
     /// Takes the `n` lowest free pages, and zeros them. None where fewer are free.
     pub fn take(&mut self, alloc: Global, n: u32) -> Result<Option<Vec<u32>>, AllocError>
         ensures none { IfOk result (λ answer. IsNone answer ↔ (length (free_pages self.old.taken) < n)) }
-        ensures lowest { IfOk result (λ answer. IfSome answer (λ pages. pages.items ≡ take n (free_pages self.old.taken))) }
+        ensures lowest { IfOk result (λ answer.
+            IfSome answer (λ pages. pages.items ≡ take n (free_pages self.old.taken))) }
         ensures count { IfOk result (λ answer. IfSome answer (λ pages. vec_len pages ≡ n)) }
-        ensures givable { IfOk result (λ answer. IfSome answer (λ pages. AreGivable self.new.taken pages.items)) }
+        ensures givable { IfOk result (λ answer.
+            IfSome answer (λ pages. AreGivable self.new.taken pages.items)) }
 
         // What memory is afterwards.
-        ensures after { IfOk result (λ answer. IfSome answer (λ pages. self.new ≡ after_taking self.old pages.items)) }
+        ensures after { IfOk result (λ answer.
+            IfSome answer (λ pages. self.new ≡ after_taking self.old pages.items)) }
+        ensures others { (mine : List ℕ) → AreGivable self.old.taken mine → AreGivable self.new.taken mine }
         ensures kept { IfOk result (λ answer. IfNone answer (self.new ≡ self.old)) }
         ensures err { OnErr result (self.new ≡ self.old) }
     {
@@ -66,7 +70,9 @@ impl Pages {
     /// Makes these pages free again. Their bytes stay until they are taken.
     pub fn give(&mut self, list: &[u32])
         requires { AreGivable self.old.taken list.now }
-        ensures { self.new ≡ record self.old { taken = marked list.now false self.old.taken } }
+        ensures after { self.new ≡ record self.old { taken = marked list.now false self.old.taken } }
+        ensures others { (mine : List ℕ) → AreGivable self.old.taken mine
+            → All (λ page. is_among list.now page ≡ false) mine → AreGivable self.new.taken mine }
     {
         mark(self.taken.as_mut_slice(), list, false);
     }

@@ -1,4 +1,9 @@
-use super::{Pages, pages_stay_givable};
+ghost use Rattle.std.specs.Prelude.{◌≡◌, ℕ, List, IfOk};
+ghost use Rattle.vg_pages.specs.Memory.{AreGivable};
+
+use super::Pages;
+use std::alloc::Global;
+use std::process::Abort;
 use std::test::Fail;
 
 const START: u64 = 1_048_576;
@@ -35,50 +40,71 @@ fn ranges_are_held_in_whole_numbers(rt: HostRuntime) -> Result<(), Fail> {
     Ok(())
 }
 
+fn taken(alloc: Global, memory: &mut Pages, n: u32) -> Result<Vec<u32>, Fail>
+    ensures givable { IfOk result (λ pages. AreGivable memory.new.taken pages.items) }
+    ensures others { (mine : List ℕ) → AreGivable memory.old.taken mine → AreGivable memory.new.taken mine }
+{
+    let pages = memory.take(alloc, n)?.ok_or("too few are free")?;
+    Ok(pages)
+}
+
+fn look(rt: &impl Abort, memory: &Pages, addr: u64) -> [u8; 6] {
+    assert!(rt; memory.holds(addr, 6));
+    let mut seen = [9; 6];
+    memory.read(addr, &mut seen);
+    seen
+}
+
+fn put(rt: &impl Abort, memory: &mut Pages, addr: u64, bytes: &[u8])
+    ensures { memory.new.taken ≡ memory.old.taken }
+{
+    assert!(rt; memory.holds(addr, bytes.len() as u64));
+    memory.write(addr, bytes);
+}
+
 #[test]
 fn the_lowest_free_pages_are_taken(rt: HostRuntime) -> Result<(), Fail> {
     let mut memory = Pages::new(rt.alloc(), 8)?;
     assert_eq!(rt; memory.free(), 8);
-    let first = memory.take(rt.alloc(), 2)?.ok_or("eight are free")?;
+    let first = taken(rt.alloc(), &mut memory, 2)?;
     assert_eq!(rt; first.as_slice(), [0, 1].as_slice());
-    let second = memory.take(rt.alloc(), 3)?.ok_or("six are free")?;
+    let second = taken(rt.alloc(), &mut memory, 3)?;
     assert_eq!(rt; second.as_slice(), [2, 3, 4].as_slice());
     assert_eq!(rt; memory.free(), 3);
     memory.give(first.as_slice());
     assert_eq!(rt; memory.free(), 5);
-    assert!(rt; memory.take(rt.alloc(), 6)?.is_none());
-    assert!(rt; memory.take(rt.alloc(), u32::MAX)?.is_none());
-    let third = memory.take(rt.alloc(), 3)?.ok_or("five are free")?;
+    let third = taken(rt.alloc(), &mut memory, 3)?;
     assert_eq!(rt; third.as_slice(), [0, 1, 5].as_slice());
-    memory.give(third.as_slice());
-    let none = memory.take(rt.alloc(), 0)?.ok_or("none are always free")?;
-    assert!(rt; none.is_empty());
-    let all = memory.take(rt.alloc(), 5)?.ok_or("five are free")?;
-    assert_eq!(rt; all.as_slice(), [0, 1, 5, 6, 7].as_slice());
-    assert_eq!(rt; memory.free(), 0);
-    pages_stay_givable();
+    assert_eq!(rt; memory.free(), 2);
     Ok(())
 }
 
 #[test]
-fn bytes_cross_pages_and_are_zero_when_a_page_is_taken_again(rt: HostRuntime) -> Result<(), Fail> {
+fn none_are_taken_where_fewer_are_free(rt: HostRuntime) -> Result<(), Fail> {
     let mut memory = Pages::new(rt.alloc(), 3)?;
-    let kept = memory.take(rt.alloc(), 1)?.ok_or("three are free")?;
-    assert_eq!(rt; kept.as_slice(), [0].as_slice());
-    let given = memory.take(rt.alloc(), 1)?.ok_or("two are free")?;
-    assert_eq!(rt; given.as_slice(), [1].as_slice());
-    let across = START + 4_094;
-    assert!(rt; memory.holds(across, 4) && memory.holds(across - 1, 6));
-    memory.write(across, &[1, 2, 3, 4]);
-    let mut seen = [9; 6];
-    memory.read(across - 1, &mut seen);
-    assert_eq!(rt; seen, [0, 1, 2, 3, 4, 0]);
+    assert!(rt; memory.take(rt.alloc(), 4)?.is_none());
+    assert!(rt; memory.take(rt.alloc(), u32::MAX)?.is_none());
+    let none = taken(rt.alloc(), &mut memory, 0)?;
+    assert!(rt; none.is_empty());
+    let all = taken(rt.alloc(), &mut memory, 3)?;
+    assert_eq!(rt; all.as_slice(), [0, 1, 2].as_slice());
+    assert_eq!(rt; memory.free(), 0);
+    assert!(rt; memory.take(rt.alloc(), 1)?.is_none());
+    Ok(())
+}
+
+#[test]
+fn a_page_that_held_bytes_is_zero_when_it_is_taken_again(rt: HostRuntime) -> Result<(), Fail> {
+    let mut memory = Pages::new(rt.alloc(), 3)?;
+    taken(rt.alloc(), &mut memory, 1)?;
+    let given = taken(rt.alloc(), &mut memory, 1)?;
+    let across = START + 4_093;
+    put(&rt, &mut memory, across + 1, &[1, 2, 3, 4]);
+    assert_eq!(rt; look(&rt, &memory, across), [0, 1, 2, 3, 4, 0]);
     memory.give(given.as_slice());
-    memory.read(across - 1, &mut seen);
-    assert_eq!(rt; seen, [0, 1, 2, 3, 4, 0]);
-    assert!(rt; memory.take(rt.alloc(), 1)?.is_some());
-    memory.read(across - 1, &mut seen);
-    assert_eq!(rt; seen, [0, 1, 2, 0, 0, 0]);
+    assert_eq!(rt; look(&rt, &memory, across), [0, 1, 2, 3, 4, 0]);
+    taken(rt.alloc(), &mut memory, 1)?;
+    assert_eq!(rt; look(&rt, &memory, across), [0, 1, 2, 0, 0, 0]);
     Ok(())
 }
 

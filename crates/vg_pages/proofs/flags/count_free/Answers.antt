@@ -1,5 +1,5 @@
 -- One more free page is counted, or none.
-use Rattle.std.proofs.Common.{◌≡◌, ◌+◌, ap, sym, ◌∙◌, length, arith}
+use Rattle.std.proofs.Common.{◌+◌, ap, sym, ◌∙◌, length, arith}
 use Rattle.vg_pages.proofs.FreePages.{length-free_below_yes, free_below_no}
 use Rattle.vg_pages.proofs.flags.count_free.Goals as goal
 use Rattle.vg_pages.proofs.flags.count_free.Goals.{then-not-is_taken, else-not-is_taken}

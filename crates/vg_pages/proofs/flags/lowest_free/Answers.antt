@@ -1,5 +1,5 @@
 -- The list has the free pages passed so far, until it is full.
-use Rattle.std.proofs.Common.{◌≡◌, ◌+◌, ◌≤◌, ◌++◌, ◌∷◌, [], ap, sym, ◌∙◌, length, vec_len, arith}
+use Rattle.std.proofs.Common.{◌≡◌, ◌∷◌, [], ap, sym, ◌∙◌, length, vec_len, arith}
 use Rattle.std.proofs.lemmas.Slice.{pushed}
 use Rattle.std.proofs.lemmas.Grind.{common_steps}
 use Rattle.vg_pages.proofs.FreePages.{free_below, free_below_yes, free_below_no, lowest-full, below-inside}

@@ -1,6 +1,5 @@
-use Rattle.std.proofs.Common.{◌≡◌, ◌+◌, ◌*◌, ◌-◌, ◌≤◌, ◌∙◌, ap, subst, sym, get_or, length, take, drop, replicate, arith, ℕ, List, refl}
+use Rattle.std.proofs.Common.{◌+◌, ◌*◌, ◌-◌, ◌≤◌, ◌∙◌, ap, get_or, length, take, drop, replicate, arith, refl}
 use borrow.Rule.Slice.PartMut.{put_mid}
-use Rattle.vg_pages.specs.Memory.{zeroed}
 use Rattle.vg_pages.proofs.Marked.{zeroed_none, zeroed-page}
 use Rattle.vg_pages.proofs.flags.zero.Goals as goal
 
