@@ -88,6 +88,8 @@ fn meet_is_the_rectangle_of_the_common_pixels(rt: HostRuntime) {
     }
 }
 
+fn may_be_sent_and_shared<T: Send + Sync>() {}
+
 #[test]
 fn entries_and_laws(rt: HostRuntime) {
     let entry = MemEntry {
@@ -96,6 +98,9 @@ fn entries_and_laws(rt: HostRuntime) {
     };
     let copy = entry;
     assert_eq!(rt; copy, entry);
+    may_be_sent_and_shared::<MemEntry>();
+    may_be_sent_and_shared::<Rect>();
+    may_be_sent_and_shared::<Format>();
     pixels_tell_the_rectangle();
     each_code_once();
 }

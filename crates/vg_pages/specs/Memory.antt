@@ -19,7 +19,7 @@ HasWholePages memory =
 unfoldable pub fresh_memory : ℕ → Memory
 fresh_memory count = record { bytes = replicate (PAGE_BYTES * count) 0; taken = replicate count false }
 
--- The n bytes from this address on lie wholly in memory. No bytes do from its start to its end.
+-- The n bytes from this address on lie wholly in memory. An empty range does at each address up to its end.
 abbrev pub Holds : Memory → ℕ → ℕ → Type 0
 Holds memory addr n = (MEMORY_START ≤ addr) × (addr + n ≤ MEMORY_START + length memory.bytes)
 

@@ -85,8 +85,8 @@ impl Pages {
         count_free(self.taken.as_slice())
     }
 
-    /// Whether the `length` bytes from the address `addr` on lie wholly in memory. No bytes do at each address
-    /// from the start of memory to its end, the end too.
+    /// Whether the `length` bytes from the address `addr` on lie wholly in memory. An empty range does where its
+    /// address is in memory or the first one past it.
     pub fn holds(&self, addr: u64, length: u64) -> bool
         ensures held { IsTrue result ↔ Holds self.now addr length }
         ensures pages { HasWholePages self.now }

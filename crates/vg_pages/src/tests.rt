@@ -108,9 +108,12 @@ fn a_page_that_held_bytes_is_zero_when_it_is_taken_again(rt: HostRuntime) -> Res
     Ok(())
 }
 
+fn may_be_sent_and_shared<T: Send + Sync>() {}
+
 #[test]
 fn the_most_pages_are_made(rt: HostRuntime) -> Result<(), Fail> {
     let memory = Pages::new(rt.alloc(), 65_536)?;
+    may_be_sent_and_shared::<Pages>();
     assert_eq!(rt; memory.free(), 65_536);
     assert!(rt; memory.holds(START, 268_435_456));
     assert!(rt; !memory.holds(START, 268_435_457));
