@@ -1,6 +1,6 @@
 //! Laws on rectangles and formats, each the contract of a function that does no work.
 
-ghost use Rattle.std.specs.Prelude.{◌≡◌, ℕ, ◌↔◌};
+ghost use Rattle.std.specs.Prelude.{◌≡◌, ℕ};
 ghost use Rattle.vg_formats.specs.declared.rect.Rect.{Rect};
 ghost use Rattle.vg_formats.specs.declared.format.Format.{Format};
 ghost use Rattle.vg_formats.specs.Pixels.{Covers, HasPixels};

@@ -20,7 +20,8 @@ impl Rect {
     /// Whether no edge of the rectangle passes an area of `width` columns and `height` rows from 0, 0. An
     /// empty rectangle is judged by its edges too.
     pub fn inside(&self, width: u32, height: u32) -> bool
-        ensures { IsTrue result ↔ ((self.now.x + self.now.width ≤ width) × (self.now.y + self.now.height ≤ height)) }
+        ensures { IsTrue result
+            ↔ ((self.now.x + self.now.width ≤ width) × (self.now.y + self.now.height ≤ height)) }
     {
         u64::from(self.x) + u64::from(self.width) <= u64::from(width)
             && u64::from(self.y) + u64::from(self.height) <= u64::from(height)

@@ -1,7 +1,7 @@
 //! Guest memory as one buffer, with a flag for each page.
 
-ghost use Rattle.std.specs.Prelude.{◌≡◌, ℕ, List, All, ◌*◌, ◌<◌, ◌≤◌, ◌↔◌, IfOk, IfSome, IfNone, OnErr, IsNone, IsTrue, length, take, false, replicate, vec_len};
-ghost use Rattle.vg_pages.specs.declared.TheConstants.{MOST_PAGES, PAGE_BYTES};
+ghost use Rattle.std.specs.Prelude.{◌≡◌, ℕ, List, All, ◌<◌, ◌≤◌, ◌↔◌, IfOk, IfSome, IfNone, OnErr, IsNone, IsTrue, length, take, false, replicate, vec_len};
+ghost use Rattle.vg_pages.specs.declared.TheConstants.{MOST_PAGES};
 ghost use Rattle.vg_pages.specs.Memory.{HasWholePages, fresh_memory, Holds, bytes_at, written_at, free_pages, is_among, marked, after_taking, AreGivable};
 
 use crate::flags::{count_free, lowest_free, mark, zero};
