@@ -1,0 +1,27 @@
+-- The pixels of a rectangle.
+use Rattle.std.specs.Prelude.{ℕ, ◌+◌, ◌<◌, ◌≤◌}
+use Rattle.vg_formats.specs.declared.rect.Rect.{Rect}
+
+-- The pixel in column x and row y lies in the rectangle.
+abbrev pub Covers : Rect → ℕ → ℕ → Type 0
+Covers r x y = (r.x ≤ x) × (x < r.x + r.width) × (r.y ≤ y) × (y < r.y + r.height)
+
+-- No pixel lies in both.
+abbrev pub AreApart : Rect → Rect → Type 0
+AreApart a b = (x y : ℕ) → Covers a x y → Covers b x y → ⊥
+
+-- The pixels of `common` are those that lie in both.
+abbrev pub CoversCommon : Rect → Rect → Rect → Type 0
+CoversCommon common a b =
+    ((x y : ℕ) → Covers common x y → Covers a x y × Covers b x y)
+    × ((x y : ℕ) → Covers a x y → Covers b x y → Covers common x y)
+
+-- Some pixel lies in the rectangle.
+abbrev pub HasPixels : Rect → Type 0
+HasPixels r = (0 < r.width) × (0 < r.height)
+
+-- No edge of `inner` lies outside `outer`.
+abbrev pub LiesWithin : Rect → Rect → Type 0
+LiesWithin inner outer =
+    (outer.x ≤ inner.x) × (inner.x + inner.width ≤ outer.x + outer.width)
+    × (outer.y ≤ inner.y) × (inner.y + inner.height ≤ outer.y + outer.height)

@@ -1,0 +1,60 @@
+//! The flags of pages, and the bytes of pages by their numbers.
+
+ghost use Rattle.std.specs.Prelude.{◌≡◌, ◌+◌, ◌*◌, ◌<◌, ◌≤◌, All, IfOk, length, take};
+ghost use Rattle.vg_pages.specs.Memory.{free_pages, marked, zeroed};
+
+use crate::{MOST_PAGES, PAGE_BYTES};
+use std::alloc::{AllocError, Global};
+
+/// How many pages are free.
+pub(crate) fn count_free(taken: &[bool]) -> u32
+    requires { length taken.now ≤ MOST_PAGES }
+    ensures { result ≡ length (free_pages taken.now) }
+{
+    let mut count = 0;
+    for is_taken in taken {
+        if !*is_taken {
+            count += 1;
+        }
+    }
+    count
+}
+
+/// The `n` lowest free pages, rising.
+pub(crate) fn lowest_free(alloc: Global, taken: &[bool], n: usize) -> Result<Vec<u32>, AllocError>
+    requires { length taken.now ≤ MOST_PAGES }
+    ensures lowest { IfOk result (λ pages. pages.items ≡ take n (free_pages taken.now)) }
+    ensures inside { IfOk result (λ pages. All (λ page. page < length taken.now) pages.items) }
+{
+    let mut pages = Vec::with_capacity(alloc, n)?;
+    for (page, is_taken) in taken.iter().enumerate() {
+        if pages.len() == n {
+            return Ok(pages);
+        }
+        if !*is_taken {
+            pages.push(page as u32)?;
+        }
+    }
+    Ok(pages)
+}
+
+/// Marks these pages as taken or free.
+pub(crate) fn mark(taken: &mut [bool], pages: &[u32], now: bool)
+    requires { All (λ page. page < length taken.old) pages.now }
+    ensures { taken.new ≡ marked pages.now now taken.old }
+{
+    for page in pages {
+        taken[*page as usize] = now;
+    }
+}
+
+/// Writes zeros over these pages.
+pub(crate) fn zero(bytes: &mut [u8], pages: &[u32])
+    requires { All (λ page. PAGE_BYTES * page + PAGE_BYTES ≤ length bytes.old) pages.now }
+    ensures { bytes.new ≡ zeroed pages.now bytes.old }
+{
+    for page in pages {
+        let start = *page as usize * PAGE_BYTES;
+        bytes[start..start + PAGE_BYTES].fill(0);
+    }
+}

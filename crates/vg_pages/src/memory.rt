@@ -1,0 +1,126 @@
+//! Guest memory as one buffer, with a flag for each page.
+
+ghost use Rattle.std.specs.Prelude.{◌≡◌, ℕ, List, All, ◌<◌, ◌≤◌, ◌↔◌, IfOk, IfSome, IfNone, OnErr, IsNone, IsTrue, length, take, false, replicate, vec_len};
+ghost use Rattle.vg_pages.specs.declared.TheConstants.{MOST_PAGES};
+ghost use Rattle.vg_pages.specs.Memory.{HasWholePages, fresh_memory, Holds, bytes_at, written_at, free_pages, is_among, marked, after_taking, AreGivable};
+
+use crate::flags::{count_free, lowest_free, mark, zero};
+use crate::{MEMORY_START, PAGE_BYTES};
+use std::alloc::{AllocError, Global};
+use std::marker::Model;
+
+/// Guest memory: pages of 4,096 bytes, page p at the address 1,048,576 + 4,096 * p. Addresses and lengths
+/// are in bytes. A clause sees the bytes of all pages as one list, and for each page whether it is taken.
+#[derive(Drop)]
+pub struct Pages {
+    bytes: Vec<u8>,
+    taken: Vec<bool>,
+}
+
+impl Model for Pages {
+    ghost use Rattle.vg_pages.specs.Memory.{Memory, HasWholePages};
+
+    ghost Value = { Memory };
+
+    ghost view = { λ p. record { bytes = p.bytes.items; taken = p.taken.items } };
+
+    ghost invariant = { λ p. HasWholePages (record { bytes = p.bytes.items; taken = p.taken.items }) };
+}
+
+impl Pages {
+    /// Memory of `count` pages, all of it taken from the allocator here. Its bytes are 0, and no page is taken.
+    #[tactic(auto, unfolding(crate::specs::Memory::fresh_memory))]
+    pub fn new(alloc: Global, count: u32) -> Result<Pages, AllocError>
+        requires some { 0 < count }
+        requires limit { count ≤ MOST_PAGES }
+        ensures fresh { IfOk result (λ memory. memory ≡ fresh_memory count) }
+        ensures count { IfOk result (λ memory. length memory.taken ≡ count) }
+        ensures pages { IfOk result HasWholePages }
+    {
+        let bytes = zeros(alloc, count as usize * PAGE_BYTES)?;
+        let taken = vec![in alloc; false; count as usize]?;
+        Ok(Pages { bytes, taken })
+    }
+
+    /// Takes the `n` lowest free pages, and zeros them. None where fewer are free.
+    pub fn take(&mut self, alloc: Global, n: u32) -> Result<Option<Vec<u32>>, AllocError>
+        ensures none { IfOk result (λ answer. IsNone answer ↔ (length (free_pages self.old.taken) < n)) }
+        ensures lowest { IfOk result (λ answer.
+            IfSome answer (λ pages. pages.items ≡ take n (free_pages self.old.taken))) }
+        ensures count { IfOk result (λ answer. IfSome answer (λ pages. vec_len pages ≡ n)) }
+        ensures givable { IfOk result (λ answer.
+            IfSome answer (λ pages. AreGivable self.new.taken pages.items)) }
+
+        // What memory is afterwards.
+        ensures after { IfOk result (λ answer.
+            IfSome answer (λ pages. self.new ≡ after_taking self.old pages.items)) }
+        ensures others { (mine : List ℕ) → AreGivable self.old.taken mine → AreGivable self.new.taken mine }
+        ensures kept { IfOk result (λ answer. IfNone answer (self.new ≡ self.old)) }
+        ensures err { OnErr result (self.new ≡ self.old) }
+    {
+        if self.free() < n {
+            return Ok(None);
+        }
+        let pages = lowest_free(alloc, self.taken.as_slice(), n as usize)?;
+        mark(self.taken.as_mut_slice(), pages.as_slice(), true);
+        zero(self.bytes.as_mut_slice(), pages.as_slice());
+        Ok(Some(pages))
+    }
+
+    /// Makes these pages free again. Their bytes stay until they are taken.
+    pub fn give(&mut self, list: &[u32])
+        requires { AreGivable self.old.taken list.now }
+        ensures after { self.new ≡ record self.old { taken = marked list.now false self.old.taken } }
+        ensures others { (mine : List ℕ) → AreGivable self.old.taken mine
+            → All (λ page. is_among list.now page ≡ false) mine → AreGivable self.new.taken mine }
+    {
+        mark(self.taken.as_mut_slice(), list, false);
+    }
+
+    /// How many pages are free.
+    pub fn free(&self) -> u32
+        ensures count { result ≡ length (free_pages self.now.taken) }
+        ensures pages { HasWholePages self.now }
+    {
+        count_free(self.taken.as_slice())
+    }
+
+    /// Whether the `length` bytes from the address `addr` on lie wholly in memory. An empty range does where its
+    /// address is in memory or the first one past it.
+    pub fn holds(&self, addr: u64, length: u64) -> bool
+        ensures held { IsTrue result ↔ Holds self.now addr length }
+        ensures pages { HasWholePages self.now }
+    {
+        let end = MEMORY_START + self.bytes.len() as u64;
+        MEMORY_START <= addr && addr <= end && length <= end - addr
+    }
+
+    /// Copies the bytes from the address `addr` on into `out`, as many as it has.
+    pub fn read(&self, addr: u64, out: &mut [u8])
+        requires { Holds self.now addr (length out.old) }
+        ensures { out.new ≡ bytes_at self.now.bytes addr (length out.old) }
+    {
+        let memory = self.bytes.as_slice();
+        let start = (addr - MEMORY_START) as usize;
+        let end = start + out.len();
+        out.copy_from_slice(&memory[start..end]);
+    }
+
+    /// Writes `bytes` over memory from the address `addr` on.
+    pub fn write(&mut self, addr: u64, bytes: &[u8])
+        requires { Holds self.old addr (length bytes.now) }
+        ensures { self.new ≡ record self.old { bytes = written_at self.old.bytes addr bytes.now } }
+    {
+        let memory = self.bytes.as_mut_slice();
+        let start = (addr - MEMORY_START) as usize;
+        let end = start + bytes.len();
+        memory[start..end].copy_from_slice(bytes);
+    }
+}
+
+/// This many bytes, all 0.
+fn zeros(alloc: Global, size: usize) -> Result<Vec<u8>, AllocError>
+    ensures { IfOk result (λ bytes. bytes.items ≡ replicate size 0) }
+{
+    vec![in alloc; 0u8; size]
+}
