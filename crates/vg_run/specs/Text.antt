@@ -66,10 +66,14 @@ frame_line n frame =
 abbrev pub frame_text : ℕ → Frame → List ℕ
 frame_text n frame = frame_line n frame ++ frame.pixels ++ codes "\n"
 
--- The lines before the entries: the version, the displays from 0, the pages and the clients.
+-- The first line: the format and its version.
+unfoldable pub title_text : List ℕ
+title_text = codes "vgpu-journal 1\n"
+
+-- The lines before the entries: the title, the displays from 0, the pages and the clients.
 unfoldable pub head_text : Setup → List ℕ
 head_text setup =
-    codes "vgpu-journal 1\n" ++ numbered display_line 0 setup.displays ++ codes "memory " ++ decimal setup.pages ++ codes "\n"
+    title_text ++ numbered display_line 0 setup.displays ++ codes "memory " ++ decimal setup.pages ++ codes "\n"
     ++ codes "clients " ++ decimal setup.clients ++ codes "\n"
 
 -- `rings A B` and `frames M`

@@ -4,6 +4,9 @@ ghost use Rattle.std.specs.Prelude.{◌≡◌, ◌≤◌, IfOk, OnOk, OnErr};
 ghost use Rattle.vg_io.specs.Streams.{Rose, Takes, TakesSome};
 ghost use Rattle.vg_run.specs.Text.{text_of};
 
+mod lines;
+mod printer;
+
 use std::alloc::{AllocError, Global};
 use vg_io::{Failed, Sink};
 use vg_list::Seq;
