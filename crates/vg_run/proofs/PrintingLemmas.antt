@@ -1,7 +1,15 @@
-use Rattle.std.proofs.Common.{ℕ, ◌≡◌, ◌+◌, List, [], ◌++◌, length, take, drop, Option, Some, None, append_assoc, append-nil, sym, ap, ◌∙◌, refl, subst}
+use Rattle.std.proofs.Common.{ℕ, codes, ◌≡◌, ◌+◌, ◌<◌, List, get_or, Result, Ok, Err, OnErr, [], ◌++◌, length, take, drop, Option, Some, None, append_assoc, append-nil, sym, ap, ◌∙◌, refl, subst}
 use Rattle.std.proofs.lemmas.List.{take-append-drop, take_at}
 use Rattle.vg_io.specs.Streams.{Takes, TakesSome}
 use Rattle.vg_run.specs.Printing.{Printed, PrintedSome}
+use Rattle.vg_machine.specs.declared.scanout.Frame.{Frame}
+use Rattle.vg_run.specs.Text.{numbered, frame_line, frame_text}
+use Rattle.vg_run.proofs.NumberedLemmas.{numbered_append, written_more}
+
+-- What holds, holds after an error.
+pub on_err : {T E : Type 0} {P : Type 0} (r : Result T E) → P → OnErr r P
+on_err (Ok x) p = tt
+on_err (Err e) p = p
 
 -- What a sink takes in two calls.
 pub takes_both : (a b c : Option (List ℕ)) (xs ys : List ℕ) → Takes a b xs → Takes b c ys → Takes a c (xs ++ ys)
@@ -77,3 +85,61 @@ taken_some a b text some =
     let front : some.front ≡ take (length some.front) text =
         sym (take_at some.front some.rest (length some.front) refl) ∙ ap (take (length some.front)) some.whole in
     (length some.front, subst (Takes a b) front some.taken)
+
+-- One text of a list more.
+pub printed_more : {X : Type 0} (text : ℕ → X → List ℕ) (n : ℕ) (xs : List X) (i j : ℕ) (x d : X) (a b c : Option (List ℕ)) (old pending pending' : List ℕ) → Printed a b (old ++ numbered text n (take i xs)) pending → Printed b c (pending ++ text j x) pending' → j ≡ n + i → i < length xs → x ≡ get_or xs i d → Printed a c (old ++ numbered text n (take (i + 1) xs)) pending'
+printed_more text n xs i j x d a b c old pending pending' first second place within is_read =
+    subst (λ ys. Printed a c ys pending') (written_more text n xs i j x d old _ _ refl refl place within is_read)
+        (printed_then a b c _ _ _ _ first second)
+
+-- A front of one text of a list more.
+pub some_more : {X : Type 0} (text : ℕ → X → List ℕ) (n : ℕ) (xs : List X) (i j : ℕ) (x d : X) (a b c : Option (List ℕ)) (old pending : List ℕ) → Printed a b (old ++ numbered text n (take i xs)) pending → PrintedSome b c (pending ++ text j x) → j ≡ n + i → i < length xs → x ≡ get_or xs i d → PrintedSome a c (old ++ numbered text n xs)
+some_more text n xs i j x d a b c old pending first second place within is_read =
+    let front : PrintedSome a c (old ++ numbered text n (take (i + 1) xs)) =
+        subst (PrintedSome a c) (written_more text n xs i j x d old _ _ refl refl place within is_read)
+            (some_then a b c _ _ _ first second) in
+    let whole : old ++ numbered text n (take (i + 1) xs) ++ numbered text (n + length (take (i + 1) xs)) (drop (i + 1) xs) ≡ old ++ numbered text n xs =
+        append_assoc old _ _
+        ∙ ap (λ ys. old ++ ys) (sym (numbered_append text n (take (i + 1) xs) (drop (i + 1) xs)) ∙ ap (numbered text n) (take-append-drop (i + 1) xs)) in
+    subst (PrintedSome a c) whole (some_longer a c _ _ front)
+
+-- A frame: its line with all that waits, its pixels, and a line end for later.
+pub frame_printed : (a b c : Option (List ℕ)) (old buffer pixels pending : List ℕ) (n : ℕ) (frame : Frame) → buffer ≡ old ++ frame_line n frame → Takes a b buffer → pixels ≡ frame.pixels → Takes b c pixels → pending ≡ codes "\n" → Printed a c (old ++ frame_text n frame) pending
+frame_printed a b c old buffer pixels pending n frame is_buffer first is_pixels second is_pending =
+    record {
+      front = buffer ++ pixels;
+      taken = takes_both a b c _ _ first second;
+      whole = rw (is_buffer, is_pixels, is_pending) (simp append_assoc);
+    }
+
+-- A front of its line.
+pub frame_line_some : (a b : Option (List ℕ)) (old buffer : List ℕ) (n : ℕ) (frame : Frame) → buffer ≡ old ++ frame_line n frame → TakesSome a b buffer → PrintedSome a b (old ++ frame_text n frame)
+frame_line_some a b old buffer n frame is_buffer some =
+    let whole : buffer ++ (frame.pixels ++ codes "\n") ≡ old ++ frame_text n frame = rw is_buffer (simp append_assoc) in
+    subst (PrintedSome a b) whole (some_longer a b buffer _ (some_taken a b buffer some))
+
+-- A front of its pixels.
+pub frame_pixels_some : (a b c : Option (List ℕ)) (old buffer pixels : List ℕ) (n : ℕ) (frame : Frame) → buffer ≡ old ++ frame_line n frame → Takes a b buffer → pixels ≡ frame.pixels → TakesSome b c pixels → PrintedSome a c (old ++ frame_text n frame)
+frame_pixels_some a b c old buffer pixels n frame is_buffer first is_pixels some =
+    let whole : buffer ++ pixels ++ codes "\n" ≡ old ++ frame_text n frame = rw (is_buffer, is_pixels) (simp append_assoc) in
+    subst (PrintedSome a c) whole
+        (some_longer a c _ _ (some_then a b c buffer [] pixels (printed_all a b buffer first) (some_taken b c pixels some)))
+
+-- A text that is put behind what is pending.
+pub printed_put : (a b : Option (List ℕ)) (text pending more pending' : List ℕ) → Printed a b text pending → pending' ≡ pending ++ more → Printed a b (text ++ more) pending'
+printed_put a b text pending more pending' first is_put =
+    record {
+      front = first.front;
+      taken = first.taken;
+      whole = ap (λ ys. first.front ++ ys) is_put ∙ sym (append_assoc first.front pending more) ∙ ap (λ ys. ys ++ more) first.whole;
+    }
+
+-- The front of a text is one of each text that begins with it.
+pub some_within : (a b : Option (List ℕ)) (text more whole : List ℕ) → PrintedSome a b text → text ++ more ≡ whole → PrintedSome a b whole
+some_within a b text more whole some is_whole = subst (PrintedSome a b) is_whole (some_longer a b text more some)
+
+-- The head, the entries and the counts.
+pub counts_printed : (a b : Option (List ℕ)) (head entries counts p0 p1 p2 p3 : List ℕ) → p0 ≡ [] → p1 ≡ p0 ++ head → Printed a b (p1 ++ entries) p2 → p3 ≡ p2 ++ counts → Printed a b (head ++ entries ++ counts) p3
+counts_printed a b head entries counts p0 p1 p2 p3 is_empty is_head is_printed is_counts =
+    let is_front : p1 ≡ head = is_head ∙ ap (λ ys. ys ++ head) is_empty in
+    printed_put a b _ p2 counts p3 (subst (λ ys. Printed a b (ys ++ entries) p2) is_front is_printed) is_counts

@@ -8,7 +8,7 @@ ghost use Rattle.vg_run.specs.declared.journal.printer.PrintError.TheVariants.{M
 
 use super::Journal;
 use super::lines::{put, put_counts, put_entry, put_frame, put_head};
-use std::alloc::AllocError;
+use std::alloc::{AllocError, Global};
 use vg_io::{Failed, Sink, write_all};
 use vg_machine::{Entry, Frame};
 
@@ -84,7 +84,6 @@ fn print_entry<K: Sink>(
 }
 
 // The pixels go to the sink from where they stand.
-#[tactic(auto, using(crate::proofs::PrintingLemmas::some_taken))]
 fn print_frame<K: Sink>(
     sink: &mut K,
     buffer: &mut Vec<u8>,
@@ -100,5 +99,63 @@ fn print_frame<K: Sink>(
     hand_on(sink, buffer)?;
     write_all(sink, frame.pixels.as_slice())?;
     put(buffer, b"\n")?;
+    Ok(())
+}
+
+fn print_entries<K: Sink>(
+    sink: &mut K,
+    buffer: &mut Vec<u8>,
+    entries: &[Entry],
+) -> Result<(), PrintError>
+    ensures ok { OnOk result (Printed (K.held sink.old) (K.held sink.new) (buffer.old.items ++ numbered entry_line 1 entries.now) buffer.new.items) }
+    ensures some { OnErr result (PrintedSome (K.held sink.old) (K.held sink.new) (buffer.old.items ++ numbered entry_line 1 entries.now)) }
+    ensures cause { IsErrOf result PrintError.Fault → Rose (K.faults sink.old) (K.faults sink.new) }
+    ensures count { K.faults sink.old ≤ K.faults sink.new }
+{
+    for (at, entry) in entries.iter().enumerate() {
+        print_entry(sink, buffer, at as u64 + 1, entry)?;
+    }
+    Ok(())
+}
+
+fn print_frames<K: Sink>(
+    sink: &mut K,
+    buffer: &mut Vec<u8>,
+    frames: &[Frame],
+) -> Result<(), PrintError>
+    ensures ok { OnOk result (Printed (K.held sink.old) (K.held sink.new) (buffer.old.items ++ numbered frame_text 1 frames.now) buffer.new.items) }
+    ensures some { OnErr result (PrintedSome (K.held sink.old) (K.held sink.new) (buffer.old.items ++ numbered frame_text 1 frames.now)) }
+    ensures cause { IsErrOf result PrintError.Fault → Rose (K.faults sink.old) (K.faults sink.new) }
+    ensures count { K.faults sink.old ≤ K.faults sink.new }
+{
+    for (at, frame) in frames.iter().enumerate() {
+        print_frame(sink, buffer, at as u64 + 1, frame)?;
+    }
+    Ok(())
+}
+
+/// Writes all of the journal's text. Where it fails, a front of the text is written.
+pub(super) fn print_text<K: Sink>(
+    alloc: Global,
+    sink: &mut K,
+    journal: &Journal,
+) -> Result<(), PrintError>
+    ensures ok { OnOk result (Takes (K.held sink.old) (K.held sink.new) (text_of journal.now)) }
+    ensures some { OnErr result (PrintedSome (K.held sink.old) (K.held sink.new) (text_of journal.now)) }
+    ensures cause { IsErrOf result PrintError.Fault → Rose (K.faults sink.old) (K.faults sink.new) }
+    ensures count { K.faults sink.old ≤ K.faults sink.new }
+{
+    let mut buffer = Vec::new(alloc);
+    put_head(&mut buffer, &journal.setup)?;
+    print_entries(sink, &mut buffer, journal.entries.as_slice())?;
+    put_counts(
+        &mut buffer,
+        journal.control,
+        journal.cursor,
+        journal.frames.len() as u64,
+    )?;
+    print_frames(sink, &mut buffer, journal.frames.as_slice())?;
+    put(&mut buffer, b"end\n")?;
+    hand_on(sink, &mut buffer)?;
     Ok(())
 }
