@@ -133,13 +133,3 @@ printed_put a b text pending more pending' first is_put =
       taken = first.taken;
       whole = ap (λ ys. first.front ++ ys) is_put ∙ sym (append_assoc first.front pending more) ∙ ap (λ ys. ys ++ more) first.whole;
     }
-
--- The front of a text is one of each text that begins with it.
-pub some_within : (a b : Option (List ℕ)) (text more whole : List ℕ) → PrintedSome a b text → text ++ more ≡ whole → PrintedSome a b whole
-some_within a b text more whole some is_whole = subst (PrintedSome a b) is_whole (some_longer a b text more some)
-
--- The head, the entries and the counts.
-pub counts_printed : (a b : Option (List ℕ)) (head entries counts p0 p1 p2 p3 : List ℕ) → p0 ≡ [] → p1 ≡ p0 ++ head → Printed a b (p1 ++ entries) p2 → p3 ≡ p2 ++ counts → Printed a b (head ++ entries ++ counts) p3
-counts_printed a b head entries counts p0 p1 p2 p3 is_empty is_head is_printed is_counts =
-    let is_front : p1 ≡ head = is_head ∙ ap (λ ys. ys ++ head) is_empty in
-    printed_put a b _ p2 counts p3 (subst (λ ys. Printed a b (ys ++ entries) p2) is_front is_printed) is_counts
