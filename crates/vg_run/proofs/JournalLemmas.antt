@@ -1,5 +1,5 @@
 use Rattle.std.proofs.Common.{ℕ, codes, ◌≡◌, List, [], ◌++◌, length, Option, ap, ◌∙◌, subst}
-use Rattle.vg_io.specs.Streams.{Takes, TakesSome}
+use Rattle.vg_io.specs.Streams.{TakesSome}
 use Rattle.vg_machine.specs.declared.scanout.Frame.{Frame}
 use Rattle.vg_machine.specs.declared.history.Entry.{Entry}
 use Rattle.vg_run.specs.declared.journal.Journal.{Journal}
@@ -27,8 +27,8 @@ from_nothing journal p0 p1 slice is_empty is_head is_slice =
 in_entries : (a b : Option (List ℕ)) (journal : Journal) → PrintedSome a b (entries_of journal) → PrintedSome a b (text_of journal)
 in_entries a b journal some =
     some_longer a b (frames_of journal) (codes "end\n")
-        (some_longer a b (front_of journal) (numbered frame_text 1 journal.frames)
-            (some_longer a b (entries_of journal) (counts_text journal.control journal.cursor (length journal.frames)) some))
+    (some_longer a b (front_of journal) (numbered frame_text 1 journal.frames)
+    (some_longer a b (entries_of journal) (counts_text journal.control journal.cursor (length journal.frames)) some))
 
 pub entries_some : (a b : Option (List ℕ)) (journal : Journal) (p0 p1 : List ℕ) (slice : List Entry) → p0 ≡ [] → p1 ≡ p0 ++ head_text journal.setup → slice ≡ journal.entries → PrintedSome a b (p1 ++ numbered entry_line 1 slice) → PrintedSome a b (text_of journal)
 entries_some a b journal p0 p1 slice is_empty is_head is_slice some =
@@ -50,7 +50,7 @@ counts_printed a b journal p2 p3 count printed is_count is_put =
 pub frames_some : (a b c : Option (List ℕ)) (journal : Journal) (p3 : List ℕ) (slice : List Frame) → Printed a b (front_of journal) p3 → slice ≡ journal.frames → PrintedSome b c (p3 ++ numbered frame_text 1 slice) → PrintedSome a c (text_of journal)
 frames_some a b c journal p3 slice printed is_slice some =
     some_longer a c (frames_of journal) (codes "end\n")
-        (some_then a b c _ p3 _ printed (subst (λ xs. PrintedSome b c (p3 ++ numbered frame_text 1 xs)) is_slice some))
+    (some_then a b c _ p3 _ printed (subst (λ xs. PrintedSome b c (p3 ++ numbered frame_text 1 xs)) is_slice some))
 
 pub frames_printed : (a b c : Option (List ℕ)) (journal : Journal) (p3 p4 : List ℕ) (slice : List Frame) → Printed a b (front_of journal) p3 → slice ≡ journal.frames → Printed b c (p3 ++ numbered frame_text 1 slice) p4 → Printed a c (frames_of journal) p4
 frames_printed a b c journal p3 p4 slice printed is_slice more =

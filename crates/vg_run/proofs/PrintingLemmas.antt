@@ -83,24 +83,24 @@ some_taken a b text taken =
 pub taken_some : (a b : Option (List ℕ)) (text : List ℕ) → PrintedSome a b text → TakesSome a b text
 taken_some a b text some =
     let front : some.front ≡ take (length some.front) text =
-        sym (take_at some.front some.rest (length some.front) refl) ∙ ap (take (length some.front)) some.whole in
+    sym (take_at some.front some.rest (length some.front) refl) ∙ ap (take (length some.front)) some.whole in
     (length some.front, subst (Takes a b) front some.taken)
 
 -- One text of a list more.
 pub printed_more : {X : Type 0} (text : ℕ → X → List ℕ) (n : ℕ) (xs : List X) (i j : ℕ) (x d : X) (a b c : Option (List ℕ)) (old pending pending' : List ℕ) → Printed a b (old ++ numbered text n (take i xs)) pending → Printed b c (pending ++ text j x) pending' → j ≡ n + i → i < length xs → x ≡ get_or xs i d → Printed a c (old ++ numbered text n (take (i + 1) xs)) pending'
 printed_more text n xs i j x d a b c old pending pending' first second place within is_read =
     subst (λ ys. Printed a c ys pending') (written_more text n xs i j x d old _ _ refl refl place within is_read)
-        (printed_then a b c _ _ _ _ first second)
+    (printed_then a b c _ _ _ _ first second)
 
 -- A front of one text of a list more.
 pub some_more : {X : Type 0} (text : ℕ → X → List ℕ) (n : ℕ) (xs : List X) (i j : ℕ) (x d : X) (a b c : Option (List ℕ)) (old pending : List ℕ) → Printed a b (old ++ numbered text n (take i xs)) pending → PrintedSome b c (pending ++ text j x) → j ≡ n + i → i < length xs → x ≡ get_or xs i d → PrintedSome a c (old ++ numbered text n xs)
 some_more text n xs i j x d a b c old pending first second place within is_read =
     let front : PrintedSome a c (old ++ numbered text n (take (i + 1) xs)) =
-        subst (PrintedSome a c) (written_more text n xs i j x d old _ _ refl refl place within is_read)
-            (some_then a b c _ _ _ first second) in
+    subst (PrintedSome a c) (written_more text n xs i j x d old _ _ refl refl place within is_read)
+    (some_then a b c _ _ _ first second) in
     let whole : old ++ numbered text n (take (i + 1) xs) ++ numbered text (n + length (take (i + 1) xs)) (drop (i + 1) xs) ≡ old ++ numbered text n xs =
-        append_assoc old _ _
-        ∙ ap (λ ys. old ++ ys) (sym (numbered_append text n (take (i + 1) xs) (drop (i + 1) xs)) ∙ ap (numbered text n) (take-append-drop (i + 1) xs)) in
+    append_assoc old _ _
+    ∙ ap (λ ys. old ++ ys) (sym (numbered_append text n (take (i + 1) xs) (drop (i + 1) xs)) ∙ ap (numbered text n) (take-append-drop (i + 1) xs)) in
     subst (PrintedSome a c) whole (some_longer a c _ _ front)
 
 -- A frame: its line with all that waits, its pixels, and a line end for later.
@@ -123,7 +123,7 @@ pub frame_pixels_some : (a b c : Option (List ℕ)) (old buffer pixels : List �
 frame_pixels_some a b c old buffer pixels n frame is_buffer first is_pixels some =
     let whole : buffer ++ pixels ++ codes "\n" ≡ old ++ frame_text n frame = rw (is_buffer, is_pixels) (simp append_assoc) in
     subst (PrintedSome a c) whole
-        (some_longer a c _ _ (some_then a b c buffer [] pixels (printed_all a b buffer first) (some_taken b c pixels some)))
+    (some_longer a c _ _ (some_then a b c buffer [] pixels (printed_all a b buffer first) (some_taken b c pixels some)))
 
 -- A text that is put behind what is pending.
 pub printed_put : (a b : Option (List ℕ)) (text pending more pending' : List ℕ) → Printed a b text pending → pending' ≡ pending ++ more → Printed a b (text ++ more) pending'

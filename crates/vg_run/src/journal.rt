@@ -43,3 +43,6 @@ pub fn print<K: Sink>(
         Err(PrintError::Memory) => Err(AllocError),
     }
 }
+
+#[cfg(test)]
+mod tests;

@@ -1,4 +1,4 @@
-use Rattle.std.proofs.Common.{◌≡◌, ◌≤◌, ◌++◌, length, take}
+use Rattle.std.proofs.Common.{◌≡◌, ◌++◌, take}
 use Rattle.vg_run.specs.Text.{numbered, display_line}
 use Rattle.vg_run.proofs.journal.lines.put_displays.Given as goal
 

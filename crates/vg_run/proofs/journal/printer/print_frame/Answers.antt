@@ -17,4 +17,4 @@ returns-in_err-put-clause-some g c =
 pub returns-clause-ok : goal.returns-clause-ok
 returns-clause-ok g c =
     frame_printed _ _ _ _ _ _ _ _ _ c.in_ok-put_frame.ensures c.in_ok-hand_on.ensures.ok c.as_slice.ensures c.in_ok-write_all.ensures.ok
-        (c.in_ok-put.ensures ∙ ap (λ ys. ys ++ codes "\n") c.in_ok-hand_on.ensures.empty)
+    (c.in_ok-put.ensures ∙ ap (λ ys. ys ++ codes "\n") c.in_ok-hand_on.ensures.empty)

@@ -9,7 +9,7 @@ returns-in_err-print_entries-clause-some g c =
 pub returns-in_err-put_counts-clause-some : goal.returns-in_err-put_counts-clause-some
 returns-in_err-put_counts-clause-some g c =
     on_err _ (counts_some _ _ c.args.journal.now _
-        (entries_printed _ _ c.args.journal.now _ _ _ _ c.new-buffer.ensures.items c.in_ok-put_head.ensures c.as_slice.ensures c.in_ok-print_entries.ensures.ok))
+    (entries_printed _ _ c.args.journal.now _ _ _ _ c.new-buffer.ensures.items c.in_ok-put_head.ensures c.as_slice.ensures c.in_ok-print_entries.ensures.ok))
 
 pub returns-in_err-print_frames-clause-some : goal.returns-in_err-print_frames-clause-some
 returns-in_err-print_frames-clause-some g c =
