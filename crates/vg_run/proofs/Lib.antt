@@ -4,3 +4,6 @@ pub mod OrderLemmas
 pub mod LaneLemmas
 pub mod GivesLemmas
 pub mod LawLemmas
+pub mod NumberedLemmas
+pub mod PrintingLemmas
+pub mod JournalLemmas

@@ -5,3 +5,4 @@ pub mod Legal
 pub mod Session
 pub mod Status
 pub mod Headline
+pub mod Printing

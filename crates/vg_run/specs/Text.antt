@@ -1,6 +1,5 @@
 use Rattle.std.specs.Prelude.{ℕ, ◌+◌, List, [], ◌∷◌, ◌++◌, length, codes, decimal}
 use Rattle.hex.specs.Hex.{encode_lower}
-use Rattle.vg_wire.specs.declared.request.Queue.{Queue}
 use Rattle.vg_machine.specs.declared.setup.Setup.{Setup}
 use Rattle.vg_machine.specs.declared.scanout.Frame.{Frame}
 use Rattle.vg_machine.specs.declared.shape.Shape.{Shape}
@@ -66,10 +65,14 @@ frame_line n frame =
 abbrev pub frame_text : ℕ → Frame → List ℕ
 frame_text n frame = frame_line n frame ++ frame.pixels ++ codes "\n"
 
--- The lines before the entries: the version, the displays from 0, the pages and the clients.
+-- The first line: the format and its version.
+unfoldable pub title_text : List ℕ
+title_text = codes "vgpu-journal 1\n"
+
+-- The lines before the entries: the title, the displays from 0, the pages and the clients.
 unfoldable pub head_text : Setup → List ℕ
 head_text setup =
-    codes "vgpu-journal 1\n" ++ numbered display_line 0 setup.displays ++ codes "memory " ++ decimal setup.pages ++ codes "\n"
+    title_text ++ numbered display_line 0 setup.displays ++ codes "memory " ++ decimal setup.pages ++ codes "\n"
     ++ codes "clients " ++ decimal setup.clients ++ codes "\n"
 
 -- `rings A B` and `frames M`

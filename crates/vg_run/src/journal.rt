@@ -4,6 +4,10 @@ ghost use Rattle.std.specs.Prelude.{◌≡◌, ◌≤◌, IfOk, OnOk, OnErr};
 ghost use Rattle.vg_io.specs.Streams.{Rose, Takes, TakesSome};
 ghost use Rattle.vg_run.specs.Text.{text_of};
 
+mod lines;
+mod printer;
+
+use printer::{PrintError, print_text};
 use std::alloc::{AllocError, Global};
 use vg_io::{Failed, Sink};
 use vg_list::Seq;
@@ -21,6 +25,7 @@ pub struct Journal {
 
 /// Writes the journal's text in pieces of at most 65,536 bytes. After a fault or want of memory a front
 /// of the text is written.
+#[tactic(auto, using(crate::proofs::PrintingLemmas::taken_some))]
 pub fn print<K: Sink>(
     alloc: Global,
     journal: &Journal,
@@ -32,5 +37,12 @@ pub fn print<K: Sink>(
     ensures cause { IfOk result (λ printed. OnErr printed (Rose (K.faults sink.old) (K.faults sink.new))) }
     ensures count { K.faults sink.old ≤ K.faults sink.new }
 {
-    Err(AllocError)
+    match print_text(alloc, sink, journal) {
+        Ok(()) => Ok(Ok(())),
+        Err(PrintError::Fault) => Ok(Err(Failed)),
+        Err(PrintError::Memory) => Err(AllocError),
+    }
 }
+
+#[cfg(test)]
+mod tests;

@@ -1,0 +1,230 @@
+//! The lines of a journal, each into a buffer of bytes.
+
+ghost use Rattle.std.specs.Prelude.{◌≡◌, ◌++◌, decimal, OnOk};
+ghost use Rattle.vg_run.specs.Text.{numbered, hex_text, act_text, act_reply_text, shape_text, reply_text, request_text, entry_line, display_line, frame_line, title_text, head_text, counts_text};
+ghost use Rattle.vg_machine.specs.declared.history.Entry.TheVariants as entries;
+
+use itoa::Buffer;
+use std::alloc::AllocError;
+use vg_machine::{Act, ActReply, Entry, Frame, Reply, Request, Setup, Shape};
+
+/// Adds bytes as they are.
+pub(super) fn put(out: &mut Vec<u8>, bytes: &[u8]) -> Result<(), AllocError>
+    ensures { OnOk result (out.new.items ≡ out.old.items ++ bytes.now) }
+{
+    out.extend_from_slice(bytes)
+}
+
+fn put_number(out: &mut Vec<u8>, number: u64) -> Result<(), AllocError>
+    ensures { OnOk result (out.new.items ≡ out.old.items ++ decimal number) }
+{
+    let mut digits = Buffer::new();
+    put(out, digits.format(number).as_bytes())
+}
+
+// The digits are written where they are to stand.
+fn put_hex(out: &mut Vec<u8>, bytes: &[u8]) -> Result<(), AllocError>
+    ensures { OnOk result (out.new.items ≡ out.old.items ++ hex_text bytes.now) }
+{
+    if bytes.is_empty() {
+        return put(out, b"-");
+    }
+    let at = out.len();
+    out.resize(at.saturating_add(2 * bytes.len()), 0)?;
+    hex::encode_to_slice(bytes, &mut out.as_mut_slice()[at..]).unwrap();
+    Ok(())
+}
+
+fn put_act(out: &mut Vec<u8>, act: &Act) -> Result<(), AllocError>
+    ensures { OnOk result (out.new.items ≡ out.old.items ++ act_text act.now) }
+{
+    match act {
+        Act::Enter => put(out, b"enter"),
+        Act::Leave => put(out, b"leave"),
+    }
+}
+
+fn put_act_reply(out: &mut Vec<u8>, reply: &ActReply) -> Result<(), AllocError>
+    ensures { OnOk result (out.new.items ≡ out.old.items ++ act_reply_text reply.now) }
+{
+    match reply {
+        ActReply::Ok => put(out, b"ok"),
+    }
+}
+
+fn put_shape(out: &mut Vec<u8>, shape: &Shape) -> Result<(), AllocError>
+    ensures { OnOk result (out.new.items ≡ out.old.items ++ shape_text shape.now) }
+{
+    match shape {
+        Shape::Plain => put(out, b"plain"),
+    }
+}
+
+fn put_reply(out: &mut Vec<u8>, reply: &Reply) -> Result<(), AllocError>
+    ensures { OnOk result (out.new.items ≡ out.old.items ++ reply_text reply.now) }
+{
+    match reply {
+        Reply::Response { bytes } => put_hex(out, bytes.as_slice()),
+    }
+}
+
+#[tactic(auto, unfolding(crate::specs::Text::request_text))]
+fn put_request(out: &mut Vec<u8>, request: &Request) -> Result<(), AllocError>
+    ensures { OnOk result (out.new.items ≡ out.old.items ++ request_text request.now) }
+{
+    put_number(out, u64::from(request.lane))?;
+    put(out, b" ")?;
+    put_number(out, request.ordinal)?;
+    put(out, b" ")?;
+    put_number(out, u64::from(request.room))?;
+    put(out, b" ")?;
+    put_shape(out, &request.shape)?;
+    put(out, b" ")?;
+    put_hex(out, request.bytes.as_slice())
+}
+
+#[tactic(auto, unfolding(crate::specs::Text::entry_line))]
+fn put_act_entry(
+    out: &mut Vec<u8>,
+    number: u64,
+    client: u32,
+    call: u64,
+    act: &Act,
+    reply: &ActReply,
+) -> Result<(), AllocError>
+    ensures { OnOk result (out.new.items ≡ out.old.items ++ entry_line number (entries.Act client call act.now reply.now)) }
+{
+    put_number(out, number)?;
+    put(out, b" ")?;
+    put_number(out, u64::from(client))?;
+    put(out, b" ")?;
+    put_number(out, call)?;
+    put(out, b" act ")?;
+    put_act(out, act)?;
+    put(out, b" = ")?;
+    put_act_reply(out, reply)?;
+    put(out, b"\n")
+}
+
+#[tactic(auto, unfolding(crate::specs::Text::entry_line))]
+fn put_command_entry(
+    out: &mut Vec<u8>,
+    number: u64,
+    client: u32,
+    call: u64,
+    request: &Request,
+    reply: &Reply,
+) -> Result<(), AllocError>
+    ensures { OnOk result (out.new.items ≡ out.old.items ++ entry_line number (entries.Command client call request.now reply.now)) }
+{
+    put_number(out, number)?;
+    put(out, b" ")?;
+    put_number(out, u64::from(client))?;
+    put(out, b" ")?;
+    put_number(out, call)?;
+    put(out, b" cmd ")?;
+    put_request(out, request)?;
+    put(out, b" = ")?;
+    put_reply(out, reply)?;
+    put(out, b"\n")
+}
+
+/// Adds the line of the entry with this number.
+pub(super) fn put_entry(out: &mut Vec<u8>, number: u64, entry: &Entry) -> Result<(), AllocError>
+    ensures { OnOk result (out.new.items ≡ out.old.items ++ entry_line number entry.now) }
+{
+    match entry {
+        Entry::Act {
+            client,
+            call,
+            act,
+            reply,
+        } => put_act_entry(out, number, *client, *call, act, reply),
+        Entry::Command {
+            client,
+            call,
+            request,
+            reply,
+        } => put_command_entry(out, number, *client, *call, request, reply),
+    }
+}
+
+#[tactic(auto, unfolding(crate::specs::Text::display_line))]
+fn put_display(out: &mut Vec<u8>, number: u64, size: &(u32, u32)) -> Result<(), AllocError>
+    ensures { OnOk result (out.new.items ≡ out.old.items ++ display_line number size.now) }
+{
+    put(out, b"display ")?;
+    put_number(out, number)?;
+    put(out, b" ")?;
+    put_number(out, u64::from(size.0))?;
+    put(out, b" ")?;
+    put_number(out, u64::from(size.1))?;
+    put(out, b"\n")
+}
+
+/// Adds the line in front of the pixels of the frame with this number.
+#[tactic(auto, unfolding(crate::specs::Text::frame_line))]
+pub(super) fn put_frame(out: &mut Vec<u8>, number: u64, frame: &Frame) -> Result<(), AllocError>
+    ensures { OnOk result (out.new.items ≡ out.old.items ++ frame_line number frame.now) }
+{
+    put(out, b"frame ")?;
+    put_number(out, number)?;
+    put(out, b" ")?;
+    put_number(out, u64::from(frame.scanout))?;
+    put(out, b" ")?;
+    put_number(out, u64::from(frame.width))?;
+    put(out, b" ")?;
+    put_number(out, u64::from(frame.height))?;
+    put(out, b" ")?;
+    put_number(out, frame.entry)?;
+    put(out, b"\n")
+}
+
+/// Adds the lines that count the commands of each queue, and the frames.
+#[tactic(auto, unfolding(crate::specs::Text::counts_text))]
+pub(super) fn put_counts(
+    out: &mut Vec<u8>,
+    control: u64,
+    cursor: u64,
+    frames: u64,
+) -> Result<(), AllocError>
+    ensures { OnOk result (out.new.items ≡ out.old.items ++ counts_text control cursor frames) }
+{
+    put(out, b"rings ")?;
+    put_number(out, control)?;
+    put(out, b" ")?;
+    put_number(out, cursor)?;
+    put(out, b"\nframes ")?;
+    put_number(out, frames)?;
+    put(out, b"\n")
+}
+
+fn put_displays(out: &mut Vec<u8>, displays: &[(u32, u32)]) -> Result<(), AllocError>
+    ensures { OnOk result (out.new.items ≡ out.old.items ++ numbered display_line 0 displays.now) }
+{
+    for (number, size) in displays.iter().enumerate() {
+        put_display(out, number as u64, size)?;
+    }
+    Ok(())
+}
+
+#[tactic(auto, unfolding(crate::specs::Text::title_text))]
+fn put_title(out: &mut Vec<u8>) -> Result<(), AllocError>
+    ensures { OnOk result (out.new.items ≡ out.old.items ++ title_text) }
+{
+    put(out, b"vgpu-journal 1\n")
+}
+
+/// Adds the lines before the entries.
+#[tactic(auto, unfolding(crate::specs::Text::head_text))]
+pub(super) fn put_head(out: &mut Vec<u8>, setup: &Setup) -> Result<(), AllocError>
+    ensures { OnOk result (out.new.items ≡ out.old.items ++ head_text setup.now) }
+{
+    put_title(out)?;
+    put_displays(out, setup.displays.as_slice())?;
+    put(out, b"memory ")?;
+    put_number(out, u64::from(setup.pages))?;
+    put(out, b"\nclients ")?;
+    put_number(out, u64::from(setup.clients))?;
+    put(out, b"\n")
+}

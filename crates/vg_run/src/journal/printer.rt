@@ -1,0 +1,161 @@
+//! The text of a journal on its way to a sink, through a buffer.
+
+ghost use Rattle.std.specs.Prelude.{◌≡◌, ◌≤◌, ◌++◌, [], length, OnOk, OnErr, IsErrOf};
+ghost use Rattle.vg_io.specs.Streams.{Rose, Takes, TakesSome};
+ghost use Rattle.vg_run.specs.Printing.{Printed, PrintedSome};
+ghost use Rattle.vg_run.specs.Text.{numbered, entry_line, frame_text, text_of};
+ghost use Rattle.vg_run.specs.declared.journal.printer.PrintError.TheVariants.{Memory, Fault};
+
+use super::Journal;
+use super::lines::{put, put_counts, put_entry, put_frame, put_head};
+use std::alloc::{AllocError, Global};
+use vg_io::{Failed, Sink, write_all};
+use vg_machine::{Entry, Frame};
+
+/// How many bytes wait in the buffer, at the least, before they are handed on.
+const PIECE: usize = 65_536;
+
+/// Why a text was not printed whole.
+#[derive(Debug, Clone, Copy, PartialEq, Eq)]
+pub(super) enum PrintError {
+    /// There was no memory for the buffer.
+    Memory,
+    /// A write failed.
+    Fault,
+}
+
+impl From<AllocError> for PrintError {
+    ghost from_gives = { λ _ e. e ≡ Memory };
+
+    fn from(_e: AllocError) -> PrintError {
+        PrintError::Memory
+    }
+}
+
+impl From<Failed> for PrintError {
+    ghost from_gives = { λ _ e. e ≡ Fault };
+
+    fn from(_e: Failed) -> PrintError {
+        PrintError::Fault
+    }
+}
+
+// Hands on all that the buffer has.
+fn hand_on<K: Sink>(sink: &mut K, buffer: &mut Vec<u8>) -> Result<(), Failed>
+    ensures ok { OnOk result (Takes (K.held sink.old) (K.held sink.new) buffer.old.items) }
+    ensures empty { OnOk result (buffer.new.items ≡ []) }
+    ensures failed { OnErr result (TakesSome (K.held sink.old) (K.held sink.new) buffer.old.items) }
+    ensures cause { OnErr result (Rose (K.faults sink.old) (K.faults sink.new)) }
+    ensures count { K.faults sink.old ≤ K.faults sink.new }
+{
+    write_all(sink, buffer.as_slice())?;
+    buffer.clear();
+    Ok(())
+}
+
+// Hands the buffer on where it has a piece.
+fn hand_on_piece<K: Sink>(sink: &mut K, buffer: &mut Vec<u8>) -> Result<(), Failed>
+    ensures ok { OnOk result (Printed (K.held sink.old) (K.held sink.new) buffer.old.items buffer.new.items) }
+    ensures failed { OnErr result (TakesSome (K.held sink.old) (K.held sink.new) buffer.old.items) }
+    ensures cause { OnErr result (Rose (K.faults sink.old) (K.faults sink.new)) }
+    ensures count { K.faults sink.old ≤ K.faults sink.new }
+{
+    if buffer.len() < PIECE {
+        return Ok(());
+    }
+    hand_on(sink, buffer)
+}
+
+#[tactic(auto, using(crate::proofs::PrintingLemmas::some_taken))]
+fn print_entry<K: Sink>(
+    sink: &mut K,
+    buffer: &mut Vec<u8>,
+    number: u64,
+    entry: &Entry,
+) -> Result<(), PrintError>
+    ensures ok { OnOk result (Printed (K.held sink.old) (K.held sink.new) (buffer.old.items ++ entry_line number entry.now) buffer.new.items) }
+    ensures some { OnErr result (PrintedSome (K.held sink.old) (K.held sink.new) (buffer.old.items ++ entry_line number entry.now)) }
+    ensures cause { IsErrOf result PrintError.Fault → Rose (K.faults sink.old) (K.faults sink.new) }
+    ensures count { K.faults sink.old ≤ K.faults sink.new }
+{
+    put_entry(buffer, number, entry)?;
+    hand_on_piece(sink, buffer)?;
+    Ok(())
+}
+
+// The pixels go to the sink from where they stand.
+fn print_frame<K: Sink>(
+    sink: &mut K,
+    buffer: &mut Vec<u8>,
+    number: u64,
+    frame: &Frame,
+) -> Result<(), PrintError>
+    ensures ok { OnOk result (Printed (K.held sink.old) (K.held sink.new) (buffer.old.items ++ frame_text number frame.now) buffer.new.items) }
+    ensures some { OnErr result (PrintedSome (K.held sink.old) (K.held sink.new) (buffer.old.items ++ frame_text number frame.now)) }
+    ensures cause { IsErrOf result PrintError.Fault → Rose (K.faults sink.old) (K.faults sink.new) }
+    ensures count { K.faults sink.old ≤ K.faults sink.new }
+{
+    put_frame(buffer, number, frame)?;
+    hand_on(sink, buffer)?;
+    write_all(sink, frame.pixels.as_slice())?;
+    put(buffer, b"\n")?;
+    Ok(())
+}
+
+fn print_entries<K: Sink>(
+    sink: &mut K,
+    buffer: &mut Vec<u8>,
+    entries: &[Entry],
+) -> Result<(), PrintError>
+    ensures ok { OnOk result (Printed (K.held sink.old) (K.held sink.new) (buffer.old.items ++ numbered entry_line 1 entries.now) buffer.new.items) }
+    ensures some { OnErr result (PrintedSome (K.held sink.old) (K.held sink.new) (buffer.old.items ++ numbered entry_line 1 entries.now)) }
+    ensures cause { IsErrOf result PrintError.Fault → Rose (K.faults sink.old) (K.faults sink.new) }
+    ensures count { K.faults sink.old ≤ K.faults sink.new }
+{
+    for (at, entry) in entries.iter().enumerate() {
+        print_entry(sink, buffer, at as u64 + 1, entry)?;
+    }
+    Ok(())
+}
+
+fn print_frames<K: Sink>(
+    sink: &mut K,
+    buffer: &mut Vec<u8>,
+    frames: &[Frame],
+) -> Result<(), PrintError>
+    ensures ok { OnOk result (Printed (K.held sink.old) (K.held sink.new) (buffer.old.items ++ numbered frame_text 1 frames.now) buffer.new.items) }
+    ensures some { OnErr result (PrintedSome (K.held sink.old) (K.held sink.new) (buffer.old.items ++ numbered frame_text 1 frames.now)) }
+    ensures cause { IsErrOf result PrintError.Fault → Rose (K.faults sink.old) (K.faults sink.new) }
+    ensures count { K.faults sink.old ≤ K.faults sink.new }
+{
+    for (at, frame) in frames.iter().enumerate() {
+        print_frame(sink, buffer, at as u64 + 1, frame)?;
+    }
+    Ok(())
+}
+
+/// Writes all of the journal's text. Where it fails, a front of the text is written.
+pub(super) fn print_text<K: Sink>(
+    alloc: Global,
+    sink: &mut K,
+    journal: &Journal,
+) -> Result<(), PrintError>
+    ensures ok { OnOk result (Takes (K.held sink.old) (K.held sink.new) (text_of journal.now)) }
+    ensures some { OnErr result (PrintedSome (K.held sink.old) (K.held sink.new) (text_of journal.now)) }
+    ensures cause { IsErrOf result PrintError.Fault → Rose (K.faults sink.old) (K.faults sink.new) }
+    ensures count { K.faults sink.old ≤ K.faults sink.new }
+{
+    let mut buffer = Vec::new(alloc);
+    put_head(&mut buffer, &journal.setup)?;
+    print_entries(sink, &mut buffer, journal.entries.as_slice())?;
+    put_counts(
+        &mut buffer,
+        journal.control,
+        journal.cursor,
+        journal.frames.len() as u64,
+    )?;
+    print_frames(sink, &mut buffer, journal.frames.as_slice())?;
+    put(&mut buffer, b"end\n")?;
+    hand_on(sink, &mut buffer)?;
+    Ok(())
+}

@@ -1,0 +1,216 @@
+//! Texts written by hand from the journal's format.
+
+use super::{Journal, print};
+use std::alloc::{AllocError, Global};
+use std::test::Fail;
+use vg_io::{Failed, MemSink, Sink};
+use vg_list::Seq;
+use vg_machine::{Act, ActReply, Entry, Frame, Reply, Request, Setup, Shape};
+use vg_wire::Queue;
+
+/// A sink that takes one byte at a time.
+#[derive(Drop)]
+struct Sip<K: Sink> {
+    sink: K,
+}
+
+impl<K: Sink> Sink for Sip<K> {
+    ghost held = { λ s. K.held s.sink };
+
+    ghost faults = { λ s. K.faults s.sink };
+
+    fn write(&mut self, bytes: &[u8]) -> Result<usize, Failed> {
+        let most = bytes.len().min(1);
+        self.sink.write(&bytes[..most])
+    }
+}
+
+fn act(client: u32, call: u64, act: Act) -> Entry {
+    Entry::Act {
+        client,
+        call,
+        act,
+        reply: ActReply::Ok,
+    }
+}
+
+fn command(client: u32, call: u64, request: Request, response: Vec<u8>) -> Entry {
+    Entry::Command {
+        client,
+        call,
+        request,
+        reply: Reply::Response {
+            bytes: Seq::from_vec(response),
+        },
+    }
+}
+
+fn request(queue: Queue, lane: u32, ordinal: u64, room: u32, bytes: Vec<u8>) -> Request {
+    Request {
+        queue,
+        lane,
+        ordinal,
+        room,
+        shape: Shape::Plain,
+        bytes: Seq::from_vec(bytes),
+    }
+}
+
+fn frame(scanout: u32, width: u32, height: u32, entry: u64, pixels: Vec<u8>) -> Frame {
+    Frame {
+        scanout,
+        width,
+        height,
+        entry,
+        pixels: Seq::from_vec(pixels),
+    }
+}
+
+/// Two clients on two displays, whose frames are of 2 by 1 and of 0 by 0 pixels.
+fn two_clients(alloc: Global) -> Result<Journal, AllocError> {
+    let info = request(Queue::Control, 0, 1, 408, vec![in alloc; 0u8, 1, 255, 10]?);
+    let none = request(
+        Queue::Cursor,
+        65,
+        9_223_372_036_854_775_807,
+        8192,
+        Vec::new(alloc),
+    );
+    let mut entries = Vec::new(alloc);
+    entries.push(act(1, 1, Act::Enter))?;
+    entries.push(act(2, 1, Act::Enter))?;
+    entries.push(command(1, 2, info, vec![in alloc; 1u8, 17]?))?;
+    entries.push(command(2, 2, none, Vec::new(alloc)))?;
+    entries.push(act(1, 3, Act::Leave))?;
+    entries.push(act(2, 3, Act::Leave))?;
+    let mut frames = Vec::new(alloc);
+    frames.push(frame(
+        0,
+        2,
+        1,
+        3,
+        vec![in alloc; 10u8, 0, 255, 1, 101, 110, 100, 10]?,
+    ))?;
+    frames.push(frame(1, 0, 0, 4, Vec::new(alloc)))?;
+    Ok(Journal {
+        setup: Setup {
+            displays: Seq::from_vec(vec![in alloc; (640u32, 480u32), (64, 48)]?),
+            pages: 4096,
+            accepted: 0x11000001f,
+            clients: 2,
+        },
+        entries: Seq::from_vec(entries),
+        control: 1,
+        cursor: 1,
+        frames: Seq::from_vec(frames),
+    })
+}
+
+/// The text of `two_clients`.
+const TWO_CLIENTS: &[u8] = b"vgpu-journal 1\n\
+    display 0 640 480\n\
+    display 1 64 48\n\
+    memory 4096\n\
+    clients 2\n\
+    1 1 1 act enter = ok\n\
+    2 2 1 act enter = ok\n\
+    3 1 2 cmd 0 1 408 plain 0001ff0a = 0111\n\
+    4 2 2 cmd 65 9223372036854775807 8192 plain - = -\n\
+    5 1 3 act leave = ok\n\
+    6 2 3 act leave = ok\n\
+    rings 1 1\n\
+    frames 2\n\
+    frame 1 0 2 1 3\n\
+    \n\0\xff\x01end\n\n\
+    frame 2 1 0 0 4\n\
+    \n\
+    end\n";
+
+#[test]
+fn a_journal_has_this_text(rt: HostRuntime) -> Result<(), Fail> {
+    let alloc = rt.alloc();
+    let journal = two_clients(alloc)?;
+    let mut sink = MemSink::new(alloc, 1000, Vec::new(alloc))?;
+    assert_eq!(rt; print(alloc, &journal, &mut sink)?, Ok(()));
+    assert_eq!(rt; sink.bytes(), TWO_CLIENTS);
+    let mut sip = Sip {
+        sink: MemSink::new(alloc, 1000, Vec::new(alloc))?,
+    };
+    assert_eq!(rt; print(alloc, &journal, &mut sip)?, Ok(()));
+    assert_eq!(rt; sip.sink.bytes(), TWO_CLIENTS);
+    Ok(())
+}
+
+#[test]
+fn a_write_that_fails_leaves_a_front(rt: HostRuntime) -> Result<(), Fail> {
+    let alloc = rt.alloc();
+    let journal = two_clients(alloc)?;
+    // The lines up to the first frame's, its pixels, the lines up to the second frame's, the end.
+    let fronts = [(1u64, 0usize), (2, 280), (3, 288), (4, 305)];
+    for (write, front) in fronts {
+        let mut sink = MemSink::new(alloc, 1000, vec![in alloc; write]?)?;
+        assert_eq!(rt;
+            print(alloc, &journal, &mut sink)?,
+            Err(Failed),
+            "at write {write}"
+        );
+        assert!(rt; front <= TWO_CLIENTS.len());
+        assert_eq!(rt; sink.bytes(), &TWO_CLIENTS[..front], "at write {write}");
+    }
+    let mut sink = MemSink::new(alloc, 1000, vec![in alloc; 5u64]?)?;
+    assert_eq!(rt; print(alloc, &journal, &mut sink)?, Ok(()));
+    Ok(())
+}
+
+fn filled(alloc: Global, byte: u8, size: usize) -> Result<Vec<u8>, AllocError> {
+    vec![in alloc; byte; size]
+}
+
+/// A client whose two requests are of 40,000 bytes.
+fn two_long_requests(alloc: Global) -> Result<Journal, AllocError> {
+    let first = request(Queue::Control, 0, 1, 24, filled(alloc, 0xab, 40_000)?);
+    let second = request(Queue::Control, 0, 2, 24, filled(alloc, 0x01, 40_000)?);
+    let mut entries = Vec::new(alloc);
+    entries.push(command(1, 1, first, Vec::new(alloc)))?;
+    entries.push(command(1, 2, second, Vec::new(alloc)))?;
+    Ok(Journal {
+        setup: Setup {
+            displays: Seq::from_vec(vec![in alloc; (64u32, 48u32)]?),
+            pages: 1,
+            accepted: 0x11000001f,
+            clients: 1,
+        },
+        entries: Seq::from_vec(entries),
+        control: 2,
+        cursor: 0,
+        frames: Seq::from_vec(Vec::new(alloc)),
+    })
+}
+
+/// The bytes of `text` from `from` on, as many as `like` has.
+fn part<'a>(text: &'a [u8], from: usize, like: &[u8]) -> &'a [u8] {
+    if from <= text.len() && like.len() <= text.len() - from {
+        &text[from..from + like.len()]
+    } else {
+        &[]
+    }
+}
+
+#[test]
+fn a_line_longer_than_a_piece_is_whole(rt: HostRuntime) -> Result<(), Fail> {
+    let alloc = rt.alloc();
+    let journal = two_long_requests(alloc)?;
+    let mut sink = MemSink::new(alloc, 200_000, Vec::new(alloc))?;
+    assert_eq!(rt; print(alloc, &journal, &mut sink)?, Ok(()));
+    // A head of 50 bytes, two lines of 80,028 bytes, and 23 bytes behind them.
+    let text = sink.bytes();
+    assert_eq!(rt; text.len(), 160_129);
+    let head = b"vgpu-journal 1\ndisplay 0 64 48\nmemory 1\nclients 1\n".as_slice();
+    let first = b"1 1 1 cmd 0 1 24 plain abab".as_slice();
+    let second = b"abab = -\n2 1 2 cmd 0 2 24 plain 0101".as_slice();
+    let end = b"0101 = -\nrings 2 0\nframes 0\nend\n".as_slice();
+    for (from, want) in [(0, head), (50, first), (80_069, second), (160_097, end)] {
+        assert_eq!(rt; part(text, from, want), want, "at {from}");
+    }
+    Ok(())
+}
