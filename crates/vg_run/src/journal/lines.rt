@@ -92,7 +92,9 @@ fn put_act_entry(
     act: &Act,
     reply: &ActReply,
 ) -> Result<(), AllocError>
-    ensures { OnOk result (out.new.items ≡ out.old.items ++ entry_line number (entries.Act client call act.now reply.now)) }
+    ensures { OnOk result (
+        out.new.items ≡
+        out.old.items ++ entry_line number (entries.Act client call act.now reply.now)) }
 {
     put_number(out, number)?;
     put(out, b" ")?;
@@ -115,7 +117,9 @@ fn put_command_entry(
     request: &Request,
     reply: &Reply,
 ) -> Result<(), AllocError>
-    ensures { OnOk result (out.new.items ≡ out.old.items ++ entry_line number (entries.Command client call request.now reply.now)) }
+    ensures { OnOk result (
+        out.new.items ≡
+        out.old.items ++ entry_line number (entries.Command client call request.now reply.now)) }
 {
     put_number(out, number)?;
     put(out, b" ")?;

@@ -1,6 +1,6 @@
 //! The text of a journal on its way to a sink, through a buffer.
 
-ghost use Rattle.std.specs.Prelude.{◌≡◌, ◌≤◌, ◌++◌, [], length, OnOk, OnErr, IsErrOf};
+ghost use Rattle.std.specs.Prelude.{◌≡◌, ◌<◌, ◌≤◌, ◌++◌, [], length, OnOk, OnErr, IsErrOf};
 ghost use Rattle.vg_io.specs.Streams.{Rose, Takes, TakesSome};
 ghost use Rattle.vg_run.specs.Printing.{Printed, PrintedSome};
 ghost use Rattle.vg_run.specs.Text.{numbered, entry_line, frame_text, text_of};
@@ -55,7 +55,9 @@ fn hand_on<K: Sink>(sink: &mut K, buffer: &mut Vec<u8>) -> Result<(), Failed>
 
 // Hands the buffer on where it has a piece.
 fn hand_on_piece<K: Sink>(sink: &mut K, buffer: &mut Vec<u8>) -> Result<(), Failed>
-    ensures ok { OnOk result (Printed (K.held sink.old) (K.held sink.new) buffer.old.items buffer.new.items) }
+    ensures ok { OnOk result (
+        Printed (K.held sink.old) (K.held sink.new) buffer.old.items buffer.new.items) }
+    ensures small { OnOk result (length buffer.new.items < 65536) }
     ensures failed { OnErr result (TakesSome (K.held sink.old) (K.held sink.new) buffer.old.items) }
     ensures cause { OnErr result (Rose (K.faults sink.old) (K.faults sink.new)) }
     ensures count { K.faults sink.old ≤ K.faults sink.new }
@@ -73,8 +75,12 @@ fn print_entry<K: Sink>(
     number: u64,
     entry: &Entry,
 ) -> Result<(), PrintError>
-    ensures ok { OnOk result (Printed (K.held sink.old) (K.held sink.new) (buffer.old.items ++ entry_line number entry.now) buffer.new.items) }
-    ensures some { OnErr result (PrintedSome (K.held sink.old) (K.held sink.new) (buffer.old.items ++ entry_line number entry.now)) }
+    ensures ok { OnOk result (
+        Printed (K.held sink.old) (K.held sink.new)
+        (buffer.old.items ++ entry_line number entry.now) buffer.new.items) }
+    ensures some { OnErr result (
+        PrintedSome (K.held sink.old) (K.held sink.new)
+        (buffer.old.items ++ entry_line number entry.now)) }
     ensures cause { IsErrOf result PrintError.Fault → Rose (K.faults sink.old) (K.faults sink.new) }
     ensures count { K.faults sink.old ≤ K.faults sink.new }
 {
@@ -90,8 +96,12 @@ fn print_frame<K: Sink>(
     number: u64,
     frame: &Frame,
 ) -> Result<(), PrintError>
-    ensures ok { OnOk result (Printed (K.held sink.old) (K.held sink.new) (buffer.old.items ++ frame_text number frame.now) buffer.new.items) }
-    ensures some { OnErr result (PrintedSome (K.held sink.old) (K.held sink.new) (buffer.old.items ++ frame_text number frame.now)) }
+    ensures ok { OnOk result (
+        Printed (K.held sink.old) (K.held sink.new)
+        (buffer.old.items ++ frame_text number frame.now) buffer.new.items) }
+    ensures some { OnErr result (
+        PrintedSome (K.held sink.old) (K.held sink.new)
+        (buffer.old.items ++ frame_text number frame.now)) }
     ensures cause { IsErrOf result PrintError.Fault → Rose (K.faults sink.old) (K.faults sink.new) }
     ensures count { K.faults sink.old ≤ K.faults sink.new }
 {
@@ -107,8 +117,12 @@ fn print_entries<K: Sink>(
     buffer: &mut Vec<u8>,
     entries: &[Entry],
 ) -> Result<(), PrintError>
-    ensures ok { OnOk result (Printed (K.held sink.old) (K.held sink.new) (buffer.old.items ++ numbered entry_line 1 entries.now) buffer.new.items) }
-    ensures some { OnErr result (PrintedSome (K.held sink.old) (K.held sink.new) (buffer.old.items ++ numbered entry_line 1 entries.now)) }
+    ensures ok { OnOk result (
+        Printed (K.held sink.old) (K.held sink.new)
+        (buffer.old.items ++ numbered entry_line 1 entries.now) buffer.new.items) }
+    ensures some { OnErr result (
+        PrintedSome (K.held sink.old) (K.held sink.new)
+        (buffer.old.items ++ numbered entry_line 1 entries.now)) }
     ensures cause { IsErrOf result PrintError.Fault → Rose (K.faults sink.old) (K.faults sink.new) }
     ensures count { K.faults sink.old ≤ K.faults sink.new }
 {
@@ -123,8 +137,12 @@ fn print_frames<K: Sink>(
     buffer: &mut Vec<u8>,
     frames: &[Frame],
 ) -> Result<(), PrintError>
-    ensures ok { OnOk result (Printed (K.held sink.old) (K.held sink.new) (buffer.old.items ++ numbered frame_text 1 frames.now) buffer.new.items) }
-    ensures some { OnErr result (PrintedSome (K.held sink.old) (K.held sink.new) (buffer.old.items ++ numbered frame_text 1 frames.now)) }
+    ensures ok { OnOk result (
+        Printed (K.held sink.old) (K.held sink.new)
+        (buffer.old.items ++ numbered frame_text 1 frames.now) buffer.new.items) }
+    ensures some { OnErr result (
+        PrintedSome (K.held sink.old) (K.held sink.new)
+        (buffer.old.items ++ numbered frame_text 1 frames.now)) }
     ensures cause { IsErrOf result PrintError.Fault → Rose (K.faults sink.old) (K.faults sink.new) }
     ensures count { K.faults sink.old ≤ K.faults sink.new }
 {
@@ -141,7 +159,8 @@ pub(super) fn print_text<K: Sink>(
     journal: &Journal,
 ) -> Result<(), PrintError>
     ensures ok { OnOk result (Takes (K.held sink.old) (K.held sink.new) (text_of journal.now)) }
-    ensures some { OnErr result (PrintedSome (K.held sink.old) (K.held sink.new) (text_of journal.now)) }
+    ensures some { OnErr result (
+        PrintedSome (K.held sink.old) (K.held sink.new) (text_of journal.now)) }
     ensures cause { IsErrOf result PrintError.Fault → Rose (K.faults sink.old) (K.faults sink.new) }
     ensures count { K.faults sink.old ≤ K.faults sink.new }
 {
