@@ -1,6 +1,6 @@
-use Rattle.std.proofs.Common.{◌≡◌, ◌≤◌, ℕ, List, [], ◌∷◌, length, map, Some, false, refl, arith}
+use Rattle.std.proofs.Common.{◌≡◌, ◌≤◌, ℕ, List, [], ◌∷◌, length, map, Some, false, refl}
 use Rattle.std.proofs.lemmas.List.{length-map}
-use Rattle.vg_wire.specs.Modes.{IsModes, Mode, ends_in_none}
+use Rattle.vg_wire.specs.Modes.{IsModes, ends_in_none}
 
 ends_in_none-enabled : (displays : List (ℕ × ℕ)) → ends_in_none (map Some displays) ≡ false
 ends_in_none-enabled [] = refl

@@ -1,4 +1,4 @@
-use Rattle.std.specs.Prelude.{◌≡◌, ◌≤◌, ◌+◌, ◌*◌, ◌^◌, ℕ, List, [], ◌∷◌, length}
+use Rattle.std.specs.Prelude.{◌≡◌, ◌≤◌, ℕ, List, [], ◌∷◌, length}
 use Rattle.vg_machine.specs.declared.setup.Setup.{Setup}
 
 -- The features that are accepted: VIRGL, EDID, RESOURCE_UUID, RESOURCE_BLOB and CONTEXT_INIT (VIRTIO 1.2, 5.7.3),

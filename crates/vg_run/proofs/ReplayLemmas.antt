@@ -1,4 +1,4 @@
-use Rattle.std.proofs.Common.{◌≡◌, ◌+◌, ◌<◌, ◌≤◌, ◌∙◌, sym, ap, refl, subst, arith, ℕ, Bool, true, false, cond, List, [], ◌∷◌, ◌++◌, length, length-append, count_by, Result, Ok, Err}
+use Rattle.std.proofs.Common.{◌≡◌, ◌+◌, ◌∙◌, sym, ap, refl, subst, arith, ℕ, Bool, cond, List, [], ◌∷◌, ◌++◌, length-append, count_by, Result, Ok, Err}
 use Rattle.std.specs.List.{fold}
 use Rattle.vg_wire.specs.declared.header.Header.{Header}
 use Rattle.vg_wire.specs.declared.request.Command.{Command}
@@ -13,11 +13,10 @@ use Rattle.vg_machine.specs.declared.act.Act.TheVariants.{Enter, Leave}
 use Rattle.vg_machine.specs.declared.history.Entry.{Entry}
 use Rattle.vg_machine.specs.declared.history.Entry.TheVariants as entries
 use Rattle.vg_machine.specs.declared.history.Request.{Request}
-use Rattle.vg_machine.specs.declared.history.Reply.{Reply}
 use Rattle.vg_machine.specs.declared.history.Reply.TheVariants.{Response}
 use Rattle.vg_machine.specs.State.{State, start}
 use Rattle.vg_machine.specs.Step.{answer_of, step}
-use Rattle.vg_machine.specs.Replay.{AgreesFrom, Agrees, HasReply, after, replay, replay_from, request_step, shaped_step}
+use Rattle.vg_machine.specs.Replay.{AgreesFrom, Agrees, HasReply, after, replay, replay_from, shaped_step}
 use Rattle.vg_machine.specs.Order.{is_of_lane}
 use Rattle.vg_run.specs.Session.{IsReplay}
 

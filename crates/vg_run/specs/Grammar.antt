@@ -1,4 +1,4 @@
-use Rattle.std.specs.Prelude.{◌≡◌, ◌<◌, ◌==◌, ◌&&◌, ◌||◌, ◌-◌, ℕ, Bool, true, false, not, nat_lt, nat_le, if◌then◌else◌, cond, Option, Some, None, option_and_then, option_map, List, [], ◌∷◌, length, take, slice_index, codes}
+use Rattle.std.specs.Prelude.{◌≡◌, ◌==◌, ◌&&◌, ◌||◌, ◌-◌, ℕ, Bool, not, nat_lt, nat_le, if◌then◌else◌, Option, Some, None, option_and_then, option_map, List, [], ◌∷◌, length, take, slice_index, codes}
 use Rattle.std.specs.Char.{is_ascii_digit}
 use Rattle.std.specs.List.{slice_split, list_all}
 use Rattle.std.specs.Str.{bytes_eq}
@@ -6,7 +6,6 @@ use Rattle.std.specs.Str.Parse.{digits_value}
 use Rattle.vg_machine.specs.declared.setup.Setup.{Setup}
 use Rattle.vg_machine.specs.Setup.{all_features}
 use Rattle.vg_run.specs.declared.script.Script.{Script}
-use Rattle.vg_run.specs.declared.script.Line.{Line}
 use Rattle.vg_run.specs.declared.script.Step.TheVariants.{Info}
 
 -- A text without its last line end, which may lack.

@@ -1,4 +1,4 @@
-use Rattle.std.specs.Prelude.{◌≡◌, ℕ, List, [], ◌∷◌, codes, Option, Some, None, IfSome}
+use Rattle.std.specs.Prelude.{◌≡◌, ℕ, List, [], ◌∷◌, codes, Option, IfSome}
 use Rattle.vg_io.specs.Streams.{IsAtEnd, Takes, TakesSome}
 use Rattle.vg_machine.specs.declared.history.Entry.{Entry}
 use Rattle.vg_run.specs.declared.script.Script.{Script}

@@ -1,4 +1,4 @@
-use Rattle.std.specs.Prelude.{◌≡◌, ◌≤◌, ◌<◌, ℕ, Bool, false, List, [], ◌∷◌, length, map, count_by}
+use Rattle.std.specs.Prelude.{◌≡◌, ◌≤◌, ℕ, false, List, [], ◌∷◌, length, map, count_by}
 use Rattle.std.specs.List.{range_with_len, AllByRecursion}
 use Rattle.vg_machine.specs.declared.setup.Setup.{Setup}
 use Rattle.vg_machine.specs.declared.history.Entry.{Entry}

@@ -1,4 +1,4 @@
-use Rattle.std.specs.Prelude.{◌≡◌, ◌⊎◌, ℕ, List, Option, IfSome, ⊤}
+use Rattle.std.specs.Prelude.{ℕ, List, Option, IfSome, ⊤}
 use Rattle.vg_io.specs.Streams.{Rose, Takes, TakesSome}
 use Rattle.vg_machine.specs.declared.history.Entry.{Entry}
 use Rattle.vg_run.specs.declared.script.Script.{Script}

@@ -1,4 +1,4 @@
-use Rattle.std.proofs.Common.{◌≡◌, ◌+◌, ◌∙◌, ap, refl, subst, sym, arith, ℕ, List, [], ◌++◌, ◌∷◌}
+use Rattle.std.proofs.Common.{◌+◌, ◌∙◌, ap, refl, subst, sym, arith, List}
 use Rattle.std.specs.List.{range_with_len}
 use Rattle.vg_machine.specs.declared.act.Act.TheVariants.{Leave}
 use Rattle.vg_machine.specs.declared.act.ActReply.TheVariants as act_replies

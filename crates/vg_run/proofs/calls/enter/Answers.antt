@@ -1,4 +1,4 @@
-use Rattle.std.proofs.Common.{◌≡◌, ◌∙◌, ap, refl, subst, sym, List, [], ◌++◌, ◌∷◌}
+use Rattle.std.proofs.Common.{◌∙◌, ap, refl, subst, sym, List, [], ◌++◌, ◌∷◌}
 use Rattle.vg_machine.specs.declared.act.Act.TheVariants.{Enter}
 use Rattle.vg_machine.specs.declared.act.ActReply.TheVariants as act_replies
 use Rattle.vg_machine.specs.declared.history.Entry.{Entry}

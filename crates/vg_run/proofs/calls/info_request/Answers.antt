@@ -1,4 +1,3 @@
-use Rattle.std.proofs.Common.{◌≡◌, ◌∙◌, ap}
 use Rattle.vg_wire.specs.declared.request.Queue.TheVariants.{Control}
 use Rattle.vg_wire.specs.declared.request.Command.TheVariants.{TwoD}
 use Rattle.vg_wire.specs.declared.two_d.Command2d.TheVariants.{DisplayInfo}

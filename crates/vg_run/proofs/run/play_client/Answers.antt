@@ -1,11 +1,9 @@
-use Rattle.std.proofs.Common.{◌≡◌, ◌+◌, ◌≤◌, ◌∙◌, sym, ap, refl, subst, arith, ℕ, List, [], ◌∷◌, ◌++◌, length, drop, get_or}
-use Rattle.std.specs.List.{AllByRecursion}
-use Rattle.std.proofs.lemmas.List.{drop_more, drop_all}
+use Rattle.std.proofs.Common.{◌≡◌, ◌+◌, ◌∙◌, ap, subst, arith, ℕ, List, [], ◌∷◌, ◌++◌, get_or}
+use Rattle.std.proofs.lemmas.List.{drop_more}
 use Rattle.vg_machine.specs.declared.act.Act.TheVariants.{Enter, Leave}
 use Rattle.vg_machine.specs.declared.act.ActReply.TheVariants as act_replies
 use Rattle.vg_machine.specs.declared.history.Entry.{Entry}
 use Rattle.vg_machine.specs.declared.history.Entry.TheVariants as entries
-use Rattle.vg_machine.specs.Order.{client_of}
 use Rattle.vg_run.specs.declared.script.Line.{Line}
 use Rattle.vg_run.specs.declared.script.Step.TheVariants.{Info}
 use Rattle.vg_run.specs.Calls.{Gives}

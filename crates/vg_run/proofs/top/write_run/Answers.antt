@@ -1,4 +1,4 @@
-use Rattle.std.proofs.Common.{◌≡◌, ◌∙◌, sym, ap, subst, inl}
+use Rattle.std.proofs.Common.{subst, inl}
 use Rattle.vg_io.specs.Streams.{TakesSome}
 use Rattle.vg_run.specs.declared.journal.Journal.{Journal}
 use Rattle.vg_run.specs.Text.{text_of}
