@@ -1,4 +1,4 @@
--- The pixel formats of VIRTIO 1.2, 5.7.6.7 (enum virtio_gpu_formats).
+-- The pixel formats of VIRTIO 1.2, 5.7.6.8 (enum virtio_gpu_formats).
 use Rattle.std.specs.Prelude.{ℕ, List, [], ◌∷◌, slice_index}
 use Rattle.vg_formats.specs.declared.format.Format.{Format}
 use Rattle.vg_formats.specs.declared.format.Format.TheVariants.{B8G8R8A8, B8G8R8X8, A8R8G8B8, X8R8G8B8, R8G8B8A8, X8B8G8R8, A8B8G8R8, R8G8B8X8}

@@ -53,6 +53,7 @@ pub fn read_all<S: Source>(
     ensures long { IsErrOf result ReadError.TooLong →
         IfSome (S.left source.old) (λ xs. limit < length xs) }
     ensures fault { IsErrOf result ReadError.Fault → Rose (S.faults source.old) (S.faults source.new) }
+    ensures early { IsErrOf result ReadError.Fault → GivesUpTo (S.left source.old) (S.left source.new) limit }
     ensures count { S.faults source.old ≤ S.faults source.new }
 
     // What was taken: never a second byte past the limit.

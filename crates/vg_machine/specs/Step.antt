@@ -17,7 +17,8 @@ use Rattle.vg_machine.specs.declared.act.ActReply.TheVariants as act_replies
 use Rattle.vg_machine.specs.Share.{with_left}
 use Rattle.vg_machine.specs.State.{State, counted}
 
--- A response's header to a request's: the fence, and the ring index where flags has INFO_RING_IDX, go back (VIRTIO 1.2, 5.7.6.7).
+-- The header of a response to a request with FENCE: the fence goes back (VIRTIO 1.2, 5.7.6.7); here ctx_id does too, and the ring
+-- index where flags has INFO_RING_IDX.
 abbrev pub fenced_header : Header → ℕ → Header
 fenced_header request kind = record {
   kind = kind;

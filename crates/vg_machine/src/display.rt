@@ -75,7 +75,7 @@ impl Display {
     }
 
     /// Runs the request that came on this queue, and gives its response as far as `room` bytes hold it.
-    /// A longer response is cut, and the command runs all the same (VIRTIO 1.2, 5.7.6).
+    /// A longer response is cut, and the command runs all the same.
     pub fn command(
         &mut self,
         alloc: Global,

@@ -10,7 +10,7 @@ mod session;
 mod top;
 
 pub use journal::{Journal, print};
-pub use laws::at_most_one_history;
+pub use laws::{a_script_or_a_fault, at_most_one_history};
 pub use script::{Line, Script, ScriptFault, Step, parse};
 pub use top::{Status, vgpu};
 

@@ -1,6 +1,6 @@
 //! Runs from a source to a sink, with journals written by hand.
 
-use super::{Script, Status, Step, at_most_one_history, parse, vgpu};
+use super::{Script, Status, Step, a_script_or_a_fault, at_most_one_history, parse, vgpu};
 use std::alloc::{AllocError, Global};
 use std::process::Abort;
 use std::test::Fail;
@@ -270,5 +270,6 @@ fn parses_the_three_lines(rt: HostRuntime) -> Result<(), Fail> {
     assert_eq!(rt; line.number, 3);
     assert_eq!(rt; line.step, Step::Info);
     at_most_one_history();
+    a_script_or_a_fault();
     Ok(())
 }

@@ -1,6 +1,6 @@
 //! The program's one call.
 
-ghost use Rattle.std.specs.Prelude.{◌≡◌, ◌≤◌, ◌↔◌, ◌⊎◌, ℕ, map, string_bytes, IfOk, IfErr, IfSome, IsTrue};
+ghost use Rattle.std.specs.Prelude.{◌≡◌, ◌≤◌, ◌↔◌, ◌⊎◌, ℕ, map, string_bytes, Err, IfOk, IfErr, IfSome, IsTrue};
 ghost use Rattle.vg_io.specs.Streams.{GivesUpTo, IsAtEnd, Rose};
 ghost use Rattle.vg_run.specs.Grammar.{Faulty, Parses};
 ghost use Rattle.vg_run.specs.Headline.{IsRun, Runs, RunsPartly};
@@ -55,6 +55,7 @@ pub fn vgpu<S: Source, K: Sink>(
         → IfSome (S.left source.old) (λ bytes. Faulty bytes line kind) × (sink.new ≡ sink.old) }
     ensures read_fault { result ≡ Status.ReadFault
         → Rose (S.faults source.old) (S.faults source.new) × (sink.new ≡ sink.old) }
+    ensures read_early { result ≡ Status.ReadFault → GivesUpTo (S.left source.old) (S.left source.new) 28 }
     ensures write_fault { result ≡ Status.WriteFault → Rose (K.faults sink.old) (K.faults sink.new)
         × RunsPartly (S.left source.old) (S.left source.new) (K.held sink.old) (K.held sink.new) }
     ensures no_memory { result ≡ Status.NoMemory → (sink.new ≡ sink.old)
@@ -90,6 +91,7 @@ fn read_script<S: Source>(alloc: Global, source: &mut S) -> Result<Script, Statu
     ensures runnable { IfOk result IsRunnable }
     ensures err { IfErr result (λ status. Unread status (S.left source.old) (S.faults source.old) (S.faults source.new)) }
     ensures taken { GivesUpTo (S.left source.old) (S.left source.new) 29 }
+    ensures early { result ≡ Err Status.ReadFault → GivesUpTo (S.left source.old) (S.left source.new) 28 }
     ensures count { S.faults source.old ≤ S.faults source.new }
 {
     let bytes = match read_all(alloc, source, LIMIT) {

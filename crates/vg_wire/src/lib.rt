@@ -5,12 +5,14 @@
 
 mod fields;
 mod header;
+mod laws;
 mod modes;
 mod request;
 mod response;
 mod two_d;
 
 pub use header::{Header, read_header};
+pub use laws::{a_request_or_a_refusal, each_refusal};
 pub use modes::Modes;
 pub use request::{Command, Malformed, Queue, read_request, write_request};
 pub use response::{Response, read_response, write_response};

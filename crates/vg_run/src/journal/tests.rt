@@ -1,5 +1,7 @@
 //! Texts written by hand from the journal's format.
 
+ghost use Rattle.std.specs.Prelude.{None};
+
 use super::{Journal, print};
 use std::alloc::{AllocError, Global};
 use std::test::Fail;
@@ -212,5 +214,32 @@ fn a_line_longer_than_a_piece_is_whole(rt: HostRuntime) -> Result<(), Fail> {
     for (from, want) in [(0, head), (50, first), (80_069, second), (160_097, end)] {
         assert_eq!(rt; part(text, from, want), want, "at {from}");
     }
+    Ok(())
+}
+
+/// A sink that takes all and keeps the size of the largest piece.
+#[derive(Drop)]
+struct Widest {
+    bytes: usize,
+}
+
+impl Sink for Widest {
+    ghost held = { λ _. None };
+
+    ghost faults = { λ _. 0 };
+
+    fn write(&mut self, bytes: &[u8]) -> Result<usize, Failed> {
+        self.bytes = self.bytes.max(bytes.len());
+        Ok(bytes.len())
+    }
+}
+
+#[test]
+fn no_piece_is_larger_than_65_536_bytes(rt: HostRuntime) -> Result<(), Fail> {
+    let alloc = rt.alloc();
+    let journal = two_long_requests(alloc)?;
+    let mut sink = Widest { bytes: 0 };
+    assert_eq!(rt; print(alloc, &journal, &mut sink)?, Ok(()));
+    assert_eq!(rt; sink.bytes, 65_536);
     Ok(())
 }
