@@ -2,3 +2,5 @@ pub mod Digits
 pub mod Cuts
 pub mod NameSets
 pub mod HexDigits
+pub mod Forms
+pub mod CallForms

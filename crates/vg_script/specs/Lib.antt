@@ -2,3 +2,5 @@ pub mod Words
 pub mod Seen
 pub mod Rows
 pub mod Code
+pub mod Grammar
+pub mod Reading

@@ -137,26 +137,48 @@ flip_row displays defined scanout name = record {
 unfoldable pub close_row : (List ℕ → Bool) → (name : List ℕ) → Row
 close_row defined name = record { numbers = true; limits = true; names = defined name; step = Close name; after = without_name name defined }
 
--- The line of a client that these words are, by the first of them and how many there are.
-unfoldable pub step_row : ℕ → (List ℕ → Bool) → List (List ℕ) → Option Row
-step_row displays defined (word ∷ []) = if bytes_eq word (codes "info") then Some (info_row defined) else None
-step_row displays defined (word ∷ a ∷ []) =
+-- The lines of a client of one word to seven, by the first of them.
+unfoldable pub one_word : (List ℕ → Bool) → (word : List ℕ) → Option Row
+one_word defined word = if bytes_eq word (codes "info") then Some (info_row defined) else None
+
+unfoldable pub two_words : ℕ → (List ℕ → Bool) → (word a : List ℕ) → Option Row
+two_words displays defined word a =
     if bytes_eq word (codes "take") then Some (take_row displays defined a)
     else if bytes_eq word (codes "drop") then Some (drop_row displays defined a)
     else if bytes_eq word (codes "hide") then Some (hide_row displays defined a)
     else if bytes_eq word (codes "close") then Some (close_row defined a)
     else None
-step_row displays defined (word ∷ a ∷ b ∷ []) = if bytes_eq word (codes "flip") then Some (flip_row displays defined a b) else None
-step_row displays defined (word ∷ a ∷ b ∷ c ∷ []) = if bytes_eq word (codes "load") then Some (load_row defined a b c) else None
-step_row displays defined (word ∷ a ∷ b ∷ c ∷ d ∷ []) =
+
+unfoldable pub three_words : ℕ → (List ℕ → Bool) → (word a b : List ℕ) → Option Row
+three_words displays defined word a b = if bytes_eq word (codes "flip") then Some (flip_row displays defined a b) else None
+
+unfoldable pub four_words : (List ℕ → Bool) → (word a b c : List ℕ) → Option Row
+four_words defined word a b c = if bytes_eq word (codes "load") then Some (load_row defined a b c) else None
+
+unfoldable pub five_words : (List ℕ → Bool) → (word a b c d : List ℕ) → Option Row
+five_words defined word a b c d =
     if bytes_eq word (codes "buffer") then Some (buffer_row defined a b c d)
     else if bytes_eq word (codes "store") then Some (store_row defined a b c d)
     else None
-step_row displays defined (word ∷ a ∷ b ∷ c ∷ d ∷ e ∷ []) =
+
+unfoldable pub six_words : (List ℕ → Bool) → (word a b c d e : List ℕ) → Option Row
+six_words defined word a b c d e =
     if bytes_eq word (codes "send") then Some (send_row defined a b c d e)
     else if bytes_eq word (codes "flush") then Some (flush_row defined a b c d e)
     else None
-step_row displays defined (word ∷ a ∷ b ∷ c ∷ d ∷ e ∷ f ∷ []) = if bytes_eq word (codes "show") then Some (show_row displays defined a b c d e f) else None
+
+unfoldable pub seven_words : ℕ → (List ℕ → Bool) → (word a b c d e f : List ℕ) → Option Row
+seven_words displays defined word a b c d e f = if bytes_eq word (codes "show") then Some (show_row displays defined a b c d e f) else None
+
+-- The line of a client that these words are, if it is one.
+unfoldable pub step_row : ℕ → (List ℕ → Bool) → List (List ℕ) → Option Row
+step_row displays defined (word ∷ []) = one_word defined word
+step_row displays defined (word ∷ a ∷ []) = two_words displays defined word a
+step_row displays defined (word ∷ a ∷ b ∷ []) = three_words displays defined word a b
+step_row displays defined (word ∷ a ∷ b ∷ c ∷ []) = four_words defined word a b c
+step_row displays defined (word ∷ a ∷ b ∷ c ∷ d ∷ []) = five_words defined word a b c d
+step_row displays defined (word ∷ a ∷ b ∷ c ∷ d ∷ e ∷ []) = six_words defined word a b c d e
+step_row displays defined (word ∷ a ∷ b ∷ c ∷ d ∷ e ∷ f ∷ []) = seven_words displays defined word a b c d e f
 step_row displays defined words = None
 
 -- A row's call and the names after it, or the least kind of its faults.

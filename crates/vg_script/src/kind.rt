@@ -17,6 +17,18 @@ pub enum Kind {
     Name,
 }
 
+impl Kind {
+    ghost use Rattle.std.specs.Prelude.{◌≡◌};
+    ghost use Rattle.vg_script.specs.Grammar.{kind_code};
+
+    /// The kind's number, from 1 to 5.
+    pub fn code(self) -> u8
+        ensures { result ≡ kind_code self }
+    {
+        self as u8
+    }
+}
+
 /// Why the reading of a line stopped.
 #[derive(Clone, Copy, Debug)]
 pub(crate) enum Stop {

@@ -1,11 +1,16 @@
 //! The text of a script, and the script that it says or its first fault.
 #![tactic(auto)]
 
+mod calls;
 mod kind;
 mod names;
+mod reader;
 mod rows;
+mod steps;
+mod text;
 mod types;
 mod words;
 
 pub use kind::Kind;
+pub use text::parse;
 pub use types::{Area, Line, Script, ScriptFault, Step};

@@ -1,7 +1,7 @@
 //! The names that are defined.
 
 ghost use Rattle.std.specs.Prelude.{◌≡◌, OnOk};
-ghost use Rattle.vg_script.specs.Seen.{with_name, without_name};
+ghost use Rattle.vg_script.specs.Seen.{with_name, without_name, no_names};
 ghost use Rattle.vg_script.specs.Code.{defined};
 
 use std::alloc::AllocError;
@@ -27,4 +27,10 @@ pub(crate) fn end(names: &mut Names, name: &[u8])
     ensures { defined names.new ≡ without_name name.now (defined names.old) }
 {
     names.remove(name);
+}
+
+pub(crate) fn forget(names: &mut Names)
+    ensures { defined names.new ≡ no_names }
+{
+    names.clear();
 }
