@@ -1,5 +1,5 @@
 -- A list of parts, with the first part taken off.
-use Rattle.std.proofs.Common.{◌≡◌, ℕ, ◌+◌, ◌-◌, ◌*◌, ◌<◌, ◌≤◌, ◌==◌, ◌⊎◌, not, Bool, true, false, cond, List, [], ◌∷◌, ◌++◌, length, get_or, take, drop, arith, refl, ap, sym, ◌∙◌, if◌then◌else◌, filter, inl, inr, map, append_assoc, Bor}
+use Rattle.std.proofs.Common.{◌≡◌, ℕ, ◌+◌, ◌-◌, ◌*◌, ◌<◌, ◌≤◌, ◌==◌, ◌⊎◌, not, Bool, true, false, cond, List, [], ◌∷◌, ◌++◌, length, get_or, take, drop, arith, refl, ap, sym, ◌∙◌, if◌then◌else◌, filter, inl, inr, map, append_assoc, Bor, length-drop}
 use Rattle.std.proofs.lemmas.Grind.{common_steps}
 use Rattle.std.proofs.lemmas.Bool.{cases_lt}
 use Rattle.std.proofs.lemmas.Bool.Decides.{nat_tests}
@@ -72,3 +72,15 @@ lines_of-first xs h =
       | inl e ↦ rw e (closed_lines-cons _ (λ b. b == 10) (after_first (λ b. b == 10) xs))
       | inr e ↦ rw (e.0, e.1, e.2, closed_lines-nothing) (closed_lines-one xs h)
     ]
+
+pub some_left : (xs : List ℕ) → (length xs == 0) ≡ false → 0 < length xs
+some_left [] h = cc
+some_left (x ∷ xs) h = omega arith
+
+pub none_left : (xs : List ℕ) → (length xs == 0) ≡ true → xs ≡ []
+none_left [] h = refl
+none_left (x ∷ xs) h = absurd (grind (arith, nat_tests))
+
+-- What is behind the first part is shorter.
+pub shorter : (p : ℕ → Bool) (xs : List ℕ) → 0 < length xs → length (after_first p xs) + 1 ≤ length xs
+shorter p xs h = simp length-drop (omega arith)

@@ -4,3 +4,4 @@ pub mod NameSets
 pub mod HexDigits
 pub mod Forms
 pub mod CallForms
+pub mod Scans
