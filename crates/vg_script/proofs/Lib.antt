@@ -5,3 +5,4 @@ pub mod HexDigits
 pub mod Forms
 pub mod CallForms
 pub mod Scans
+pub mod FaultLaws

@@ -56,9 +56,9 @@ pub one_line_more : (seen : Seen) (line : List ℕ) (next : Seen) → after_line
 unfolding after_line line_form
 one_line_more seen line next h = go (is_text line) h
   where
-  go : (b : Bool) → (if b then settled_form (line_form seen line) else Err Text) ≡ Ok next → next.lines ≡ seen.lines + 1
-  go true h = settled_has _ _ next (form_has (one_more seen) (words_of line)) h
-  go false h = cc
+    go : (b : Bool) → (if b then settled_form (line_form seen line) else Err Text) ≡ Ok next → next.lines ≡ seen.lines + 1
+    go true h = settled_has _ _ next (form_has (one_more seen) (words_of line)) h
+    go false h = cc
 
 pub scan-ok : (seen next : Seen) (line : List ℕ) (more : List (List ℕ)) → after_line seen line ≡ Ok next → scan seen (line ∷ more) ≡ scan next more
 unfolding scan

@@ -4,3 +4,4 @@ pub mod Rows
 pub mod Code
 pub mod Grammar
 pub mod Reading
+pub mod Faults

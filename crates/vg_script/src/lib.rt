@@ -3,6 +3,7 @@
 
 mod calls;
 mod kind;
+mod laws;
 mod names;
 mod reader;
 mod rows;
@@ -12,5 +13,6 @@ mod types;
 mod words;
 
 pub use kind::Kind;
+pub use laws::{first_fault, script_or_fault};
 pub use text::parse;
 pub use types::{Area, Line, Script, ScriptFault, Step};

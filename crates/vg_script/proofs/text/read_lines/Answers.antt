@@ -21,7 +21,7 @@ pub returns-in-Err-Fault : goal.returns-in-Err-Fault
 returns-in-Err-Fault c =
     let some = some_left c.loop-rest.rest.now (sym c.loop-rest-test.ensures) in
     rw (c.code.ensures, c.lines-number.ensures, c.in-Err-Fault.kind-is)
-      (sym c.loop-rest.invariant.same ∙ rest_err (seen c.loop-rest.reader) c.in-Err-Fault.kind c.loop-rest.rest.now c.cut.result.0.now some c.cut.ensures.before (rw c.in-Err-Fault.field-0-is at c.in-Err-Fault.ensures))
+    (sym c.loop-rest.invariant.same ∙ rest_err (seen c.loop-rest.reader) c.in-Err-Fault.kind c.loop-rest.rest.now c.cut.result.0.now some c.cut.ensures.before (rw c.in-Err-Fault.field-0-is at c.in-Err-Fault.ensures))
 
 pub returns : goal.returns
 returns c =
