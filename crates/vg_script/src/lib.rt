@@ -16,3 +16,6 @@ pub use kind::Kind;
 pub use laws::{first_fault, script_or_fault};
 pub use text::parse;
 pub use types::{Area, Line, Script, ScriptFault, Step};
+
+#[cfg(test)]
+mod tests;
