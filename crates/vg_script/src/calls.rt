@@ -13,6 +13,9 @@ use crate::types::{Line, Step};
 use std::alloc::{AllocError, Global};
 use vg_list::Seq;
 
+/// How many lines all clients may have.
+const MOST_LINES: usize = 100_000;
+
 /// Adds the line that these words are.
 pub(crate) fn add_step<'a>(
     alloc: Global,
@@ -26,7 +29,7 @@ pub(crate) fn add_step<'a>(
     ensures { (seen : Seen) → seen.clients ≡ lines.old.items ∷ [] → seen.lines ≡ number → length seen.displays ≡ displays → seen.defined ≡ defined names.old → Goes (record seen { clients = lines.new.items ∷ []; defined = defined names.new }) result (settled_form (called_form seen (map (λ word. word.now) words.now))) }
 {
     let read = step_of(alloc, names, displays, words);
-    if lines.len() >= 100_000 {
+    if lines.len() >= MOST_LINES {
         return Err(past_limit(read));
     }
     match read {

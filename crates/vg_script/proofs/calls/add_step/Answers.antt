@@ -3,8 +3,8 @@ use Rattle.vg_script.specs.Code.{defined}
 use Rattle.vg_script.proofs.CallForms.{Stands, goes_past, goes_err, goes_ok}
 use Rattle.vg_script.proofs.calls.add_step.Goals as goal
 
-pub returns-then-len-ge100000 : goal.returns-then-len-ge100000
-returns-then-len-ge100000 c = λ seen clients number displays names.
+pub returns-then-len-ge-MOST_LINES : goal.returns-then-len-ge-MOST_LINES
+returns-then-len-ge-MOST_LINES c = λ seen clients number displays names.
     let new = record seen { clients = c.args.lines.now.items ∷ []; defined = defined c.step_of-read.new.names } in
     rw c.past_limit.ensures (goes_past seen new (map (λ word. word.now) c.args.words.now) _ c.step_of-read.result (record { clients = clients; displays = displays; defined = names }) (omega arith) c.step_of-read.ensures)
 
