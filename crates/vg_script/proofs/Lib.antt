@@ -6,3 +6,4 @@ pub mod Forms
 pub mod CallForms
 pub mod Scans
 pub mod FaultLaws
+pub mod LimitLaws

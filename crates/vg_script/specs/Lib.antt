@@ -5,3 +5,4 @@ pub mod Code
 pub mod Grammar
 pub mod Reading
 pub mod Faults
+pub mod Limits

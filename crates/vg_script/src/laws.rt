@@ -5,6 +5,7 @@ ghost use Rattle.vg_script.specs.declared.types.Script.{Script};
 ghost use Rattle.vg_script.specs.Words.{lines_of};
 ghost use Rattle.vg_script.specs.Grammar.{Parses, Faulty};
 ghost use Rattle.vg_script.specs.Faults.{HasFirstFault, IsScriptOf};
+ghost use Rattle.vg_script.specs.Limits.{ScriptInLimits};
 
 /// Any bytes are a script or have a first fault, and never both. There is one such script, and one such fault.
 pub fn script_or_fault()
@@ -20,4 +21,9 @@ pub fn script_or_fault()
 pub fn first_fault()
     ensures fault { (bytes : List ℕ) (line kind : ℕ) → (Faulty bytes line kind ↔ HasFirstFault (lines_of bytes) line kind) }
     ensures script { (bytes : List ℕ) (script : Script) → (Parses bytes script ↔ IsScriptOf (lines_of bytes) script) }
+{}
+
+/// A script keeps the limits of its lines.
+pub fn script_limits()
+    ensures { (bytes : List ℕ) (script : Script) → Parses bytes script → ScriptInLimits script }
 {}

@@ -4,6 +4,7 @@ ghost use Rattle.std.specs.Prelude.{◌≡◌, ◌<◌, ◌-◌, ◌^◌, length
 ghost use Rattle.vg_script.specs.Seen.{nothing_seen};
 ghost use Rattle.vg_script.specs.Words.{lines_of};
 ghost use Rattle.vg_script.specs.Grammar.{Parses, Faulty, read_script, scan};
+ghost use Rattle.vg_script.specs.Limits.{ScriptInLimits};
 ghost use Rattle.vg_script.specs.Reading.{seen};
 
 use crate::kind::Stop;
@@ -19,6 +20,7 @@ use std::alloc::{AllocError, Global};
 pub fn parse(alloc: Global, bytes: &[u8]) -> Result<Result<Script, ScriptFault>, AllocError>
     requires { length bytes.now < 2 ^ 32 - 1 }
     ensures script { IfOk result (λ r. IfOk r (λ script. Parses bytes.now script)) }
+    ensures limits { IfOk result (λ r. IfOk r (λ script. ScriptInLimits script)) }
     ensures fault { IfOk result (λ r. IfErr r (λ fault. Faulty bytes.now fault.line fault.kind)) }
     ensures every_script { IfOk result (λ r. (script : Script) → Parses bytes.now script → r ≡ Ok script) }
     ensures every_fault { IfOk result (λ r. (line kind : ℕ) → Faulty bytes.now line kind → r ≡ Err (record { line = line; kind = kind })) }
