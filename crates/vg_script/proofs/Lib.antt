@@ -7,3 +7,4 @@ pub mod CallForms
 pub mod Scans
 pub mod FaultLaws
 pub mod LimitLaws
+pub mod NameLaws

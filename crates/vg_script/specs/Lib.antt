@@ -6,3 +6,4 @@ pub mod Grammar
 pub mod Reading
 pub mod Faults
 pub mod Limits
+pub mod Names

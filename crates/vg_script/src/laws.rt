@@ -1,10 +1,12 @@
 //! What holds of the grammar itself: each function here does nothing, and its contract is a law.
 
-ghost use Rattle.std.specs.Prelude.{◌≡◌, ◌⊎◌, ◌↔◌, ℕ, List};
+ghost use Rattle.std.specs.Prelude.{◌≡◌, ◌⊎◌, ◌↔◌, ℕ, List, true};
 ghost use Rattle.vg_script.specs.declared.types.Script.{Script};
 ghost use Rattle.vg_script.specs.Words.{lines_of};
 ghost use Rattle.vg_script.specs.Grammar.{Parses, Faulty};
-ghost use Rattle.vg_script.specs.Faults.{HasFirstFault, IsScriptOf};
+ghost use Rattle.vg_script.specs.Faults.{HasFirstFault, IsScriptOf, AreFaultless, seen_after};
+ghost use Rattle.vg_script.specs.Names.{IsDefinedBy};
+ghost use Rattle.vg_script.specs.Seen.{nothing_seen};
 ghost use Rattle.vg_script.specs.Limits.{ScriptInLimits};
 
 /// Any bytes are a script or have a first fault, and never both. There is one such script, and one such fault.
@@ -26,4 +28,10 @@ pub fn first_fault()
 /// A script keeps the limits of its lines.
 pub fn script_limits()
     ensures { (bytes : List ℕ) (script : Script) → Parses bytes script → ScriptInLimits script }
+{}
+
+/// After lines without a fault a name is defined exactly where some line is `buffer` and this name, and no line
+/// behind it is `close` and this name.
+pub fn defined_names()
+    ensures { (lines : List (List ℕ)) (name : List ℕ) → AreFaultless nothing_seen lines → (((seen_after nothing_seen lines).defined name ≡ true) ↔ IsDefinedBy lines name) }
 {}

@@ -13,7 +13,7 @@ mod types;
 mod words;
 
 pub use kind::Kind;
-pub use laws::{first_fault, script_limits, script_or_fault};
+pub use laws::{defined_names, first_fault, script_limits, script_or_fault};
 pub use text::parse;
 pub use types::{Area, Line, Script, ScriptFault, Step};
 
