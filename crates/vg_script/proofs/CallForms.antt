@@ -1,16 +1,15 @@
 -- The line that is added to the one client, from what its reading gave.
-use Rattle.std.proofs.Common.{◌≡◌, ℕ, ◌+◌, ◌==◌, ◌<◌, ◌≤◌, nat_lt, Bool, true, false, List, [], ◌∷◌, ◌++◌, length, Option, Some, None, Result, Ok, Err, arith, refl, ap, sym, ◌∙◌}
-use Rattle.std.specs.Prelude.{sum_by, option_map}
+use Rattle.std.proofs.Common.{◌≡◌, ℕ, ◌==◌, ◌<◌, ◌≤◌, nat_lt, Bool, true, false, List, [], ◌∷◌, ◌++◌, length, Result, Ok, Err, arith, refl, ap, sym, ◌∙◌}
+use Rattle.std.specs.Prelude.{sum_by}
 use Rattle.std.proofs.lemmas.Bool.Decides.{nat_tests}
-use Rattle.vg_script.specs.declared.kind.Kind.{Kind}
 use Rattle.vg_script.specs.declared.kind.Stop.{Stop}
 use Rattle.vg_script.specs.declared.kind.Stop.TheVariants.{Memory, Fault}
 use Rattle.vg_script.specs.declared.kind.Kind.TheVariants.{Word}
 use Rattle.vg_script.specs.declared.types.Line.{Line}
 use Rattle.vg_script.specs.declared.types.Step.{Step}
 use Rattle.vg_script.specs.Seen.{Seen, add_line}
-use Rattle.vg_script.specs.Rows.{Row, judged_row, step_row}
-use Rattle.vg_script.specs.Grammar.{called_form, step_form, settled_form}
+use Rattle.vg_script.specs.Rows.{judged_row, step_row}
+use Rattle.vg_script.specs.Grammar.{called_form, settled_form}
 use Rattle.vg_script.specs.Code.{Agrees}
 use Rattle.vg_script.specs.Reading.{Goes, past_limit}
 use Rattle.vg_script.proofs.Forms.{with_call, call_ok, call_err, past_ok, past_err, misplaced}

@@ -1,13 +1,12 @@
 -- A line of a client, from the row that its words are.
-use Rattle.std.proofs.Common.{◌≡◌, ℕ, ◌+◌, ◌==◌, ◌&&◌, not, nat_lt, Bool, true, false, List, [], ◌∷◌, length, Option, Some, None, Result, Ok, Err, arith, refl, ap, sym, ◌∙◌}
+use Rattle.std.proofs.Common.{◌≡◌, ℕ, ◌==◌, nat_lt, Bool, true, false, List, length, Option, Some, None, Ok, Err, arith, refl}
 use Rattle.std.specs.Prelude.{sum_by, option_map}
-use Rattle.std.proofs.lemmas.Bool.Decides.{nat_tests}
 use Rattle.vg_script.specs.declared.kind.Kind.{Kind}
-use Rattle.vg_script.specs.declared.kind.Kind.TheVariants.{Text, Word, Number, Limit, Name}
+use Rattle.vg_script.specs.declared.kind.Kind.TheVariants.{Word, Limit}
 use Rattle.vg_script.specs.declared.types.Step.{Step}
 use Rattle.vg_script.specs.Seen.{Seen, add_line}
-use Rattle.vg_script.specs.Rows.{Row, judged, judged_row}
-use Rattle.vg_script.specs.Grammar.{step_form, settled, settled_form}
+use Rattle.vg_script.specs.Rows.{Row, judged_row}
+use Rattle.vg_script.specs.Grammar.{step_form, settled_form}
 use Rattle.vg_script.specs.Reading.{past_kind}
 
 abbrev pub with_call : Seen → Step → (List ℕ → Bool) → Seen

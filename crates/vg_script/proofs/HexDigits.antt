@@ -1,5 +1,5 @@
 -- HEX with small letters is read.
-use Rattle.std.proofs.Common.{◌≡◌, ℕ, ◌+◌, ◌-◌, ◌*◌, ◌<◌, ◌≤◌, ◌%◌, ◌/◌, ◌&&◌, ◌==◌, Bool, true, false, List, [], ◌∷◌, length, Some, Ok, arith, refl, ap, sym, ◌∙◌}
+use Rattle.std.proofs.Common.{◌≡◌, ℕ, ◌+◌, ◌%◌, ◌&&◌, ◌==◌, Bool, true, List, [], ◌∷◌, length, Some, Ok, arith, refl}
 use Rattle.std.proofs.lemmas.Bool.Decides.{nat_tests}
 use Rattle.std.specs.Char.{digit_value}
 use Rattle.std.specs.List.{list_all}

@@ -1,5 +1,5 @@
 -- What the lines give keeps the limits.
-use Rattle.std.proofs.Common.{◌≡◌, ℕ, ◌+◌, ◌-◌, ◌*◌, ◌/◌, ◌==◌, ◌<◌, ◌≤◌, ◌&&◌, not, nat_lt, nat_le, Bool, true, false, List, [], ◌∷◌, ◌++◌, length, Option, Some, None, Result, Ok, Err, if◌then◌else◌, arith, refl, ap, sym, ◌∙◌, subst, length-append, lit≤}
+use Rattle.std.proofs.Common.{◌≡◌, ℕ, ◌/◌, ◌==◌, ◌<◌, ◌≤◌, nat_lt, Bool, true, false, List, [], ◌∷◌, ◌++◌, length, Option, Some, None, Result, Ok, Err, if◌then◌else◌, arith, refl, sym, ◌∙◌, subst, length-append, lit≤}
 use Rattle.std.specs.Prelude.{sum_by, All, option_map, unwrap_or, IfOk, bytes_eq, codes, slice_index, IfSome}
 use Rattle.std.specs.Bool.{⊤}
 use Rattle.std.proofs.lemmas.Bool.Decides.{nat_tests}
@@ -9,13 +9,12 @@ use Rattle.vg_script.specs.declared.kind.Kind.TheVariants.{Word, Limit}
 use Rattle.vg_script.specs.declared.types.Line.{Line}
 use Rattle.vg_script.specs.declared.types.Script.{Script}
 use Rattle.vg_script.specs.declared.types.ScriptFault.{ScriptFault}
-use Rattle.vg_script.specs.declared.types.Step.{Step}
-use Rattle.vg_script.specs.Words.{lines_of, words_of, is_text, hex_bytes, value}
+use Rattle.vg_script.specs.Words.{lines_of, words_of, hex_bytes, value}
 use Rattle.vg_script.specs.Seen.{Seen, nothing_seen, add_line}
 use Rattle.vg_script.specs.Rows.{Row, info_row, buffer_row, store_row, load_row, send_row, flush_row, take_row, drop_row, hide_row, show_row, flip_row, close_row, one_word, two_words, three_words, four_words, five_words, six_words, seven_words, step_row}
-use Rattle.vg_script.specs.Grammar.{Form, display_form, memory_form, client_form, step_form, skipped_form, called_form, worded_form, form_of, line_form, one_more, settled, script_of, scan, read_script, Parses}
+use Rattle.vg_script.specs.Grammar.{Form, display_form, memory_form, client_form, step_form, skipped_form, called_form, worded_form, form_of, line_form, one_more, script_of, scan, read_script, Parses}
 use Rattle.vg_script.specs.Faults.{fails, given, form_gives, seen_after, AreFaultless, has_fault}
-use Rattle.vg_script.specs.Limits.{IsBetween, IsFormatCode, StepInLimits, ClientInLimits, DisplayInLimits, ScriptInLimits}
+use Rattle.vg_script.specs.Limits.{IsBetween, StepInLimits, ClientInLimits, DisplayInLimits, ScriptInLimits}
 use Rattle.vg_script.proofs.FaultLaws.{script_to}
 
 -- ---- the rows

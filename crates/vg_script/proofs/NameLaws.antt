@@ -1,15 +1,15 @@
 -- Which names are defined after lines that have no fault.
-use Rattle.std.proofs.Common.{◌≡◌, ℕ, ◌+◌, ◌-◌, ◌==◌, ◌<◌, ◌≤◌, ◌&&◌, ◌||◌, ◌⊎◌, inl, inr, not, nat_lt, Bool, true, false, List, [], ◌∷◌, ◌++◌, length, Option, Some, None, if◌then◌else◌, arith, refl, ap, sym, ◌∙◌, subst, rules, suc, length-append}
+use Rattle.std.proofs.Common.{◌≡◌, ℕ, ◌==◌, ◌&&◌, ◌||◌, ◌⊎◌, inl, inr, not, Bool, true, false, List, [], ◌∷◌, ◌++◌, length, Option, Some, None, if◌then◌else◌, arith, refl, ap, sym, ◌∙◌, subst, rules, suc, length-append}
 use Rattle.std.specs.Prelude.{All, option_map, bytes_eq, codes, slice_index}
-use Rattle.std.specs.Bool.{⊤, Decides}
+use Rattle.std.specs.Bool.{⊤}
 use Rattle.std.proofs.lemmas.Bool.Decides.{nat_tests}
 use Rattle.std.proofs.lemmas.Slice.Eq.{bytes_eq-Decides}
 use Rattle.std.proofs.lemmas.List.Elements.{All-nil, All-cons, All-head, All-tail}
 use Rattle.vg_script.specs.declared.kind.Kind.{Kind}
 use Rattle.vg_script.specs.declared.kind.Kind.TheVariants.{Word, Limit}
 use Rattle.vg_script.specs.declared.types.Line.{Line}
-use Rattle.vg_script.specs.Words.{lines_of, words_of}
-use Rattle.vg_script.specs.Seen.{Seen, nothing_seen, no_names, add_line, with_name, without_name}
+use Rattle.vg_script.specs.Words.{words_of}
+use Rattle.vg_script.specs.Seen.{Seen, nothing_seen, add_line, with_name, without_name}
 use Rattle.vg_script.specs.Rows.{Row, info_row, buffer_row, store_row, load_row, send_row, flush_row, take_row, drop_row, hide_row, show_row, flip_row, close_row, one_word, two_words, three_words, four_words, five_words, six_words, seven_words, step_row}
 use Rattle.vg_script.specs.Grammar.{Form, display_form, memory_form, client_form, step_form, skipped_form, called_form, worded_form, form_of, line_form, one_more}
 use Rattle.vg_script.specs.Faults.{fails, given, form_gives, seen_after, AreFaultless, has_fault}

@@ -1,16 +1,14 @@
 -- Lines, scanned one after the other.
-use Rattle.std.proofs.Common.{◌≡◌, ℕ, ◌+◌, ◌-◌, ◌==◌, ◌<◌, ◌≤◌, Bool, true, false, List, [], ◌∷◌, ◌++◌, length, Option, Some, None, Result, Ok, Err, if◌then◌else◌, arith, refl, ap, sym, ◌∙◌, subst}
+use Rattle.std.proofs.Common.{◌≡◌, ℕ, ◌+◌, ◌==◌, ◌<◌, Bool, true, false, List, [], ◌∷◌, length, Option, Some, None, Ok, Err, if◌then◌else◌, arith, refl, ap, sym, ◌∙◌}
 use Rattle.std.specs.Prelude.{option_map, bytes_eq, codes, slice_index}
 use Rattle.std.specs.Bool.{⊤}
 use Rattle.std.specs.List.{before_first, after_first}
 use Rattle.vg_script.specs.declared.kind.Kind.{Kind}
 use Rattle.vg_script.specs.declared.kind.Kind.TheVariants.{Text}
-use Rattle.vg_script.specs.declared.types.Script.{Script}
-use Rattle.vg_script.specs.declared.types.ScriptFault.{ScriptFault}
 use Rattle.vg_script.specs.Words.{lines_of, words_of, is_text}
 use Rattle.vg_script.specs.Seen.{Seen}
 use Rattle.vg_script.specs.Rows.{Row, step_row}
-use Rattle.vg_script.specs.Grammar.{Form, display_form, memory_form, client_form, step_form, skipped_form, called_form, worded_form, form_of, line_form, one_more, settled, settled_form, after_line, fault_at, go_on, scan}
+use Rattle.vg_script.specs.Grammar.{Form, display_form, memory_form, client_form, step_form, skipped_form, called_form, worded_form, form_of, line_form, one_more, settled, settled_form, after_line, fault_at, scan}
 use Rattle.vg_script.proofs.Cuts.{lines_of-first}
 
 -- What a form gives has as many lines.

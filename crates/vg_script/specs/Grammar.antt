@@ -1,8 +1,7 @@
 -- A script's grammar: what has to hold of each line, what it gives, and which fault a text has first.
-use Rattle.std.specs.Prelude.{◌≡◌, ℕ, ◌+◌, ◌==◌, ◌&&◌, not, nat_lt, Bool, true, false, List, [], ◌∷◌, ◌++◌, length, sum_by, Option, Some, None, is_none, option_map, unwrap_or, Result, Ok, Err, if◌then◌else◌, codes, bytes_eq, slice_index}
+use Rattle.std.specs.Prelude.{◌≡◌, ℕ, ◌+◌, ◌==◌, ◌&&◌, not, nat_lt, Bool, true, List, [], ◌∷◌, ◌++◌, length, sum_by, Option, Some, None, is_none, option_map, unwrap_or, Result, Ok, Err, if◌then◌else◌, codes, bytes_eq, slice_index}
 use Rattle.vg_script.specs.declared.kind.Kind.{Kind}
 use Rattle.vg_script.specs.declared.kind.Kind.TheVariants.{Text, Word, Number, Limit, Name}
-use Rattle.vg_script.specs.declared.types.Line.{Line}
 use Rattle.vg_script.specs.declared.types.Script.{Script}
 use Rattle.vg_script.specs.declared.types.ScriptFault.{ScriptFault}
 use Rattle.vg_script.specs.Words.{lines_of, words_of, is_text, is_number, value, is_within}
@@ -58,21 +57,36 @@ step_form seen row = record {
   numbers = row.numbers;
   limits = nat_lt (sum_by length seen.clients) 100000 && row.limits;
   names = row.names;
-  gives = record seen { clients = add_line seen.clients (record { number = seen.lines; step = row.step }); defined = row.after };
+  gives = record seen {
+    clients = add_line seen.clients (record { number = seen.lines; step = row.step });
+    defined = row.after;
+  };
 }
 
 -- A line without words, or with a comment.
 unfoldable pub skipped_form : Seen → Form
-skipped_form seen = record { place = true; numbers = true; limits = true; names = true; gives = seen }
+skipped_form seen = record {
+  place = true;
+  numbers = true;
+  limits = true;
+  names = true;
+  gives = seen;
+}
 
 unfoldable pub called_form : Seen → List (List ℕ) → Option Form
 called_form seen words = option_map (step_form seen) (step_row (length seen.displays) seen.defined words)
 
 -- The line that these words are, if it is one: `seen` counts this line too.
 unfoldable pub worded_form : Seen → List (List ℕ) → Option Form
-worded_form seen (word ∷ []) = if bytes_eq word (codes "client") then Some (client_form seen) else called_form seen (word ∷ [])
-worded_form seen (word ∷ a ∷ []) = if bytes_eq word (codes "memory") then Some (memory_form seen a) else called_form seen (word ∷ a ∷ [])
-worded_form seen (word ∷ a ∷ b ∷ []) = if bytes_eq word (codes "display") then Some (display_form seen a b) else called_form seen (word ∷ a ∷ b ∷ [])
+worded_form seen (word ∷ []) =
+    if bytes_eq word (codes "client") then Some (client_form seen)
+    else called_form seen (word ∷ [])
+worded_form seen (word ∷ a ∷ []) =
+    if bytes_eq word (codes "memory") then Some (memory_form seen a)
+    else called_form seen (word ∷ a ∷ [])
+worded_form seen (word ∷ a ∷ b ∷ []) =
+    if bytes_eq word (codes "display") then Some (display_form seen a b)
+    else called_form seen (word ∷ a ∷ b ∷ [])
 worded_form seen words = called_form seen words
 
 unfoldable pub form_of : Seen → List (List ℕ) → Option Form

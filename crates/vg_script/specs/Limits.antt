@@ -1,5 +1,5 @@
 -- The limits that each script keeps.
-use Rattle.std.specs.Prelude.{ℕ, ◌*◌, ◌==◌, ◌<◌, ◌≤◌, List, [], ◌∷◌, length, sum_by, All, IsTrue, Option}
+use Rattle.std.specs.Prelude.{ℕ, ◌*◌, ◌==◌, ◌<◌, ◌≤◌, List, [], ◌∷◌, length, sum_by, All, IsTrue}
 use Rattle.std.specs.Bool.{⊤}
 use Rattle.std.specs.List.{list_any}
 use Rattle.vg_script.specs.declared.types.Line.{Line}

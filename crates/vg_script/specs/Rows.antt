@@ -1,7 +1,7 @@
 -- The lines of a client, one definition for each word: what has to hold of how its numbers are spelled, of
 -- the limits and of the names, and which call it is. `displays` is how many displays there are, and
 -- `defined` says whether a name is defined before the line.
-use Rattle.std.specs.Prelude.{ℕ, ◌+◌, ◌*◌, ◌/◌, ◌==◌, ◌&&◌, ◌||◌, not, nat_lt, nat_le, Bool, true, false, List, [], ◌∷◌, length, Option, Some, None, Result, Ok, Err, if◌then◌else◌, codes, bytes_eq}
+use Rattle.std.specs.Prelude.{ℕ, ◌*◌, ◌/◌, ◌==◌, ◌&&◌, not, nat_lt, nat_le, Bool, true, List, [], ◌∷◌, length, Option, Some, None, Result, Ok, Err, if◌then◌else◌, codes, bytes_eq}
 use Rattle.std.specs.List.{list_any}
 use Rattle.std.specs.Int.{is_in_range}
 use Rattle.vg_script.specs.declared.kind.Kind.{Kind}
@@ -17,7 +17,7 @@ pub record Row : Type 0 where
   pub numbers : Bool
   -- each is within its limits
   pub limits : Bool
-  -- each name is well spelled, and is defined or isn't, as it has to be
+  -- each name is well spelled, and is defined or isn't, as it has to be: a badly spelled one never is
   pub names : Bool
   -- the call
   pub step : Step
@@ -48,7 +48,13 @@ area_of x y width height = record { x = value x; y = value y; width = value widt
 
 -- info
 unfoldable pub info_row : (List ℕ → Bool) → Row
-info_row defined = record { numbers = true; limits = true; names = true; step = Info; after = defined }
+info_row defined = record {
+  numbers = true;
+  limits = true;
+  names = true;
+  step = Info;
+  after = defined;
+}
 
 -- buffer A W H F
 unfoldable pub buffer_row : (List ℕ → Bool) → (name width height format : List ℕ) → Row
@@ -103,15 +109,33 @@ flush_row defined name x y width height = record {
 
 -- take S
 unfoldable pub take_row : ℕ → (List ℕ → Bool) → (scanout : List ℕ) → Row
-take_row displays defined scanout = record { numbers = is_number scanout; limits = is_scanout displays scanout; names = true; step = Take (value scanout); after = defined }
+take_row displays defined scanout = record {
+  numbers = is_number scanout;
+  limits = is_scanout displays scanout;
+  names = true;
+  step = Take (value scanout);
+  after = defined;
+}
 
 -- drop S
 unfoldable pub drop_row : ℕ → (List ℕ → Bool) → (scanout : List ℕ) → Row
-drop_row displays defined scanout = record { numbers = is_number scanout; limits = is_scanout displays scanout; names = true; step = Drop (value scanout); after = defined }
+drop_row displays defined scanout = record {
+  numbers = is_number scanout;
+  limits = is_scanout displays scanout;
+  names = true;
+  step = Drop (value scanout);
+  after = defined;
+}
 
 -- hide S
 unfoldable pub hide_row : ℕ → (List ℕ → Bool) → (scanout : List ℕ) → Row
-hide_row displays defined scanout = record { numbers = is_number scanout; limits = is_scanout displays scanout; names = true; step = Hide (value scanout); after = defined }
+hide_row displays defined scanout = record {
+  numbers = is_number scanout;
+  limits = is_scanout displays scanout;
+  names = true;
+  step = Hide (value scanout);
+  after = defined;
+}
 
 -- show S A X Y W H
 unfoldable pub show_row : ℕ → (List ℕ → Bool) → (scanout name x y width height : List ℕ) → Row
@@ -135,7 +159,13 @@ flip_row displays defined scanout name = record {
 
 -- close A
 unfoldable pub close_row : (List ℕ → Bool) → (name : List ℕ) → Row
-close_row defined name = record { numbers = true; limits = true; names = defined name; step = Close name; after = without_name name defined }
+close_row defined name = record {
+  numbers = true;
+  limits = true;
+  names = defined name;
+  step = Close name;
+  after = without_name name defined;
+}
 
 -- The lines of a client of one word to seven, by the first of them.
 unfoldable pub one_word : (List ℕ → Bool) → (word : List ℕ) → Option Row

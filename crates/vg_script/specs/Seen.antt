@@ -1,5 +1,5 @@
 -- What the lines before a line have given.
-use Rattle.std.specs.Prelude.{ℕ, ◌+◌, ◌&&◌, ◌||◌, not, nat_lt, Bool, false, List, [], ◌∷◌, ◌++◌, length, Option, None, bytes_eq}
+use Rattle.std.specs.Prelude.{ℕ, ◌&&◌, ◌||◌, not, Bool, false, List, [], ◌∷◌, ◌++◌, Option, None, bytes_eq}
 use Rattle.vg_script.specs.declared.types.Line.{Line}
 
 pub record Seen : Type 0 where

@@ -26,7 +26,10 @@ pub(crate) fn add_step<'a>(
     words: &[&'a [u8]],
 ) -> Result<(), Stop>
     requires { displays ≤ 16 }
-    ensures { (seen : Seen) → seen.clients ≡ lines.old.items ∷ [] → seen.lines ≡ number → length seen.displays ≡ displays → seen.defined ≡ defined names.old → Goes (record seen { clients = lines.new.items ∷ []; defined = defined names.new }) result (settled_form (called_form seen (map (λ word. word.now) words.now))) }
+    ensures { (seen : Seen) → seen.clients ≡ lines.old.items ∷ [] → seen.lines ≡ number
+        → length seen.displays ≡ displays → seen.defined ≡ defined names.old
+        → Goes (record seen { clients = lines.new.items ∷ []; defined = defined names.new }) result
+        (settled_form (called_form seen (map (λ word. word.now) words.now))) }
 {
     let read = step_of(alloc, names, displays, words);
     if lines.len() >= MOST_LINES {

@@ -11,8 +11,10 @@ ghost use Rattle.vg_script.specs.Limits.{ScriptInLimits};
 
 /// Any bytes are a script or have a first fault, and never both. There is one such script, and one such fault.
 pub fn script_or_fault()
-    ensures either { (bytes : List ℕ) → ((script : Script) × Parses bytes script) ⊎ ((line : ℕ) × (kind : ℕ) × Faulty bytes line kind) }
-    ensures not_both { (bytes : List ℕ) (script : Script) (line kind : ℕ) → Parses bytes script → Faulty bytes line kind → ⊥ }
+    ensures either { (bytes : List ℕ) → ((script : Script) × Parses bytes script)
+        ⊎ ((line : ℕ) × (kind : ℕ) × Faulty bytes line kind) }
+    ensures not_both { (bytes : List ℕ) (script : Script) (line kind : ℕ)
+        → Parses bytes script → Faulty bytes line kind → ⊥ }
     ensures one_script { (bytes : List ℕ) (a b : Script) → Parses bytes a → Parses bytes b → a ≡ b }
     ensures one_fault { (bytes : List ℕ) (a k b m : ℕ) → Faulty bytes a k → Faulty bytes b m → (a ≡ b) × (k ≡ m) }
 {}
@@ -21,8 +23,10 @@ pub fn script_or_fault()
 /// no line has one, the text lacks a display and the fault stands behind its last line, or it is the script that
 /// its lines give.
 pub fn first_fault()
-    ensures fault { (bytes : List ℕ) (line kind : ℕ) → (Faulty bytes line kind ↔ HasFirstFault (lines_of bytes) line kind) }
-    ensures script { (bytes : List ℕ) (script : Script) → (Parses bytes script ↔ IsScriptOf (lines_of bytes) script) }
+    ensures fault { (bytes : List ℕ) (line kind : ℕ)
+        → (Faulty bytes line kind ↔ HasFirstFault (lines_of bytes) line kind) }
+    ensures script { (bytes : List ℕ) (script : Script)
+        → (Parses bytes script ↔ IsScriptOf (lines_of bytes) script) }
 {}
 
 /// A script keeps the limits of its lines.
@@ -33,5 +37,6 @@ pub fn script_limits()
 /// After lines without a fault a name is defined exactly where some line is `buffer` and this name, and no line
 /// behind it is `close` and this name.
 pub fn defined_names()
-    ensures { (lines : List (List ℕ)) (name : List ℕ) → AreFaultless nothing_seen lines → (((seen_after nothing_seen lines).defined name ≡ true) ↔ IsDefinedBy lines name) }
+    ensures { (lines : List (List ℕ)) (name : List ℕ) → AreFaultless nothing_seen lines
+        → (((seen_after nothing_seen lines).defined name ≡ true) ↔ IsDefinedBy lines name) }
 {}

@@ -64,7 +64,8 @@ impl<'a> Reader<'a> {
 
     #[tactic(auto, unfolding(crate::specs::Grammar::form_of, crate::specs::Grammar::skipped_form))]
     fn read_words(&mut self, alloc: Global, words: &[&'a [u8]]) -> Result<(), Stop>
-        ensures { Goes (seen self.new) result (settled_form (form_of (seen self.old) (map (λ word. word.now) words.now))) }
+        ensures { Goes (seen self.new) result
+            (settled_form (form_of (seen self.old) (map (λ word. word.now) words.now))) }
     {
         let [first, ..] = words else {
             return Ok(());
@@ -77,7 +78,8 @@ impl<'a> Reader<'a> {
 
     #[tactic(auto, unfolding(crate::specs::Grammar::worded_form))]
     fn read_form(&mut self, alloc: Global, words: &[&'a [u8]]) -> Result<(), Stop>
-        ensures { Goes (seen self.new) result (settled_form (worded_form (seen self.old) (map (λ word. word.now) words.now))) }
+        ensures { Goes (seen self.new) result
+            (settled_form (worded_form (seen self.old) (map (λ word. word.now) words.now))) }
     {
         match words {
             [word] => {
@@ -150,7 +152,8 @@ impl<'a> Reader<'a> {
     }
 
     fn step(&mut self, alloc: Global, words: &[&'a [u8]]) -> Result<(), Stop>
-        ensures { Goes (seen self.new) result (settled_form (called_form (seen self.old) (map (λ word. word.now) words.now))) }
+        ensures { Goes (seen self.new) result
+            (settled_form (called_form (seen self.old) (map (λ word. word.now) words.now))) }
     {
         let displays = self.displays.len();
         let number = self.lines;

@@ -1,9 +1,9 @@
 //! The lines of a client, one function for each word.
 
-ghost use Rattle.std.specs.Prelude.{◌≡◌, ◌≤◌, true, false, length, map, IfOk, MatchResult, if◌then◌else◌};
+ghost use Rattle.std.specs.Prelude.{◌≡◌, ◌≤◌, true, IfOk, OnOk};
 ghost use Rattle.vg_script.specs.Words.{is_number, value, is_hex, hex_bytes};
 ghost use Rattle.vg_script.specs.Rows.{judged, is_format, is_scanout, are_numbers, are_any, area_of, info_row, buffer_row, store_row, load_row, send_row, flush_row, take_row, drop_row, hide_row, show_row, flip_row, close_row};
-ghost use Rattle.vg_script.specs.Code.{defined, Agrees};
+ghost use Rattle.vg_script.specs.Code.{defined, Agrees, Passes, Reads};
 
 use crate::kind::{Kind, Stop};
 use crate::names::{Names, define, end, is_defined};
@@ -15,7 +15,8 @@ use vg_list::Seq;
 /// `info`
 #[tactic(auto, unfolding(crate::specs::Rows::info_row))]
 pub(crate) fn info(names: &Names) -> Result<Step, Stop>
-    ensures { Agrees (defined names.now) result (judged (info_row (defined names.now))) }
+    ensures { Agrees (defined names.now) result
+        (judged (info_row (defined names.now))) }
 {
     Ok(Step::Info)
 }
@@ -30,7 +31,8 @@ pub(crate) fn buffer<'a>(
     height: &[u8],
     format: &[u8],
 ) -> Result<Step, Stop>
-    ensures { Agrees (defined names.new) result (judged (buffer_row (defined names.old) name.now width.now height.now format.now)) }
+    ensures { Agrees (defined names.new) result
+        (judged (buffer_row (defined names.old) name.now width.now height.now format.now)) }
 {
     spelled(width)?;
     spelled(height)?;
@@ -61,7 +63,8 @@ pub(crate) fn store(
     hex: &[u8],
     times: &[u8],
 ) -> Result<Step, Stop>
-    ensures { Agrees (defined names.now) result (judged (store_row (defined names.now) name.now offset.now hex.now times.now)) }
+    ensures { Agrees (defined names.now) result
+        (judged (store_row (defined names.now) name.now offset.now hex.now times.now)) }
 {
     spelled(offset)?;
     if !is_hex(hex) {
@@ -97,7 +100,8 @@ pub(crate) fn load(
     offset: &[u8],
     size: &[u8],
 ) -> Result<Step, Stop>
-    ensures { Agrees (defined names.now) result (judged (load_row (defined names.now) name.now offset.now size.now)) }
+    ensures { Agrees (defined names.now) result
+        (judged (load_row (defined names.now) name.now offset.now size.now)) }
 {
     spelled(offset)?;
     spelled(size)?;
@@ -123,7 +127,8 @@ pub(crate) fn send(
     width: &[u8],
     height: &[u8],
 ) -> Result<Step, Stop>
-    ensures { Agrees (defined names.now) result (judged (send_row (defined names.now) name.now x.now y.now width.now height.now)) }
+    ensures { Agrees (defined names.now) result
+        (judged (send_row (defined names.now) name.now x.now y.now width.now height.now)) }
 {
     all_spelled(x, y, width, height)?;
     let area = area(x, y, width, height)?;
@@ -143,7 +148,8 @@ pub(crate) fn flush(
     width: &[u8],
     height: &[u8],
 ) -> Result<Step, Stop>
-    ensures { Agrees (defined names.now) result (judged (flush_row (defined names.now) name.now x.now y.now width.now height.now)) }
+    ensures { Agrees (defined names.now) result
+        (judged (flush_row (defined names.now) name.now x.now y.now width.now height.now)) }
 {
     all_spelled(x, y, width, height)?;
     let area = area(x, y, width, height)?;
@@ -156,7 +162,8 @@ pub(crate) fn flush(
 #[tactic(auto, unfolding(crate::specs::Rows::take_row))]
 pub(crate) fn take(names: &Names, displays: usize, scanout: &[u8]) -> Result<Step, Stop>
     requires { displays ≤ 16 }
-    ensures { Agrees (defined names.now) result (judged (take_row displays (defined names.now) scanout.now)) }
+    ensures { Agrees (defined names.now) result
+        (judged (take_row displays (defined names.now) scanout.now)) }
 {
     spelled(scanout)?;
     let scanout = display(scanout, displays)?;
@@ -167,7 +174,8 @@ pub(crate) fn take(names: &Names, displays: usize, scanout: &[u8]) -> Result<Ste
 #[tactic(auto, unfolding(crate::specs::Rows::drop_row))]
 pub(crate) fn drop_scanout(names: &Names, displays: usize, scanout: &[u8]) -> Result<Step, Stop>
     requires { displays ≤ 16 }
-    ensures { Agrees (defined names.now) result (judged (drop_row displays (defined names.now) scanout.now)) }
+    ensures { Agrees (defined names.now) result
+        (judged (drop_row displays (defined names.now) scanout.now)) }
 {
     spelled(scanout)?;
     let scanout = display(scanout, displays)?;
@@ -178,7 +186,8 @@ pub(crate) fn drop_scanout(names: &Names, displays: usize, scanout: &[u8]) -> Re
 #[tactic(auto, unfolding(crate::specs::Rows::hide_row))]
 pub(crate) fn hide(names: &Names, displays: usize, scanout: &[u8]) -> Result<Step, Stop>
     requires { displays ≤ 16 }
-    ensures { Agrees (defined names.now) result (judged (hide_row displays (defined names.now) scanout.now)) }
+    ensures { Agrees (defined names.now) result
+        (judged (hide_row displays (defined names.now) scanout.now)) }
 {
     spelled(scanout)?;
     let scanout = display(scanout, displays)?;
@@ -199,7 +208,8 @@ pub(crate) fn show(
     height: &[u8],
 ) -> Result<Step, Stop>
     requires { displays ≤ 16 }
-    ensures { Agrees (defined names.now) result (judged (show_row displays (defined names.now) scanout.now name.now x.now y.now width.now height.now)) }
+    ensures { Agrees (defined names.now) result
+        (judged (show_row displays (defined names.now) scanout.now name.now x.now y.now width.now height.now)) }
 {
     spelled(scanout)?;
     all_spelled(x, y, width, height)?;
@@ -224,7 +234,8 @@ pub(crate) fn flip(
     name: &[u8],
 ) -> Result<Step, Stop>
     requires { displays ≤ 16 }
-    ensures { Agrees (defined names.now) result (judged (flip_row displays (defined names.now) scanout.now name.now)) }
+    ensures { Agrees (defined names.now) result
+        (judged (flip_row displays (defined names.now) scanout.now name.now)) }
 {
     spelled(scanout)?;
     let scanout = display(scanout, displays)?;
@@ -236,7 +247,8 @@ pub(crate) fn flip(
 /// `close A`
 #[tactic(auto, unfolding(crate::specs::Rows::close_row))]
 pub(crate) fn close(alloc: Global, names: &mut Names, name: &[u8]) -> Result<Step, Stop>
-    ensures { Agrees (defined names.new) result (judged (close_row (defined names.old) name.now)) }
+    ensures { Agrees (defined names.new) result
+        (judged (close_row (defined names.old) name.now)) }
 {
     known(names, name)?;
     end(names, name);
@@ -246,7 +258,7 @@ pub(crate) fn close(alloc: Global, names: &mut Names, name: &[u8]) -> Result<Ste
 
 /// Refuses a word that is no number.
 pub(crate) fn spelled(word: &[u8]) -> Result<(), Kind>
-    ensures { MatchResult result (λ _. is_number word.now ≡ true) (λ kind. (kind ≡ Kind.Number) × (is_number word.now ≡ false)) }
+    ensures { Passes (is_number word.now) Kind.Number result }
 {
     if is_number(word) {
         return Ok(());
@@ -257,7 +269,7 @@ pub(crate) fn spelled(word: &[u8]) -> Result<(), Kind>
 /// The code of a format.
 fn format_code(number: &[u8]) -> Result<u32, Kind>
     requires { is_number number.now ≡ true }
-    ensures { MatchResult result (λ code. (is_format number.now ≡ true) × (code ≡ value number.now)) (λ kind. (kind ≡ Kind.Limit) × (is_format number.now ≡ false)) }
+    ensures { Reads (is_format number.now) (value number.now) Kind.Limit result }
 {
     match value(number) {
         code @ (1..=4 | 67 | 68 | 121 | 134) => Ok(code as u32),
@@ -269,7 +281,7 @@ fn format_code(number: &[u8]) -> Result<u32, Kind>
 fn display(number: &[u8], displays: usize) -> Result<u32, Kind>
     requires spelled { is_number number.now ≡ true }
     requires few { displays ≤ 16 }
-    ensures { MatchResult result (λ scanout. (is_scanout displays number.now ≡ true) × (scanout ≡ value number.now)) (λ kind. (kind ≡ Kind.Limit) × (is_scanout displays number.now ≡ false)) }
+    ensures { Reads (is_scanout displays number.now) (value number.now) Kind.Limit result }
 {
     let scanout = value(number);
     if scanout < displays as u64 {
@@ -280,7 +292,11 @@ fn display(number: &[u8], displays: usize) -> Result<u32, Kind>
 
 /// Refuses four words of which one is no number.
 fn all_spelled(x: &[u8], y: &[u8], width: &[u8], height: &[u8]) -> Result<(), Kind>
-    ensures { MatchResult result (λ _. (is_number x.now ≡ true) × (is_number y.now ≡ true) × (is_number width.now ≡ true) × (is_number height.now ≡ true)) (λ kind. (kind ≡ Kind.Number) × (are_numbers x.now y.now width.now height.now ≡ false)) }
+    ensures kind { Passes (are_numbers x.now y.now width.now height.now) Kind.Number result }
+    ensures x { OnOk result (is_number x.now ≡ true) }
+    ensures y { OnOk result (is_number y.now ≡ true) }
+    ensures width { OnOk result (is_number width.now ≡ true) }
+    ensures height { OnOk result (is_number height.now ≡ true) }
 {
     spelled(x)?;
     spelled(y)?;
@@ -294,7 +310,8 @@ fn area(x: &[u8], y: &[u8], width: &[u8], height: &[u8]) -> Result<Area, Kind>
     requires y { is_number y.now ≡ true }
     requires width { is_number width.now ≡ true }
     requires height { is_number height.now ≡ true }
-    ensures { MatchResult result (λ area. (are_any x.now y.now width.now height.now ≡ true) × (area ≡ area_of x.now y.now width.now height.now)) (λ kind. (kind ≡ Kind.Limit) × (are_any x.now y.now width.now height.now ≡ false)) }
+    ensures { Reads (are_any x.now y.now width.now height.now)
+        (area_of x.now y.now width.now height.now) Kind.Limit result }
 {
     Ok(Area {
         x: limited(x, 0, u32::MAX)?,
@@ -306,7 +323,7 @@ fn area(x: &[u8], y: &[u8], width: &[u8], height: &[u8]) -> Result<Area, Kind>
 
 /// Refuses a name that isn't defined.
 fn known(names: &Names, name: &[u8]) -> Result<(), Kind>
-    ensures { MatchResult result (λ _. defined names.now name.now ≡ true) (λ kind. (kind ≡ Kind.Name) × (defined names.now name.now ≡ false)) }
+    ensures { Passes (defined names.now name.now) Kind.Name result }
 {
     if is_defined(names, name) {
         return Ok(());

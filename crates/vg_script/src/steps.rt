@@ -19,7 +19,8 @@ pub(crate) fn step_of<'a>(
     words: &[&'a [u8]],
 ) -> Result<Step, Stop>
     requires { displays ≤ 16 }
-    ensures { Agrees (defined names.new) result (judged_row (step_row displays (defined names.old) (map (λ word. word.now) words.now))) }
+    ensures { Agrees (defined names.new) result
+        (judged_row (step_row displays (defined names.old) (map (λ word. word.now) words.now))) }
 {
     match words {
         [word] => one(names, word),
@@ -35,7 +36,8 @@ pub(crate) fn step_of<'a>(
 
 #[tactic(auto, unfolding(crate::specs::Rows::one_word))]
 fn one(names: &Names, word: &[u8]) -> Result<Step, Stop>
-    ensures { Agrees (defined names.now) result (judged_row (one_word (defined names.now) word.now)) }
+    ensures { Agrees (defined names.now) result
+        (judged_row (one_word (defined names.now) word.now)) }
 {
     if word == b"info".as_slice() {
         return rows::info(names);
@@ -52,7 +54,8 @@ fn two(
     a: &[u8],
 ) -> Result<Step, Stop>
     requires { displays ≤ 16 }
-    ensures { Agrees (defined names.new) result (judged_row (two_words displays (defined names.old) word.now a.now)) }
+    ensures { Agrees (defined names.new) result
+        (judged_row (two_words displays (defined names.old) word.now a.now)) }
 {
     if word == b"take".as_slice() {
         return rows::take(names, displays, a);
@@ -79,7 +82,8 @@ fn three(
     b: &[u8],
 ) -> Result<Step, Stop>
     requires { displays ≤ 16 }
-    ensures { Agrees (defined names.now) result (judged_row (three_words displays (defined names.now) word.now a.now b.now)) }
+    ensures { Agrees (defined names.now) result
+        (judged_row (three_words displays (defined names.now) word.now a.now b.now)) }
 {
     if word == b"flip".as_slice() {
         return rows::flip(alloc, names, displays, a, b);
@@ -96,7 +100,8 @@ fn four(
     b: &[u8],
     c: &[u8],
 ) -> Result<Step, Stop>
-    ensures { Agrees (defined names.now) result (judged_row (four_words (defined names.now) word.now a.now b.now c.now)) }
+    ensures { Agrees (defined names.now) result
+        (judged_row (four_words (defined names.now) word.now a.now b.now c.now)) }
 {
     if word == b"load".as_slice() {
         return rows::load(alloc, names, a, b, c);
@@ -114,7 +119,8 @@ fn five<'a>(
     c: &[u8],
     d: &[u8],
 ) -> Result<Step, Stop>
-    ensures { Agrees (defined names.new) result (judged_row (five_words (defined names.old) word.now a.now b.now c.now d.now)) }
+    ensures { Agrees (defined names.new) result
+        (judged_row (five_words (defined names.old) word.now a.now b.now c.now d.now)) }
 {
     if word == b"buffer".as_slice() {
         return rows::buffer(alloc, names, a, b, c, d);
@@ -136,7 +142,8 @@ fn six(
     d: &[u8],
     e: &[u8],
 ) -> Result<Step, Stop>
-    ensures { Agrees (defined names.now) result (judged_row (six_words (defined names.now) word.now a.now b.now c.now d.now e.now)) }
+    ensures { Agrees (defined names.now) result
+        (judged_row (six_words (defined names.now) word.now a.now b.now c.now d.now e.now)) }
 {
     if word == b"send".as_slice() {
         return rows::send(alloc, names, a, b, c, d, e);
@@ -161,7 +168,8 @@ fn seven(
     f: &[u8],
 ) -> Result<Step, Stop>
     requires { displays ≤ 16 }
-    ensures { Agrees (defined names.now) result (judged_row (seven_words displays (defined names.now) word.now a.now b.now c.now d.now e.now f.now)) }
+    ensures { Agrees (defined names.now) result
+        (judged_row (seven_words displays (defined names.now) word.now a.now b.now c.now d.now e.now f.now)) }
 {
     if word == b"show".as_slice() {
         return rows::show(alloc, names, displays, a, b, c, d, e, f);

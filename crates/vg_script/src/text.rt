@@ -1,6 +1,6 @@
 //! The script of a text, or its first fault.
 
-ghost use Rattle.std.specs.Prelude.{◌≡◌, ◌<◌, ◌-◌, ◌^◌, length, IfOk, IfErr, MatchResult, [], ℕ};
+ghost use Rattle.std.specs.Prelude.{◌≡◌, ◌<◌, ◌-◌, ◌^◌, length, IfOk, IfErr, [], ℕ};
 ghost use Rattle.vg_script.specs.Seen.{nothing_seen};
 ghost use Rattle.vg_script.specs.Words.{lines_of};
 ghost use Rattle.vg_script.specs.Grammar.{Parses, Faulty, read_script, scan};
@@ -23,7 +23,8 @@ pub fn parse(alloc: Global, bytes: &[u8]) -> Result<Result<Script, ScriptFault>,
     ensures limits { IfOk result (λ r. IfOk r (λ script. ScriptInLimits script)) }
     ensures fault { IfOk result (λ r. IfErr r (λ fault. Faulty bytes.now fault.line fault.kind)) }
     ensures every_script { IfOk result (λ r. (script : Script) → Parses bytes.now script → r ≡ Ok script) }
-    ensures every_fault { IfOk result (λ r. (line kind : ℕ) → Faulty bytes.now line kind → r ≡ Err (record { line = line; kind = kind })) }
+    ensures every_fault { IfOk result (λ r. (line kind : ℕ) → Faulty bytes.now line kind
+        → r ≡ Err (record { line = line; kind = kind })) }
 {
     match read_lines(alloc, bytes)? {
         Ok(reader) => reader.finish(alloc),
@@ -36,7 +37,10 @@ fn read_lines<'a>(
     bytes: &'a [u8],
 ) -> Result<Result<Reader<'a>, ScriptFault>, AllocError>
     requires { length bytes.now < 2 ^ 32 - 1 }
-    ensures { IfOk result (λ r. MatchResult r (λ reader. (scan nothing_seen (lines_of bytes.now) ≡ scan (seen reader) []) × ((seen reader).lines < 2 ^ 32 - 1)) (λ fault. scan nothing_seen (lines_of bytes.now) ≡ Err fault)) }
+    ensures lines { IfOk result (λ r. IfOk r (λ reader. (seen reader).lines < 2 ^ 32 - 1)) }
+    ensures reader { IfOk result (λ r. IfOk r (λ reader.
+        scan nothing_seen (lines_of bytes.now) ≡ scan (seen reader) [])) }
+    ensures fault { IfOk result (λ r. IfErr r (λ fault. scan nothing_seen (lines_of bytes.now) ≡ Err fault)) }
 {
     let mut reader = Reader::new(alloc);
     let mut rest = bytes;

@@ -1,6 +1,6 @@
 use Rattle.std.proofs.Common.{◌∷◌, [], map, arith}
 use Rattle.vg_script.specs.Code.{defined}
-use Rattle.vg_script.proofs.CallForms.{Stands, goes_past, goes_err, goes_ok}
+use Rattle.vg_script.proofs.CallForms.{goes_past, goes_err, goes_ok}
 use Rattle.vg_script.proofs.calls.add_step.Goals as goal
 
 pub returns-then-len-ge-MOST_LINES : goal.returns-then-len-ge-MOST_LINES

@@ -1,4 +1,4 @@
-use Rattle.std.proofs.Common.{◌≡◌, ◌+◌, ◌<◌, ◌≤◌, ◌==◌, length, arith, ◌∙◌, sym, ap}
+use Rattle.std.proofs.Common.{◌==◌, length, arith, ◌∙◌, sym, ap}
 use Rattle.vg_script.specs.Grammar.{scan}
 use Rattle.vg_script.specs.Words.{lines_of}
 use Rattle.vg_script.specs.Reading.{seen}
@@ -17,13 +17,13 @@ loop-rest-preserved c =
       counted = omega (arith, counts, less, left);
     }
 
-pub returns-in-Err-Fault : goal.returns-in-Err-Fault
-returns-in-Err-Fault c =
+pub returns-in-Err-Fault-clause-fault : goal.returns-in-Err-Fault-clause-fault
+returns-in-Err-Fault-clause-fault c =
     let some = some_left c.loop-rest.rest.now (sym c.loop-rest-test.ensures) in
     rw (c.code.ensures, c.lines-number.ensures, c.in-Err-Fault.kind-is)
     (sym c.loop-rest.invariant.same ∙ rest_err (seen c.loop-rest.reader) c.in-Err-Fault.kind c.loop-rest.rest.now c.cut.result.0.now some c.cut.ensures.before (rw c.in-Err-Fault.field-0-is at c.in-Err-Fault.ensures))
 
-pub returns : goal.returns
-returns c =
+pub returns-clause-reader : goal.returns-clause-reader
+returns-clause-reader c =
     let none = none_left c.loop-rest.rest.now (sym c.loop-rest-test.ensures) in
-    (sym c.loop-rest.invariant.same ∙ ap (λ ls. scan (seen c.loop-rest.reader) ls) (ap lines_of none ∙ lines_of-nil), omega (arith, c.requires))
+    sym c.loop-rest.invariant.same ∙ ap (λ ls. scan (seen c.loop-rest.reader) ls) (ap lines_of none ∙ lines_of-nil)
