@@ -1,0 +1,10 @@
+pub mod Digits
+pub mod Cuts
+pub mod NameSets
+pub mod HexDigits
+pub mod Forms
+pub mod CallForms
+pub mod Scans
+pub mod FaultLaws
+pub mod LimitLaws
+pub mod NameLaws

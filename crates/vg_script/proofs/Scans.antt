@@ -1,0 +1,76 @@
+-- Lines, scanned one after the other.
+use Rattle.std.proofs.Common.{◌≡◌, ℕ, ◌+◌, ◌==◌, ◌<◌, Bool, true, false, List, [], ◌∷◌, length, Option, Some, None, Ok, Err, if◌then◌else◌, arith, refl, ap, sym, ◌∙◌}
+use Rattle.std.specs.Prelude.{option_map, bytes_eq, codes, slice_index}
+use Rattle.std.specs.Bool.{⊤}
+use Rattle.std.specs.List.{before_first, after_first}
+use Rattle.vg_script.specs.declared.kind.Kind.{Kind}
+use Rattle.vg_script.specs.declared.kind.Kind.TheVariants.{Text}
+use Rattle.vg_script.specs.Words.{lines_of, words_of, is_text}
+use Rattle.vg_script.specs.Seen.{Seen}
+use Rattle.vg_script.specs.Rows.{Row, step_row}
+use Rattle.vg_script.specs.Grammar.{Form, display_form, memory_form, client_form, step_form, skipped_form, called_form, worded_form, form_of, line_form, one_more, settled, settled_form, after_line, fault_at, scan}
+use Rattle.vg_script.proofs.Cuts.{lines_of-first}
+
+-- What a form gives has as many lines.
+abbrev pub HasLines : ℕ → Option Form → Type 0
+HasLines n None = ⊤
+HasLines n (Some form) = form.gives.lines ≡ n
+
+either_has : (n : ℕ) (b : Bool) (x y : Option Form) → HasLines n x → HasLines n y → HasLines n (if b then x else y)
+either_has n true x y p q = p
+either_has n false x y p q = q
+
+row_has : (seen : Seen) (row : Option Row) → HasLines seen.lines (option_map (step_form seen) row)
+unfolding step_form
+row_has seen None = tt
+row_has seen (Some row) = refl
+
+called_has : (seen : Seen) (words : List (List ℕ)) → HasLines seen.lines (called_form seen words)
+unfolding called_form
+called_has seen words = row_has seen (step_row (length seen.displays) seen.defined words)
+
+worded_has : (seen : Seen) (words : List (List ℕ)) → HasLines seen.lines (worded_form seen words)
+unfolding worded_form display_form memory_form client_form
+worded_has seen [] = called_has seen []
+worded_has seen (word ∷ []) = either_has _ (bytes_eq word (codes "client")) (Some (client_form seen)) _ refl (called_has seen (word ∷ []))
+worded_has seen (word ∷ a ∷ []) = either_has _ (bytes_eq word (codes "memory")) (Some (memory_form seen a)) _ refl (called_has seen (word ∷ a ∷ []))
+worded_has seen (word ∷ a ∷ b ∷ []) = either_has _ (bytes_eq word (codes "display")) (Some (display_form seen a b)) _ refl (called_has seen (word ∷ a ∷ b ∷ []))
+worded_has seen (word ∷ a ∷ b ∷ c ∷ more) = called_has seen (word ∷ a ∷ b ∷ c ∷ more)
+
+pub form_has : (seen : Seen) (words : List (List ℕ)) → HasLines seen.lines (form_of seen words)
+unfolding form_of skipped_form
+form_has seen [] = refl
+form_has seen (word ∷ more) = either_has _ (slice_index word 0 == 35) (Some (skipped_form seen)) _ refl (worded_has seen (word ∷ more))
+
+settled_is : (form : Form) (next : Seen) → settled form ≡ Ok next → form.gives ≡ next
+settled_is form next h = grind arith
+
+settled_has : (n : ℕ) (form : Option Form) (next : Seen) → HasLines n form → settled_form form ≡ Ok next → next.lines ≡ n
+settled_has n None next p h = cc
+settled_has n (Some form) next p h = ap (λ s. s.lines) (sym (settled_is form next h)) ∙ p
+
+-- A line counts.
+pub one_line_more : (seen : Seen) (line : List ℕ) (next : Seen) → after_line seen line ≡ Ok next → next.lines ≡ seen.lines + 1
+unfolding after_line line_form
+one_line_more seen line next h = go (is_text line) h
+  where
+    go : (b : Bool) → (if b then settled_form (line_form seen line) else Err Text) ≡ Ok next → next.lines ≡ seen.lines + 1
+    go true h = settled_has _ _ next (form_has (one_more seen) (words_of line)) h
+    go false h = cc
+
+pub scan-ok : (seen next : Seen) (line : List ℕ) (more : List (List ℕ)) → after_line seen line ≡ Ok next → scan seen (line ∷ more) ≡ scan next more
+unfolding scan
+scan-ok seen next line more h = rw h refl
+
+pub scan-err : (seen : Seen) (kind : Kind) (line : List ℕ) (more : List (List ℕ)) → after_line seen line ≡ Err kind → scan seen (line ∷ more) ≡ Err (fault_at (seen.lines + 1) kind)
+unfolding scan
+scan-err seen kind line more h = rw h refl
+
+-- The same of bytes that are left.
+pub rest_ok : (seen next : Seen) (rest line after : List ℕ) → 0 < length rest → line ≡ before_first (λ b. b == 10) rest → after ≡ after_first (λ b. b == 10) rest
+    → after_line seen line ≡ Ok next → scan next (lines_of after) ≡ scan seen (lines_of rest)
+rest_ok seen next rest line after some l a h = rw (lines_of-first rest some, ← l, ← a) (sym (scan-ok seen next line (lines_of after) h))
+
+pub rest_err : (seen : Seen) (kind : Kind) (rest line : List ℕ) → 0 < length rest → line ≡ before_first (λ b. b == 10) rest
+    → after_line seen line ≡ Err kind → scan seen (lines_of rest) ≡ Err (fault_at (seen.lines + 1) kind)
+rest_err seen kind rest line some l h = rw (lines_of-first rest some, ← l) (scan-err seen kind line _ h)

@@ -1,0 +1,32 @@
+-- How the code's values stand for those of the other modules here.
+use Rattle.std.specs.Prelude.{◌≡◌, ℕ, Bool, true, false, List, Result, Ok, Err}
+use Rattle.std.specs.Bool.{⊤}
+use Rattle.std.specs.BTreeSet.{BTreeSet, contains_by}
+use Rattle.std.specs.Cmp.Lexicographic.{slice_cmp}
+use Rattle.std.specs.Ordering.{nat_cmp}
+use denote.Ref.{Bor}
+use Rattle.vg_script.specs.declared.kind.Kind.{Kind}
+use Rattle.vg_script.specs.declared.kind.Stop.{Stop}
+use Rattle.vg_script.specs.declared.kind.Stop.TheVariants.{Memory, Fault}
+use Rattle.vg_script.specs.declared.types.Step.{Step}
+
+-- Whether a set of names has these bytes.
+abbrev pub defined : BTreeSet (Bor (List ℕ)) → List ℕ → Bool
+defined names q = contains_by (λ k. slice_cmp nat_cmp q k.now) names
+
+-- A test was passed, or the answer is a fault of this kind.
+abbrev pub Passes : {X : Type 0} → Bool → Kind → Result X Kind → Type 0
+Passes test kind (Ok x) = test ≡ true
+Passes test kind (Err k) = (k ≡ kind) × (test ≡ false)
+
+-- A test was passed and the answer is this, or the answer is a fault of this kind.
+abbrev pub Reads : {X : Type 0} → Bool → X → Kind → Result X Kind → Type 0
+Reads test value kind (Ok x) = (test ≡ true) × (x ≡ value)
+Reads test value kind (Err k) = (k ≡ kind) × (test ≡ false)
+
+-- What the reading of a line gave, where memory may be wanting: the call and the names after it, or the
+-- kind of the fault.
+abbrev pub Agrees : (List ℕ → Bool) → Result Step Stop → Result (Step × (List ℕ → Bool)) Kind → Type 0
+Agrees after (Ok step) judged = judged ≡ Ok (step, after)
+Agrees after (Err Memory) judged = ⊤
+Agrees after (Err (Fault kind)) judged = judged ≡ Err kind

@@ -1,0 +1,154 @@
+-- A script's grammar: what has to hold of each line, what it gives, and which fault a text has first.
+use Rattle.std.specs.Prelude.{◌≡◌, ℕ, ◌+◌, ◌==◌, ◌&&◌, not, nat_lt, Bool, true, List, [], ◌∷◌, ◌++◌, length, sum_by, Option, Some, None, is_none, option_map, unwrap_or, Result, Ok, Err, if◌then◌else◌, codes, bytes_eq, slice_index}
+use Rattle.vg_script.specs.declared.kind.Kind.{Kind}
+use Rattle.vg_script.specs.declared.kind.Kind.TheVariants.{Text, Word, Number, Limit, Name}
+use Rattle.vg_script.specs.declared.types.Script.{Script}
+use Rattle.vg_script.specs.declared.types.ScriptFault.{ScriptFault}
+use Rattle.vg_script.specs.Words.{lines_of, words_of, is_text, is_number, value, is_within}
+use Rattle.vg_script.specs.Seen.{Seen, no_names, add_line, nothing_seen}
+use Rattle.vg_script.specs.Rows.{Row, step_row}
+
+pub record Form : Type 0 where
+  -- the line may stand where it stands
+  pub place : Bool
+  -- each number and HEX is well spelled
+  pub numbers : Bool
+  -- each is within its limits, and there aren't too many such lines
+  pub limits : Bool
+  -- each name is well spelled, and is defined or isn't, as it has to be
+  pub names : Bool
+  -- what has been seen after it
+  pub gives : Seen
+
+-- display W H
+unfoldable pub display_form : Seen → (width height : List ℕ) → Form
+display_form seen width height = record {
+  place = is_none seen.pages && length seen.clients == 0;
+  numbers = is_number width && is_number height;
+  limits = nat_lt (length seen.displays) 16 && is_within 1 640 width && is_within 1 480 height;
+  names = true;
+  gives = record seen { displays = seen.displays ++ (value width, value height) ∷ [] };
+}
+
+-- memory P
+unfoldable pub memory_form : Seen → (pages : List ℕ) → Form
+memory_form seen pages = record {
+  place = not (length seen.displays == 0) && is_none seen.pages && length seen.clients == 0;
+  numbers = is_number pages;
+  limits = is_within 1 16384 pages;
+  names = true;
+  gives = record seen { pages = Some (value pages) };
+}
+
+-- client
+unfoldable pub client_form : Seen → Form
+client_form seen = record {
+  place = not (length seen.displays == 0);
+  numbers = true;
+  limits = nat_lt (length seen.clients) 1;
+  names = true;
+  gives = record seen { clients = seen.clients ++ [] ∷ []; defined = no_names };
+}
+
+-- A line of a client. All clients together have at most 100,000 of them.
+unfoldable pub step_form : Seen → Row → Form
+step_form seen row = record {
+  place = not (length seen.clients == 0);
+  numbers = row.numbers;
+  limits = nat_lt (sum_by length seen.clients) 100000 && row.limits;
+  names = row.names;
+  gives = record seen {
+    clients = add_line seen.clients (record { number = seen.lines; step = row.step });
+    defined = row.after;
+  };
+}
+
+-- A line without words, or with a comment.
+unfoldable pub skipped_form : Seen → Form
+skipped_form seen = record {
+  place = true;
+  numbers = true;
+  limits = true;
+  names = true;
+  gives = seen;
+}
+
+unfoldable pub called_form : Seen → List (List ℕ) → Option Form
+called_form seen words = option_map (step_form seen) (step_row (length seen.displays) seen.defined words)
+
+-- The line that these words are, if it is one: `seen` counts this line too.
+unfoldable pub worded_form : Seen → List (List ℕ) → Option Form
+worded_form seen (word ∷ []) =
+    if bytes_eq word (codes "client") then Some (client_form seen)
+    else called_form seen (word ∷ [])
+worded_form seen (word ∷ a ∷ []) =
+    if bytes_eq word (codes "memory") then Some (memory_form seen a)
+    else called_form seen (word ∷ a ∷ [])
+worded_form seen (word ∷ a ∷ b ∷ []) =
+    if bytes_eq word (codes "display") then Some (display_form seen a b)
+    else called_form seen (word ∷ a ∷ b ∷ [])
+worded_form seen words = called_form seen words
+
+unfoldable pub form_of : Seen → List (List ℕ) → Option Form
+form_of seen [] = Some (skipped_form seen)
+form_of seen (word ∷ more) = if slice_index word 0 == 35 then Some (skipped_form seen) else worded_form seen (word ∷ more)
+
+-- One line more.
+abbrev pub one_more : Seen → Seen
+one_more seen = record seen { lines = seen.lines + 1 }
+
+unfoldable pub line_form : Seen → List ℕ → Option Form
+line_form seen line = form_of (one_more seen) (words_of line)
+
+-- What a form gives, or the least kind of its faults.
+abbrev pub settled : Form → Result Seen Kind
+settled form =
+    if not form.place then Err Word
+    else if not form.numbers then Err Number
+    else if not form.limits then Err Limit
+    else if not form.names then Err Name
+    else Ok form.gives
+
+-- The same where there may be no form, which is a fault of a word.
+abbrev pub settled_form : Option Form → Result Seen Kind
+settled_form None = Err Word
+settled_form (Some form) = settled form
+
+-- What has been seen after a line, or the least kind of the line's faults.
+unfoldable pub after_line : Seen → List ℕ → Result Seen Kind
+after_line seen line = if is_text line then settled_form (line_form seen line) else Err Text
+
+abbrev pub kind_code : Kind → ℕ
+kind_code Text = 1
+kind_code Word = 2
+kind_code Number = 3
+kind_code Limit = 4
+kind_code Name = 5
+
+abbrev pub fault_at : ℕ → Kind → ScriptFault
+fault_at line kind = record { line = line; kind = kind_code kind }
+
+-- The script of a text that has no fault. It has 4,096 pages where it doesn't say how many.
+abbrev pub script_of : Seen → Script
+script_of seen = record { displays = seen.displays; pages = unwrap_or seen.pages 4096; clients = seen.clients }
+
+abbrev pub go_on : ℕ → Result Seen Kind → (Seen → Result Script ScriptFault) → Result Script ScriptFault
+go_on line (Ok seen) more = more seen
+go_on line (Err kind) more = Err (fault_at line kind)
+
+-- The script of these lines after what has been seen, or the first fault. A text without a display lacks it
+-- at the line after its last.
+unfoldable pub scan : Seen → List (List ℕ) → Result Script ScriptFault
+scan seen [] = if length seen.displays == 0 then Err (fault_at (seen.lines + 1) Word) else Ok (script_of seen)
+scan seen (line ∷ more) = go_on (seen.lines + 1) (after_line seen line) (λ next. scan next more)
+
+unfoldable pub read_script : List ℕ → Result Script ScriptFault
+read_script bytes = scan nothing_seen (lines_of bytes)
+
+-- The bytes are the text of this script.
+abbrev pub Parses : List ℕ → Script → Type 0
+Parses bytes script = read_script bytes ≡ Ok script
+
+-- The bytes are no script, and their first fault is of this kind and stands in this line.
+abbrev pub Faulty : List ℕ → ℕ → ℕ → Type 0
+Faulty bytes line kind = read_script bytes ≡ Err (record { line = line; kind = kind })

@@ -1,0 +1,39 @@
+-- How the reader's fields stand for what has been seen.
+use Rattle.std.specs.Prelude.{◌≡◌, List, [], ◌∷◌, Option, Some, None, Result, Ok, Err, Vec}
+use Rattle.std.specs.Bool.{⊤}
+use Rattle.vg_script.specs.declared.kind.Kind.{Kind}
+use Rattle.vg_script.specs.declared.kind.Kind.TheVariants.{Text, Word, Number, Limit, Name}
+use Rattle.vg_script.specs.declared.kind.Stop.{Stop}
+use Rattle.vg_script.specs.declared.kind.Stop.TheVariants.{Memory, Fault}
+use Rattle.vg_script.specs.declared.reader.Reader.{Reader}
+use Rattle.vg_script.specs.declared.types.Line.{Line}
+use Rattle.vg_script.specs.declared.types.Step.{Step}
+use Rattle.vg_script.specs.Seen.{Seen}
+use Rattle.vg_script.specs.Code.{defined}
+
+-- The lines of the client, if it has begun.
+abbrev pub clients_of : {A : Type 0} → Option (Vec Line A) → List (List Line)
+clients_of None = []
+clients_of (Some lines) = lines.items ∷ []
+
+abbrev pub seen : Reader → Seen
+seen reader = record { lines = reader.lines; displays = reader.displays.items; pages = reader.pages; clients = clients_of reader.client; defined = defined reader.names }
+
+-- A line was read, where memory may be wanting: what has been seen after it, or the kind of the fault.
+abbrev pub Goes : Seen → Result (Unit {0}) Stop → Result Seen Kind → Type 0
+Goes after (Ok done) settled = settled ≡ Ok after
+Goes after (Err Memory) settled = ⊤
+Goes after (Err (Fault kind)) settled = settled ≡ Err kind
+
+-- Why a line stops that is one too many: a fault of its name gives way to that of the limit.
+abbrev pub past_kind : Kind → Kind
+past_kind Text = Text
+past_kind Word = Word
+past_kind Number = Number
+past_kind Limit = Limit
+past_kind Name = Limit
+
+abbrev pub past_limit : Result Step Stop → Stop
+past_limit (Ok step) = Fault Limit
+past_limit (Err Memory) = Memory
+past_limit (Err (Fault kind)) = Fault (past_kind kind)

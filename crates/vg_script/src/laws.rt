@@ -1,0 +1,42 @@
+//! What holds of the grammar itself: each function here does nothing, and its contract is a law.
+
+ghost use Rattle.std.specs.Prelude.{◌≡◌, ◌⊎◌, ◌↔◌, ℕ, List, true};
+ghost use Rattle.vg_script.specs.declared.types.Script.{Script};
+ghost use Rattle.vg_script.specs.Words.{lines_of};
+ghost use Rattle.vg_script.specs.Grammar.{Parses, Faulty};
+ghost use Rattle.vg_script.specs.Faults.{HasFirstFault, IsScriptOf, AreFaultless, seen_after};
+ghost use Rattle.vg_script.specs.Names.{IsDefinedBy};
+ghost use Rattle.vg_script.specs.Seen.{nothing_seen};
+ghost use Rattle.vg_script.specs.Limits.{ScriptInLimits};
+
+/// Any bytes are a script or have a first fault, and never both. There is one such script, and one such fault.
+pub fn script_or_fault()
+    ensures either { (bytes : List ℕ) → ((script : Script) × Parses bytes script)
+        ⊎ ((line : ℕ) × (kind : ℕ) × Faulty bytes line kind) }
+    ensures not_both { (bytes : List ℕ) (script : Script) (line kind : ℕ)
+        → Parses bytes script → Faulty bytes line kind → ⊥ }
+    ensures one_script { (bytes : List ℕ) (a b : Script) → Parses bytes a → Parses bytes b → a ≡ b }
+    ensures one_fault { (bytes : List ℕ) (a k b m : ℕ) → Faulty bytes a k → Faulty bytes b m → (a ≡ b) × (k ≡ m) }
+{}
+
+/// The fault of a text stands in its first line that has one, and is of the least kind that this line has. Where
+/// no line has one, the text lacks a display and the fault stands behind its last line, or it is the script that
+/// its lines give.
+pub fn first_fault()
+    ensures fault { (bytes : List ℕ) (line kind : ℕ)
+        → (Faulty bytes line kind ↔ HasFirstFault (lines_of bytes) line kind) }
+    ensures script { (bytes : List ℕ) (script : Script)
+        → (Parses bytes script ↔ IsScriptOf (lines_of bytes) script) }
+{}
+
+/// A script keeps the limits of its lines.
+pub fn script_limits()
+    ensures { (bytes : List ℕ) (script : Script) → Parses bytes script → ScriptInLimits script }
+{}
+
+/// After lines without a fault a name is defined exactly where some line is `buffer` and this name, and no line
+/// behind it is `close` and this name.
+pub fn defined_names()
+    ensures { (lines : List (List ℕ)) (name : List ℕ) → AreFaultless nothing_seen lines
+        → (((seen_after nothing_seen lines).defined name ≡ true) ↔ IsDefinedBy lines name) }
+{}

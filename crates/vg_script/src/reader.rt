@@ -1,0 +1,191 @@
+//! A text's lines, read one after the other.
+
+ghost use Rattle.std.specs.Prelude.{◌≤◌, length};
+
+use crate::calls::{add_step, clients_of};
+use crate::kind::{Kind, Stop};
+use crate::names::{Names, forget};
+use crate::rows::spelled;
+use crate::types::{Line, Script, ScriptFault};
+use crate::words::{is_text, limited, words_of};
+use std::alloc::{AllocError, Global};
+use std::collections::BTreeSet;
+use vg_list::Seq;
+
+/// What the lines so far have given.
+#[derive(Drop)]
+pub(crate) struct Reader<'a> {
+    lines: u32,
+    displays: Vec<(u32, u32)>,
+    pages: Option<u32>,
+    client: Option<Vec<Line>>,
+    names: Names<'a>,
+    ghost few: { length displays.items ≤ 16 },
+}
+
+impl<'a> Reader<'a> {
+    ghost use Rattle.std.specs.Prelude.{◌≡◌, ◌+◌, ◌-◌, ◌<◌, ◌^◌, [], ◌∷◌, map, IfOk};
+    ghost use Rattle.vg_script.specs.Seen.{Seen, nothing_seen};
+    ghost use Rattle.vg_script.specs.Grammar.{display_form, memory_form, client_form, called_form, worded_form, form_of, settled, settled_form, after_line, scan};
+    ghost use Rattle.vg_script.specs.Reading.{seen, Goes};
+
+    pub(crate) fn new(alloc: Global) -> Reader<'a>
+        ensures { seen result ≡ nothing_seen }
+    {
+        Reader {
+            lines: 0,
+            displays: Vec::new(alloc),
+            pages: None,
+            client: None,
+            names: BTreeSet::new(alloc),
+        }
+    }
+
+    /// How many lines were read.
+    pub(crate) fn lines(&self) -> u32
+        ensures { result ≡ (seen self.now).lines }
+    {
+        self.lines
+    }
+
+    /// Reads one line more.
+    #[tactic(auto, unfolding(crate::specs::Grammar::after_line, crate::specs::Grammar::line_form))]
+    pub(crate) fn read_line(&mut self, alloc: Global, line: &'a [u8]) -> Result<(), Stop>
+        requires { (seen self.old).lines < 2 ^ 32 - 1 }
+        ensures { Goes (seen self.new) result (after_line (seen self.old) line.now) }
+    {
+        self.lines += 1;
+        if !is_text(line) {
+            return Err(Stop::Fault(Kind::Text));
+        }
+        let words = words_of(alloc, line)?;
+        self.read_words(alloc, words.as_slice())
+    }
+
+    #[tactic(auto, unfolding(crate::specs::Grammar::form_of, crate::specs::Grammar::skipped_form))]
+    fn read_words(&mut self, alloc: Global, words: &[&'a [u8]]) -> Result<(), Stop>
+        ensures { Goes (seen self.new) result
+            (settled_form (form_of (seen self.old) (map (λ word. word.now) words.now))) }
+    {
+        let [first, ..] = words else {
+            return Ok(());
+        };
+        if first.first() == Some(&b'#') {
+            return Ok(());
+        }
+        self.read_form(alloc, words)
+    }
+
+    #[tactic(auto, unfolding(crate::specs::Grammar::worded_form))]
+    fn read_form(&mut self, alloc: Global, words: &[&'a [u8]]) -> Result<(), Stop>
+        ensures { Goes (seen self.new) result
+            (settled_form (worded_form (seen self.old) (map (λ word. word.now) words.now))) }
+    {
+        match words {
+            [word] => {
+                if *word == b"client".as_slice() {
+                    return self.client(alloc);
+                }
+                self.step(alloc, words)
+            }
+            [word, pages] => {
+                if *word == b"memory".as_slice() {
+                    return self.memory(pages);
+                }
+                self.step(alloc, words)
+            }
+            [word, width, height] => {
+                if *word == b"display".as_slice() {
+                    return self.display(width, height);
+                }
+                self.step(alloc, words)
+            }
+            _ => self.step(alloc, words),
+        }
+    }
+
+    #[tactic(auto, unfolding(crate::specs::Grammar::display_form))]
+    fn display(&mut self, width: &[u8], height: &[u8]) -> Result<(), Stop>
+        ensures { Goes (seen self.new) result (settled (display_form (seen self.old) width.now height.now)) }
+    {
+        if self.pages.is_some() || self.client.is_some() {
+            return Err(Stop::Fault(Kind::Word));
+        }
+        spelled(width)?;
+        spelled(height)?;
+        if self.displays.len() >= 16 {
+            return Err(Stop::Fault(Kind::Limit));
+        }
+        let width = limited(width, 1, 640)?;
+        let height = limited(height, 1, 480)?;
+        self.displays
+            .push((width, height))
+            .map_err(AllocError::from)?;
+        Ok(())
+    }
+
+    #[tactic(auto, unfolding(crate::specs::Grammar::memory_form))]
+    fn memory(&mut self, pages: &[u8]) -> Result<(), Stop>
+        ensures { Goes (seen self.new) result (settled (memory_form (seen self.old) pages.now)) }
+    {
+        if self.displays.is_empty() || self.pages.is_some() || self.client.is_some() {
+            return Err(Stop::Fault(Kind::Word));
+        }
+        spelled(pages)?;
+        self.pages = Some(limited(pages, 1, 16_384)?);
+        Ok(())
+    }
+
+    #[tactic(auto, unfolding(crate::specs::Grammar::client_form))]
+    fn client(&mut self, alloc: Global) -> Result<(), Stop>
+        ensures { Goes (seen self.new) result (settled (client_form (seen self.old))) }
+    {
+        if self.displays.is_empty() {
+            return Err(Stop::Fault(Kind::Word));
+        }
+        if self.client.is_some() {
+            return Err(Stop::Fault(Kind::Limit));
+        }
+        self.client = Some(Vec::new(alloc));
+        forget(&mut self.names);
+        Ok(())
+    }
+
+    fn step(&mut self, alloc: Global, words: &[&'a [u8]]) -> Result<(), Stop>
+        ensures { Goes (seen self.new) result
+            (settled_form (called_form (seen self.old) (map (λ word. word.now) words.now))) }
+    {
+        let displays = self.displays.len();
+        let number = self.lines;
+        if let Some(lines) = &mut self.client {
+            return add_step(alloc, lines, &mut self.names, displays, number, words);
+        }
+        Err(Stop::Fault(Kind::Word))
+    }
+
+    /// The script of the lines, if there was a display.
+    #[tactic(auto, unfolding(crate::specs::Grammar::scan))]
+    pub(crate) fn finish(self, alloc: Global) -> Result<Result<Script, ScriptFault>, AllocError>
+        requires { (seen self).lines < 2 ^ 32 - 1 }
+        ensures { IfOk result (λ r. r ≡ scan (seen self.entry) []) }
+    {
+        let Reader {
+            lines,
+            displays,
+            pages,
+            client,
+            names: _,
+        } = self;
+        if displays.is_empty() {
+            return Ok(Err(ScriptFault {
+                line: lines + 1,
+                kind: Kind::Word.code(),
+            }));
+        }
+        Ok(Ok(Script {
+            displays: Seq::from_vec(displays),
+            pages: pages.unwrap_or(4_096),
+            clients: clients_of(alloc, client)?,
+        }))
+    }
+}

@@ -1,0 +1,63 @@
+//! The script of a text, or its first fault.
+
+ghost use Rattle.std.specs.Prelude.{◌≡◌, ◌<◌, ◌-◌, ◌^◌, length, IfOk, IfErr, [], ℕ};
+ghost use Rattle.vg_script.specs.Seen.{nothing_seen};
+ghost use Rattle.vg_script.specs.Words.{lines_of};
+ghost use Rattle.vg_script.specs.Grammar.{Parses, Faulty, read_script, scan};
+ghost use Rattle.vg_script.specs.Limits.{ScriptInLimits};
+ghost use Rattle.vg_script.specs.Reading.{seen};
+
+use crate::kind::Stop;
+use crate::reader::Reader;
+use crate::types::{Script, ScriptFault};
+use crate::words::cut;
+use std::alloc::{AllocError, Global};
+
+/// The script that these bytes are, or the first fault of bytes that are none. It fails only for want of memory.
+///
+/// Lines end with the byte 10, which the last may lack. They are counted from 1, skipped lines too.
+#[tactic(auto, unfolding(crate::specs::Grammar::read_script))]
+pub fn parse(alloc: Global, bytes: &[u8]) -> Result<Result<Script, ScriptFault>, AllocError>
+    requires { length bytes.now < 2 ^ 32 - 1 }
+    ensures script { IfOk result (λ r. IfOk r (λ script. Parses bytes.now script)) }
+    ensures limits { IfOk result (λ r. IfOk r (λ script. ScriptInLimits script)) }
+    ensures fault { IfOk result (λ r. IfErr r (λ fault. Faulty bytes.now fault.line fault.kind)) }
+    ensures every_script { IfOk result (λ r. (script : Script) → Parses bytes.now script → r ≡ Ok script) }
+    ensures every_fault { IfOk result (λ r. (line kind : ℕ) → Faulty bytes.now line kind
+        → r ≡ Err (record { line = line; kind = kind })) }
+{
+    match read_lines(alloc, bytes)? {
+        Ok(reader) => reader.finish(alloc),
+        Err(fault) => Ok(Err(fault)),
+    }
+}
+
+fn read_lines<'a>(
+    alloc: Global,
+    bytes: &'a [u8],
+) -> Result<Result<Reader<'a>, ScriptFault>, AllocError>
+    requires { length bytes.now < 2 ^ 32 - 1 }
+    ensures lines { IfOk result (λ r. IfOk r (λ reader. (seen reader).lines < 2 ^ 32 - 1)) }
+    ensures reader { IfOk result (λ r. IfOk r (λ reader.
+        scan nothing_seen (lines_of bytes.now) ≡ scan (seen reader) [])) }
+    ensures fault { IfOk result (λ r. IfErr r (λ fault. scan nothing_seen (lines_of bytes.now) ≡ Err fault)) }
+{
+    let mut reader = Reader::new(alloc);
+    let mut rest = bytes;
+    while !rest.is_empty() {
+        let (line, after) = cut(rest, b'\n');
+        rest = after;
+        let number = reader.lines() + 1;
+        match reader.read_line(alloc, line) {
+            Ok(()) => {}
+            Err(Stop::Memory) => return Err(AllocError),
+            Err(Stop::Fault(kind)) => {
+                return Ok(Err(ScriptFault {
+                    line: number,
+                    kind: kind.code(),
+                }));
+            }
+        }
+    }
+    Ok(Ok(reader))
+}
