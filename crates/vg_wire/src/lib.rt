@@ -3,13 +3,16 @@
 //! All fields are little-endian (VIRTIO 1.2, 1.4).
 #![tactic(auto)]
 
+mod entries;
 mod fields;
 mod header;
 mod modes;
+mod rect;
 mod request;
 mod response;
 mod two_d;
 
+pub use entries::Entries;
 pub use header::{Header, read_header};
 pub use modes::Modes;
 pub use request::{Command, Malformed, Queue, read_request, write_request};
