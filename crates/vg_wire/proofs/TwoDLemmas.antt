@@ -1,5 +1,4 @@
-use Rattle.std.proofs.Common.{◌≡◌, ℕ, ◌+◌, ◌*◌, ◌<◌, ◌≤◌, ◌^◌, List, [], ◌∷◌, ◌++◌, length, take, Some, true, nat_le, refl, ap, sym, ◌∙◌, arith, append_assoc, length-append}
-use Rattle.std.specs.List.{All}
+use Rattle.std.proofs.Common.{◌≡◌, ℕ, ◌+◌, ◌*◌, ◌<◌, ◌≤◌, ◌^◌, List, [], ◌++◌, length, Some, true, nat_le, refl, ap, sym, ◌∙◌, arith, append_assoc, length-append}
 use Rattle.std.proofs.lemmas.Bool.Decides.{nat_tests}
 use Rattle.byteorder.specs.Endian.{little_bytes}
 use Rattle.byteorder.specs.Numbers.{little_number-reads_back}
@@ -9,7 +8,7 @@ use Rattle.vg_wire.specs.declared.two_d.Command2d.{Command2d}
 use Rattle.vg_wire.specs.declared.two_d.Command2d.TheVariants.{DisplayInfo, Create2d, Unref, SetScanout, Flush, Transfer, Attach, Detach}
 use Rattle.vg_wire.specs.Numbers.{number, number_at, le32, le64}
 use Rattle.vg_wire.specs.Rect.{IsRect, rect_at, rect_bytes}
-use Rattle.vg_wire.specs.Entries.{IsEntry, entries_at, entries_bytes}
+use Rattle.vg_wire.specs.Entries.{entries_at, entries_bytes}
 use Rattle.vg_wire.specs.TwoD.{FitsCount, IsCommand2d, body_of_2d, kind_of_2d, two_d_of, whole, create_2d, unref, set_scanout, flush, transfer, nr_entries, attach, detach}
 use Rattle.vg_wire.proofs.Numbers.{little_from-number}
 use Rattle.vg_wire.proofs.HeaderLemmas.{length-le32, length-le64}

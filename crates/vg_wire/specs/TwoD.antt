@@ -1,6 +1,5 @@
 use Rattle.std.specs.Prelude.{ℕ, ◌+◌, ◌*◌, ◌^◌, ◌<◌, List, [], ◌++◌, length, ◌==◌, nat_le, if◌then◌else◌, Option, Some, None}
 use Rattle.std.specs.List.{All}
-use Rattle.vg_formats.specs.declared.entry.MemEntry.{MemEntry}
 use Rattle.vg_wire.specs.declared.two_d.Command2d.{Command2d}
 use Rattle.vg_wire.specs.declared.two_d.Command2d.TheVariants.{DisplayInfo, Create2d, Unref, SetScanout, Flush, Transfer, Attach, Detach}
 use Rattle.vg_wire.specs.Numbers.{number_at, le32, le64}

@@ -1,6 +1,6 @@
 //! A whole request: a header and the command of its kind (VIRTIO 1.2, 5.7.6.7).
 
-ghost use Rattle.std.specs.Prelude.{◌≡◌, ◌++◌, Ok, IfOk, OnOk};
+ghost use Rattle.std.specs.Prelude.{◌≡◌, ◌++◌, Ok, IfOk, OnOk, OnErr, IsOk};
 ghost use Rattle.vg_wire.specs.Request as Request;
 ghost use Rattle.vg_wire.specs.Request.{request_of, request_bytes, command_body, command_kind, queue_of, FitsEntries, IsCommand};
 
@@ -60,7 +60,9 @@ pub fn read_request(
     bytes: &[u8],
     queue: Queue,
 ) -> Result<Result<(Header, Command), Malformed>, AllocError>
-    ensures { IfOk result (λ read. read ≡ request_of queue bytes.now) }
+    ensures exact { IfOk result (λ read. read ≡ request_of queue bytes.now) }
+    // Memory is asked for only by bytes that are a request.
+    ensures memory { OnErr result (IsOk (request_of queue bytes.now)) }
 {
     let Some(header) = read_header(bytes) else {
         return Ok(Err(Malformed::ShortHeader));

@@ -1,6 +1,6 @@
 //! The 2D commands (VIRTIO 1.2, 5.7.6.8).
 
-ghost use Rattle.std.specs.Prelude.{◌≡◌, ◌+◌, ◌*◌, ◌^◌, ◌<◌, ◌++◌, length, IfOk, OnOk};
+ghost use Rattle.std.specs.Prelude.{◌≡◌, ◌+◌, ◌*◌, ◌^◌, ◌<◌, ◌++◌, length, IfOk, OnOk, OnErr, IsSome};
 ghost use Rattle.vg_wire.specs.Numbers.{le32};
 ghost use Rattle.vg_wire.specs.declared.two_d.Command2d.TheVariants.{Create2d, SetScanout, Flush, Transfer, Attach};
 ghost use Rattle.vg_wire.specs.TwoD.{two_d_of, body_of_2d, whole, FitsCount, IsCommand2d};
@@ -134,8 +134,9 @@ fn read_transfer(body: &[u8]) -> Option<Command2d>
 /// RESOURCE_ATTACH_BACKING, if its eight bytes and the 16 of each entry are there.
 #[tactic(auto, unfolding(crate::specs::TwoD::attach, crate::specs::TwoD::nr_entries))]
 fn read_attach(alloc: Global, body: &[u8]) -> Result<Option<Command2d>, AllocError>
-    ensures { IfOk result (λ command.
+    ensures exact { IfOk result (λ command.
         command ≡ whole (8 + 16 * layout.nr_entries body.now) body.now (layout.attach body.now)) }
+    ensures memory { OnErr result (IsSome (whole (8 + 16 * layout.nr_entries body.now) body.now (layout.attach body.now))) }
 {
     if body.len() < 8 {
         return Ok(None);
@@ -166,7 +167,9 @@ fn read_detach(body: &[u8]) -> Option<Command2d>
 /// the header. None where the kind is no 2D command's or its fields aren't all there.
 #[tactic(auto, unfolding(crate::specs::TwoD::two_d_of))]
 pub fn read_2d(alloc: Global, header: &Header, body: &[u8]) -> Result<Option<Command2d>, AllocError>
-    ensures { IfOk result (λ command. command ≡ two_d_of header.now.kind body.now) }
+    ensures exact { IfOk result (λ command. command ≡ two_d_of header.now.kind body.now) }
+    // Memory is asked for only once all of the command is there.
+    ensures memory { OnErr result (IsSome (two_d_of header.now.kind body.now)) }
 {
     match header.kind {
         0x0100 => Ok(Some(Command2d::DisplayInfo)),

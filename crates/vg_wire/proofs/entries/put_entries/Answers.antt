@@ -1,4 +1,3 @@
-use Rattle.std.proofs.Common.{length}
 use Rattle.vg_wire.proofs.EntryLemmas.{bytes-more, fit-more}
 use Rattle.vg_wire.proofs.entries.put_entries.Goals as goal
 
