@@ -1,5 +1,7 @@
 pub mod Numbers
 pub mod HeaderLemmas
+pub mod EntryLemmas
+pub mod TwoDLemmas
 pub mod RequestLemmas
 pub mod ModesLemmas
 pub mod SlotLemmas

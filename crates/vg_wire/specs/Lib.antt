@@ -1,5 +1,7 @@
 pub mod Numbers
 pub mod Header
+pub mod Rect
+pub mod Entries
 pub mod TwoD
 pub mod Request
 pub mod Modes

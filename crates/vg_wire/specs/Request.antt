@@ -1,4 +1,4 @@
-use Rattle.std.specs.Prelude.{◌≡◌, ℕ, Bool, not, List, ◌++◌, length, drop, ◌==◌, nat_lt, nat_le, if◌then◌else◌, Option, Result, Ok, Err, ok_or, option_map}
+use Rattle.std.specs.Prelude.{◌≡◌, ℕ, Bool, not, ◌&&◌, List, ◌++◌, length, drop, nat_lt, nat_le, if◌then◌else◌, Option, Result, Ok, Err, ok_or, option_map}
 use Rattle.vg_wire.specs.declared.header.Header.{Header}
 use Rattle.vg_wire.specs.declared.request.Queue.{Queue}
 use Rattle.vg_wire.specs.declared.request.Queue.TheVariants.{Control, Cursor}
@@ -7,11 +7,11 @@ use Rattle.vg_wire.specs.declared.request.Command.TheVariants.{TwoD}
 use Rattle.vg_wire.specs.declared.request.Malformed.{Malformed}
 use Rattle.vg_wire.specs.declared.request.Malformed.TheVariants.{ShortHeader, UnknownKind, WrongQueue, ShortBody}
 use Rattle.vg_wire.specs.Header.{header_of, header_bytes}
-use Rattle.vg_wire.specs.TwoD.{two_d_of, kind_of_2d, body_of_2d}
+use Rattle.vg_wire.specs.TwoD.{two_d_of, kind_of_2d, body_of_2d, FitsCount, IsCommand2d}
 
 -- The kinds of commands.
 abbrev pub is_known : ℕ → Bool
-is_known kind = kind == 0x0100
+is_known kind = nat_le 0x0100 kind && nat_le kind 0x0107
 
 -- Kinds from 0x0300 on are the cursor queue's (VIRTIO 1.2, 5.7.6.10), the others the control queue's.
 abbrev pub is_queue_of : ℕ → Queue → Bool
@@ -23,6 +23,14 @@ queue_of (TwoD command) = Control
 
 abbrev pub command_kind : Command → ℕ
 command_kind (TwoD command) = kind_of_2d command
+
+-- A command whose number of entries fits its field.
+abbrev pub FitsEntries : Command → Type 0
+FitsEntries (TwoD command) = FitsCount command
+
+-- A command whose numbers fit their bytes, as each value of the type does.
+abbrev pub IsCommand : Command → Type 0
+IsCommand (TwoD command) = IsCommand2d command
 
 -- The command that a kind and the bytes after the header spell.
 abbrev pub command_of : ℕ → List ℕ → Option Command

@@ -1,17 +1,19 @@
 use Rattle.std.specs.Prelude.{◌≡◌, ◌≤◌, ◌<◌, ◌^◌, ◌==◌, ◌&&◌, ℕ, List, [], ◌++◌, length, nat_le, if◌then◌else◌, Option, Some, None}
 use Rattle.vg_wire.specs.declared.header.Header.{Header}
 use Rattle.vg_wire.specs.declared.response.Response.{Response}
-use Rattle.vg_wire.specs.declared.response.Response.TheVariants.{DisplayInfo, Error}
+use Rattle.vg_wire.specs.declared.response.Response.TheVariants.{Nodata, DisplayInfo, Error}
 use Rattle.vg_wire.specs.Header.{header_bytes}
 use Rattle.vg_wire.specs.Modes.{IsModes, AllFit, modes_bytes, slots_of, trimmed}
 
 -- The kind that a response's header has: an error's code is its kind.
 abbrev pub response_kind : Response → ℕ
+response_kind Nodata = 0x1100
 response_kind (DisplayInfo modes) = 0x1101
 response_kind (Error code) = code
 
 -- What follows the header.
 abbrev pub response_body : Response → List ℕ
+response_body Nodata = []
 response_body (DisplayInfo modes) = modes_bytes modes
 response_body (Error code) = []
 
@@ -21,11 +23,13 @@ response_bytes header response = header_bytes header ++ response_body response
 
 -- A response that can be given: its modes are such, its code is an error's.
 abbrev pub IsResponse : Response → Type 0
+IsResponse Nodata = Unit {0}
 IsResponse (DisplayInfo modes) = IsModes modes
 IsResponse (Error code) = (0x1200 ≤ code) × (code ≤ 0x1205)
 
 -- A response whose numbers fit their bytes, as each value of the type does.
 abbrev pub FitsResponse : Response → Type 0
+FitsResponse Nodata = Unit {0}
 FitsResponse (DisplayInfo modes) = AllFit modes
 FitsResponse (Error code) = code < 2 ^ 32
 
@@ -38,6 +42,7 @@ pub record Spells (header : Header) (response : Response) (bytes : List ℕ) : T
 -- The response whose fields stand at their places behind a header of this kind.
 abbrev pub body_of : ℕ → List ℕ → Option Response
 body_of kind bytes =
-    if kind == 0x1101 && length bytes == 408 then Some (DisplayInfo (trimmed (slots_of bytes)))
+    if kind == 0x1100 then Some Nodata
+    else if kind == 0x1101 && length bytes == 408 then Some (DisplayInfo (trimmed (slots_of bytes)))
     else if nat_le 0x1200 kind && nat_le kind 0x1205 then Some (Error kind)
     else None

@@ -1,17 +1,96 @@
-use Rattle.std.specs.Prelude.{ℕ, List, [], ◌==◌, if◌then◌else◌, Option, Some, None}
+use Rattle.std.specs.Prelude.{ℕ, ◌+◌, ◌*◌, ◌^◌, ◌<◌, List, [], ◌++◌, length, ◌==◌, nat_le, if◌then◌else◌, Option, Some, None}
+use Rattle.std.specs.List.{All}
 use Rattle.vg_wire.specs.declared.two_d.Command2d.{Command2d}
-use Rattle.vg_wire.specs.declared.two_d.Command2d.TheVariants.{DisplayInfo}
+use Rattle.vg_wire.specs.declared.two_d.Command2d.TheVariants.{DisplayInfo, Create2d, Unref, SetScanout, Flush, Transfer, Attach, Detach}
+use Rattle.vg_wire.specs.Numbers.{number_at, le32, le64}
+use Rattle.vg_wire.specs.Rect.{rect_at, rect_bytes, IsRect}
+use Rattle.vg_wire.specs.Entries.{entries_at, entries_bytes, IsEntry}
 
--- The command that a kind and the bytes after the header spell (VIRTIO 1.2, 5.7.6.8). None: no 2D kind, or too few bytes.
-abbrev pub two_d_of : ℕ → List ℕ → Option Command2d
+-- The fields of each command, at their places after the header (VIRTIO 1.2, 5.7.6.8).
+
+-- struct virtio_gpu_resource_create_2d
+unfoldable pub create_2d : List ℕ → Command2d
+create_2d body = Create2d (number_at 4 0 body) (number_at 4 4 body) (number_at 4 8 body) (number_at 4 12 body)
+
+-- struct virtio_gpu_resource_unref; padding at 4
+unfoldable pub unref : List ℕ → Command2d
+unref body = Unref (number_at 4 0 body)
+
+-- struct virtio_gpu_set_scanout: the rectangle, scanout_id, resource_id
+unfoldable pub set_scanout : List ℕ → Command2d
+set_scanout body = SetScanout (rect_at 0 body) (number_at 4 16 body) (number_at 4 20 body)
+
+-- struct virtio_gpu_resource_flush; padding at 20
+unfoldable pub flush : List ℕ → Command2d
+flush body = Flush (rect_at 0 body) (number_at 4 16 body)
+
+-- struct virtio_gpu_transfer_to_host_2d: the rectangle, offset, resource_id; padding at 28
+unfoldable pub transfer : List ℕ → Command2d
+transfer body = Transfer (rect_at 0 body) (number_at 8 16 body) (number_at 4 24 body)
+
+-- struct virtio_gpu_resource_attach_backing: resource_id, nr_entries, and as many entries
+unfoldable pub nr_entries : List ℕ → ℕ
+nr_entries body = number_at 4 4 body
+
+unfoldable pub attach : List ℕ → Command2d
+attach body = Attach (number_at 4 0 body) (entries_at 8 (nr_entries body) body)
+
+-- struct virtio_gpu_resource_detach_backing; padding at 4
+unfoldable pub detach : List ℕ → Command2d
+detach body = Detach (number_at 4 0 body)
+
+-- The command, if the bytes after the header are at least as many as its fields take.
+abbrev pub whole : ℕ → List ℕ → Command2d → Option Command2d
+whole size body command = if nat_le size (length body) then Some command else None
+
+-- The command that a kind and the bytes after the header spell. None: no 2D kind, or too few bytes. Each row has the
+-- kind, how many bytes the fields take, and the fields.
+unfoldable pub two_d_of : ℕ → List ℕ → Option Command2d
 two_d_of kind body =
-    if kind == 0x0100 then Some DisplayInfo
+    if kind == 0x0100 then whole 0 body DisplayInfo
+    else if kind == 0x0101 then whole 16 body (create_2d body)
+    else if kind == 0x0102 then whole 8 body (unref body)
+    else if kind == 0x0103 then whole 24 body (set_scanout body)
+    else if kind == 0x0104 then whole 24 body (flush body)
+    else if kind == 0x0105 then whole 32 body (transfer body)
+    else if kind == 0x0106 then whole (8 + 16 * nr_entries body) body (attach body)
+    else if kind == 0x0107 then whole 8 body (detach body)
     else None
 
 -- The kind of a command.
 abbrev pub kind_of_2d : Command2d → ℕ
 kind_of_2d DisplayInfo = 0x0100
+kind_of_2d (Create2d resource format width height) = 0x0101
+kind_of_2d (Unref resource) = 0x0102
+kind_of_2d (SetScanout rect scanout resource) = 0x0103
+kind_of_2d (Flush rect resource) = 0x0104
+kind_of_2d (Transfer rect offset resource) = 0x0105
+kind_of_2d (Attach resource entries) = 0x0106
+kind_of_2d (Detach resource) = 0x0107
 
--- A command's fields, after the header.
+-- A command's fields, after the header, with padding 0.
 abbrev pub body_of_2d : Command2d → List ℕ
 body_of_2d DisplayInfo = []
+body_of_2d (Create2d resource format width height) = le32 resource ++ le32 format ++ le32 width ++ le32 height
+body_of_2d (Unref resource) = le32 resource ++ le32 0
+body_of_2d (SetScanout rect scanout resource) = rect_bytes rect ++ le32 scanout ++ le32 resource
+body_of_2d (Flush rect resource) = rect_bytes rect ++ le32 resource ++ le32 0
+body_of_2d (Transfer rect offset resource) = rect_bytes rect ++ le64 offset ++ le32 resource ++ le32 0
+body_of_2d (Attach resource entries) = le32 resource ++ le32 (length entries) ++ entries_bytes entries
+body_of_2d (Detach resource) = le32 resource ++ le32 0
+
+-- A command whose number of entries fits nr_entries.
+abbrev pub FitsCount : Command2d → Type 0
+FitsCount (Attach resource entries) = length entries < 2 ^ 32
+FitsCount _ = Unit {0}
+
+-- A command whose numbers fit their bytes, as each value of the type does.
+abbrev pub IsCommand2d : Command2d → Type 0
+IsCommand2d DisplayInfo = Unit {0}
+IsCommand2d (Create2d resource format width height) = (resource < 2 ^ 32) × (format < 2 ^ 32) × (width < 2 ^ 32) × (height < 2 ^ 32)
+IsCommand2d (Unref resource) = resource < 2 ^ 32
+IsCommand2d (SetScanout rect scanout resource) = IsRect rect × (scanout < 2 ^ 32) × (resource < 2 ^ 32)
+IsCommand2d (Flush rect resource) = IsRect rect × (resource < 2 ^ 32)
+IsCommand2d (Transfer rect offset resource) = IsRect rect × (offset < 2 ^ 64) × (resource < 2 ^ 32)
+IsCommand2d (Attach resource entries) = (resource < 2 ^ 32) × All IsEntry entries
+IsCommand2d (Detach resource) = resource < 2 ^ 32

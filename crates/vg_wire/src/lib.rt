@@ -3,14 +3,17 @@
 //! All fields are little-endian (VIRTIO 1.2, 1.4).
 #![tactic(auto)]
 
+mod entries;
 mod fields;
 mod header;
 mod laws;
 mod modes;
+mod rect;
 mod request;
 mod response;
 mod two_d;
 
+pub use entries::Entries;
 pub use header::{Header, read_header};
 pub use laws::{a_request_or_a_refusal, each_refusal};
 pub use modes::Modes;

@@ -1,8 +1,8 @@
 //! A whole request: a header and the command of its kind (VIRTIO 1.2, 5.7.6.7).
 
-ghost use Rattle.std.specs.Prelude.{◌≡◌, ◌++◌, Ok, IfOk, OnOk};
+ghost use Rattle.std.specs.Prelude.{◌≡◌, ◌++◌, Ok, IfOk, OnOk, OnErr, IsOk};
 ghost use Rattle.vg_wire.specs.Request as Request;
-ghost use Rattle.vg_wire.specs.Request.{request_of, request_bytes, command_body, command_kind, queue_of};
+ghost use Rattle.vg_wire.specs.Request.{request_of, request_bytes, command_body, command_kind, queue_of, FitsEntries, IsCommand};
 
 use crate::header::{Header, put_header, read_header};
 use crate::two_d::{Command2d, put_2d, read_2d};
@@ -40,7 +40,7 @@ pub enum Malformed {
 fn is_known(kind: u32) -> bool
     ensures { result ≡ Request.is_known kind }
 {
-    kind == 0x0100
+    (0x0100..=0x0107).contains(&kind)
 }
 
 /// Whether commands of this kind go on this queue.
@@ -60,7 +60,9 @@ pub fn read_request(
     bytes: &[u8],
     queue: Queue,
 ) -> Result<Result<(Header, Command), Malformed>, AllocError>
-    ensures { IfOk result (λ read. read ≡ request_of queue bytes.now) }
+    ensures exact { IfOk result (λ read. read ≡ request_of queue bytes.now) }
+    // Memory is asked for only by bytes that are a request.
+    ensures memory { OnErr result (IsOk (request_of queue bytes.now)) }
 {
     let Some(header) = read_header(bytes) else {
         return Ok(Err(Malformed::ShortHeader));
@@ -79,20 +81,24 @@ pub fn read_request(
 
 /// Adds the bytes of a command's fields, with padding 0.
 fn put_command(out: &mut Vec<u8>, command: &Command) -> Result<(), AllocError>
-    ensures { OnOk result (out.new.items ≡ out.old.items ++ command_body command.now) }
+    requires { FitsEntries command.now }
+    ensures fits { OnOk result (IsCommand command.now) }
+    ensures bytes { OnOk result (out.new.items ≡ out.old.items ++ command_body command.now) }
 {
     match command {
         Command::TwoD(command) => put_2d(out, command),
     }
 }
 
-/// The bytes of a request, with padding 0. The header has the kind of the command.
+/// The bytes of a request, with padding 0. The header has the kind of the command, which has fewer than
+/// 2^32 entries.
 pub fn write_request(
     alloc: Global,
     header: &Header,
     command: &Command,
 ) -> Result<Vec<u8>, AllocError>
-    requires { header.now.kind ≡ command_kind command.now }
+    requires entries { FitsEntries command.now }
+    requires kind { header.now.kind ≡ command_kind command.now }
     ensures bytes { IfOk result (λ out. out.items ≡ request_bytes header.now command.now) }
     // What is written is read as itself.
     ensures reads { IfOk result (λ out. request_of (queue_of command.now) out.items ≡ Ok (header.now, command.now)) }

@@ -14,6 +14,8 @@ use std::alloc::{AllocError, Global};
 /// A response, without its header.
 #[derive(Debug, Drop)]
 pub enum Response {
+    /// OK_NODATA, kind 0x1100.
+    Nodata,
     /// OK_DISPLAY_INFO, kind 0x1101.
     DisplayInfo { modes: Modes },
     /// An error, whose code 0x1200 to 0x1205 is its kind.
@@ -26,7 +28,7 @@ fn put_response(out: &mut Vec<u8>, response: &Response) -> Result<(), AllocError
 {
     match response {
         Response::DisplayInfo { modes } => put_modes(out, modes),
-        Response::Error { .. } => out.extend_from_slice(&[]),
+        Response::Nodata | Response::Error { .. } => out.extend_from_slice(&[]),
     }
 }
 
@@ -49,6 +51,9 @@ pub fn write_response(
 fn read_body(alloc: Global, kind: u32, bytes: &[u8]) -> Result<Option<Response>, AllocError>
     ensures { IfOk result (λ response. response ≡ spelling.body_of kind bytes.now) }
 {
+    if kind == 0x1100 {
+        return Ok(Some(Response::Nodata));
+    }
     if kind == 0x1101 && bytes.len() == 408 {
         let modes = read_modes(alloc, bytes)?;
         return Ok(Some(Response::DisplayInfo { modes }));

@@ -1,39 +1,287 @@
 //! The 2D commands (VIRTIO 1.2, 5.7.6.8).
 
-ghost use Rattle.std.specs.Prelude.{◌≡◌, ◌++◌, IfOk, OnOk};
-ghost use Rattle.vg_wire.specs.TwoD.{two_d_of, body_of_2d};
+ghost use Rattle.std.specs.Prelude.{◌≡◌, ◌+◌, ◌*◌, ◌^◌, ◌<◌, ◌++◌, length, IfOk, OnOk, OnErr, IsSome};
+ghost use Rattle.vg_wire.specs.Numbers.{le32};
+ghost use Rattle.vg_wire.specs.declared.two_d.Command2d.TheVariants.{Create2d, SetScanout, Flush, Transfer, Attach};
+ghost use Rattle.vg_wire.specs.TwoD.{two_d_of, body_of_2d, whole, FitsCount, IsCommand2d};
+ghost use Rattle.vg_wire.specs.TwoD as layout;
 
+use crate::entries::{Entries, put_entries, read_entries};
+use crate::fields::{put_u32, put_u64, u32_at, u64_at};
 use crate::header::Header;
+use crate::rect::{put_rect, rect_at};
 use std::alloc::{AllocError, Global};
+use vg_formats::{MemEntry, Rect};
 
 /// A 2D command, without its header.
 #[derive(Debug, Drop, Clone, PartialEq)]
 pub enum Command2d {
     /// GET_DISPLAY_INFO, kind 0x0100.
     DisplayInfo,
+    /// RESOURCE_CREATE_2D, kind 0x0101: the format is a code of VIRTIO 1.2, 5.7.6.8, enum
+    /// virtio_gpu_formats, the size is in pixels.
+    Create2d {
+        resource: u32,
+        format: u32,
+        width: u32,
+        height: u32,
+    },
+    /// RESOURCE_UNREF, kind 0x0102.
+    Unref {
+        resource: u32,
+    },
+    /// SET_SCANOUT, kind 0x0103: the part of the resource that the scanout shows.
+    SetScanout {
+        rect: Rect,
+        scanout: u32,
+        resource: u32,
+    },
+    /// RESOURCE_FLUSH, kind 0x0104: the part of the resource that is shown anew.
+    Flush {
+        rect: Rect,
+        resource: u32,
+    },
+    /// TRANSFER_TO_HOST_2D, kind 0x0105: the part of the resource that is copied, and the place of
+    /// its first byte in the backing.
+    Transfer {
+        rect: Rect,
+        offset: u64,
+        resource: u32,
+    },
+    /// RESOURCE_ATTACH_BACKING, kind 0x0106: the backing's ranges of guest memory.
+    Attach {
+        resource: u32,
+        entries: Entries,
+    },
+    /// RESOURCE_DETACH_BACKING, kind 0x0107.
+    Detach {
+        resource: u32,
+    },
+}
+
+/// RESOURCE_CREATE_2D, if its 16 bytes are there.
+#[tactic(auto, unfolding(crate::specs::TwoD::create_2d))]
+fn read_create_2d(body: &[u8]) -> Option<Command2d>
+    ensures { result ≡ whole 16 body.now (layout.create_2d body.now) }
+{
+    if body.len() < 16 {
+        return None;
+    }
+    Some(Command2d::Create2d {
+        resource: u32_at(body, 0),
+        format: u32_at(body, 4),
+        width: u32_at(body, 8),
+        height: u32_at(body, 12),
+    })
+}
+
+/// RESOURCE_UNREF, if its eight bytes are there.
+#[tactic(auto, unfolding(crate::specs::TwoD::unref))]
+fn read_unref(body: &[u8]) -> Option<Command2d>
+    ensures { result ≡ whole 8 body.now (layout.unref body.now) }
+{
+    if body.len() < 8 {
+        return None;
+    }
+    let resource = u32_at(body, 0);
+    Some(Command2d::Unref { resource })
+}
+
+/// SET_SCANOUT, if its 24 bytes are there.
+#[tactic(auto, unfolding(crate::specs::TwoD::set_scanout))]
+fn read_set_scanout(body: &[u8]) -> Option<Command2d>
+    ensures { result ≡ whole 24 body.now (layout.set_scanout body.now) }
+{
+    if body.len() < 24 {
+        return None;
+    }
+    Some(Command2d::SetScanout {
+        rect: rect_at(body, 0),
+        scanout: u32_at(body, 16),
+        resource: u32_at(body, 20),
+    })
+}
+
+/// RESOURCE_FLUSH, if its 24 bytes are there.
+#[tactic(auto, unfolding(crate::specs::TwoD::flush))]
+fn read_flush(body: &[u8]) -> Option<Command2d>
+    ensures { result ≡ whole 24 body.now (layout.flush body.now) }
+{
+    if body.len() < 24 {
+        return None;
+    }
+    Some(Command2d::Flush {
+        rect: rect_at(body, 0),
+        resource: u32_at(body, 16),
+    })
+}
+
+/// TRANSFER_TO_HOST_2D, if its 32 bytes are there.
+#[tactic(auto, unfolding(crate::specs::TwoD::transfer))]
+fn read_transfer(body: &[u8]) -> Option<Command2d>
+    ensures { result ≡ whole 32 body.now (layout.transfer body.now) }
+{
+    if body.len() < 32 {
+        return None;
+    }
+    Some(Command2d::Transfer {
+        rect: rect_at(body, 0),
+        offset: u64_at(body, 16),
+        resource: u32_at(body, 24),
+    })
+}
+
+/// RESOURCE_ATTACH_BACKING, if its eight bytes and the 16 of each entry are there.
+#[tactic(auto, unfolding(crate::specs::TwoD::attach, crate::specs::TwoD::nr_entries))]
+fn read_attach(alloc: Global, body: &[u8]) -> Result<Option<Command2d>, AllocError>
+    ensures exact { IfOk result (λ command.
+        command ≡ whole (8 + 16 * layout.nr_entries body.now) body.now (layout.attach body.now)) }
+    ensures memory { OnErr result (IsSome (whole (8 + 16 * layout.nr_entries body.now) body.now (layout.attach body.now))) }
+{
+    if body.len() < 8 {
+        return Ok(None);
+    }
+    let resource = u32_at(body, 0);
+    let count = u32_at(body, 4) as usize;
+    // Nothing is allocated for entries that aren't there.
+    if body.len() < 8 + 16 * count {
+        return Ok(None);
+    }
+    let entries = read_entries(alloc, body, 8, count)?;
+    Ok(Some(Command2d::Attach { resource, entries }))
+}
+
+/// RESOURCE_DETACH_BACKING, if its eight bytes are there.
+#[tactic(auto, unfolding(crate::specs::TwoD::detach))]
+fn read_detach(body: &[u8]) -> Option<Command2d>
+    ensures { result ≡ whole 8 body.now (layout.detach body.now) }
+{
+    if body.len() < 8 {
+        return None;
+    }
+    let resource = u32_at(body, 0);
+    Some(Command2d::Detach { resource })
 }
 
 /// The 2D command of this header's kind, whose fields are at the front of `body`, the bytes after
 /// the header. None where the kind is no 2D command's or its fields aren't all there.
-pub fn read_2d(
-    _alloc: Global,
-    header: &Header,
-    _body: &[u8],
-) -> Result<Option<Command2d>, AllocError>
-    ensures { IfOk result (λ command. command ≡ two_d_of header.now.kind _body.now) }
+#[tactic(auto, unfolding(crate::specs::TwoD::two_d_of))]
+pub fn read_2d(alloc: Global, header: &Header, body: &[u8]) -> Result<Option<Command2d>, AllocError>
+    ensures exact { IfOk result (λ command. command ≡ two_d_of header.now.kind body.now) }
+    // Memory is asked for only once all of the command is there.
+    ensures memory { OnErr result (IsSome (two_d_of header.now.kind body.now)) }
 {
     match header.kind {
         0x0100 => Ok(Some(Command2d::DisplayInfo)),
+        0x0101 => Ok(read_create_2d(body)),
+        0x0102 => Ok(read_unref(body)),
+        0x0103 => Ok(read_set_scanout(body)),
+        0x0104 => Ok(read_flush(body)),
+        0x0105 => Ok(read_transfer(body)),
+        0x0106 => read_attach(alloc, body),
+        0x0107 => Ok(read_detach(body)),
         _ => Ok(None),
     }
 }
 
+/// Adds a resource's number and four bytes of padding.
+fn put_resource(out: &mut Vec<u8>, resource: u32) -> Result<(), AllocError>
+    ensures bytes { OnOk result (out.new.items ≡ out.old.items ++ (le32 resource ++ le32 0)) }
+    ensures fits { resource < 2 ^ 32 }
+{
+    put_u32(out, resource)?;
+    put_u32(out, 0)
+}
+
+/// Adds the fields of RESOURCE_CREATE_2D.
+fn put_create_2d(
+    out: &mut Vec<u8>,
+    resource: u32,
+    format: u32,
+    width: u32,
+    height: u32,
+) -> Result<(), AllocError>
+    ensures bytes { OnOk result (out.new.items ≡ out.old.items ++ body_of_2d (Create2d resource format width height)) }
+    ensures fits { IsCommand2d (Create2d resource format width height) }
+{
+    put_u32(out, resource)?;
+    put_u32(out, format)?;
+    put_u32(out, width)?;
+    put_u32(out, height)
+}
+
+/// Adds the fields of SET_SCANOUT.
+fn put_set_scanout(
+    out: &mut Vec<u8>,
+    rect: Rect,
+    scanout: u32,
+    resource: u32,
+) -> Result<(), AllocError>
+    ensures bytes { OnOk result (out.new.items ≡ out.old.items ++ body_of_2d (SetScanout rect scanout resource)) }
+    ensures fits { IsCommand2d (SetScanout rect scanout resource) }
+{
+    put_rect(out, rect)?;
+    put_u32(out, scanout)?;
+    put_u32(out, resource)
+}
+
+/// Adds the fields of RESOURCE_FLUSH.
+fn put_flush(out: &mut Vec<u8>, rect: Rect, resource: u32) -> Result<(), AllocError>
+    ensures bytes { OnOk result (out.new.items ≡ out.old.items ++ body_of_2d (Flush rect resource)) }
+    ensures fits { OnOk result (IsCommand2d (Flush rect resource)) }
+{
+    put_rect(out, rect)?;
+    put_resource(out, resource)
+}
+
+/// Adds the fields of TRANSFER_TO_HOST_2D.
+fn put_transfer(out: &mut Vec<u8>, rect: Rect, offset: u64, resource: u32) -> Result<(), AllocError>
+    ensures bytes { OnOk result (out.new.items ≡ out.old.items ++ body_of_2d (Transfer rect offset resource)) }
+    ensures fits { IsCommand2d (Transfer rect offset resource) }
+{
+    put_rect(out, rect)?;
+    put_u64(out, offset)?;
+    put_resource(out, resource)
+}
+
+/// Adds the fields of RESOURCE_ATTACH_BACKING.
+fn put_attach(out: &mut Vec<u8>, resource: u32, entries: &[MemEntry]) -> Result<(), AllocError>
+    requires { length entries.now < 2 ^ 32 }
+    ensures bytes { OnOk result (out.new.items ≡ out.old.items ++ body_of_2d (Attach resource entries.now)) }
+    ensures fits { OnOk result (IsCommand2d (Attach resource entries.now)) }
+{
+    put_u32(out, resource)?;
+    put_u32(out, entries.len() as u32)?;
+    put_entries(out, entries)
+}
+
 /// Adds the bytes of a command's fields, with padding 0.
-#[tactic(auto, using(std::proofs::lemmas::Grind::common_steps))]
 pub(crate) fn put_2d(out: &mut Vec<u8>, command: &Command2d) -> Result<(), AllocError>
-    ensures { OnOk result (out.new.items ≡ out.old.items ++ body_of_2d command.now) }
+    requires { FitsCount command.now }
+    ensures bytes { OnOk result (out.new.items ≡ out.old.items ++ body_of_2d command.now) }
+    ensures fits { OnOk result (IsCommand2d command.now) }
 {
     match command {
-        Command2d::DisplayInfo => out.extend_from_slice(&[]),
+        Command2d::DisplayInfo => Ok(()),
+        Command2d::Create2d {
+            resource,
+            format,
+            width,
+            height,
+        } => put_create_2d(out, *resource, *format, *width, *height),
+        Command2d::Unref { resource } => put_resource(out, *resource),
+        Command2d::SetScanout {
+            rect,
+            scanout,
+            resource,
+        } => put_set_scanout(out, *rect, *scanout, *resource),
+        Command2d::Flush { rect, resource } => put_flush(out, *rect, *resource),
+        Command2d::Transfer {
+            rect,
+            offset,
+            resource,
+        } => put_transfer(out, *rect, *offset, *resource),
+        Command2d::Attach { resource, entries } => put_attach(out, *resource, entries.as_slice()),
+        Command2d::Detach { resource } => put_resource(out, *resource),
     }
 }

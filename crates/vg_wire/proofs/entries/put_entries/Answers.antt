@@ -1,0 +1,11 @@
+use Rattle.vg_wire.proofs.EntryLemmas.{bytes-more, fit-more}
+use Rattle.vg_wire.proofs.entries.put_entries.Goals as goal
+
+pub loop-entry-preserved : goal.loop-entry-preserved
+loop-entry-preserved c =
+    let i = c.loop-entry.entry-index in
+    let inside = c.loop-entry-test.true in
+    record {
+      bytes = bytes-more c.put_entry.new.out.items c.loop-entry.out.items c.args.out.now.items c.args.entries.now i (record { addr = 0; length = 0 }) inside c.loop-entry.invariant.bytes c.in_ok-put_entry.ensures.bytes;
+      fit = fit-more c.args.entries.now i (record { addr = 0; length = 0 }) inside c.loop-entry.invariant.fit c.put_entry.ensures.fits;
+    }

@@ -1,0 +1,34 @@
+//! A rectangle in its bytes (VIRTIO 1.2, 5.7.6.8).
+
+ghost use Rattle.std.specs.Prelude.{◌≡◌, ◌+◌, ◌≤◌, ◌++◌, length, OnOk};
+ghost use Rattle.vg_wire.specs.Rect as layout;
+ghost use Rattle.vg_wire.specs.Rect.{rect_bytes, IsRect};
+
+use crate::fields::{put_u32, u32_at};
+use std::alloc::AllocError;
+use vg_formats::Rect;
+
+/// The rectangle whose 16 bytes stand from place `at`.
+pub(crate) fn rect_at(bytes: &[u8], at: usize) -> Rect
+    requires { at + 16 ≤ length bytes.now }
+    ensures { result ≡ layout.rect_at at bytes.now }
+{
+    Rect {
+        x: u32_at(bytes, at),
+        y: u32_at(bytes, at + 4),
+        width: u32_at(bytes, at + 8),
+        height: u32_at(bytes, at + 12),
+    }
+}
+
+/// Adds the 16 bytes of a rectangle.
+#[tactic(auto, unfolding(crate::specs::Rect::rect_bytes))]
+pub(crate) fn put_rect(out: &mut Vec<u8>, rect: Rect) -> Result<(), AllocError>
+    ensures bytes { OnOk result (out.new.items ≡ out.old.items ++ rect_bytes rect) }
+    ensures fits { IsRect rect }
+{
+    put_u32(out, rect.x)?;
+    put_u32(out, rect.y)?;
+    put_u32(out, rect.width)?;
+    put_u32(out, rect.height)
+}
