@@ -3,7 +3,8 @@ use Rattle.vg_wire.specs.declared.request.Queue.{Queue}
 use Rattle.vg_wire.specs.declared.request.Command.{Command}
 use Rattle.vg_wire.specs.declared.request.Command.TheVariants.{TwoD}
 use Rattle.vg_wire.specs.declared.request.Malformed.{Malformed}
-use Rattle.vg_wire.specs.declared.two_d.Command2d.TheVariants.{DisplayInfo}
+use Rattle.vg_wire.specs.declared.two_d.Command2d.{Command2d}
+use Rattle.vg_wire.specs.declared.two_d.Command2d.TheVariants.{DisplayInfo, Create2d, Unref, SetScanout, Flush, Transfer, Attach, Detach}
 use Rattle.vg_wire.specs.declared.header.Header.{Header}
 use Rattle.vg_wire.specs.declared.response.Response.{Response}
 use Rattle.vg_wire.specs.declared.response.Response.TheVariants as responses
@@ -34,9 +35,20 @@ answer_header bytes kind =
     if nat_le 24 (length bytes) && (bit_and (header_of bytes).flags 1 == 1) then fenced_header (header_of bytes) kind
     else record { kind = kind; flags = 0; fence_id = 0; ctx_id = 0; ring_idx = 0 }
 
--- What a command does and answers (VIRTIO 1.2, 5.7.6.8).
+-- What a 2D command does and answers (VIRTIO 1.2, 5.7.6.8). Those that don't stand yet are answered ERR_UNSPEC, and do nothing.
+abbrev pub two_d_step : State → Command2d → State × Response
+two_d_step state DisplayInfo = (state, responses.DisplayInfo (map Some state.setup.displays))
+two_d_step state (Create2d resource format width height) = (state, responses.Error 0x1200)
+two_d_step state (Unref resource) = (state, responses.Error 0x1200)
+two_d_step state (SetScanout rect scanout resource) = (state, responses.Error 0x1200)
+two_d_step state (Flush rect resource) = (state, responses.Error 0x1200)
+two_d_step state (Transfer rect offset resource) = (state, responses.Error 0x1200)
+two_d_step state (Attach resource entries) = (state, responses.Error 0x1200)
+two_d_step state (Detach resource) = (state, responses.Error 0x1200)
+
+-- What a command does and answers.
 abbrev pub command_step : State → Command → State × Response
-command_step state (TwoD DisplayInfo) = (state, responses.DisplayInfo (map Some state.setup.displays))
+command_step state (TwoD command) = two_d_step state command
 
 -- What a request does and answers: one that is malformed is answered ERR_UNSPEC and does nothing.
 abbrev pub answer_of : State → Result (Header × Command) Malformed → State × Response

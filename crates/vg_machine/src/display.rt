@@ -6,7 +6,7 @@ ghost use Rattle.vg_wire.specs.Response.{response_kind};
 ghost use Rattle.vg_wire.specs.declared.response.Response.TheVariants as responses;
 ghost use Rattle.vg_machine.specs.Setup.{IsSetup};
 ghost use Rattle.vg_machine.specs.State.{start};
-ghost use Rattle.vg_machine.specs.Step.{act_step, answer_header, answer_of, answered, step};
+ghost use Rattle.vg_machine.specs.Step.{act_step, answer_header, answer_of, answered, step, two_d_step};
 
 use crate::act::{Act, ActReply};
 use crate::scanout::{Frame, Scanouts};
@@ -112,8 +112,24 @@ impl Display {
         ensures { IfOk result (λ response. answer_of self.now (request_of queue request.now) ≡ (self.now, response)) }
     {
         match read_request(alloc, request, queue)? {
-            Ok((_, Command::TwoD(Command2d::DisplayInfo))) => self.display_info(alloc),
+            Ok((_, Command::TwoD(command))) => self.answer_2d(alloc, &command),
             Err(_) => Ok(Response::Error { code: 0x1200 }),
+        }
+    }
+
+    /// What a 2D command is answered. Those that don't stand yet are answered ERR_UNSPEC.
+    fn answer_2d(&self, alloc: Global, command: &Command2d) -> Result<Response, AllocError>
+        ensures { IfOk result (λ response. two_d_step self.now command.now ≡ (self.now, response)) }
+    {
+        match command {
+            Command2d::DisplayInfo => self.display_info(alloc),
+            Command2d::Create2d { .. }
+            | Command2d::Unref { .. }
+            | Command2d::SetScanout { .. }
+            | Command2d::Flush { .. }
+            | Command2d::Transfer { .. }
+            | Command2d::Attach { .. }
+            | Command2d::Detach { .. } => Ok(Response::Error { code: 0x1200 }),
         }
     }
 
@@ -140,6 +156,7 @@ fn kind_of(response: &Response) -> u32
     ensures { result ≡ response_kind response.now }
 {
     match response {
+        Response::Nodata => 0x1100,
         Response::DisplayInfo { .. } => 0x1101,
         Response::Error { code } => *code,
     }

@@ -4,7 +4,8 @@ use Rattle.vg_wire.specs.declared.header.Header.{Header}
 use Rattle.vg_wire.specs.declared.request.Command.{Command}
 use Rattle.vg_wire.specs.declared.request.Command.TheVariants.{TwoD}
 use Rattle.vg_wire.specs.declared.request.Malformed.{Malformed}
-use Rattle.vg_wire.specs.declared.two_d.Command2d.TheVariants.{DisplayInfo}
+use Rattle.vg_wire.specs.declared.two_d.Command2d.{Command2d}
+use Rattle.vg_wire.specs.declared.two_d.Command2d.TheVariants.{DisplayInfo, Create2d, Unref, SetScanout, Flush, Transfer, Attach, Detach}
 use Rattle.vg_wire.specs.Request.{request_of}
 use Rattle.vg_machine.specs.declared.setup.Setup.{Setup}
 use Rattle.vg_machine.specs.declared.shape.Shape.{Shape}
@@ -15,13 +16,23 @@ use Rattle.vg_machine.specs.declared.history.Entry.TheVariants as entries
 use Rattle.vg_machine.specs.declared.history.Request.{Request}
 use Rattle.vg_machine.specs.declared.history.Reply.TheVariants.{Response}
 use Rattle.vg_machine.specs.State.{State, start}
-use Rattle.vg_machine.specs.Step.{answer_of, step}
+use Rattle.vg_machine.specs.Step.{answer_of, step, two_d_step}
 use Rattle.vg_machine.specs.Replay.{AgreesFrom, Agrees, HasReply, after, replay, replay_from, shaped_step}
 use Rattle.vg_machine.specs.Order.{is_of_lane}
 use Rattle.vg_run.specs.Session.{IsReplay}
 
+two_d-state : (state : State) (command : Command2d) → (two_d_step state command).0 ≡ state
+two_d-state state DisplayInfo = refl
+two_d-state state (Create2d resource format width height) = refl
+two_d-state state (Unref resource) = refl
+two_d-state state (SetScanout rect scanout resource) = refl
+two_d-state state (Flush rect resource) = refl
+two_d-state state (Transfer rect offset resource) = refl
+two_d-state state (Attach resource entries) = refl
+two_d-state state (Detach resource) = refl
+
 answer_of-state : (state : State) (read : Result (Header × Command) Malformed) → (answer_of state read).0 ≡ state
-answer_of-state state (Ok (header, TwoD DisplayInfo)) = refl
+answer_of-state state (Ok (header, TwoD command)) = two_d-state state command
 answer_of-state state (Err malformed) = refl
 
 shaped-setup : (shape : Shape) (state : State) (request : Request) → (shaped_step shape state request).0.setup ≡ state.setup
