@@ -9,7 +9,7 @@ use Rattle.vg_wire.specs.declared.two_d.Command2d.TheVariants.{DisplayInfo, Crea
 use Rattle.vg_wire.specs.Numbers.{number, number_at, le32, le64}
 use Rattle.vg_wire.specs.Rect.{IsRect, rect_at, rect_bytes}
 use Rattle.vg_wire.specs.Entries.{entries_at, entries_bytes}
-use Rattle.vg_wire.specs.TwoD.{FitsCount, IsCommand2d, body_of_2d, kind_of_2d, two_d_of, whole, create_2d, unref, set_scanout, flush, transfer, nr_entries, attach, detach}
+use Rattle.vg_wire.specs.TwoD.{FitsCount, IsCommand2d, body_of_2d, kind_of_2d, two_d_of, whole, create_2d, unref, set_scanout, flush, transfer, attach, attach_size, detach}
 use Rattle.vg_wire.proofs.Numbers.{little_from-number}
 use Rattle.vg_wire.proofs.HeaderLemmas.{length-le32, length-le64}
 use Rattle.vg_wire.proofs.EntryLemmas.{entries_at-entries_bytes, length-entries_bytes}
@@ -71,8 +71,8 @@ read-transfer rect o r fits = same_transfer (rect_at-rect_bytes rect (le64 o ++ 
 same_attach : {r r' : ℕ} {es es' : List MemEntry} → r ≡ r' → es ≡ es' → Attach r es ≡ Attach r' es'
 same_attach a b = rw (a, b) refl
 
-read-count : (r n : ℕ) (rest : List ℕ) → n < 2 ^ 32 → nr_entries (le32 r ++ le32 n ++ rest) ≡ n
-unfolding nr_entries number_at le32
+read-count : (r n : ℕ) (rest : List ℕ) → n < 2 ^ 32 → number_at 4 4 (le32 r ++ le32 n ++ rest) ≡ n
+unfolding number_at le32
 read-count r n rest fits = number-le32 n fits
 
 read-first : (r : ℕ) (rest : List ℕ) → r < 2 ^ 32 → number_at 4 0 (le32 r ++ rest) ≡ r
@@ -108,7 +108,7 @@ length-attach r es = simp length-append (omega (arith, length-le32 r, length-le3
 
 -- what is written of a command's fields is read as itself
 pub two_d_of-body_of_2d : (command : Command2d) → FitsCount command → IsCommand2d command → two_d_of (kind_of_2d command) (body_of_2d command) ≡ Some command
-unfolding two_d_of
+unfolding two_d_of attach_size
 two_d_of-body_of_2d DisplayInfo count fits = refl
 two_d_of-body_of_2d (Create2d r f w h) count fits =
     whole_of 16 (body_of_2d (Create2d r f w h)) (create_2d (body_of_2d (Create2d r f w h))) (Create2d r f w h) (omega (arith, length-four r f w h)) (read-create r f w h fits)
@@ -125,6 +125,6 @@ two_d_of-body_of_2d (Transfer rect o r) count fits =
     whole_of 32 (body_of_2d (Transfer rect o r)) (transfer (body_of_2d (Transfer rect o r))) (Transfer rect o r) long (read-transfer rect o r fits)
 two_d_of-body_of_2d (Attach r es) count fits =
     let n = read-count r (length es) (entries_bytes es) count in
-    whole_of (8 + 16 * nr_entries (body_of_2d (Attach r es))) (body_of_2d (Attach r es)) (attach (body_of_2d (Attach r es))) (Attach r es) (omega (arith, length-attach r es, n)) (read-attach r es count fits)
+    whole_of (attach_size (body_of_2d (Attach r es))) (body_of_2d (Attach r es)) (attach (body_of_2d (Attach r es))) (Attach r es) (omega (arith, length-attach r es, n)) (read-attach r es count fits)
 two_d_of-body_of_2d (Detach r) count fits =
     whole_of 8 (body_of_2d (Detach r)) (detach (body_of_2d (Detach r))) (Detach r) (omega (arith, length-two r 0)) (read-detach r fits)

@@ -6,36 +6,38 @@ use Rattle.vg_wire.specs.Numbers.{number_at, le32, le64}
 use Rattle.vg_wire.specs.Rect.{rect_at, rect_bytes, IsRect}
 use Rattle.vg_wire.specs.Entries.{entries_at, entries_bytes, IsEntry}
 
--- The fields of each command, at their places after the header (VIRTIO 1.2, 5.7.6.8).
+-- What each command's fields say, each at its place in the bytes after the header (VIRTIO 1.2, 5.7.6.8). Bytes after the
+-- fields are not looked at, and padding isn't either.
 
--- struct virtio_gpu_resource_create_2d
+-- struct virtio_gpu_resource_create_2d: resource_id, format, width, height
 unfoldable pub create_2d : List ℕ → Command2d
 create_2d body = Create2d (number_at 4 0 body) (number_at 4 4 body) (number_at 4 8 body) (number_at 4 12 body)
 
--- struct virtio_gpu_resource_unref; padding at 4
+-- struct virtio_gpu_resource_unref: resource_id, padding
 unfoldable pub unref : List ℕ → Command2d
 unref body = Unref (number_at 4 0 body)
 
--- struct virtio_gpu_set_scanout: the rectangle, scanout_id, resource_id
+-- struct virtio_gpu_set_scanout: r, scanout_id, resource_id
 unfoldable pub set_scanout : List ℕ → Command2d
 set_scanout body = SetScanout (rect_at 0 body) (number_at 4 16 body) (number_at 4 20 body)
 
--- struct virtio_gpu_resource_flush; padding at 20
+-- struct virtio_gpu_resource_flush: r, resource_id, padding
 unfoldable pub flush : List ℕ → Command2d
 flush body = Flush (rect_at 0 body) (number_at 4 16 body)
 
--- struct virtio_gpu_transfer_to_host_2d: the rectangle, offset, resource_id; padding at 28
+-- struct virtio_gpu_transfer_to_host_2d: r, offset of eight bytes, resource_id, padding
 unfoldable pub transfer : List ℕ → Command2d
 transfer body = Transfer (rect_at 0 body) (number_at 8 16 body) (number_at 4 24 body)
 
--- struct virtio_gpu_resource_attach_backing: resource_id, nr_entries, and as many entries
-unfoldable pub nr_entries : List ℕ → ℕ
-nr_entries body = number_at 4 4 body
-
+-- struct virtio_gpu_resource_attach_backing: resource_id, nr_entries, and then as many entries
 unfoldable pub attach : List ℕ → Command2d
-attach body = Attach (number_at 4 0 body) (entries_at 8 (nr_entries body) body)
+attach body = Attach (number_at 4 0 body) (entries_at 8 (number_at 4 4 body) body)
 
--- struct virtio_gpu_resource_detach_backing; padding at 4
+-- How many bytes these take: nr_entries counts entries of 16 bytes.
+unfoldable pub attach_size : List ℕ → ℕ
+attach_size body = 8 + 16 * number_at 4 4 body
+
+-- struct virtio_gpu_resource_detach_backing: resource_id, padding
 unfoldable pub detach : List ℕ → Command2d
 detach body = Detach (number_at 4 0 body)
 
@@ -43,8 +45,8 @@ detach body = Detach (number_at 4 0 body)
 abbrev pub whole : ℕ → List ℕ → Command2d → Option Command2d
 whole size body command = if nat_le size (length body) then Some command else None
 
--- The command that a kind and the bytes after the header spell. None: no 2D kind, or too few bytes. Each row has the
--- kind, how many bytes the fields take, and the fields.
+-- The command that a kind and the bytes after the header spell. Each row has the kind, how many bytes the fields take, and
+-- the fields. None: no 2D command's kind, or fewer bytes.
 unfoldable pub two_d_of : ℕ → List ℕ → Option Command2d
 two_d_of kind body =
     if kind == 0x0100 then whole 0 body DisplayInfo
@@ -53,7 +55,7 @@ two_d_of kind body =
     else if kind == 0x0103 then whole 24 body (set_scanout body)
     else if kind == 0x0104 then whole 24 body (flush body)
     else if kind == 0x0105 then whole 32 body (transfer body)
-    else if kind == 0x0106 then whole (8 + 16 * nr_entries body) body (attach body)
+    else if kind == 0x0106 then whole (attach_size body) body (attach body)
     else if kind == 0x0107 then whole 8 body (detach body)
     else None
 

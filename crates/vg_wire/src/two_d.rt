@@ -1,6 +1,6 @@
 //! The 2D commands (VIRTIO 1.2, 5.7.6.8).
 
-ghost use Rattle.std.specs.Prelude.{◌≡◌, ◌+◌, ◌*◌, ◌^◌, ◌<◌, ◌++◌, length, IfOk, OnOk, OnErr, IsSome};
+ghost use Rattle.std.specs.Prelude.{◌≡◌, ◌+◌, ◌*◌, ◌^◌, ◌<◌, ◌≤◌, ◌++◌, length, IfOk, OnOk, OnErr, IsSome};
 ghost use Rattle.vg_wire.specs.Numbers.{le32};
 ghost use Rattle.vg_wire.specs.declared.two_d.Command2d.TheVariants.{Create2d, SetScanout, Flush, Transfer, Attach};
 ghost use Rattle.vg_wire.specs.TwoD.{two_d_of, body_of_2d, whole, FitsCount, IsCommand2d};
@@ -132,11 +132,11 @@ fn read_transfer(body: &[u8]) -> Option<Command2d>
 }
 
 /// RESOURCE_ATTACH_BACKING, if its eight bytes and the 16 of each entry are there.
-#[tactic(auto, unfolding(crate::specs::TwoD::attach, crate::specs::TwoD::nr_entries))]
+#[tactic(auto, unfolding(crate::specs::TwoD::attach, crate::specs::TwoD::attach_size))]
 fn read_attach(alloc: Global, body: &[u8]) -> Result<Option<Command2d>, AllocError>
     ensures exact { IfOk result (λ command.
-        command ≡ whole (8 + 16 * layout.nr_entries body.now) body.now (layout.attach body.now)) }
-    ensures memory { OnErr result (IsSome (whole (8 + 16 * layout.nr_entries body.now) body.now (layout.attach body.now))) }
+        command ≡ whole (layout.attach_size body.now) body.now (layout.attach body.now)) }
+    ensures memory { OnErr result (layout.attach_size body.now ≤ length body.now) }
 {
     if body.len() < 8 {
         return Ok(None);
@@ -201,7 +201,8 @@ fn put_create_2d(
     width: u32,
     height: u32,
 ) -> Result<(), AllocError>
-    ensures bytes { OnOk result (out.new.items ≡ out.old.items ++ body_of_2d (Create2d resource format width height)) }
+    ensures bytes { OnOk result (
+        out.new.items ≡ out.old.items ++ body_of_2d (Create2d resource format width height)) }
     ensures fits { IsCommand2d (Create2d resource format width height) }
 {
     put_u32(out, resource)?;
@@ -217,7 +218,8 @@ fn put_set_scanout(
     scanout: u32,
     resource: u32,
 ) -> Result<(), AllocError>
-    ensures bytes { OnOk result (out.new.items ≡ out.old.items ++ body_of_2d (SetScanout rect scanout resource)) }
+    ensures bytes { OnOk result (
+        out.new.items ≡ out.old.items ++ body_of_2d (SetScanout rect scanout resource)) }
     ensures fits { IsCommand2d (SetScanout rect scanout resource) }
 {
     put_rect(out, rect)?;
@@ -227,8 +229,9 @@ fn put_set_scanout(
 
 /// Adds the fields of RESOURCE_FLUSH.
 fn put_flush(out: &mut Vec<u8>, rect: Rect, resource: u32) -> Result<(), AllocError>
-    ensures bytes { OnOk result (out.new.items ≡ out.old.items ++ body_of_2d (Flush rect resource)) }
-    ensures fits { OnOk result (IsCommand2d (Flush rect resource)) }
+    ensures bytes { OnOk result (
+        out.new.items ≡ out.old.items ++ body_of_2d (Flush rect resource)) }
+    ensures fits { IsCommand2d (Flush rect resource) }
 {
     put_rect(out, rect)?;
     put_resource(out, resource)
@@ -236,7 +239,8 @@ fn put_flush(out: &mut Vec<u8>, rect: Rect, resource: u32) -> Result<(), AllocEr
 
 /// Adds the fields of TRANSFER_TO_HOST_2D.
 fn put_transfer(out: &mut Vec<u8>, rect: Rect, offset: u64, resource: u32) -> Result<(), AllocError>
-    ensures bytes { OnOk result (out.new.items ≡ out.old.items ++ body_of_2d (Transfer rect offset resource)) }
+    ensures bytes { OnOk result (
+        out.new.items ≡ out.old.items ++ body_of_2d (Transfer rect offset resource)) }
     ensures fits { IsCommand2d (Transfer rect offset resource) }
 {
     put_rect(out, rect)?;
@@ -247,7 +251,8 @@ fn put_transfer(out: &mut Vec<u8>, rect: Rect, offset: u64, resource: u32) -> Re
 /// Adds the fields of RESOURCE_ATTACH_BACKING.
 fn put_attach(out: &mut Vec<u8>, resource: u32, entries: &[MemEntry]) -> Result<(), AllocError>
     requires { length entries.now < 2 ^ 32 }
-    ensures bytes { OnOk result (out.new.items ≡ out.old.items ++ body_of_2d (Attach resource entries.now)) }
+    ensures bytes { OnOk result (
+        out.new.items ≡ out.old.items ++ body_of_2d (Attach resource entries.now)) }
     ensures fits { OnOk result (IsCommand2d (Attach resource entries.now)) }
 {
     put_u32(out, resource)?;
