@@ -33,7 +33,7 @@ fn words(alloc: Global, all: &[&str]) -> Result<Vec<String>, AllocError> {
 
 /// A source or a sink that moves one byte at a time.
 #[derive(Drop)]
-struct Sip<X>(X);
+pub(crate) struct Sip<X>(pub(crate) X);
 
 impl<S: Source> Source for Sip<S> {
     ghost left = { λ s. S.left s.0 };

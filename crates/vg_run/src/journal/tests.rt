@@ -3,29 +3,13 @@
 ghost use Rattle.std.specs.Prelude.{None};
 
 use super::{Journal, print};
+use crate::tests::Sip;
 use std::alloc::{AllocError, Global};
 use std::test::Fail;
 use vg_io::{Failed, MemSink, Sink};
 use vg_list::Seq;
 use vg_machine::{Act, ActReply, Entry, Frame, Reply, Request, Setup, Shape};
 use vg_wire::Queue;
-
-/// A sink that takes one byte at a time.
-#[derive(Drop)]
-struct Sip<K: Sink> {
-    sink: K,
-}
-
-impl<K: Sink> Sink for Sip<K> {
-    ghost held = { λ s. K.held s.sink };
-
-    ghost faults = { λ s. K.faults s.sink };
-
-    fn write(&mut self, bytes: &[u8]) -> Result<usize, Failed> {
-        let most = bytes.len().min(1);
-        self.sink.write(&bytes[..most])
-    }
-}
 
 fn act(client: u32, call: u64, act: Act) -> Entry {
     Entry::Act {
@@ -135,11 +119,9 @@ fn a_journal_has_this_text(rt: HostRuntime) -> Result<(), Fail> {
     let mut sink = MemSink::new(alloc, 1000, Vec::new(alloc))?;
     assert_eq!(rt; print(alloc, &journal, &mut sink)?, Ok(()));
     assert_eq!(rt; sink.bytes(), TWO_CLIENTS);
-    let mut sip = Sip {
-        sink: MemSink::new(alloc, 1000, Vec::new(alloc))?,
-    };
+    let mut sip = Sip(MemSink::new(alloc, 1000, Vec::new(alloc))?);
     assert_eq!(rt; print(alloc, &journal, &mut sip)?, Ok(()));
-    assert_eq!(rt; sip.sink.bytes(), TWO_CLIENTS);
+    assert_eq!(rt; sip.0.bytes(), TWO_CLIENTS);
     Ok(())
 }
 
