@@ -1,3 +1,2 @@
 pub mod FreePages
 pub mod Marked
-pub mod Tabulated

@@ -9,7 +9,7 @@ use borrow.Rule.Slice.PartMut.{put_mid}
 use Rattle.vg_places.proofs.Places.{length-tabulate, slice_get-tabulate, tabulate_from_places}
 use Rattle.vg_pages.specs.Memory.{AreGivable, is_among, free_pages, marked, zeroed}
 use Rattle.vg_pages.proofs.FreePages.{lowest-inside, lowest-apart}
-use Rattle.vg_pages.proofs.Tabulated.{set-tabulate, put_mid-tabulate}
+use Rattle.vg_places.proofs.Tabulated.{set-tabulate, put_mid-tabulate}
 
 -- a place that has an element is inside the list
 inside_from_slice_get : {X : Type 0} (xs : List X) (i : ℕ) (x : X) → slice_get xs i ≡ Some x → i < length xs

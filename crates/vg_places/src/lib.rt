@@ -1,8 +1,12 @@
-//! Words and laws on lists that are told place by place.
+//! Words and laws on lists that are told place by place, and rectangles of lists that are laid out in rows.
 #![tactic(auto)]
+
+mod rectangles;
 
 ghost use Rattle.std.specs.Prelude.{◌≡◌, ◌<◌, ℕ, List, Some, length, slice_get};
 ghost use Rattle.vg_places.specs.Places.{tabulate};
+
+pub use rectangles::{Area, copy_rows, fill_at_each_place};
 
 /// A law, and no work: two lists of one length that agree at each place are equal.
 pub fn agree_at_each_place<T>()
