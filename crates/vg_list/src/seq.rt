@@ -49,7 +49,7 @@ impl<T> Seq<T> {
 
     /// The elements, to be written in place.
     pub fn as_mut_slice(&mut self) -> &mut [T]
-        ensures* writes_back { sem 𝓛 (Lends (the_row T.row) (Array T.row 0) self.entry result (overwritten self.entry.now)) }
+        ensures* writes_back { sem 𝓛 (Lends (the_row T.row) (Array (T.row) 0) self.entry result (overwritten self.entry.now)) }
         ensures value { result.now ≡ self.old }
     {
         self.elements.as_mut_slice()
