@@ -1,7 +1,7 @@
 //! What is said on standard error, and the exit status.
 
-ghost use Rattle.std.specs.Prelude.{◌≡◌, ◌↔◌, IsNone};
-ghost use Rattle.vgpu.specs.Codes.{exit_code};
+ghost use Rattle.std.specs.Prelude.{◌≡◌};
+ghost use Rattle.vgpu.specs.Codes.{exit_code, fault_told, kind_told};
 
 use thiserror::Error;
 use vg_run::Status;
@@ -39,7 +39,9 @@ pub enum Kind {
 }
 
 /// The kind of a fault's number, which goes from 1 to 6.
-fn kind_of(number: u8) -> Kind {
+fn kind_of(number: u8) -> Kind
+    ensures { result ≡ kind_told number }
+{
     match number {
         1 => Kind::Text,
         2 => Kind::Word,
@@ -52,7 +54,7 @@ fn kind_of(number: u8) -> Kind {
 
 /// What is said of a status; nothing where all is done.
 pub fn fault_of(status: Status) -> Option<Fault>
-    ensures { IsNone result ↔ (status ≡ Status.Done) }
+    ensures { result ≡ fault_told status }
 {
     match status {
         Status::Done => None,
