@@ -1,5 +1,5 @@
 -- The pixels of a rectangle.
-use Rattle.std.specs.Prelude.{ℕ, ◌+◌, ◌<◌, ◌≤◌}
+use Rattle.std.specs.Prelude.{ℕ, ◌+◌, ◌-◌, ◌<◌, ◌≤◌, ◌&&◌, Bool, nat_lt, min, max}
 use Rattle.vg_formats.specs.declared.rect.Rect.{Rect}
 
 -- The pixel in column x and row y lies in the rectangle.
@@ -15,6 +15,21 @@ abbrev pub CoversCommon : Rect → Rect → Rect → Type 0
 CoversCommon common a b =
     ((x y : ℕ) → Covers common x y → Covers a x y × Covers b x y)
     × ((x y : ℕ) → Covers a x y → Covers b x y → Covers common x y)
+
+-- Some pixel lies in both: each starts before the other ends.
+abbrev pub are_meeting : Rect → Rect → Bool
+are_meeting a b =
+    nat_lt (max a.x b.x) (min (a.x + a.width) (b.x + b.width))
+    && nat_lt (max a.y b.y) (min (a.y + a.height) (b.y + b.height))
+
+-- The pixels that lie in both, where some do.
+abbrev pub common_of : Rect → Rect → Rect
+common_of a b = record {
+  x = max a.x b.x;
+  y = max a.y b.y;
+  width = min (a.x + a.width) (b.x + b.width) - max a.x b.x;
+  height = min (a.y + a.height) (b.y + b.height) - max a.y b.y;
+}
 
 -- Some pixel lies in the rectangle.
 abbrev pub HasPixels : Rect → Type 0

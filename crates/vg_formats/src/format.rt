@@ -1,6 +1,6 @@
 //! The formats of pixels.
 
-/// The pixel formats of VIRTIO 1.2, 5.7.6.7 (enum virtio_gpu_formats). The order of a name is the order of
+/// The pixel formats of VIRTIO 1.2, 5.7.6.8 (enum virtio_gpu_formats). The order of a name is the order of
 /// the bytes in memory, one byte a letter. X is a byte without a meaning.
 #[derive(Clone, Copy, Debug, PartialEq, Eq)]
 pub enum Format {
@@ -17,10 +17,11 @@ pub enum Format {
 impl Format {
     ghost use Rattle.std.specs.Prelude.{◌≡◌, ◌≢◌, IfSome, IfNone, Some};
     ghost use Rattle.vg_formats.specs.declared.format.Format.{Format};
-    ghost use Rattle.vg_formats.specs.Formats.{code_of, shown_bytes};
+    ghost use Rattle.vg_formats.specs.Formats.{code_of, format_of, shown_bytes};
 
     /// The format with this code of the standard.
     pub fn of(code: u32) -> Option<Format>
+        ensures exact { result ≡ format_of code }
         ensures known { IfSome result (λ format. code_of format ≡ code) }
         ensures each { (format : Format) → code_of format ≡ code → result ≡ Some format }
         ensures none { IfNone result ((format : Format) → code_of format ≢ code) }

@@ -2,7 +2,7 @@
 
 ghost use Rattle.std.specs.Prelude.{◌≡◌, ◌+◌, ◌<◌, ◌≤◌, min, max, IfSome, IfNone};
 
-/// A rectangle of pixels (VIRTIO 1.2, 5.7.6.7, struct virtio_gpu_rect): its left column, its top row, and
+/// A rectangle of pixels (VIRTIO 1.2, 5.7.6.8, struct virtio_gpu_rect): its left column, its top row, and
 /// how many columns and rows it has, in pixels. It is empty where one of these is 0. Its right and
 /// bottom ends may pass 2^32.
 #[derive(Clone, Copy, Debug, PartialEq, Eq)]
@@ -14,8 +14,8 @@ pub struct Rect {
 }
 
 impl Rect {
-    ghost use Rattle.std.specs.Prelude.{◌+◌, ◌≤◌, ◌↔◌, IsTrue, IsNone, IfSome};
-    ghost use Rattle.vg_formats.specs.Pixels.{AreApart, CoversCommon, HasPixels, LiesWithin};
+    ghost use Rattle.std.specs.Prelude.{◌≡◌, ◌+◌, ◌≤◌, ◌↔◌, IsTrue, IsNone, IfSome, if◌then◌else◌, Some, None};
+    ghost use Rattle.vg_formats.specs.Pixels.{AreApart, CoversCommon, HasPixels, LiesWithin, are_meeting, common_of};
 
     /// Whether no edge of the rectangle passes an area of `width` columns and `height` rows from 0, 0. An
     /// empty rectangle is judged by its edges too.
@@ -29,6 +29,7 @@ impl Rect {
 
     /// The rectangle of the pixels that lie in both, which isn't empty.
     pub fn meet(&self, other: &Rect) -> Option<Rect>
+        ensures exact { result ≡ (if are_meeting self.now other.now then Some (common_of self.now other.now) else None) }
         ensures none { IsNone result ↔ AreApart self.now other.now }
         ensures common { IfSome result (λ common. CoversCommon common self.now other.now) }
         ensures pixels { IfSome result (λ common. HasPixels common) }

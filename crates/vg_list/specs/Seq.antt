@@ -1,4 +1,4 @@
-use Rattle.std.specs.Prelude.{ℕ, List, ◌++◌, length, take, drop}
+use Rattle.std.specs.Prelude.{List, ◌++◌, length, take, drop}
 
 -- A list after these elements were written over its front. It keeps its length.
 abbrev pub overwritten : {X : Type 0} → List X → List X → List X

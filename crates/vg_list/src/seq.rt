@@ -1,10 +1,11 @@
 //! A `Vec` that contracts see as the list of its elements.
 
-ghost use Rattle.std.specs.Prelude.{◌≡◌, ◌==◌, List, length};
+ghost use Rattle.std.specs.Prelude.{◌≡◌, ◌==◌, ◌<◌, ◌+◌, ◌-◌, List, [], ◌∷◌, ◌++◌, Some, length, take, drop, slice_get, option_to_list, OnOk, OnErr};
 ghost use Rattle.std.specs.Borrow.{Lends, sem, Array};
 ghost use Rattle.vg_list.specs.Seq.{overwritten};
 ghost use Rattle.vg_list.specs.contracts.seq.Seq.{the_row};
 
+use std::alloc::AllocError;
 use std::marker::Model;
 
 /// A list of `T`. It is made from a `Vec` and gives it back, and neither takes memory.
@@ -53,6 +54,34 @@ impl<T> Seq<T> {
         ensures value { result.now ≡ self.old }
     {
         self.elements.as_mut_slice()
+    }
+
+    /// Appends an element.
+    pub fn push(&mut self, element: T) -> Result<(), AllocError>
+    where
+        T: Drop,
+        ensures ok { OnOk result (self.new ≡ self.old ++ element ∷ []) }
+        ensures err { OnErr result (self.new ≡ self.old) }
+    {
+        self.elements.push(element)?;
+        Ok(())
+    }
+
+    /// Takes the last element away, if there is one.
+    pub fn pop(&mut self) -> Option<T>
+        ensures value { self.old ≡ self.new ++ option_to_list result }
+        ensures rest { self.new ≡ take (length self.old - 1) self.old }
+    {
+        self.elements.pop()
+    }
+
+    /// Takes away the element at this place; those after it stand one place lower.
+    pub fn remove(&mut self, index: usize) -> T
+        requires { index < length self.old }
+        ensures value { Some result ≡ slice_get self.old index }
+        ensures rest { self.new ≡ take index self.old ++ drop (index + 1) self.old }
+    {
+        self.elements.remove(index)
     }
 
     /// How many elements there are.

@@ -1,1 +1,12 @@
 pub mod Enabled
+pub mod MapLemmas
+pub mod ShowingLemmas
+pub mod KeepLemmas
+pub mod BoundLemmas
+pub mod ActLemmas
+pub mod CellLemmas
+pub mod ShareLemmas
+pub mod ScreenLemmas
+pub mod RemoveLemmas
+pub mod BackingLemmas
+pub mod ResourceLemmas

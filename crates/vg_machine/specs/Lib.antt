@@ -1,8 +1,15 @@
 pub mod Setup
 pub mod Lane
+pub mod Refusals
+pub mod Lists
+pub mod Resource
+pub mod Backing
 pub mod Scanout
+pub mod Cells
 pub mod Share
+pub mod Holds
 pub mod State
 pub mod Step
+pub mod ActStep
 pub mod Replay
 pub mod Order

@@ -1,7 +1,8 @@
 use Rattle.std.specs.Prelude.{◌≡◌, ◌≢◌, ◌≤◌, ◌<◌, ◌+◌, ◌-◌, ◌==◌, ℕ, Bool, true, false, List, [], ◌∷◌, ◌++◌, map, filter, count_by, nat_le, if◌then◌else◌}
 use Rattle.std.specs.List.{range_with_len, AllByRecursion}
 use Rattle.vg_machine.specs.declared.setup.Setup.{Setup}
-use Rattle.vg_machine.specs.declared.act.Act.TheVariants.{Enter, Leave}
+use Rattle.vg_machine.specs.declared.act.Act.{Act}
+use Rattle.vg_machine.specs.declared.act.Act.TheVariants.{Enter, Release, Free, Drop, Leave}
 use Rattle.vg_machine.specs.declared.history.Entry.{Entry}
 use Rattle.vg_machine.specs.declared.history.Entry.TheVariants as entries
 use Rattle.vg_machine.specs.Lane.{lane_of}
@@ -20,15 +21,13 @@ is_of_lane lane (entries.Act client call act reply) = false
 is_of_lane lane (entries.Command client call request reply) = request.lane == lane
 
 abbrev pub is_leave : Entry → Bool
-is_leave (entries.Act client call Enter reply) = false
 is_leave (entries.Act client call Leave reply) = true
-is_leave (entries.Command client call request reply) = false
+is_leave _ = false
 
 -- The client begins, with its first number.
 abbrev pub IsFirst : Entry → Type 0
 IsFirst (entries.Act client call Enter reply) = call ≡ 1
-IsFirst (entries.Act client call Leave reply) = ⊥
-IsFirst (entries.Command client call request reply) = ⊥
+IsFirst _ = ⊥
 
 -- A client's entries.
 abbrev pub of_client : ℕ → List Entry → List Entry
@@ -64,10 +63,18 @@ pub record CallOrder (before : List Entry) (entry : Entry) : Type 0 where
   pub first : of_client (client_of entry) before ≡ [] → IsFirst entry
   pub present : AllByRecursion (λ e. is_leave e ≡ false) (of_client (client_of entry) before)
 
+-- An act that gives up a hold: a release, a free, the end of a lease, and leave.
+abbrev pub gives_up : Act → Bool
+gives_up (Release key) = true
+gives_up (Free key) = true
+gives_up (Drop scanout) = true
+gives_up Leave = true
+gives_up _ = false
+
 -- An act that gives up a hold stands after all of its client's earlier calls: those have the numbers below its own, each once.
 abbrev pub GiveUp : List Entry → Entry → Type 0
-GiveUp before (entries.Act client call Enter reply) = Unit {0}
-GiveUp before (entries.Act client call Leave reply) = map call_of (by_call (of_client client before)) ≡ range_with_len 1 (call - 1)
+GiveUp before (entries.Act client call act reply) =
+    gives_up act ≡ true → map call_of (by_call (of_client client before)) ≡ range_with_len 1 (call - 1)
 GiveUp before (entries.Command client call request reply) = Unit {0}
 
 -- An entry stands rightly behind those before it.

@@ -8,7 +8,8 @@ use Rattle.vg_machine.specs.declared.history.Request.{Request}
 use Rattle.vg_machine.specs.declared.history.Reply.{Reply}
 use Rattle.vg_machine.specs.declared.history.Reply.TheVariants as replies
 use Rattle.vg_machine.specs.State.{State, start}
-use Rattle.vg_machine.specs.Step.{act_step, step}
+use Rattle.vg_machine.specs.ActStep.{act_step}
+use Rattle.vg_machine.specs.Step.{step}
 
 -- A request of this shape: the display after it, and the reply.
 abbrev pub shaped_step : Shape → State → Request → State × Reply

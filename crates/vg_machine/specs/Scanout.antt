@@ -1,6 +1,135 @@
-use Rattle.std.specs.Prelude.{List}
+-- The scanouts (VIRTIO 1.2, 5.7.6.8, SET_SCANOUT and RESOURCE_FLUSH).
+use Rattle.std.specs.Prelude.{◌≡◌, ℕ, slice_get, ◌+◌, ◌-◌, ◌*◌, ◌≤◌, ◌==◌, ◌&&◌, Bool, false, nat_lt, if◌then◌else◌, List, [], ◌∷◌, ◌++◌, length, map, replicate, Option, Some, None, Result}
+use Rattle.std.specs.List.{sum_by, slice_set}
+use Rattle.vg_formats.specs.declared.rect.Rect.{Rect}
+use Rattle.vg_formats.specs.Pixels.{are_meeting, common_of}
+use Rattle.vg_places.specs.declared.rectangles.Area.{Area}
+use Rattle.vg_shown.specs.Shown.{shown_rows}
+use Rattle.vg_machine.specs.declared.scanout.Binding.{Binding}
 use Rattle.vg_machine.specs.declared.scanout.Frame.{Frame}
+use Rattle.vg_machine.specs.declared.scanout.Screen.{Screen}
+use Rattle.vg_machine.specs.declared.scanout.TheConstants.{MOST_SCREEN_BYTES, MOST_FRAME_BYTES}
+use Rattle.vg_machine.specs.Refusals.{refusal_of, unless_refused}
 
--- What the scanouts have: the frames, in the order in which they were made.
+-- What the scanouts have: of each, from scanout 0, its screen where it is bound, and None where it is disabled; and the
+-- frames, in the order in which they were made.
 pub record ScanoutState : Type 0 where
+  pub screens : List (Option Screen)
   pub frames : List Frame
+
+-- How many bytes the pixels of frames have.
+abbrev pub frame_bytes : List Frame → ℕ
+frame_bytes frames = sum_by (λ frame. length frame.pixels) frames
+
+-- A screen of a new binding: all its bytes are 0.
+unfoldable pub fresh_screen : Binding → Screen
+fresh_screen binding = record { binding = binding; pixels = replicate (4 * binding.rect.width * binding.rect.height) 0 }
+
+abbrev pub bound : ℕ → Binding → ScanoutState → ScanoutState
+bound scanout binding state = record state { screens = slice_set state.screens scanout (Some (fresh_screen binding)) }
+
+-- A screen has a limit.
+unfoldable pub bind : ℕ → Binding → ScanoutState → ScanoutState × Result Unit ℕ
+bind scanout binding state =
+    unless_refused (refusal_of ((nat_lt MOST_SCREEN_BYTES (4 * binding.rect.width * binding.rect.height), 0x1201) ∷ [])) state (bound scanout binding state)
+
+abbrev pub unbound : ℕ → ScanoutState → ScanoutState
+unbound scanout state = record state { screens = slice_set state.screens scanout None }
+
+abbrev pub binding_of_screen : Option (Option Screen) → Option Binding
+binding_of_screen (Some (Some screen)) = Some screen.binding
+binding_of_screen (Some None) = None
+binding_of_screen None = None
+
+-- What a scanout is bound to, if it is and there is one.
+abbrev pub binding_at : ℕ → ScanoutState → Option Binding
+binding_at scanout state = binding_of_screen (slice_get state.screens scanout)
+
+abbrev pub is_bound_to : ℕ → Option Screen → Bool
+is_bound_to id (Some screen) = screen.binding.resource == id
+is_bound_to id None = false
+
+abbrev pub unbound_screen : ℕ → Option Screen → Option Screen
+unbound_screen id screen = if is_bound_to id screen then None else screen
+
+-- Each scanout that is bound to the resource is disabled.
+abbrev pub unbound_from : ℕ → ScanoutState → ScanoutState
+unbound_from id state = record state { screens = map (unbound_screen id) state.screens }
+
+-- Where a part of a rectangle of pixels stands in it, in rows and bytes of a row.
+abbrev pub area_of : Rect → Rect → Area
+area_of whole part = record { row = part.y - whole.y; column = 4 * (part.x - whole.x); width = 4 * part.width; height = part.height }
+
+-- The screen's pixels, where those of this part of its rectangle are shown as the surface has them now, and each other is
+-- as it was.
+abbrev pub pixels_with : Binding → Rect → List ℕ → List ℕ → List ℕ
+pixels_with binding part surface pixels =
+    shown_rows binding.format (area_of binding.rect part) (4 * binding.rect.width) surface binding.stride (binding.offset + binding.stride * part.y + 4 * part.x) pixels
+
+-- The screen's pixels after a flush of `rect`: each whose point lies in it is shown as the surface has it now, and each
+-- other is as it was.
+abbrev pub flushed_pixels : Binding → Rect → List ℕ → List ℕ → List ℕ
+flushed_pixels binding rect surface pixels = pixels_with binding (common_of binding.rect rect) surface pixels
+
+-- The scanout is bound to the resource, and its rectangle and that of the flush have a pixel in common.
+abbrev pub is_flushed : ℕ → Rect → Option Screen → Bool
+is_flushed id rect (Some screen) = (screen.binding.resource == id) && are_meeting screen.binding.rect rect
+is_flushed id rect None = false
+
+abbrev pub flushed_screen : Rect → List ℕ → Option Screen → Option Screen
+flushed_screen rect surface (Some screen) = Some (record screen { pixels = flushed_pixels screen.binding rect surface screen.pixels })
+flushed_screen rect surface None = None
+
+abbrev pub after_flush : ℕ → Rect → List ℕ → Option Screen → Option Screen
+after_flush id rect surface screen = if is_flushed id rect screen then flushed_screen rect surface screen else screen
+
+-- The frame that a scanout's screen makes.
+abbrev pub frame_of : ℕ → ℕ → Option Screen → List Frame
+frame_of entry scanout (Some screen) = record { scanout = scanout; width = screen.binding.rect.width; height = screen.binding.rect.height; entry = entry; pixels = screen.pixels } ∷ []
+frame_of entry scanout None = []
+
+-- The frame that a flush makes of scanout number n, if it makes one.
+abbrev pub new_frame : ℕ → ℕ → Rect → List ℕ → ℕ → Option Screen → List Frame
+new_frame entry id rect surface n screen = if is_flushed id rect screen then frame_of entry n (flushed_screen rect surface screen) else []
+
+-- The frames that a flush makes, of these screens as they were before it, the first of which is that of scanout number n.
+unfoldable pub new_frames : ℕ → ℕ → Rect → List ℕ → ℕ → List (Option Screen) → List Frame
+new_frames entry id rect surface n [] = []
+new_frames entry id rect surface n (screen ∷ more) =
+    new_frame entry id rect surface n screen ++ new_frames entry id rect surface (n + 1) more
+
+-- How many bytes the frame has that a flush makes of this screen, and 0 where it makes none.
+abbrev pub new_frame_bytes : ℕ → Rect → Option Screen → ℕ
+new_frame_bytes id rect (Some screen) = if is_flushed id rect (Some screen) then length screen.pixels else 0
+new_frame_bytes id rect None = 0
+
+-- How many bytes the frames have that a flush makes of these screens.
+abbrev pub new_bytes : ℕ → Rect → List (Option Screen) → ℕ
+new_bytes id rect screens = sum_by (new_frame_bytes id rect) screens
+
+abbrev pub flushed : ℕ → ℕ → Rect → List ℕ → ScanoutState → ScanoutState
+flushed entry id rect surface state = record {
+  screens = map (after_flush id rect surface) state.screens;
+  frames = state.frames ++ new_frames entry id rect surface 0 state.screens;
+}
+
+-- The frames of a run have a limit.
+unfoldable pub flush : ℕ → ℕ → Rect → List ℕ → ScanoutState → ScanoutState × Result Unit ℕ
+flush entry id rect surface state =
+    unless_refused (refusal_of ((nat_lt MOST_FRAME_BYTES (frame_bytes (flushed entry id rect surface state).frames), 0x1201) ∷ [])) state
+    (flushed entry id rect surface state)
+
+-- The pixels of a binding's rectangle stand in a surface of so many bytes.
+abbrev pub FitsSurface : ℕ → Binding → Type 0
+FitsSurface size binding =
+    binding.offset + binding.stride * (binding.rect.y + binding.rect.height - 1) + 4 * (binding.rect.x + binding.rect.width) ≤ size
+
+-- Those of the screens that are bound to the resource do.
+abbrev pub FitSurface : ℕ → ℕ → Option Screen → Type 0
+FitSurface id size (Some screen) = screen.binding.resource ≡ id → FitsSurface size screen.binding
+FitSurface id size None = Unit {0}
+
+-- A screen has the pixels of its rectangle, within the limit.
+abbrev pub IsScreen : Option Screen → Type 0
+IsScreen (Some screen) = (length screen.pixels ≡ 4 * screen.binding.rect.width * screen.binding.rect.height) × (length screen.pixels ≤ MOST_SCREEN_BYTES)
+IsScreen None = Unit {0}

@@ -1,19 +1,69 @@
-use Rattle.std.specs.Prelude.{ℕ, ◌+◌, []}
+use Rattle.std.specs.Prelude.{◌≡◌, true, ℕ, ◌+◌, ◌*◌, ◌≤◌, ◌<◌, List, [], length, replicate, Option, Some, None}
+use Rattle.std.specs.List.{All}
+use Rattle.std.specs.Map.{values_of}
+use Rattle.vg_formats.specs.declared.entry.MemEntry.{MemEntry}
+use Rattle.vg_pages.specs.Memory.{Memory, fresh_memory}
+use Rattle.vg_machine.specs.declared.resource.Resource.{Resource}
+use Rattle.vg_machine.specs.declared.scanout.Binding.{Binding}
+use Rattle.vg_machine.specs.declared.scanout.Screen.{Screen}
 use Rattle.vg_machine.specs.declared.setup.Setup.{Setup}
+use Rattle.vg_machine.specs.Backing.{AreHeld, is_within}
+use Rattle.vg_machine.specs.Resource.{resource_at}
 use Rattle.vg_machine.specs.Scanout.{ScanoutState}
-use Rattle.vg_machine.specs.Share.{ShareState}
+use Rattle.vg_machine.specs.Setup.{IsSetup}
+use Rattle.vg_machine.specs.Share.{ShareState, SharesPages}
 
 -- The display: its setup, which no step changes, how many entries there are so far, and the states of its parts.
 pub record State : Type 0 where
   pub setup : Setup
   pub entries : ℕ
+  pub memory : Memory
+  pub resources : List (ℕ × Resource)
+  pub backings : List (ℕ × List MemEntry)
   pub scanouts : ScanoutState
   pub share : ShareState
 
 -- The display before the first entry.
 abbrev pub start : Setup → State
-start setup = record { setup = setup; entries = 0; scanouts = record { frames = [] }; share = record { left = [] } }
+start setup = record {
+  setup = setup;
+  entries = 0;
+  memory = fresh_memory setup.pages;
+  resources = [];
+  backings = [];
+  scanouts = record { screens = replicate (length setup.displays) None; frames = [] };
+  share = record { buffers = []; reserved = 0; leases = replicate (length setup.displays) None; left = [] };
+}
 
 -- The display with one entry more.
 abbrev pub counted : State → State
 counted state = record state { entries = state.entries + 1 }
+
+-- A binding to a resource shows a rectangle of it.
+pub record ShowsResource (binding : Binding) (resource : Resource) : Type 0 where
+  pub within : is_within binding.rect resource.width resource.height ≡ true
+  pub some_width : 0 < binding.rect.width
+  pub some_height : 0 < binding.rect.height
+  pub format : binding.format ≡ resource.format
+  pub stride : binding.stride ≡ 4 * resource.width
+  pub offset : binding.offset ≡ 0
+
+abbrev pub ShowsSome : Binding → Option Resource → Type 0
+ShowsSome binding (Some resource) = ShowsResource binding resource
+ShowsSome binding None = ⊥
+
+-- A screen shows a resource that there is.
+abbrev pub IsShowing : List (ℕ × Resource) → Option Screen → Type 0
+IsShowing resources (Some screen) = ShowsSome screen.binding (resource_at screen.binding.resource resources)
+IsShowing resources None = Unit {0}
+
+-- What a display keeps.
+pub record IsConsistent (state : State) : Type 0 where
+  pub setup : IsSetup state.setup
+  pub pages : length state.memory.taken ≡ state.setup.pages
+  pub backings : All (λ entry. AreHeld state.memory entry.1) state.backings
+  pub screens : length state.scanouts.screens ≡ length state.setup.displays
+  pub showing : All (IsShowing state.resources) state.scanouts.screens
+  pub leases : length state.share.leases ≡ length state.setup.displays
+  pub share : SharesPages state.memory state.share
+  pub reserved : state.share.reserved ≤ state.entries

@@ -1,42 +1,47 @@
 //! The device on one thread.
 
-ghost use Rattle.std.specs.Prelude.{◌≡◌, ◌==◌, ◌<◌, ◌-◌, ◌^◌, if◌then◌else◌, bit_and, Some, map, IfOk, OnErr};
+ghost use Rattle.std.specs.Prelude.{◌≡◌, ◌==◌, ◌<◌, ◌-◌, ◌^◌, if◌then◌else◌, bit_and, IfOk, OnErr};
 ghost use Rattle.vg_wire.specs.Request.{request_of};
 ghost use Rattle.vg_wire.specs.Response.{response_kind};
-ghost use Rattle.vg_wire.specs.declared.response.Response.TheVariants as responses;
 ghost use Rattle.vg_machine.specs.Setup.{IsSetup};
 ghost use Rattle.vg_machine.specs.State.{start};
-ghost use Rattle.vg_machine.specs.Step.{act_step, answer_header, answer_of, answered, step, two_d_step};
+ghost use Rattle.vg_machine.specs.ActStep.{act_step};
+ghost use Rattle.vg_machine.specs.Holds.{update};
+ghost use Rattle.vg_machine.specs.Step.{Keeps, answer_header, answer_of, answered, effect_and_bytes, step};
 
 use crate::act::{Act, ActReply};
+use crate::backing::Backings;
+use crate::codes::UNSPEC;
+use crate::holds::Holds;
+use crate::resource::Resources;
 use crate::scanout::{Frame, Scanouts};
 use crate::setup::Setup;
 use crate::share::Share;
 use std::alloc::{AllocError, Global};
 use std::marker::Model;
-use vg_wire::{
-    Command, Command2d, Header, Modes, Queue, Response, read_header, read_request, write_response,
-};
+use vg_pages::Pages;
+use vg_wire::{Command, Header, Queue, Response, read_header, read_request, write_response};
 
 /// A display device, and what its clients share beside it.
 #[derive(Debug, Drop)]
 pub struct Display {
-    setup: Setup,
-    entries: u64,
-    scanouts: Scanouts,
-    share: Share,
+    pub(crate) setup: Setup,
+    pub(crate) entries: u64,
+    pub(crate) pages: Pages,
+    pub(crate) resources: Resources,
+    pub(crate) backings: Backings,
+    pub(crate) scanouts: Scanouts,
+    pub(crate) share: Share,
 }
 
 impl Model for Display {
-    ghost use Rattle.vg_machine.specs.State.{State};
+    ghost use Rattle.vg_machine.specs.State.{State, IsConsistent};
 
     ghost Value = { State };
 
-    ghost use Rattle.vg_machine.specs.Setup.{IsSetup};
+    ghost view = { λ d. record { setup = d.setup; entries = d.entries; memory = d.pages; resources = d.resources; backings = d.backings; scanouts = d.scanouts; share = d.share } };
 
-    ghost view = { λ d. record { setup = d.setup; entries = d.entries; scanouts = d.scanouts; share = d.share } };
-
-    ghost invariant = { λ d. IsSetup d.setup };
+    ghost invariant = { λ d. IsConsistent (record { setup = d.setup; entries = d.entries; memory = d.pages; resources = d.resources; backings = d.backings; scanouts = d.scanouts; share = d.share }) };
 }
 
 impl Display {
@@ -45,11 +50,15 @@ impl Display {
         requires { IsSetup setup.now }
         ensures { IfOk result (λ display. display ≡ start setup.now) }
     {
+        let count = setup.displays.len();
         Ok(Display {
-            setup: setup.clone()?,
+            setup: copy_of(setup)?,
             entries: 0,
-            scanouts: Scanouts::new(alloc),
-            share: Share::new(alloc),
+            pages: Pages::new(alloc, setup.pages)?,
+            resources: Resources::new(alloc),
+            backings: Backings::new(alloc),
+            scanouts: Scanouts::new(alloc, count)?,
+            share: Share::new(alloc, count)?,
         })
     }
 
@@ -87,68 +96,76 @@ impl Display {
         ensures step { IfOk result (λ bytes. (self.new, bytes.items) ≡ step self.old queue request.now room) }
         ensures err { OnErr result (self.new ≡ self.old) }
     {
-        let response = self.answer(alloc, queue, request)?;
-        let bytes = write_answer(alloc, request, room, &response)?;
+        let bytes = self.answer(alloc, queue, request, room)?;
         self.entries += 1;
         Ok(bytes)
     }
 
-    /// Does the act of a client, and gives its reply.
-    pub fn act(&mut self, client: u32, act: &Act) -> Result<ActReply, AllocError>
+    /// Does the act of a client, and gives its reply. What the client holds changes with it.
+    pub fn act(
+        &mut self,
+        alloc: Global,
+        client: u32,
+        holds: &mut Holds,
+        act: &Act,
+    ) -> Result<ActReply, AllocError>
         requires { self.old.entries < 2 ^ 31 - 1 }
         ensures step { IfOk result (λ reply. (self.new, reply) ≡ act_step self.old client act.now) }
+        ensures holds { IfOk result (λ reply. holds.new ≡ update holds.old act.now reply) }
+        ensures err { OnErr result ((self.new ≡ self.old) × (holds.new ≡ holds.old)) }
+    {
+        self.entries += 1;
+        let done = self.perform(alloc, client, holds, act);
+        if done.is_err() {
+            self.entries -= 1;
+        }
+        done
+    }
+
+    /// What a request does, and its response as far as the room holds it. Memory for OK_NODATA is taken before the
+    /// command runs; what is answered otherwise has changed nothing.
+    fn answer(
+        &mut self,
+        alloc: Global,
+        queue: Queue,
+        request: &[u8],
+        room: u32,
+    ) -> Result<Vec<u8>, AllocError>
+        requires { self.old.entries < 2 ^ 31 - 1 }
+        ensures step { IfOk result (λ bytes. (self.new, bytes.items) ≡ effect_and_bytes self.old queue request.now room) }
         ensures err { OnErr result (self.new ≡ self.old) }
     {
-        match act {
-            Act::Enter => {}
-            Act::Leave => self.share.leave(client)?,
+        let accepted = write_answer(alloc, request, room, &Response::Nodata)?;
+        match self.respond(alloc, queue, request)? {
+            Response::Nodata => Ok(accepted),
+            other => write_answer(alloc, request, room, &other),
         }
-        self.entries += 1;
-        Ok(ActReply::Ok)
     }
 
-    /// What a request is answered.
-    fn answer(&self, alloc: Global, queue: Queue, request: &[u8]) -> Result<Response, AllocError>
-        ensures { IfOk result (λ response. answer_of self.now (request_of queue request.now) ≡ (self.now, response)) }
+    /// What a request is answered. A response that isn't OK_NODATA changes nothing.
+    fn respond(
+        &mut self,
+        alloc: Global,
+        queue: Queue,
+        request: &[u8],
+    ) -> Result<Response, AllocError>
+        requires { self.old.entries < 2 ^ 31 - 1 }
+        ensures step { IfOk result (λ response. answer_of self.old (request_of queue request.now) ≡ (self.new, response)) }
+        ensures keeps { IfOk result (λ response. Keeps response self.old self.new) }
+        ensures err { OnErr result (self.new ≡ self.old) }
     {
         match read_request(alloc, request, queue)? {
-            Ok((_, Command::TwoD(command))) => self.answer_2d(alloc, &command),
-            Err(_) => Ok(Response::Error { code: 0x1200 }),
+            Ok((_, Command::TwoD(command))) => self.run_2d(alloc, &command),
+            Err(_) => Ok(Response::Error { code: UNSPEC }),
         }
-    }
-
-    /// What a 2D command is answered. Those that don't stand yet are answered ERR_UNSPEC.
-    fn answer_2d(&self, alloc: Global, command: &Command2d) -> Result<Response, AllocError>
-        ensures { IfOk result (λ response. two_d_step self.now command.now ≡ (self.now, response)) }
-    {
-        match command {
-            Command2d::DisplayInfo => self.display_info(alloc),
-            Command2d::Create2d { .. }
-            | Command2d::Unref { .. }
-            | Command2d::SetScanout { .. }
-            | Command2d::Flush { .. }
-            | Command2d::Transfer { .. }
-            | Command2d::Attach { .. }
-            | Command2d::Detach { .. } => Ok(Response::Error { code: 0x1200 }),
-        }
-    }
-
-    /// The modes of the displays.
-    fn display_info(&self, alloc: Global) -> Result<Response, AllocError>
-        ensures { IfOk result (λ response. response ≡ responses.DisplayInfo (map Some self.now.setup.displays)) }
-    {
-        let items = enabled(alloc, self.setup.displays.as_slice())?;
-        Ok(Response::DisplayInfo {
-            modes: Modes::from_vec(items),
-        })
     }
 }
 
-/// Each display's mode.
-fn enabled(alloc: Global, displays: &[(u32, u32)]) -> Result<Vec<Option<(u32, u32)>>, AllocError>
-    ensures { IfOk result (λ modes. modes.items ≡ map Some displays.now) }
+/// A copy of the setup.
+fn copy_of(setup: &Setup) -> Result<Setup, AllocError>
+    ensures { IfOk result (λ copy. copy ≡ setup.now) }
 {
-    displays.iter().map(|size| Some(*size)).collect(alloc)
+    setup.clone()
 }
 
 /// The kind of a response's header.

@@ -3,19 +3,29 @@
 #![tactic(auto)]
 
 mod act;
+mod acts;
+mod backing;
+mod cells;
+mod codes;
+mod commands;
 mod display;
 mod history;
+mod holds;
 mod lane;
+mod lists;
+mod resource;
 mod scanout;
 mod setup;
 mod shape;
 mod share;
 
-pub use act::{Act, ActReply};
+pub use act::{Act, ActReply, Geometry, ShareRefusal, What};
 pub use display::Display;
 pub use history::{Entry, Reply, Request};
+pub use holds::{Holds, denied};
 pub use lane::lane_of;
-pub use scanout::Frame;
+pub use resource::Resource;
+pub use scanout::{Binding, Frame};
 pub use setup::Setup;
 pub use shape::Shape;
 

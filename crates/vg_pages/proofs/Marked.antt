@@ -1,14 +1,15 @@
 -- Pages marked, and pages zeroed, one after another.
 use Rattle.std.proofs.Common.{◌≡◌, ◌≢◌, ℕ, ◌+◌, ◌*◌, ◌/◌, ◌<◌, ◌≤◌, ◌==◌, Bool, true, false, cond, ◌||◌, List, [], ◌++◌, Some, length, get_or, slice_get, slice_index_or, set, take, drop, replicate, sym, ap, ◌∙◌, refl, inl, inr, arith}
-use Rattle.std.specs.List.{All}
-use Rattle.std.proofs.lemmas.Bool.{eq-eqb, ne_eqb, or_right}
-use Rattle.std.proofs.lemmas.List.{get_or_default, take_at, length-take, length-drop, length-replicate, get_or-replicate}
+use Rattle.std.specs.List.{All, range_with_len}
+use Rattle.std.proofs.lemmas.Bool.{cases_lt, eq-eqb, ne_eqb, or_right}
+use Rattle.std.proofs.lemmas.List.Elements.{All-take, filter_passes}
+use Rattle.std.proofs.lemmas.List.{get_or_past, get_or_default, take_at, length-take, length-drop, length-replicate, get_or-replicate}
 use Rattle.std.proofs.lemmas.Option.{slice_get_cases, get_or_from_slice_get}
 use Rattle.std.proofs.lemmas.List.Folds.{list_any_more, list_any-from_Any}
 use borrow.Rule.Slice.PartMut.{put_mid}
 use Rattle.vg_places.proofs.Places.{length-tabulate, slice_get-tabulate, tabulate_from_places}
-use Rattle.vg_pages.specs.Memory.{AreGivable, is_among, free_pages, marked, zeroed}
-use Rattle.vg_pages.proofs.FreePages.{lowest-inside, lowest-apart}
+use Rattle.vg_pages.specs.Memory.{AreGivable, AreTakeable, is_free, is_among, free_pages, marked, zeroed}
+use Rattle.vg_pages.proofs.FreePages.{lowest-apart}
 use Rattle.vg_places.proofs.Tabulated.{set-tabulate, put_mid-tabulate}
 
 -- a place that has an element is inside the list
@@ -85,11 +86,26 @@ marked-in_place pages now old lent after n whole marks long =
     let size : length after ≡ n = ap length marks ∙ length-marked pages now lent ∙ sym long in
     take_at after (drop (length after) old) n size ∙ same
 
--- the lowest free pages may be given back once they are taken
-pub givable-lowest : (taken : List Bool) (n : ℕ) → AreGivable (marked (take n (free_pages taken)) true taken) (take n (free_pages taken))
-givable-lowest taken n = record {
-  all_taken = marked-among (take n (free_pages taken)) true taken (lowest-inside taken n);
+-- a free page is a page
+free-inside : (taken : List Bool) (page : ℕ) → is_free taken page ≡ true → page < length taken
+free-inside taken page free =
+    elim (cases_lt page (length taken)) [ inl within ↦ within | inr past ↦ let known = get_or_past taken page true past in cc ]
+
+-- the lowest free pages may be taken
+pub takeable-lowest : (taken : List Bool) (n : ℕ) → AreTakeable taken (take n (free_pages taken))
+takeable-lowest taken n = record {
+  all_free = All-take (λ page. is_free taken page ≡ true) n (free_pages taken) (filter_passes (is_free taken) (range_with_len 0 (length taken)));
   differ = lowest-apart taken n;
+}
+
+pub takeable-inside : (taken : List Bool) (pages : List ℕ) → AreTakeable taken pages → All (λ page. page < length taken) pages
+takeable-inside taken pages are = λ k d within. free-inside taken (get_or pages k d) (are.all_free k d within)
+
+-- pages that were taken may be given back
+pub givable-taken : (taken : List Bool) (pages : List ℕ) → AreTakeable taken pages → AreGivable (marked pages true taken) pages
+givable-taken taken pages are = record {
+  all_taken = marked-among pages true taken (takeable-inside taken pages are);
+  differ = are.differ;
 }
 
 pub givable-after_taking : (taken : List Bool) (mine others : List ℕ) → AreGivable taken mine → AreGivable (marked others true taken) mine

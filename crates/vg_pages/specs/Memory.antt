@@ -56,6 +56,11 @@ zeroed pages bytes =
 abbrev pub after_taking : Memory → List ℕ → Memory
 after_taking memory pages = record { bytes = zeroed pages memory.bytes; taken = marked pages true memory.taken }
 
+-- These pages may be taken: all of them are free, and no two are one.
+pub record AreTakeable (taken : List Bool) (pages : List ℕ) : Type 0 where
+  pub all_free : All (λ page. is_free taken page ≡ true) pages
+  pub differ : AllPairs (λ one other. one ≢ other) pages
+
 -- These pages may be given back: all of them are taken, and no two are one.
 pub record AreGivable (taken : List Bool) (pages : List ℕ) : Type 0 where
   pub all_taken : All (λ page. slice_get taken page ≡ Some true) pages

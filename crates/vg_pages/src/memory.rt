@@ -2,7 +2,7 @@
 
 ghost use Rattle.std.specs.Prelude.{◌≡◌, ℕ, List, All, ◌<◌, ◌≤◌, ◌↔◌, IfOk, IfSome, IfNone, OnErr, IsNone, IsTrue, length, take, false, replicate, vec_len};
 ghost use Rattle.vg_pages.specs.declared.TheConstants.{MOST_PAGES};
-ghost use Rattle.vg_pages.specs.Memory.{HasWholePages, fresh_memory, Holds, bytes_at, written_at, free_pages, is_among, marked, after_taking, AreGivable};
+ghost use Rattle.vg_pages.specs.Memory.{HasWholePages, fresh_memory, Holds, bytes_at, written_at, free_pages, is_among, marked, after_taking, AreGivable, AreTakeable};
 
 use crate::flags::{count_free, lowest_free, mark, zero};
 use crate::{MEMORY_START, PAGE_BYTES};
@@ -11,7 +11,7 @@ use std::marker::Model;
 
 /// Guest memory: pages of 4,096 bytes, page p at the address 1,048,576 + 4,096 * p. Addresses and lengths
 /// are in bytes. A clause sees the bytes of all pages as one list, and for each page whether it is taken.
-#[derive(Drop)]
+#[derive(Debug, Drop)]
 pub struct Pages {
     bytes: Vec<u8>,
     taken: Vec<bool>,
@@ -42,6 +42,32 @@ impl Pages {
         Ok(Pages { bytes, taken })
     }
 
+    /// The `n` lowest free pages, which stay free. None where fewer are free.
+    pub fn lowest(&self, alloc: Global, n: u32) -> Result<Option<Vec<u32>>, AllocError>
+        ensures none { IfOk result (λ answer. IsNone answer ↔ (length (free_pages self.now.taken) < n)) }
+        ensures lowest { IfOk result (λ answer.
+            IfSome answer (λ pages. pages.items ≡ take n (free_pages self.now.taken))) }
+        ensures count { IfOk result (λ answer. IfSome answer (λ pages. vec_len pages ≡ n)) }
+        ensures takeable { IfOk result (λ answer. IfSome answer (λ pages. AreTakeable self.now.taken pages.items)) }
+    {
+        if self.free() < n {
+            return Ok(None);
+        }
+        let pages = lowest_free(alloc, self.taken.as_slice(), n as usize)?;
+        Ok(Some(pages))
+    }
+
+    /// Takes these pages, and zeros them.
+    pub fn take_these(&mut self, list: &[u32])
+        requires { AreTakeable self.old.taken list.now }
+        ensures after { self.new ≡ after_taking self.old list.now }
+        ensures givable { AreGivable self.new.taken list.now }
+        ensures others { (mine : List ℕ) → AreGivable self.old.taken mine → AreGivable self.new.taken mine }
+    {
+        mark(self.taken.as_mut_slice(), list, true);
+        zero(self.bytes.as_mut_slice(), list);
+    }
+
     /// Takes the `n` lowest free pages, and zeros them. None where fewer are free.
     pub fn take(&mut self, alloc: Global, n: u32) -> Result<Option<Vec<u32>>, AllocError>
         ensures none { IfOk result (λ answer. IsNone answer ↔ (length (free_pages self.old.taken) < n)) }
@@ -58,12 +84,10 @@ impl Pages {
         ensures kept { IfOk result (λ answer. IfNone answer (self.new ≡ self.old)) }
         ensures err { OnErr result (self.new ≡ self.old) }
     {
-        if self.free() < n {
+        let Some(pages) = self.lowest(alloc, n)? else {
             return Ok(None);
-        }
-        let pages = lowest_free(alloc, self.taken.as_slice(), n as usize)?;
-        mark(self.taken.as_mut_slice(), pages.as_slice(), true);
-        zero(self.bytes.as_mut_slice(), pages.as_slice());
+        };
+        self.take_these(pages.as_slice());
         Ok(Some(pages))
     }
 

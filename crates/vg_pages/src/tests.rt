@@ -119,3 +119,16 @@ fn the_most_pages_are_made(rt: HostRuntime) -> Result<(), Fail> {
     assert!(rt; !memory.holds(START, 268_435_457));
     Ok(())
 }
+
+#[test]
+fn the_lowest_pages_stay_free_until_they_are_taken(rt: HostRuntime) -> Result<(), Fail> {
+    let alloc = rt.alloc();
+    let mut memory = Pages::new(alloc, 3)?;
+    assert!(rt; memory.lowest(alloc, 4)?.is_none());
+    let pages = memory.lowest(alloc, 2)?.ok_or("too few are free")?;
+    assert_eq!(rt; pages.as_slice(), [0, 1].as_slice());
+    assert_eq!(rt; memory.free(), 3);
+    memory.take_these(pages.as_slice());
+    assert_eq!(rt; memory.free(), 1);
+    Ok(())
+}

@@ -1,4 +1,5 @@
-use Rattle.std.proofs.Common.{◌≡◌, ◌+◌, ◌∙◌, sym, ap, refl, subst, arith, ℕ, Bool, cond, List, [], ◌∷◌, ◌++◌, length-append, count_by, Result, Ok, Err}
+use Rattle.std.proofs.Common.{◌≡◌, ◌+◌, ◌*◌, ◌==◌, ◌∙◌, sym, ap, refl, subst, arith, ℕ, Bool, true, false, cond, length, Option, Some, None, List, [], ◌∷◌, ◌++◌, length-append, count_by, Result, Ok, Err}
+use Rattle.std.specs.Prelude.{is_none, is_some, nat_le}
 use Rattle.std.specs.List.{fold}
 use Rattle.vg_wire.specs.declared.header.Header.{Header}
 use Rattle.vg_wire.specs.declared.request.Command.{Command}
@@ -10,50 +11,115 @@ use Rattle.vg_wire.specs.Request.{request_of}
 use Rattle.vg_machine.specs.declared.setup.Setup.{Setup}
 use Rattle.vg_machine.specs.declared.shape.Shape.{Shape}
 use Rattle.vg_machine.specs.declared.shape.Shape.TheVariants.{Plain}
-use Rattle.vg_machine.specs.declared.act.Act.TheVariants.{Enter, Leave}
+use Rattle.vg_formats.specs.declared.rect.Rect.{Rect}
+use Rattle.vg_wire.specs.declared.response.Response.{Response}
+use Rattle.vg_machine.specs.declared.act.Act.{Act}
+use Rattle.vg_machine.specs.declared.act.Act.TheVariants.{Enter, Reserve, Store, Load, Release, Free, Take, Drop, Denied, Leave}
+use Rattle.vg_machine.specs.declared.act.ActReply.{ActReply}
+use Rattle.vg_machine.specs.declared.act.ShareRefusal.{ShareRefusal}
+use Rattle.vg_machine.specs.declared.resource.Resource.{Resource}
+use Rattle.vg_machine.specs.ActStep.{effect_of, replied_by, shown_at}
+use Rattle.vg_machine.specs.Backing.{transfer_refusals}
+use Rattle.vg_machine.specs.Refusals.{refusal_of}
+use Rattle.vg_machine.specs.Resource.{resource_at}
+use Rattle.vg_machine.specs.Scanout.{binding_at}
+use Rattle.vg_machine.specs.Share.{drop_refusal, free_refusal, place_refusal, release_refusal, reserve_refusal, take_refusal}
 use Rattle.vg_machine.specs.declared.history.Entry.{Entry}
 use Rattle.vg_machine.specs.declared.history.Entry.TheVariants as entries
 use Rattle.vg_machine.specs.declared.history.Request.{Request}
-use Rattle.vg_machine.specs.declared.history.Reply.TheVariants.{Response}
-use Rattle.vg_machine.specs.State.{State, start}
-use Rattle.vg_machine.specs.Step.{answer_of, step, two_d_step}
+use Rattle.vg_machine.specs.declared.history.Reply.TheVariants as replies
+use Rattle.vg_machine.specs.State.{State, counted, start}
+use Rattle.vg_machine.specs.Step.{answer_of, answered_by, flush_step, show_step, step, transfer_step, two_d_step, unreferenced, with_transfer}
 use Rattle.vg_machine.specs.Replay.{AgreesFrom, Agrees, HasReply, after, replay, replay_from, shaped_step}
 use Rattle.vg_machine.specs.Order.{is_of_lane}
 use Rattle.vg_run.specs.Session.{IsReplay}
 
-two_d-state : (state : State) (command : Command2d) → (two_d_step state command).0 ≡ state
-two_d-state state DisplayInfo = refl
-two_d-state state (Create2d resource format width height) = refl
-two_d-state state (Unref resource) = refl
-two_d-state state (SetScanout rect scanout resource) = refl
-two_d-state state (Flush rect resource) = refl
-two_d-state state (Transfer rect offset resource) = refl
-two_d-state state (Attach resource entries) = refl
-two_d-state state (Detach resource) = refl
+-- the same setup, and as many entries
+pub record IsLike (old new : State) : Type 0 where
+  pub setup : new.setup ≡ old.setup
+  pub entries : new.entries ≡ old.entries
 
-answer_of-state : (state : State) (read : Result (Header × Command) Malformed) → (answer_of state read).0 ≡ state
-answer_of-state state (Ok (header, TwoD command)) = two_d-state state command
-answer_of-state state (Err malformed) = refl
+like-itself : (state : State) → IsLike state state
+like-itself state = record { setup = refl; entries = refl }
+
+like-answered : (refusal : Option ℕ) (state next : State) → IsLike state next → IsLike state (answered_by refusal state next).0
+like-answered (Some code) state next like = like-itself state
+like-answered None state next like = like
+
+like-if : (b : Bool) (state : State) (one other : State × Response) → IsLike state one.0 → IsLike state other.0 → IsLike state (cond b one other).0
+like-if true state one other first second = first
+like-if false state one other first second = second
+
+like-show : (state : State) (rect : Rect) (scanout id : ℕ) (found : Option Resource) → IsLike state (show_step state rect scanout id found).0
+like-show state rect scanout id None = like-itself state
+like-show state rect scanout id (Some resource) =
+    like-if _ state _ _ (like-itself state) (record { setup = refl; entries = refl })
+
+like-flush : (state : State) (rect : Rect) (id : ℕ) (found : Option Resource) → IsLike state (flush_step state rect id found).0
+like-flush state rect id None = like-itself state
+like-flush state rect id (Some resource) =
+    like-if _ state _ _ (like-itself state) (record { setup = refl; entries = refl })
+
+like-transfer : (state : State) (rect : Rect) (offset id : ℕ) (found : Option Resource) → IsLike state (transfer_step state rect offset id found).0
+like-transfer state rect offset id None = like-itself state
+like-transfer state rect offset id (Some resource) =
+    like-answered (refusal_of (transfer_refusals id rect offset resource.width resource.height state.backings)) state (with_transfer state rect offset id resource)
+    (record { setup = refl; entries = refl })
+
+two_d-like : (state : State) (command : Command2d) → IsLike state (two_d_step state command).0
+two_d-like state DisplayInfo = like-itself state
+two_d-like state (Create2d resource format width height) = record { setup = refl; entries = refl }
+two_d-like state (Unref resource) =
+    like-answered (refusal_of ((is_none (resource_at resource state.resources), 0x1203) ∷ [])) state (unreferenced state resource)
+    (record { setup = refl; entries = refl })
+two_d-like state (SetScanout rect scanout resource) =
+    like-if (nat_le (length state.setup.displays) scanout) state _ _ (like-itself state)
+    (like-if (resource == 0) state _ _ (record { setup = refl; entries = refl }) (like-show state rect scanout resource (resource_at resource state.resources)))
+two_d-like state (Flush rect resource) = like-flush state rect resource (resource_at resource state.resources)
+two_d-like state (Transfer rect offset resource) = like-transfer state rect offset resource (resource_at resource state.resources)
+two_d-like state (Attach resource entries) =
+    like-if (is_none (resource_at resource state.resources)) state _ _ (like-itself state) (record { setup = refl; entries = refl })
+two_d-like state (Detach resource) =
+    like-if (is_none (resource_at resource state.resources)) state _ _ (like-itself state) (record { setup = refl; entries = refl })
+
+answer_of-like : (state : State) (read : Result (Header × Command) Malformed) → IsLike state (answer_of state read).0
+answer_of-like state (Ok (header, TwoD command)) = two_d-like state command
+answer_of-like state (Err malformed) = like-itself state
 
 shaped-setup : (shape : Shape) (state : State) (request : Request) → (shaped_step shape state request).0.setup ≡ state.setup
-shaped-setup Plain state request = ap (λ (s : State). s.setup) (answer_of-state state (request_of request.queue request.bytes))
+shaped-setup Plain state request = (answer_of-like state (request_of request.queue request.bytes)).setup
 
 shaped-entries : (shape : Shape) (state : State) (request : Request) → (shaped_step shape state request).0.entries ≡ state.entries + 1
-shaped-entries Plain state request = ap (λ (s : State). s.entries + 1) (answer_of-state state (request_of request.queue request.bytes))
+shaped-entries Plain state request = ap (λ n. n + 1) (answer_of-like state (request_of request.queue request.bytes)).entries
+
+-- an act that is refused or not
+like-replied : (refusal : Option ShareRefusal) (state next : State) (reply : ActReply) → IsLike state next → IsLike state (replied_by refusal state next reply).0
+like-replied (Some refusal) state next reply like = like-itself state
+like-replied None state next reply like = like
+
+effect-like : (state : State) (client : ℕ) (act : Act) → IsLike state (effect_of state client act).0
+effect-like state client Enter = like-itself state
+effect-like state client (Reserve width height format bytes) = like-replied (reserve_refusal bytes state.memory) state _ _ (record { setup = refl; entries = refl })
+effect-like state client (Store key offset bytes times) = like-replied (place_refusal client key offset (length bytes * times) state.share) state _ _ (record { setup = refl; entries = refl })
+effect-like state client (Load key offset n) = like-replied (place_refusal client key offset n state.share) state _ _ (like-itself state)
+effect-like state client (Release key) = like-replied (release_refusal client key (shown_at client key state) state.share) state _ _ (record { setup = refl; entries = refl })
+effect-like state client (Free key) = like-replied (free_refusal client key (is_some (resource_at key state.resources)) state.share) state _ _ (record { setup = refl; entries = refl })
+effect-like state client (Take scanout) = like-replied (take_refusal scanout state.share) state _ _ (record { setup = refl; entries = refl })
+effect-like state client (Drop scanout) = like-replied (drop_refusal client scanout (is_some (binding_at scanout state.scanouts)) state.share) state _ _ (record { setup = refl; entries = refl })
+effect-like state client (Denied what) = like-itself state
+effect-like state client Leave = record { setup = refl; entries = refl }
 
 -- a request runs as its bytes say
-pub shaped-plain : (shape : Shape) (state : State) (request : Request) → shaped_step shape state request ≡ ((step state request.queue request.bytes request.room).0, Response (step state request.queue request.bytes request.room).1)
+pub shaped-plain : (shape : Shape) (state : State) (request : Request) → shaped_step shape state request ≡ ((step state request.queue request.bytes request.room).0, replies.Response (step state request.queue request.bytes request.room).1)
 shaped-plain Plain state request = refl
 
 -- no entry changes the setup, and each is counted
 pub after-setup : (state : State) (entry : Entry) → (after state entry).setup ≡ state.setup
-after-setup state (entries.Act client call Enter reply) = refl
-after-setup state (entries.Act client call Leave reply) = refl
+after-setup state (entries.Act client call act reply) = (effect-like (counted state) client act).setup
 after-setup state (entries.Command client call request reply) = shaped-setup request.shape state request
 
 pub after-entries : (state : State) (entry : Entry) → (after state entry).entries ≡ state.entries + 1
-after-entries state (entries.Act client call Enter reply) = refl
-after-entries state (entries.Act client call Leave reply) = refl
+after-entries state (entries.Act client call act reply) = (effect-like (counted state) client act).entries
 after-entries state (entries.Command client call request reply) = shaped-entries request.shape state request
 
 replay_from-more : (state : State) (H : List Entry) (entry : Entry) → replay_from state (H ++ entry ∷ []) ≡ after (replay_from state H) entry

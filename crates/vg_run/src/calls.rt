@@ -3,6 +3,7 @@
 ghost use Rattle.std.specs.Prelude.{◌≡◌, ◌≢◌, ◌<◌, ◌≤◌, ◌-◌, ◌+◌, ◌^◌, ◌++◌, ◌∷◌, [], List, ℕ, length, count_by, IfOk, OnOk};
 ghost use Rattle.vg_wire.specs.declared.request.Queue.TheVariants as queues;
 ghost use Rattle.vg_machine.specs.Lane.{lane_of};
+ghost use Rattle.vg_machine.specs.Setup.{IsSetup};
 ghost use Rattle.vg_machine.specs.declared.act.Act.TheVariants as acts;
 ghost use Rattle.vg_machine.specs.declared.act.ActReply.TheVariants as act_replies;
 ghost use Rattle.vg_machine.specs.declared.history.Entry.{Entry as Entries};
@@ -16,7 +17,7 @@ use crate::script::Step;
 use crate::session::Session;
 use std::alloc::{AllocError, Global};
 use vg_list::Seq;
-use vg_machine::{Act, Request, Shape};
+use vg_machine::{Act, Holds, Request, Setup, Shape};
 use vg_wire::{Command, Command2d, Header, Queue, write_request};
 
 /// A client, which draws its own call numbers from 1.
@@ -25,19 +26,31 @@ pub(crate) struct Client {
     pub(crate) number: u32,
     /// How many call numbers it has drawn.
     pub(crate) used: u64,
+    pub(crate) holds: Holds,
 }
 
 /// The client begins, the first of all.
-pub(crate) fn enter(session: &mut Session, number: u32) -> Result<Client, AllocError>
-    requires { session.old.history ≡ [] }
+pub(crate) fn enter(
+    alloc: Global,
+    session: &mut Session,
+    setup: &Setup,
+    number: u32,
+) -> Result<Client, AllocError>
+    requires setup { IsSetup setup.now }
+    requires empty { session.old.history ≡ [] }
     ensures setup { session.new.setup ≡ session.old.setup }
     ensures entry { OnOk result (session.new.history ≡ entries.Act number 1 acts.Enter act_replies.Ok ∷ []) }
     ensures client { IfOk result (λ client. (client.number ≡ number) × (client.used ≡ 1)) }
     ensures run { OnOk result (IsRun number 1 session.new.history) }
     ensures present { OnOk result (IsPresent session.new.history) }
 {
-    session.act(number, 1, Act::Enter)?;
-    Ok(Client { number, used: 1 })
+    let mut holds = Holds::new(alloc, setup, number);
+    session.act(alloc, number, 1, &mut holds, Act::Enter)?;
+    Ok(Client {
+        number,
+        used: 1,
+        holds,
+    })
 }
 
 /// The client makes the call of one line.
@@ -109,7 +122,7 @@ fn info_request(alloc: Global, ordinal: u64) -> Result<Request, AllocError>
 }
 
 /// The client leaves.
-pub(crate) fn end(session: &mut Session, client: Client) -> Result<(), AllocError>
+pub(crate) fn end(alloc: Global, session: &mut Session, client: Client) -> Result<(), AllocError>
     requires run { IsRun client.number client.used session.old.history }
     requires present { IsPresent session.old.history }
     requires begun { 1 ≤ client.used }
@@ -119,6 +132,13 @@ pub(crate) fn end(session: &mut Session, client: Client) -> Result<(), AllocErro
         ≡ session.old.history ++ entries.Act client.number (client.used + 1) acts.Leave act_replies.Ok ∷ []) }
     ensures run { OnOk result (IsRun client.number (client.used + 1) session.new.history) }
 {
-    session.act(client.number, client.used + 1, Act::Leave)?;
+    let mut client = client;
+    session.act(
+        alloc,
+        client.number,
+        client.used + 1,
+        &mut client.holds,
+        Act::Leave,
+    )?;
     Ok(())
 }

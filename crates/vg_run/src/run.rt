@@ -3,6 +3,7 @@
 ghost use Rattle.std.specs.Prelude.{◌≡◌, ◌≤◌, [], length, count_by, IfOk, OnOk};
 ghost use Rattle.std.specs.List.{AllByRecursion};
 ghost use Rattle.vg_machine.specs.Order.{AreInOrder, client_of};
+ghost use Rattle.vg_machine.specs.Setup.{IsSetup};
 ghost use Rattle.vg_run.specs.Calls.{Follows};
 ghost use Rattle.vg_run.specs.Grammar as grammar;
 ghost use Rattle.vg_run.specs.Legal as legal;
@@ -25,7 +26,7 @@ pub(crate) fn play(alloc: Global, script: &Script) -> Result<Journal, AllocError
 {
     let setup = setup_of(alloc, script)?;
     let mut session = Session::new(alloc, &setup)?;
-    play_clients(alloc, &mut session, script.clients.as_slice())?;
+    play_clients(alloc, &mut session, &setup, script.clients.as_slice())?;
     let (entries, frames) = session.close();
     let control = count_control(entries.as_slice());
     let cursor = count_cursor(entries.as_slice());
@@ -56,8 +57,10 @@ fn setup_of(alloc: Global, script: &Script) -> Result<Setup, AllocError>
 fn play_clients(
     alloc: Global,
     session: &mut Session,
+    setup: &Setup,
     clients: &[Seq<Line>],
 ) -> Result<(), AllocError>
+    requires setup { IsSetup setup.now }
     requires none { session.old.history ≡ [] }
     requires one { length clients.now ≤ 1 }
     requires short { ShortLines clients.now }
@@ -67,13 +70,19 @@ fn play_clients(
     ensures owners { OnOk result (AllByRecursion (λ e. (1 ≤ client_of e) × (client_of e ≤ length clients.now)) session.new.history) }
 {
     match clients {
-        [lines] => play_client(alloc, session, lines.as_slice()),
+        [lines] => play_client(alloc, session, setup, lines.as_slice()),
         _ => Ok(()),
     }
 }
 
 /// Runs client 1.
-fn play_client(alloc: Global, session: &mut Session, lines: &[Line]) -> Result<(), AllocError>
+fn play_client(
+    alloc: Global,
+    session: &mut Session,
+    setup: &Setup,
+    lines: &[Line],
+) -> Result<(), AllocError>
+    requires setup { IsSetup setup.now }
     requires none { session.old.history ≡ [] }
     requires short { length lines.now ≤ 100000 }
     ensures setup { session.new.setup ≡ session.old.setup }
@@ -81,11 +90,11 @@ fn play_client(alloc: Global, session: &mut Session, lines: &[Line]) -> Result<(
     ensures order { OnOk result (AreInOrder [] session.new.history) }
     ensures owners { OnOk result (AllByRecursion (λ e. client_of e ≡ 1) session.new.history) }
 {
-    let mut client = enter(session, 1)?;
+    let mut client = enter(alloc, session, setup, 1)?;
     for line in lines {
         call(alloc, session, &mut client, &line.step)?;
     }
-    end(session, client)?;
+    end(alloc, session, client)?;
     Ok(())
 }
 

@@ -4,14 +4,14 @@ ghost use Rattle.std.specs.Prelude.{◌≡◌, ◌==◌, ◌<◌, if◌then◌el
 ghost use Rattle.vg_machine.specs.Setup.{IsSetup};
 ghost use Rattle.vg_machine.specs.Replay.{Agrees, replay};
 ghost use Rattle.vg_machine.specs.Order.{is_of_lane};
-ghost use Rattle.vg_machine.specs.declared.act.ActReply.TheVariants as act_replies;
+ghost use Rattle.vg_machine.specs.ActStep.{act_step};
 ghost use Rattle.vg_machine.specs.declared.history.Entry.TheVariants as entries;
 ghost use Rattle.vg_machine.specs.declared.history.Reply.{Reply as Replies};
 
 use std::alloc::{AllocError, Global};
 use std::marker::Model;
 use vg_list::Seq;
-use vg_machine::{Act, Display, Entry, Frame, Reply, Request, Setup};
+use vg_machine::{Act, Display, Entry, Frame, Holds, Reply, Request, Setup};
 
 /// A display, with the history of the acts and commands that made it what it is.
 #[derive(Debug, Drop)]
@@ -54,13 +54,21 @@ impl Session {
     }
 
     /// Adds an act of a client, with its reply. Room for the entry is made before the display changes.
-    pub(crate) fn act(&mut self, client: u32, call: u64, act: Act) -> Result<(), AllocError>
+    pub(crate) fn act(
+        &mut self,
+        alloc: Global,
+        client: u32,
+        call: u64,
+        holds: &mut Holds,
+        act: Act,
+    ) -> Result<(), AllocError>
         requires { length self.old.history < 2 ^ 31 - 1 }
         ensures setup { self.new.setup ≡ self.old.setup }
-        ensures entry { OnOk result (self.new.history ≡ self.old.history ++ entries.Act client call act act_replies.Ok ∷ []) }
+        ensures entry { OnOk result (self.new.history
+            ≡ self.old.history ++ entries.Act client call act (act_step (replay self.old.setup self.old.history) client act).1 ∷ []) }
     {
         self.history.reserve(1)?;
-        let reply = self.display.act(client, &act)?;
+        let reply = self.display.act(alloc, client, holds, &act)?;
         let entry = Entry::Act {
             client,
             call,

@@ -32,7 +32,8 @@ pub(crate) fn read_entries(
     count: usize,
 ) -> Result<Entries, AllocError>
     requires { at + 16 * count ≤ length bytes.now }
-    ensures { IfOk result (λ entries. entries ≡ entries_at at count bytes.now) }
+    ensures entries { IfOk result (λ entries. entries ≡ entries_at at count bytes.now) }
+    ensures count { IfOk result (λ entries. length entries ≡ count) }
 {
     let mut entries = Vec::with_capacity(alloc, count)?;
     for place in 0..count {

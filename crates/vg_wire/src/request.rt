@@ -63,6 +63,8 @@ pub fn read_request(
     ensures exact { IfOk result (λ read. read ≡ request_of queue bytes.now) }
     // Memory is asked for only by bytes that are a request.
     ensures memory { OnErr result (IsOk (request_of queue bytes.now)) }
+    // As many entries as nr_entries can count.
+    ensures entries { IfOk result (λ read. IfOk read (λ request. FitsEntries request.1)) }
 {
     let Some(header) = read_header(bytes) else {
         return Ok(Err(Malformed::ShortHeader));

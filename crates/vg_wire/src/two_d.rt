@@ -1,6 +1,6 @@
 //! The 2D commands (VIRTIO 1.2, 5.7.6.8).
 
-ghost use Rattle.std.specs.Prelude.{◌≡◌, ◌+◌, ◌*◌, ◌^◌, ◌<◌, ◌≤◌, ◌++◌, length, IfOk, OnOk, OnErr, IsSome};
+ghost use Rattle.std.specs.Prelude.{◌≡◌, ◌+◌, ◌*◌, ◌^◌, ◌<◌, ◌≤◌, ◌++◌, length, IfOk, OnOk, OnErr, IsSome, IfSome};
 ghost use Rattle.vg_wire.specs.Numbers.{le32};
 ghost use Rattle.vg_wire.specs.declared.two_d.Command2d.TheVariants.{Create2d, SetScanout, Flush, Transfer, Attach};
 ghost use Rattle.vg_wire.specs.TwoD.{two_d_of, body_of_2d, whole, FitsCount, IsCommand2d};
@@ -62,7 +62,8 @@ pub enum Command2d {
 /// RESOURCE_CREATE_2D, if its 16 bytes are there.
 #[tactic(auto, unfolding(crate::specs::TwoD::create_2d))]
 fn read_create_2d(body: &[u8]) -> Option<Command2d>
-    ensures { result ≡ whole 16 body.now (layout.create_2d body.now) }
+    ensures exact { result ≡ whole 16 body.now (layout.create_2d body.now) }
+    ensures count { IfSome result FitsCount }
 {
     if body.len() < 16 {
         return None;
@@ -78,7 +79,8 @@ fn read_create_2d(body: &[u8]) -> Option<Command2d>
 /// RESOURCE_UNREF, if its eight bytes are there.
 #[tactic(auto, unfolding(crate::specs::TwoD::unref))]
 fn read_unref(body: &[u8]) -> Option<Command2d>
-    ensures { result ≡ whole 8 body.now (layout.unref body.now) }
+    ensures exact { result ≡ whole 8 body.now (layout.unref body.now) }
+    ensures count { IfSome result FitsCount }
 {
     if body.len() < 8 {
         return None;
@@ -90,7 +92,8 @@ fn read_unref(body: &[u8]) -> Option<Command2d>
 /// SET_SCANOUT, if its 24 bytes are there.
 #[tactic(auto, unfolding(crate::specs::TwoD::set_scanout))]
 fn read_set_scanout(body: &[u8]) -> Option<Command2d>
-    ensures { result ≡ whole 24 body.now (layout.set_scanout body.now) }
+    ensures exact { result ≡ whole 24 body.now (layout.set_scanout body.now) }
+    ensures count { IfSome result FitsCount }
 {
     if body.len() < 24 {
         return None;
@@ -105,7 +108,8 @@ fn read_set_scanout(body: &[u8]) -> Option<Command2d>
 /// RESOURCE_FLUSH, if its 24 bytes are there.
 #[tactic(auto, unfolding(crate::specs::TwoD::flush))]
 fn read_flush(body: &[u8]) -> Option<Command2d>
-    ensures { result ≡ whole 24 body.now (layout.flush body.now) }
+    ensures exact { result ≡ whole 24 body.now (layout.flush body.now) }
+    ensures count { IfSome result FitsCount }
 {
     if body.len() < 24 {
         return None;
@@ -119,7 +123,8 @@ fn read_flush(body: &[u8]) -> Option<Command2d>
 /// TRANSFER_TO_HOST_2D, if its 32 bytes are there.
 #[tactic(auto, unfolding(crate::specs::TwoD::transfer))]
 fn read_transfer(body: &[u8]) -> Option<Command2d>
-    ensures { result ≡ whole 32 body.now (layout.transfer body.now) }
+    ensures exact { result ≡ whole 32 body.now (layout.transfer body.now) }
+    ensures count { IfSome result FitsCount }
 {
     if body.len() < 32 {
         return None;
@@ -137,6 +142,7 @@ fn read_attach(alloc: Global, body: &[u8]) -> Result<Option<Command2d>, AllocErr
     ensures exact { IfOk result (λ command.
         command ≡ whole (layout.attach_size body.now) body.now (layout.attach body.now)) }
     ensures memory { OnErr result (layout.attach_size body.now ≤ length body.now) }
+    ensures count { IfOk result (λ command. IfSome command FitsCount) }
 {
     if body.len() < 8 {
         return Ok(None);
@@ -154,7 +160,8 @@ fn read_attach(alloc: Global, body: &[u8]) -> Result<Option<Command2d>, AllocErr
 /// RESOURCE_DETACH_BACKING, if its eight bytes are there.
 #[tactic(auto, unfolding(crate::specs::TwoD::detach))]
 fn read_detach(body: &[u8]) -> Option<Command2d>
-    ensures { result ≡ whole 8 body.now (layout.detach body.now) }
+    ensures exact { result ≡ whole 8 body.now (layout.detach body.now) }
+    ensures count { IfSome result FitsCount }
 {
     if body.len() < 8 {
         return None;
@@ -170,6 +177,7 @@ pub fn read_2d(alloc: Global, header: &Header, body: &[u8]) -> Result<Option<Com
     ensures exact { IfOk result (λ command. command ≡ two_d_of header.now.kind body.now) }
     // Memory is asked for only once all of the command is there.
     ensures memory { OnErr result (IsSome (two_d_of header.now.kind body.now)) }
+    ensures count { IfOk result (λ command. IfSome command FitsCount) }
 {
     match header.kind {
         0x0100 => Ok(Some(Command2d::DisplayInfo)),

@@ -1,12 +1,12 @@
 //! The lines of a journal, each into a buffer of bytes.
 
-ghost use Rattle.std.specs.Prelude.{◌≡◌, ◌++◌, decimal, OnOk};
-ghost use Rattle.vg_run.specs.Text.{numbered, hex_text, act_text, act_reply_text, shape_text, reply_text, request_text, entry_line, display_line, frame_line, title_text, head_text, counts_text};
+ghost use Rattle.std.specs.Prelude.{◌≡◌, ◌++◌, codes, decimal, OnOk};
+ghost use Rattle.vg_run.specs.Text.{numbered, hex_text, act_text, act_reply_text, comma_text, load_text, pages_text, refusal_text, reserve_text, reserved_text, shape_text, store_text, what_text, reply_text, request_text, entry_line, display_line, frame_line, title_text, head_text, counts_text};
 ghost use Rattle.vg_machine.specs.declared.history.Entry.TheVariants as entries;
 
 use itoa::Buffer;
 use std::alloc::AllocError;
-use vg_machine::{Act, ActReply, Entry, Frame, Reply, Request, Setup, Shape};
+use vg_machine::{Act, ActReply, Entry, Frame, Reply, Request, Setup, Shape, ShareRefusal, What};
 
 /// Adds bytes as they are.
 pub(super) fn put(out: &mut Vec<u8>, bytes: &[u8]) -> Result<(), AllocError>
@@ -35,13 +35,162 @@ fn put_hex(out: &mut Vec<u8>, bytes: &[u8]) -> Result<(), AllocError>
     Ok(())
 }
 
+/// Adds a word and a number.
+fn put_numbered(out: &mut Vec<u8>, word: &[u8], number: u32) -> Result<(), AllocError>
+    ensures { OnOk result (out.new.items ≡ out.old.items ++ (word.now ++ decimal number)) }
+{
+    put(out, word)?;
+    put_number(out, u64::from(number))
+}
+
+fn put_what(out: &mut Vec<u8>, what: &What) -> Result<(), AllocError>
+    ensures { OnOk result (out.new.items ≡ out.old.items ++ what_text what.now) }
+{
+    match what {
+        What::Name => put(out, b"name"),
+        What::Resource { n } => put_numbered(out, b"resource ", *n),
+        What::Scanout { n } => put_numbered(out, b"scanout ", *n),
+    }
+}
+
+#[tactic(auto, unfolding(crate::specs::Text::reserve_text))]
+fn put_reserve(
+    out: &mut Vec<u8>,
+    width: u32,
+    height: u32,
+    format: u32,
+    bytes: u32,
+) -> Result<(), AllocError>
+    ensures { OnOk result (out.new.items ≡ out.old.items ++ reserve_text width height format bytes) }
+{
+    put_numbered(out, b"reserve ", width)?;
+    put_numbered(out, b" ", height)?;
+    put_numbered(out, b" ", format)?;
+    put_numbered(out, b" ", bytes)
+}
+
+#[tactic(auto, unfolding(crate::specs::Text::store_text))]
+fn put_store(
+    out: &mut Vec<u8>,
+    key: u32,
+    offset: u32,
+    bytes: &[u8],
+    times: u32,
+) -> Result<(), AllocError>
+    ensures { OnOk result (out.new.items ≡ out.old.items ++ store_text key offset bytes.now times) }
+{
+    put_numbered(out, b"store ", key)?;
+    put_numbered(out, b" ", offset)?;
+    put(out, b" ")?;
+    put_hex(out, bytes)?;
+    put_numbered(out, b" ", times)
+}
+
+#[tactic(auto, unfolding(crate::specs::Text::load_text))]
+fn put_load(out: &mut Vec<u8>, key: u32, offset: u32, length: u32) -> Result<(), AllocError>
+    ensures { OnOk result (out.new.items ≡ out.old.items ++ load_text key offset length) }
+{
+    put_numbered(out, b"load ", key)?;
+    put_numbered(out, b" ", offset)?;
+    put_numbered(out, b" ", length)
+}
+
 fn put_act(out: &mut Vec<u8>, act: &Act) -> Result<(), AllocError>
     ensures { OnOk result (out.new.items ≡ out.old.items ++ act_text act.now) }
 {
     match act {
         Act::Enter => put(out, b"enter"),
+        Act::Reserve {
+            width,
+            height,
+            format,
+            bytes,
+        } => put_reserve(out, *width, *height, *format, *bytes),
+        Act::Store {
+            key,
+            offset,
+            bytes,
+            times,
+        } => put_store(out, *key, *offset, bytes.as_slice(), *times),
+        Act::Load {
+            key,
+            offset,
+            length,
+        } => put_load(out, *key, *offset, *length),
+        Act::Release { key } => put_numbered(out, b"release ", *key),
+        Act::Free { key } => put_numbered(out, b"free ", *key),
+        Act::Take { scanout } => put_numbered(out, b"take ", *scanout),
+        Act::Drop { scanout } => put_numbered(out, b"drop ", *scanout),
+        Act::Denied { what } => put_denied(out, what),
         Act::Leave => put(out, b"leave"),
     }
+}
+
+fn put_denied(out: &mut Vec<u8>, what: &What) -> Result<(), AllocError>
+    ensures { OnOk result (out.new.items ≡ out.old.items ++ (codes "denied " ++ what_text what.now)) }
+{
+    put(out, b"denied ")?;
+    put_what(out, what)
+}
+
+fn put_refusal(out: &mut Vec<u8>, refusal: &ShareRefusal) -> Result<(), AllocError>
+    ensures { OnOk result (out.new.items ≡ out.old.items ++ refusal_text refusal.now) }
+{
+    match refusal {
+        ShareRefusal::GuestFull { free } => put_numbered(out, b"full ", *free),
+        ShareRefusal::UnknownKey => put(out, b"unknown"),
+        ShareRefusal::NotHeld => put(out, b"notheld"),
+        ShareRefusal::ScanoutHeld { by } => put_numbered(out, b"held ", *by),
+        ShareRefusal::OutOfRange { bytes } => put_numbered(out, b"range ", *bytes),
+        ShareRefusal::InUse { scanout } => put_numbered(out, b"inuse ", *scanout),
+        ShareRefusal::ResourceLive => put(out, b"live"),
+    }
+}
+
+#[tactic(auto, unfolding(crate::specs::Text::comma_text))]
+fn put_comma(out: &mut Vec<u8>, place: usize, page: u32) -> Result<(), AllocError>
+    ensures { OnOk result (out.new.items ≡ out.old.items ++ comma_text place page) }
+{
+    let _ = place;
+    put_numbered(out, b",", page)
+}
+
+/// Adds page numbers, each behind a comma.
+fn put_more_pages(out: &mut Vec<u8>, pages: &[u32]) -> Result<(), AllocError>
+    ensures { OnOk result (out.new.items ≡ out.old.items ++ numbered comma_text 0 pages.now) }
+{
+    for (place, page) in pages.iter().enumerate() {
+        put_comma(out, place, *page)?;
+    }
+    Ok(())
+}
+
+fn put_pages(out: &mut Vec<u8>, pages: &[u32]) -> Result<(), AllocError>
+    ensures { OnOk result (out.new.items ≡ out.old.items ++ pages_text pages.now) }
+{
+    match pages {
+        [] => put(out, b"-"),
+        [page, more @ ..] => {
+            put_number(out, u64::from(*page))?;
+            put_more_pages(out, more)
+        }
+    }
+}
+
+#[tactic(auto, unfolding(crate::specs::Text::reserved_text))]
+fn put_reserved(out: &mut Vec<u8>, key: u32, pages: &[u32]) -> Result<(), AllocError>
+    ensures { OnOk result (out.new.items ≡ out.old.items ++ reserved_text key pages.now) }
+{
+    put_numbered(out, b"key ", key)?;
+    put(out, b" pages ")?;
+    put_pages(out, pages)
+}
+
+fn put_bytes(out: &mut Vec<u8>, bytes: &[u8]) -> Result<(), AllocError>
+    ensures { OnOk result (out.new.items ≡ out.old.items ++ (codes "bytes " ++ hex_text bytes.now)) }
+{
+    put(out, b"bytes ")?;
+    put_hex(out, bytes)
 }
 
 fn put_act_reply(out: &mut Vec<u8>, reply: &ActReply) -> Result<(), AllocError>
@@ -49,6 +198,11 @@ fn put_act_reply(out: &mut Vec<u8>, reply: &ActReply) -> Result<(), AllocError>
 {
     match reply {
         ActReply::Ok => put(out, b"ok"),
+        ActReply::Reserved { key, pages } => put_reserved(out, *key, pages.as_slice()),
+        ActReply::Bytes { bytes } => put_bytes(out, bytes.as_slice()),
+        ActReply::Kept => put(out, b"kept"),
+        ActReply::Last => put(out, b"last"),
+        ActReply::Refused { refusal } => put_refusal(out, refusal),
     }
 }
 

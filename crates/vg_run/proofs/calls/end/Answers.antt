@@ -19,4 +19,4 @@ returns-clause-run c =
     let entry : Entry = entries.Act client (used + 1) Leave act_replies.Ok in
     let P : List Entry → Type 0 = λ xs. IsRun client (used + 1) xs in
     let given = give_up-run client used H c.requires.run ∙ ap (range_with_len 1) (omega arith) in
-    subst P (sym c.in_ok-act.ensures.entry) (run-more client used H entry c.requires.run c.requires.present refl refl tt (λ none. run-begun client used H c.requires.run c.requires.begun none) given)
+    subst P (sym c.in_ok-act.ensures.entry) (run-more client used H entry c.requires.run c.requires.present refl refl tt (λ none. run-begun client used H c.requires.run c.requires.begun none) (λ gives. given))

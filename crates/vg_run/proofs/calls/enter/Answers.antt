@@ -11,5 +11,5 @@ pub returns-clause-run : goal.returns-clause-run
 returns-clause-run c =
     let entry : Entry = entries.Act c.args.number 1 Enter act_replies.Ok in
     let P : List Entry → Type 0 = λ H. IsRun c.args.number 1 H in
-    let history = c.in_ok-act.ensures.entry ∙ ap (λ (H : List Entry). H ++ entry ∷ []) c.requires in
-    subst P (sym history) (run-more c.args.number 0 [] entry (run-none c.args.number) tt refl refl tt (λ none. refl) tt)
+    let history = c.in_ok-act.ensures.entry ∙ ap (λ (H : List Entry). H ++ entry ∷ []) c.requires.empty in
+    subst P (sym history) (run-more c.args.number 0 [] entry (run-none c.args.number) tt refl refl tt (λ none. refl) (λ gives. cc))

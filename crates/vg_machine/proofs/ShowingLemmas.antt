@@ -1,0 +1,117 @@
+-- Screens show resources that there are, after each command.
+use Rattle.std.proofs.Common.{◌≡◌, ◌≢◌, ℕ, ◌+◌, ◌*◌, ◌==◌, Bool, true, false, not, ◌||◌, cond, List, [], ◌∷◌, Option, Some, None, Result, Ok, Err, inl, inr, sym, ap, ◌∙◌, refl, subst, length, get_or, map, arith}
+use Rattle.std.specs.Prelude.{is_none, is_some, nat_lt}
+use Rattle.std.specs.List.{All}
+use Rattle.std.specs.Ordering.{nat_cmp}
+use Rattle.std.proofs.lemmas.Bool.{cases_eq}
+use Rattle.vg_formats.specs.declared.format.Format.{Format}
+use Rattle.vg_formats.specs.Formats.{format_of}
+use Rattle.vg_machine.specs.declared.resource.Resource.{Resource}
+use Rattle.vg_machine.specs.declared.scanout.Binding.{Binding}
+use Rattle.vg_machine.specs.declared.scanout.Screen.{Screen}
+use Rattle.vg_machine.specs.Backing.{is_within}
+use Rattle.vg_machine.specs.Refusals.{refusal_of, unless_refused}
+use Rattle.vg_machine.specs.Resource.{blank, create, create_refusals, pixel_bytes, resource_at, with_blank, with_pixels}
+use Rattle.vg_machine.specs.declared.resource.TheConstants.{MOST_PIXEL_BYTES}
+use Rattle.vg_machine.specs.State.{IsShowing, ShowsResource, ShowsSome}
+use Rattle.vg_machine.proofs.MapLemmas.{insert_other, set_itself, set_other}
+
+-- the same size and format
+pub record IsLike (one other : Resource) : Type 0 where
+  pub width : one.width ≡ other.width
+  pub height : one.height ≡ other.height
+  pub format : one.format ≡ other.format
+
+-- what was found before is found, with the same size and format
+abbrev pub Keeping : List (ℕ × Resource) → List (ℕ × Resource) → Type 0
+Keeping old now = (id : ℕ) (resource : Resource) → resource_at id old ≡ Some resource → (next : Resource) × (resource_at id now ≡ Some next) × IsLike next resource
+
+shows-like : (binding : Binding) (one other : Resource) → IsLike one other → ShowsResource binding other → ShowsResource binding one
+shows-like binding one other like shows = record {
+  within = ap (λ width. is_within binding.rect width one.height) like.width ∙ ap (λ height. is_within binding.rect other.width height) like.height ∙ shows.within;
+  some_width = shows.some_width;
+  some_height = shows.some_height;
+  format = shows.format ∙ sym like.format;
+  stride = shows.stride ∙ ap (λ width. 4 * width) (sym like.width);
+  offset = shows.offset;
+}
+
+pub shown-found : (binding : Binding) (found : Option Resource) → ShowsSome binding found → (resource : Resource) × (found ≡ Some resource) × ShowsResource binding resource
+shown-found binding (Some resource) shows = (resource, refl, shows)
+shown-found binding None shows = absurd shows
+
+pub found-shown : (binding : Binding) (found : Option Resource) (resource : Resource) → found ≡ Some resource → ShowsResource binding resource → ShowsSome binding found
+found-shown binding found resource is shows = subst (ShowsSome binding) (sym is) shows
+
+pub showing-kept : (old now : List (ℕ × Resource)) → Keeping old now → (screen : Option Screen) → IsShowing old screen → IsShowing now screen
+showing-kept old now keeping None showing = tt
+showing-kept old now keeping (Some screen) showing =
+    let (resource, is, shows) = shown-found screen.binding (resource_at screen.binding.resource old) showing in
+    let (next, found, like) = keeping screen.binding.resource resource is in
+    found-shown screen.binding (resource_at screen.binding.resource now) next found (shows-like screen.binding next resource like shows)
+
+pub all-showing : (old now : List (ℕ × Resource)) (screens : List (Option Screen)) → Keeping old now → All (IsShowing old) screens → All (IsShowing now) screens
+all-showing old now screens keeping showing = λ k d within. showing-kept old now keeping (get_or screens k d) (showing k d within)
+
+like-itself : (resource : Resource) → IsLike resource resource
+like-itself resource = record { width = refl; height = refl; format = refl }
+
+keeping-itself : (resources : List (ℕ × Resource)) → Keeping resources resources
+keeping-itself resources id resource is = (resource, is, like-itself resource)
+
+or-right : (a b : Bool) → (a || b) ≡ false → b ≡ false
+or-right true b is = cc
+or-right false b is = is
+
+-- nothing is refused for the first of several reasons
+first-not : {R : Type 0} (b : Bool) (refusal : R) (more : List (Bool × R)) → refusal_of ((b, refusal) ∷ more) ≡ None → b ≡ false
+first-not true refusal more none = cc
+first-not false refusal more none = refl
+
+taken-free : (found : Option Resource) (resource : Resource) → found ≡ Some resource → is_some found ≡ false → ⊥
+taken-free (Some other) resource is free = cc
+taken-free None resource is free = cc
+
+keeping-blank : (id width height : ℕ) (format : Option Format) (old : List (ℕ × Resource)) → is_some (resource_at id old) ≡ false → Keeping old (with_blank id width height format old)
+keeping-blank id width height None old free other resource is = (resource, is, like-itself resource)
+keeping-blank id width height (Some format) old free other resource is =
+    elim (cases_eq other id) [
+      | inl same ↦ absurd (taken-free (resource_at id old) resource (sym (ap (λ n. resource_at n old) same) ∙ is) free)
+      | inr apart ↦ (resource, insert_other other id (blank width height format) apart old ∙ is, like-itself resource)
+    ]
+
+abbrev later-create : ℕ → ℕ → ℕ → List (ℕ × Resource) → List (Bool × ℕ)
+later-create width height format old =
+    (is_none (format_of format) || (width == 0 || height == 0), 0x1205)
+    ∷ (nat_lt MOST_PIXEL_BYTES (pixel_bytes old + 4 * width * height), 0x1201)
+    ∷ []
+
+create-by : (id width height format : ℕ) (old now : List (ℕ × Resource)) (done : Result (Unit {0}) ℕ) (refusal : Option ℕ)
+    → refusal_of (create_refusals id width height format old) ≡ refusal
+    → ◌≡◌ {A = List (ℕ × Resource) × Result (Unit {0}) ℕ} (now, done) (unless_refused refusal old (with_blank id width height (format_of format) old))
+    → Keeping old now
+create-by id width height format old now done (Some code) is step =
+    subst (Keeping old) (sym (ap (λ pair. pair.0) step)) (keeping-itself old)
+create-by id width height format old now done None is step =
+    let free = or-right (id == 0) (is_some (resource_at id old)) (first-not (id == 0 || is_some (resource_at id old)) 0x1203 (later-create width height format old) is) in
+    subst (Keeping old) (sym (ap (λ pair. pair.0) step)) (keeping-blank id width height (format_of format) old free)
+
+pub keeping-create : (id width height format : ℕ) (old now : List (ℕ × Resource)) (done : Result (Unit {0}) ℕ)
+    → ◌≡◌ {A = List (ℕ × Resource) × Result (Unit {0}) ℕ} (now, done) (create id width height format old) → Keeping old now
+unfolding create
+keeping-create id width height format old now done step =
+    create-by id width height format old now done (refusal_of (create_refusals id width height format old)) refl step
+
+like-pixels : (resource found : Resource) (pixels : List ℕ) → resource ≡ found → IsLike (record resource { pixels = pixels }) found
+like-pixels resource found pixels same = record { width = ap (λ r. r.width) same; height = ap (λ r. r.height) same; format = ap (λ r. r.format) same }
+
+some-same : {X : Type 0} {x y : X} → ◌≡◌ {A = Option X} (Some x) (Some y) → x ≡ y
+some-same same = cc
+
+pub keeping-pixels : (id : ℕ) (resource : Resource) (pixels : List ℕ) (old : List (ℕ × Resource)) → resource_at id old ≡ Some resource → Keeping old (with_pixels id resource pixels old)
+keeping-pixels id resource pixels old there other found is =
+    let next : Resource = record resource { pixels = pixels } in
+    elim (cases_eq other id) [
+      | inl same ↦ (next, ap (λ n. resource_at n (with_pixels id resource pixels old)) same ∙ set_itself id resource next old there, like-pixels resource found pixels (some-same (sym there ∙ ap (λ n. resource_at n old) (sym same) ∙ is)))
+      | inr apart ↦ (found, set_other other id next apart old ∙ is, like-itself found)
+    ]

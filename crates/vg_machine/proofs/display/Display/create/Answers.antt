@@ -1,0 +1,27 @@
+use Rattle.std.proofs.Common.{}
+use Rattle.vg_machine.proofs.KeepLemmas.{keeps-create}
+use Rattle.vg_machine.proofs.ShowingLemmas.{all-showing, keeping-create}
+use Rattle.vg_machine.proofs.display.Display.create.Goals as goal
+
+pub invariant_of-self-2 : goal.invariant_of-self-2
+invariant_of-self-2 c =
+    let was = c.self.invariant in
+    let keeping = keeping-create c.args.resource c.args.width c.args.height c.args.format c.self.inside.resources c.create.new.self c.in_ok-done.done c.in_ok-done.ensures.done in
+    record {
+      setup = was.setup;
+      pages = was.pages;
+      backings = was.backings;
+      screens = was.screens;
+      showing = all-showing c.self.inside.resources c.create.new.self c.self.inside.scanouts.screens keeping was.showing;
+      leases = was.leases;
+      share = was.share;
+      reserved = was.reserved;
+    }
+
+pub returns-clause-keeps : goal.returns-clause-keeps
+returns-clause-keeps c =
+    let s = c.self.inside in
+    rw (c.response_of.ensures, ← c.self.view_is)
+    (keeps-create
+    (λ resources. record { setup = s.setup; entries = s.entries; memory = s.pages; resources = resources; backings = s.backings; scanouts = s.scanouts; share = s.share })
+    c.args.resource c.args.width c.args.height c.args.format s.resources c.create.new.self c.in_ok-done.done c.in_ok-done.ensures.done)

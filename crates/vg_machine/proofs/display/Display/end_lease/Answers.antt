@@ -1,0 +1,22 @@
+use Rattle.std.proofs.Common.{}
+use Rattle.vg_machine.proofs.ActLemmas.{fits-dropped}
+use Rattle.vg_machine.proofs.display.Display.end_lease.Goals as goal
+
+pub invariant_of-self : goal.invariant_of-self
+invariant_of-self c =
+    let was = c.self.invariant in
+    let s = c.self.inside in
+    let now =
+    fits-dropped s.pages _ s.entries c.args.scanout c.drop_scanout.result s.share c.drop_scanout.new.self c.drop_scanout.ensures.kept c.drop_scanout.ensures.after
+    (record { leases = was.leases; pages = was.share; reserved = was.reserved })
+    in
+    record {
+      setup = was.setup;
+      pages = was.pages;
+      backings = was.backings;
+      screens = was.screens;
+      showing = was.showing;
+      leases = now.leases;
+      share = now.pages;
+      reserved = now.reserved;
+    }

@@ -1,0 +1,34 @@
+use Rattle.std.proofs.Common.{sym}
+use Rattle.vg_machine.proofs.KeepLemmas.{keeps-flush}
+use Rattle.vg_machine.proofs.BoundLemmas.{fits-surface, showing-flush}
+use Rattle.vg_machine.proofs.display.Display.flush.Goals as goal
+
+pub flush-requires : goal.flush-requires
+flush-requires c =
+    let s = c.self.inside in
+    let surface = c.in-Some.surface.now in
+    rw c.as_slice.ensures (fits-surface s.resources c.args.resource surface s.scanouts.screens (sym c.in-Some.ensures.value) c.in-Some.ensures.whole c.self.invariant.showing)
+
+pub invariant_of-self-2 : goal.invariant_of-self-2
+invariant_of-self-2 c =
+    let was = c.self.invariant in
+    let s = c.self.inside in
+    let now = showing-flush s.resources _ c.args.resource c.args.rect.now _ s.scanouts c.flush.new.self c.in_ok-done.done _ c.in_ok-done.ensures.done (record { count_is = was.screens; showing = was.showing }) in
+    record {
+      setup = was.setup;
+      pages = was.pages;
+      backings = was.backings;
+      screens = now.count_is;
+      showing = now.showing;
+      leases = was.leases;
+      share = was.share;
+      reserved = was.reserved;
+    }
+
+pub returns-clause-keeps : goal.returns-clause-keeps
+returns-clause-keeps c =
+    let s = c.self.inside in
+    rw (c.response_of.ensures, ← c.self.view_is)
+    (keeps-flush
+    (λ scanouts. record { setup = s.setup; entries = s.entries; memory = s.pages; resources = s.resources; backings = s.backings; scanouts = scanouts; share = s.share })
+    _ c.args.resource c.args.rect.now _ s.scanouts c.flush.new.self c.in_ok-done.done c.in_ok-done.ensures.done)

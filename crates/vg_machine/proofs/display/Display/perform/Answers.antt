@@ -1,0 +1,19 @@
+use Rattle.std.proofs.Common.{}
+use Rattle.vg_machine.proofs.ActLemmas.{shares-left}
+use Rattle.vg_machine.proofs.display.Display.perform.Goals as goal
+
+pub invariant_of-self-in-Leave-1 : goal.invariant_of-self-in-Leave-1
+invariant_of-self-in-Leave-1 c =
+    let was = c.self.invariant in
+    let s = c.self.inside in
+    let left = c.in_ok-leave-in-Leave.ensures.ok in
+    record {
+      setup = was.setup;
+      pages = was.pages;
+      backings = was.backings;
+      screens = was.screens;
+      showing = was.showing;
+      leases = rw left was.leases;
+      share = rw left (shares-left s.pages c.args.client s.share was.share);
+      reserved = rw left was.reserved;
+    }

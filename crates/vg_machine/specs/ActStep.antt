@@ -1,0 +1,89 @@
+-- What the acts of clients do and answer. All of it is our own.
+use Rattle.std.specs.Prelude.{ℕ, ◌+◌, ◌*◌, ◌==◌, ◌&&◌, Bool, false, is_some, List, length, if◌then◌else◌, Option, Some, None}
+use Rattle.std.specs.List.{find, range_with_len}
+use Rattle.vg_machine.specs.declared.act.Act.{Act}
+use Rattle.vg_machine.specs.declared.act.Act.TheVariants.{Enter, Reserve, Store, Load, Release, Free, Take, Drop, Denied, Leave}
+use Rattle.vg_machine.specs.declared.act.ActReply.{ActReply}
+use Rattle.vg_machine.specs.declared.act.ActReply.TheVariants as act_replies
+use Rattle.vg_machine.specs.declared.act.Geometry.{Geometry}
+use Rattle.vg_machine.specs.declared.act.ShareRefusal.{ShareRefusal}
+use Rattle.vg_machine.specs.declared.scanout.Binding.{Binding}
+use Rattle.vg_pages.specs.Memory.{after_taking}
+use Rattle.vg_machine.specs.Cells.{loaded, repeated, stored}
+use Rattle.vg_machine.specs.Resource.{resource_at}
+use Rattle.vg_machine.specs.Scanout.{binding_at}
+use Rattle.vg_machine.specs.Share.{buffer_at, drop_refusal, free_refusal, freed, given_back, has_holder, is_leased, leased, new_pages, pages_at, place_refusal, release_refusal, released, reserve_refusal, take_refusal, unleased, with_buffer, with_left}
+use Rattle.vg_machine.specs.State.{State, counted}
+
+-- An act whose refusal is this: the display stays as it was, or becomes `next`.
+abbrev pub replied_by : Option ShareRefusal → State → State → ActReply → State × ActReply
+replied_by (Some refusal) state next reply = (state, act_replies.Refused refusal)
+replied_by None state next reply = (next, reply)
+
+abbrev pub shows_key : ℕ → Option Binding → Bool
+shows_key key (Some binding) = binding.resource == key
+shows_key key None = false
+
+-- The scanout is leased to the client, and shows the buffer.
+abbrev pub is_shown_on : ℕ → ℕ → State → ℕ → Bool
+is_shown_on client key state scanout = is_leased client scanout state.share && shows_key key (binding_at scanout state.scanouts)
+
+-- The least scanout that does.
+abbrev pub shown_at : ℕ → ℕ → State → Option ℕ
+shown_at client key state = find (is_shown_on client key state) (range_with_len 0 (length state.setup.displays))
+
+abbrev pub reserve_step : State → ℕ → Geometry → State × ActReply
+reserve_step state client geometry =
+    let pages = new_pages geometry.bytes state.memory in
+    replied_by (reserve_refusal geometry.bytes state.memory) state
+    (record state { memory = after_taking state.memory pages; share = with_buffer client geometry pages state.share })
+    (act_replies.Reserved (state.share.reserved + 1) pages)
+
+abbrev pub store_step : State → ℕ → ℕ → ℕ → List ℕ → ℕ → State × ActReply
+store_step state client key offset bytes times =
+    replied_by (place_refusal client key offset (length bytes * times) state.share) state
+    (record state { memory = record state.memory { bytes = stored (pages_at key state.share) offset (repeated bytes times) state.memory.bytes } })
+    act_replies.Ok
+
+abbrev pub load_step : State → ℕ → ℕ → ℕ → ℕ → State × ActReply
+load_step state client key offset n =
+    replied_by (place_refusal client key offset n state.share) state state
+    (act_replies.Bytes (loaded state.memory.bytes (pages_at key state.share) offset n))
+
+abbrev pub release_step : State → ℕ → ℕ → State × ActReply
+release_step state client key =
+    let next = released client key state.share in
+    replied_by (release_refusal client key (shown_at client key state) state.share) state (record state { share = next })
+    (if has_holder key next then act_replies.Kept else act_replies.Last)
+
+abbrev pub free_step : State → ℕ → ℕ → State × ActReply
+free_step state client key =
+    replied_by (free_refusal client key (is_some (resource_at key state.resources)) state.share) state
+    (record state { memory = given_back (pages_at key state.share) state.memory; share = freed key state.share })
+    act_replies.Ok
+
+abbrev pub take_step : State → ℕ → ℕ → State × ActReply
+take_step state client scanout =
+    replied_by (take_refusal scanout state.share) state (record state { share = leased client scanout state.share }) act_replies.Ok
+
+abbrev pub drop_step : State → ℕ → ℕ → State × ActReply
+drop_step state client scanout =
+    replied_by (drop_refusal client scanout (is_some (binding_at scanout state.scanouts)) state.share) state
+    (record state { share = unleased scanout state.share }) act_replies.Ok
+
+-- What an act does and answers, once it is counted.
+abbrev pub effect_of : State → ℕ → Act → State × ActReply
+effect_of state client Enter = (state, act_replies.Ok)
+effect_of state client (Reserve width height format bytes) = reserve_step state client (record { width = width; height = height; format = format; bytes = bytes })
+effect_of state client (Store key offset bytes times) = store_step state client key offset bytes times
+effect_of state client (Load key offset n) = load_step state client key offset n
+effect_of state client (Release key) = release_step state client key
+effect_of state client (Free key) = free_step state client key
+effect_of state client (Take scanout) = take_step state client scanout
+effect_of state client (Drop scanout) = drop_step state client scanout
+effect_of state client (Denied what) = (state, act_replies.Ok)
+effect_of state client Leave = (record state { share = with_left client state.share }, act_replies.Ok)
+
+-- One act of a client: the display after it, and the reply.
+abbrev pub act_step : State → ℕ → Act → State × ActReply
+act_step state client act = effect_of (counted state) client act

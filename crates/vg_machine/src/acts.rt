@@ -1,0 +1,249 @@
+//! What the acts of clients do, one function each.
+
+ghost use Rattle.std.specs.Prelude.{◌≡◌, ◌^◌, ◌-◌, ◌<◌, IfOk, OnErr};
+ghost use Rattle.vg_machine.specs.declared.act.Act.TheVariants as acts;
+ghost use Rattle.vg_machine.specs.declared.act.ActReply.TheVariants as act_replies;
+ghost use Rattle.vg_machine.specs.ActStep.{drop_step, effect_of, free_step, is_shown_on, load_step, release_step, reserve_step, shown_at, store_step, take_step};
+ghost use Rattle.vg_machine.specs.Holds.{has_key, update};
+ghost use Rattle.vg_machine.specs.Lists.{without_first};
+
+use crate::act::{Act, ActReply, Geometry, ShareRefusal};
+use crate::cells::{load, pages_of, repeated, store};
+use crate::display::Display;
+use crate::holds::Holds;
+use crate::lists::remove_number;
+use std::alloc::{AllocError, Global};
+use vg_list::Seq;
+
+impl Display {
+    /// Does an act, and gives its reply. What the client holds changes with it.
+    pub(crate) fn perform(
+        &mut self,
+        alloc: Global,
+        client: u32,
+        holds: &mut Holds,
+        act: &Act,
+    ) -> Result<ActReply, AllocError>
+        requires fresh { self.old.share.reserved < self.old.entries }
+        requires number { self.old.entries < 2 ^ 31 }
+        ensures step { IfOk result (λ reply. effect_of self.old client act.now ≡ (self.new, reply)) }
+        ensures holds { IfOk result (λ reply. holds.new ≡ update holds.old act.now reply) }
+        ensures err { OnErr result ((self.new ≡ self.old) × (holds.new ≡ holds.old)) }
+    {
+        match act {
+            Act::Enter | Act::Denied { .. } => Ok(ActReply::Ok),
+            Act::Reserve {
+                width,
+                height,
+                format,
+                bytes,
+            } => {
+                let geometry = Geometry {
+                    width: *width,
+                    height: *height,
+                    format: *format,
+                    bytes: *bytes,
+                };
+                self.reserve(alloc, client, holds, geometry)
+            }
+            Act::Store {
+                key,
+                offset,
+                bytes,
+                times,
+            } => self.store(alloc, client, *key, *offset, bytes.as_slice(), *times),
+            Act::Load {
+                key,
+                offset,
+                length,
+            } => self.load(alloc, client, *key, *offset, *length),
+            Act::Release { key } => self.release(client, holds, *key),
+            Act::Free { key } => Ok(self.free(client, holds, *key)),
+            Act::Take { scanout } => self.take(client, holds, *scanout),
+            Act::Drop { scanout } => Ok(self.end_lease(client, holds, *scanout)),
+            Act::Leave => {
+                self.share.leave(client)?;
+                Ok(ActReply::Ok)
+            }
+        }
+    }
+
+    fn reserve(
+        &mut self,
+        alloc: Global,
+        client: u32,
+        holds: &mut Holds,
+        geometry: Geometry,
+    ) -> Result<ActReply, AllocError>
+        requires fresh { self.old.share.reserved < self.old.entries }
+        requires number { self.old.entries < 2 ^ 31 }
+        ensures step { IfOk result (λ reply. reserve_step self.old client geometry ≡ (self.new, reply)) }
+        ensures holds { IfOk result (λ reply. holds.new ≡ update holds.old (acts.Reserve geometry.width geometry.height geometry.format geometry.bytes) reply) }
+        ensures err { OnErr result ((self.new ≡ self.old) × (holds.new ≡ holds.old)) }
+    {
+        let Some(pages) = self.pages.lowest(alloc, pages_of(geometry.bytes))? else {
+            return Ok(refused(ShareRefusal::GuestFull {
+                free: self.pages.free(),
+            }));
+        };
+        let key = self.share.next_key();
+        holds.buffers.push((key, Seq::from_vec(pages)))?;
+        match self
+            .share
+            .reserve(alloc, &mut self.pages, client, &geometry)
+        {
+            Ok(Ok((key, pages))) => Ok(ActReply::Reserved {
+                key,
+                pages: Seq::from_vec(pages),
+            }),
+            Ok(Err(refusal)) => {
+                holds.buffers.pop();
+                Ok(refused(refusal))
+            }
+            Err(refused) => {
+                holds.buffers.pop();
+                Err(refused)
+            }
+        }
+    }
+
+    fn store(
+        &mut self,
+        alloc: Global,
+        client: u32,
+        key: u32,
+        offset: u32,
+        bytes: &[u8],
+        times: u32,
+    ) -> Result<ActReply, AllocError>
+        ensures step { IfOk result (λ reply. store_step self.old client key offset bytes.now times ≡ (self.new, reply)) }
+        ensures err { OnErr result (self.new ≡ self.old) }
+    {
+        let length = bytes.len() as u128 * u128::from(times);
+        match self.share.place(client, key, offset, length) {
+            Ok(pages) => {
+                let piece = repeated(alloc, bytes, times)?;
+                store(&mut self.pages, pages, offset, piece.as_slice());
+                Ok(ActReply::Ok)
+            }
+            Err(refusal) => Ok(refused(refusal)),
+        }
+    }
+
+    fn load(
+        &mut self,
+        alloc: Global,
+        client: u32,
+        key: u32,
+        offset: u32,
+        length: u32,
+    ) -> Result<ActReply, AllocError>
+        ensures step { IfOk result (λ reply. load_step self.old client key offset length ≡ (self.new, reply)) }
+        ensures err { OnErr result (self.new ≡ self.old) }
+    {
+        match self.share.place(client, key, offset, u128::from(length)) {
+            Ok(pages) => Ok(ActReply::Bytes {
+                bytes: Seq::from_vec(load(alloc, &self.pages, pages, offset, length)?),
+            }),
+            Err(refusal) => Ok(refused(refusal)),
+        }
+    }
+
+    fn release(&mut self, client: u32, holds: &mut Holds, key: u32) -> Result<ActReply, AllocError>
+        ensures step { IfOk result (λ reply. release_step self.old client key ≡ (self.new, reply)) }
+        ensures holds { IfOk result (λ reply. holds.new ≡ update holds.old (acts.Release key) reply) }
+        ensures err { OnErr result ((self.new ≡ self.old) × (holds.new ≡ holds.old)) }
+    {
+        let shown = self.shown_at(client, key);
+        holds.taking_down.push(key)?;
+        match self.share.release(client, key, shown) {
+            Ok(true) => Ok(ActReply::Last),
+            Ok(false) => {
+                holds.taking_down.pop();
+                remove_key(&mut holds.buffers, key);
+                Ok(ActReply::Kept)
+            }
+            Err(refusal) => {
+                holds.taking_down.pop();
+                Ok(refused(refusal))
+            }
+        }
+    }
+
+    /// The least scanout that is leased to the client and shows the buffer.
+    fn shown_at(&self, client: u32, key: u32) -> Option<u32>
+        ensures { result ≡ shown_at client key self.now }
+    {
+        (0..self.setup.displays.len() as u32).find(|scanout| self.shows(client, key, *scanout))
+    }
+
+    /// Whether a scanout is leased to the client and shows the buffer.
+    fn shows(&self, client: u32, key: u32, scanout: u32) -> bool
+        ensures { result ≡ is_shown_on client key self.now scanout }
+    {
+        match self.scanouts.binding(scanout) {
+            Some(binding) => self.share.is_leased(client, scanout) && binding.resource == key,
+            None => false,
+        }
+    }
+
+    fn free(&mut self, client: u32, holds: &mut Holds, key: u32) -> ActReply
+        ensures step { free_step self.old client key ≡ (self.new, result) }
+        ensures holds { holds.new ≡ update holds.old (acts.Free key) result }
+    {
+        let live = self.resources.get(key).is_some();
+        match self.share.free(&mut self.pages, client, key, live) {
+            Ok(()) => {
+                remove_key(&mut holds.buffers, key);
+                remove_number(&mut holds.taking_down, key);
+                ActReply::Ok
+            }
+            Err(refusal) => refused(refusal),
+        }
+    }
+
+    fn take(&mut self, client: u32, holds: &mut Holds, scanout: u32) -> Result<ActReply, AllocError>
+        ensures step { IfOk result (λ reply. take_step self.old client scanout ≡ (self.new, reply)) }
+        ensures holds { IfOk result (λ reply. holds.new ≡ update holds.old (acts.Take scanout) reply) }
+        ensures err { OnErr result ((self.new ≡ self.old) × (holds.new ≡ holds.old)) }
+    {
+        holds.scanouts.push(scanout)?;
+        match self.share.take_scanout(client, scanout) {
+            Ok(()) => Ok(ActReply::Ok),
+            Err(refusal) => {
+                holds.scanouts.pop();
+                Ok(refused(refusal))
+            }
+        }
+    }
+
+    fn end_lease(&mut self, client: u32, holds: &mut Holds, scanout: u32) -> ActReply
+        ensures step { drop_step self.old client scanout ≡ (self.new, result) }
+        ensures holds { holds.new ≡ update holds.old (acts.Drop scanout) result }
+    {
+        let shown = self.scanouts.binding(scanout).is_some();
+        match self.share.drop_scanout(client, scanout, shown) {
+            Ok(()) => {
+                remove_number(&mut holds.scanouts, scanout);
+                ActReply::Ok
+            }
+            Err(refusal) => refused(refusal),
+        }
+    }
+}
+
+fn refused(refusal: ShareRefusal) -> ActReply
+    ensures { result ≡ act_replies.Refused refusal }
+{
+    ActReply::Refused { refusal }
+}
+
+/// Takes the first pair with this key away, if there is one.
+fn remove_key(pairs: &mut Seq<(u32, Seq<u32>)>, key: u32)
+    ensures { pairs.new ≡ without_first (has_key key) pairs.old }
+{
+    let place = pairs.as_slice().iter().position(|pair| pair.0 == key);
+    if let Some(index) = place {
+        pairs.remove(index);
+    }
+}

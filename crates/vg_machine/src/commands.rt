@@ -1,0 +1,277 @@
+//! What the 2D commands do (VIRTIO 1.2, 5.7.6.8), one function each.
+
+ghost use Rattle.std.specs.Prelude.{◌≡◌, IfOk, OnErr, map, Some, ◌<◌, ◌^◌, ◌-◌, length};
+ghost use Rattle.vg_wire.specs.TwoD.{FitsCount};
+ghost use Rattle.vg_wire.specs.declared.response.Response.TheVariants as responses;
+ghost use Rattle.vg_machine.specs.Step as step_words;
+ghost use Rattle.vg_machine.specs.Backing as backing_words;
+ghost use Rattle.vg_machine.specs.Backing.{transfer_end};
+ghost use Rattle.vg_machine.specs.Step.{Keeps, attach_step, create_step, detach_step, flush_step, set_scanout_step, show_step, transfer_step, two_d_step, unref_step};
+ghost use Rattle.vg_machine.specs.Resource.{resource_at};
+
+use crate::codes::{INVALID_PARAMETER, INVALID_RESOURCE, INVALID_SCANOUT, UNSPEC};
+use crate::display::Display;
+use crate::scanout::Binding;
+use std::alloc::{AllocError, Global};
+use vg_formats::{MemEntry, Rect};
+use vg_wire::{Command2d, Modes, Response};
+
+impl Display {
+    /// Runs a 2D command, and gives its response. A response that isn't OK_NODATA changes nothing.
+    pub(crate) fn run_2d(
+        &mut self,
+        alloc: Global,
+        command: &Command2d,
+    ) -> Result<Response, AllocError>
+        requires entries { self.old.entries < 2 ^ 31 - 1 }
+        requires count { FitsCount command.now }
+        ensures step { IfOk result (λ response. two_d_step self.old command.now ≡ (self.new, response)) }
+        ensures keeps { IfOk result (λ response. Keeps response self.old self.new) }
+        ensures err { OnErr result (self.new ≡ self.old) }
+    {
+        match command {
+            Command2d::DisplayInfo => self.display_info(alloc),
+            Command2d::Create2d {
+                resource,
+                format,
+                width,
+                height,
+            } => self.create(alloc, *resource, *format, *width, *height),
+            Command2d::Unref { resource } => Ok(self.unref(*resource)),
+            Command2d::SetScanout {
+                rect,
+                scanout,
+                resource,
+            } => self.set_scanout(alloc, rect, *scanout, *resource),
+            Command2d::Flush { rect, resource } => self.flush(alloc, rect, *resource),
+            Command2d::Transfer {
+                rect,
+                offset,
+                resource,
+            } => Ok(self.transfer(rect, *offset, *resource)),
+            Command2d::Attach { resource, entries } => {
+                self.attach(alloc, *resource, entries.as_slice())
+            }
+            Command2d::Detach { resource } => Ok(self.detach(*resource)),
+        }
+    }
+
+    /// The modes of the displays.
+    fn display_info(&self, alloc: Global) -> Result<Response, AllocError>
+        ensures { IfOk result (λ response. response ≡ responses.DisplayInfo (map Some self.now.setup.displays)) }
+    {
+        let items = enabled(alloc, self.setup.displays.as_slice())?;
+        Ok(Response::DisplayInfo {
+            modes: Modes::from_vec(items),
+        })
+    }
+
+    fn create(
+        &mut self,
+        alloc: Global,
+        resource: u32,
+        format: u32,
+        width: u32,
+        height: u32,
+    ) -> Result<Response, AllocError>
+        ensures step { IfOk result (λ response. create_step self.old resource format width height ≡ (self.new, response)) }
+        ensures keeps { IfOk result (λ response. Keeps response self.old self.new) }
+        ensures err { OnErr result (self.new ≡ self.old) }
+    {
+        let done = self
+            .resources
+            .create(alloc, resource, width, height, format)?;
+        Ok(response_of(done))
+    }
+
+    fn unref(&mut self, resource: u32) -> Response
+        ensures step { unref_step self.old resource ≡ (self.new, result) }
+        ensures keeps { Keeps result self.old self.new }
+    {
+        if self.resources.get(resource).is_none() {
+            return Response::Error {
+                code: INVALID_RESOURCE,
+            };
+        }
+        self.resources.remove(resource);
+        self.backings.remove(resource);
+        self.scanouts.unbind_resource(resource);
+        Response::Nodata
+    }
+
+    fn set_scanout(
+        &mut self,
+        alloc: Global,
+        rect: &Rect,
+        scanout: u32,
+        resource: u32,
+    ) -> Result<Response, AllocError>
+        ensures step { IfOk result (λ response. set_scanout_step self.old rect.now scanout resource ≡ (self.new, response)) }
+        ensures keeps { IfOk result (λ response. Keeps response self.old self.new) }
+        ensures err { OnErr result (self.new ≡ self.old) }
+    {
+        if self.setup.displays.len() <= scanout as usize {
+            return Ok(Response::Error {
+                code: INVALID_SCANOUT,
+            });
+        }
+        if resource == 0 {
+            self.scanouts.unbind(scanout);
+            return Ok(Response::Nodata);
+        }
+        self.show(alloc, rect, scanout, resource)
+    }
+
+    /// Binds a scanout to a rectangle of a resource.
+    fn show(
+        &mut self,
+        alloc: Global,
+        rect: &Rect,
+        scanout: u32,
+        resource: u32,
+    ) -> Result<Response, AllocError>
+        requires { scanout < length self.old.setup.displays }
+        ensures step { IfOk result (λ response. show_step self.old rect.now scanout resource (resource_at resource self.old.resources) ≡ (self.new, response)) }
+        ensures keeps { IfOk result (λ response. Keeps response self.old self.new) }
+        ensures err { OnErr result (self.new ≡ self.old) }
+    {
+        let Some(surface) = self.resources.get(resource) else {
+            return Ok(Response::Error {
+                code: INVALID_RESOURCE,
+            });
+        };
+        if is_empty(rect) || !rect.inside(surface.width, surface.height) {
+            return Ok(Response::Error {
+                code: INVALID_PARAMETER,
+            });
+        }
+        let binding = Binding {
+            resource,
+            rect: *rect,
+            width: surface.width,
+            height: surface.height,
+            format: surface.format,
+            stride: 4 * surface.width,
+            offset: 0,
+        };
+        let done = self.scanouts.bind(alloc, scanout, binding)?;
+        Ok(response_of(done))
+    }
+
+    fn flush(&mut self, alloc: Global, rect: &Rect, resource: u32) -> Result<Response, AllocError>
+        requires { self.old.entries < 2 ^ 31 - 1 }
+        ensures step { IfOk result (λ response. flush_step self.old rect.now resource (resource_at resource self.old.resources) ≡ (self.new, response)) }
+        ensures keeps { IfOk result (λ response. Keeps response self.old self.new) }
+        ensures err { OnErr result (self.new ≡ self.old) }
+    {
+        let Some(surface) = self.resources.get(resource) else {
+            return Ok(Response::Error {
+                code: INVALID_RESOURCE,
+            });
+        };
+        if !rect.inside(surface.width, surface.height) {
+            return Ok(Response::Error {
+                code: INVALID_PARAMETER,
+            });
+        }
+        let entry = self.entries + 1;
+        let done = self
+            .scanouts
+            .flush(alloc, entry, resource, rect, surface.pixels.as_slice())?;
+        Ok(response_of(done))
+    }
+
+    fn transfer(&mut self, rect: &Rect, offset: u64, resource: u32) -> Response
+        ensures step { transfer_step self.old rect.now offset resource (resource_at resource self.old.resources) ≡ (self.new, result) }
+        ensures keeps { Keeps result self.old self.new }
+    {
+        let Some(target) = self.resources.get(resource) else {
+            return Response::Error {
+                code: INVALID_RESOURCE,
+            };
+        };
+        let (width, height) = (target.width, target.height);
+        let Some(backing) = self.backings.get(resource) else {
+            return Response::Error { code: UNSPEC };
+        };
+        if !rect.inside(width, height) {
+            return Response::Error {
+                code: INVALID_PARAMETER,
+            };
+        }
+        if !is_empty(rect) && u128::from(backing.length()) < end_of(rect, offset, width) {
+            return Response::Error {
+                code: INVALID_PARAMETER,
+            };
+        }
+        self.resources
+            .receive(resource, &self.pages, backing, rect, offset);
+        Response::Nodata
+    }
+
+    fn attach(
+        &mut self,
+        alloc: Global,
+        resource: u32,
+        entries: &[MemEntry],
+    ) -> Result<Response, AllocError>
+        requires { length entries.now < 2 ^ 32 }
+        ensures step { IfOk result (λ response. attach_step self.old resource entries.now ≡ (self.new, response)) }
+        ensures keeps { IfOk result (λ response. Keeps response self.old self.new) }
+        ensures err { OnErr result (self.new ≡ self.old) }
+    {
+        if self.resources.get(resource).is_none() {
+            return Ok(Response::Error {
+                code: INVALID_RESOURCE,
+            });
+        }
+        let done = self.backings.attach(alloc, &self.pages, resource, entries)?;
+        Ok(response_of(done))
+    }
+
+    fn detach(&mut self, resource: u32) -> Response
+        ensures step { detach_step self.old resource ≡ (self.new, result) }
+        ensures keeps { Keeps result self.old self.new }
+    {
+        if self.resources.get(resource).is_none() {
+            return Response::Error {
+                code: INVALID_RESOURCE,
+            };
+        }
+        response_of(self.backings.detach(resource))
+    }
+}
+
+/// Each display's mode.
+fn enabled(alloc: Global, displays: &[(u32, u32)]) -> Result<Vec<Option<(u32, u32)>>, AllocError>
+    ensures { IfOk result (λ modes. modes.items ≡ map Some displays.now) }
+{
+    displays.iter().map(|size| Some(*size)).collect(alloc)
+}
+
+/// OK_NODATA, or the error of a code.
+fn response_of(done: Result<(), u32>) -> Response
+    ensures { result ≡ step_words.response_of done }
+{
+    match done {
+        Ok(()) => Response::Nodata,
+        Err(code) => Response::Error { code },
+    }
+}
+
+/// Whether a rectangle has no pixels.
+fn is_empty(rect: &Rect) -> bool
+    ensures { result ≡ backing_words.is_empty rect.now }
+{
+    rect.width == 0 || rect.height == 0
+}
+
+/// One past the last byte of the backing that a transfer reads.
+fn end_of(rect: &Rect, offset: u64, width: u32) -> u128
+    requires { 0 < rect.now.height }
+    ensures { result ≡ transfer_end rect.now offset width }
+{
+    u128::from(offset)
+        + 4 * u128::from(width) * (u128::from(rect.height) - 1)
+        + 4 * u128::from(rect.width)
+}

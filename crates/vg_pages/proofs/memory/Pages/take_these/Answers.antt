@@ -1,0 +1,21 @@
+-- Pages that are taken may be given back, and what could be given back still may.
+use Rattle.std.proofs.Common.{ap, sym, subst, true, arith}
+use Rattle.vg_pages.specs.Memory.{AreGivable, AreTakeable}
+use Rattle.vg_pages.proofs.Marked.{givable-taken, givable-after_taking, marked-in_place}
+use Rattle.vg_pages.proofs.memory.Pages.take_these.Goals as goal
+
+pub returns-clause-givable : goal.returns-clause-givable
+returns-clause-givable c =
+    let old = c.self.inside.taken.items in
+    let pages = c.args.list.now in
+    let was = ap (λ memory. memory.taken) (sym c.self.view_is) in
+    let flags = marked-in_place pages true old _ c.mark.new.taken c.self.inside.taken.len c.as_mut_slice.ensures.value c.mark.ensures (omega arith) in
+    rw flags (givable-taken old pages (subst (λ taken. AreTakeable taken pages) was (record { all_free = c.requires.all_free; differ = c.requires.differ })))
+
+pub returns-clause-others : goal.returns-clause-others
+returns-clause-others c =
+    let old = c.self.inside.taken.items in
+    let pages = c.args.list.now in
+    let was = ap (λ memory. memory.taken) (sym c.self.view_is) in
+    let flags = marked-in_place pages true old _ c.mark.new.taken c.self.inside.taken.len c.as_mut_slice.ensures.value c.mark.ensures (omega arith) in
+    rw flags (λ mine givable. givable-after_taking old mine pages (subst (λ taken. AreGivable taken mine) was givable))
