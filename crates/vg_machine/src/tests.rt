@@ -2,7 +2,7 @@
 
 ghost use Rattle.std.specs.Prelude.{◌≡◌, IfOk};
 
-use super::{Act, ActReply, Display, Holds, Setup, ShareRefusal, What, denied, lane_of};
+use super::{Act, ActReply, Display, Holds, Setup, What, denied, lane_of};
 use std::alloc::{AllocError, Global};
 use std::test::Fail;
 use vg_list::Seq;
@@ -152,53 +152,42 @@ fn ask(display: &mut Display, alloc: Global, kind: u8, fields: &[u32]) -> Result
 fn refusals_come_in_their_order(rt: HostRuntime) -> Result<(), Fail> {
     let alloc = rt.alloc();
     let mut display = two_displays(alloc)?;
-    // The low byte of the kind, the fields after the header, and the kind of the response.
+    // The low byte of the kind, how many fields follow the header, the fields, and the kind of the response.
     let commands = [
-        (1u8, [0u32, 5, 4, 2].as_slice(), 0x1203u32),
-        (1, [1, 5, 4, 2].as_slice(), 0x1205),
-        (1, [1, 1, 0, 2].as_slice(), 0x1205),
-        (1, [1, 1, 4294967295, 4294967295].as_slice(), 0x1201),
-        (1, [1, 1, 4, 2].as_slice(), 0x1100),
-        (1, [1, 5, 4, 2].as_slice(), 0x1203),
-        (2, [7, 0].as_slice(), 0x1203),
-        (3, [0, 0, 4, 2, 2, 7].as_slice(), 0x1202),
-        (3, [0, 0, 4, 2, 0, 7].as_slice(), 0x1203),
-        (3, [0, 0, 0, 2, 0, 1].as_slice(), 0x1205),
-        (3, [4294967295, 0, 2, 2, 0, 1].as_slice(), 0x1205),
-        (4, [0, 0, 4, 2, 7, 0].as_slice(), 0x1203),
-        (4, [0, 0, 5, 2, 1, 0].as_slice(), 0x1205),
-        (5, [0, 0, 4, 2, 0, 0, 7, 0].as_slice(), 0x1203),
-        (5, [0, 0, 5, 2, 0, 0, 1, 0].as_slice(), 0x1200),
-        (6, [7, 0].as_slice(), 0x1203),
-        (6, [1, 0].as_slice(), 0x1205),
-        (6, [1, 1, 0x10_fff0, 0, 17, 0].as_slice(), 0x1205),
-        (6, [1, 1, 0x10_0000, 0, 0, 0].as_slice(), 0x1205),
-        (7, [1, 0].as_slice(), 0x1200),
-        (6, [1, 1, 0x10_0000, 0, 32, 0].as_slice(), 0x1100),
-        (6, [1, 0].as_slice(), 0x1200),
-        (5, [0, 0, 5, 2, 0, 0, 1, 0].as_slice(), 0x1205),
-        (5, [0, 0, 4, 2, 1, 0, 1, 0].as_slice(), 0x1205),
-        (
-            5,
-            [0, 0, 1, 1, 4294967295, 4294967295, 1, 0].as_slice(),
-            0x1205,
-        ),
-        (
-            5,
-            [4, 2, 0, 0, 4294967295, 4294967295, 1, 0].as_slice(),
-            0x1100,
-        ),
-        (7, [7, 0].as_slice(), 0x1203),
-        (7, [1, 0].as_slice(), 0x1100),
-        (2, [1, 0].as_slice(), 0x1100),
-        (2, [1, 0].as_slice(), 0x1203),
+        (1u8, 4usize, [0u32, 5, 4, 2, 0, 0, 0, 0], 0x1203u32),
+        (1, 4, [1, 5, 4, 2, 0, 0, 0, 0], 0x1205),
+        (1, 4, [1, 1, 0, 2, 0, 0, 0, 0], 0x1205),
+        (1, 4, [1, 1, 4294967295, 4294967295, 0, 0, 0, 0], 0x1201),
+        (1, 4, [1, 1, 4, 2, 0, 0, 0, 0], 0x1100),
+        (1, 4, [1, 5, 4, 2, 0, 0, 0, 0], 0x1203),
+        (2, 2, [7, 0, 0, 0, 0, 0, 0, 0], 0x1203),
+        (3, 6, [0, 0, 4, 2, 2, 7, 0, 0], 0x1202),
+        (3, 6, [0, 0, 4, 2, 0, 7, 0, 0], 0x1203),
+        (3, 6, [0, 0, 0, 2, 0, 1, 0, 0], 0x1205),
+        (3, 6, [4294967295, 0, 2, 2, 0, 1, 0, 0], 0x1205),
+        (4, 6, [0, 0, 4, 2, 7, 0, 0, 0], 0x1203),
+        (4, 6, [0, 0, 5, 2, 1, 0, 0, 0], 0x1205),
+        (5, 8, [0, 0, 4, 2, 0, 0, 7, 0], 0x1203),
+        (5, 8, [0, 0, 5, 2, 0, 0, 1, 0], 0x1200),
+        (6, 2, [7, 0, 0, 0, 0, 0, 0, 0], 0x1203),
+        (6, 2, [1, 0, 0, 0, 0, 0, 0, 0], 0x1205),
+        (6, 6, [1, 1, 0x10_fff0, 0, 17, 0, 0, 0], 0x1205),
+        (6, 6, [1, 1, 0x10_0000, 0, 0, 0, 0, 0], 0x1205),
+        (7, 2, [1, 0, 0, 0, 0, 0, 0, 0], 0x1200),
+        (6, 6, [1, 1, 0x10_0000, 0, 32, 0, 0, 0], 0x1100),
+        (6, 2, [1, 0, 0, 0, 0, 0, 0, 0], 0x1200),
+        (5, 8, [0, 0, 5, 2, 0, 0, 1, 0], 0x1205),
+        (5, 8, [0, 0, 4, 2, 1, 0, 1, 0], 0x1205),
+        (5, 8, [0, 0, 1, 1, 4294967295, 4294967295, 1, 0], 0x1205),
+        (5, 8, [4, 2, 0, 0, 4294967295, 4294967295, 1, 0], 0x1100),
+        (7, 2, [7, 0, 0, 0, 0, 0, 0, 0], 0x1203),
+        (7, 2, [1, 0, 0, 0, 0, 0, 0, 0], 0x1100),
+        (2, 2, [1, 0, 0, 0, 0, 0, 0, 0], 0x1100),
+        (2, 2, [1, 0, 0, 0, 0, 0, 0, 0], 0x1203),
     ];
-    for (kind, fields, due) in commands {
-        assert_eq!(rt;
-            ask(&mut display, alloc, kind, fields)?,
-            due,
-            "{kind} {fields:?}"
-        );
+    for (kind, count, fields, due) in commands {
+        assert!(rt; count <= 8);
+        assert_eq!(rt; ask(&mut display, alloc, kind, &fields[..count])?, due);
     }
     assert!(rt; display.frames().is_empty());
     Ok(())
@@ -234,30 +223,27 @@ fn pixels_are_sent_and_shown(rt: HostRuntime) -> Result<(), Fail> {
     // Two resources of 4 by 2: the first is on scanout 0, and its columns 1 and 2 on scanout 1. Its backing has a byte of
     // page 0, three more, and 12 bytes of page 1.
     let commands = [
-        (1u8, [1u32, 2, 4, 2].as_slice()),
-        (3, [0, 0, 4, 2, 0, 1].as_slice()),
-        (3, [1, 0, 2, 2, 1, 1].as_slice()),
+        (1u8, 4usize, [1u32, 2, 4, 2, 0, 0, 0, 0, 0, 0, 0, 0, 0, 0]),
+        (3, 6, [0, 0, 4, 2, 0, 1, 0, 0, 0, 0, 0, 0, 0, 0]),
+        (3, 6, [1, 0, 2, 2, 1, 1, 0, 0, 0, 0, 0, 0, 0, 0]),
         (
             6,
+            14,
             [
                 1, 3, 0x10_0ffc, 0, 1, 0, 0x10_0ffd, 0, 3, 0, 0x10_1000, 0, 12, 0,
-            ]
-            .as_slice(),
+            ],
         ),
-        (5, [2, 0, 2, 1, 4, 0, 1, 0].as_slice()),
-        (4, [2, 0, 1, 2, 1, 0].as_slice()),
-        (4, [0, 0, 1, 1, 1, 0].as_slice()),
-        (4, [1, 1, 0, 0, 1, 0].as_slice()),
-        (2, [1, 0].as_slice()),
-        (1, [1, 2, 4, 2].as_slice()),
-        (4, [0, 0, 4, 2, 1, 0].as_slice()),
+        (5, 8, [2, 0, 2, 1, 4, 0, 1, 0, 0, 0, 0, 0, 0, 0]),
+        (4, 6, [2, 0, 1, 2, 1, 0, 0, 0, 0, 0, 0, 0, 0, 0]),
+        (4, 6, [0, 0, 1, 1, 1, 0, 0, 0, 0, 0, 0, 0, 0, 0]),
+        (4, 6, [1, 1, 0, 0, 1, 0, 0, 0, 0, 0, 0, 0, 0, 0]),
+        (2, 2, [1, 0, 0, 0, 0, 0, 0, 0, 0, 0, 0, 0, 0, 0]),
+        (1, 4, [1, 2, 4, 2, 0, 0, 0, 0, 0, 0, 0, 0, 0, 0]),
+        (4, 6, [0, 0, 4, 2, 1, 0, 0, 0, 0, 0, 0, 0, 0, 0]),
     ];
-    for (kind, fields) in commands {
-        assert_eq!(rt;
-            ask(&mut display, alloc, kind, fields)?,
-            0x1100,
-            "{kind} {fields:?}"
-        );
+    for (kind, count, fields) in commands {
+        assert!(rt; count <= 14);
+        assert_eq!(rt; ask(&mut display, alloc, kind, &fields[..count])?, 0x1100);
     }
     // Column 2 is shown on both, then column 0 on the first alone.
     assert_eq!(rt; display.frames().len(), 3);
@@ -274,67 +260,14 @@ fn pixels_are_sent_and_shown(rt: HostRuntime) -> Result<(), Fail> {
     Ok(())
 }
 
-#[test]
-fn buffers_and_scanouts_are_held(rt: HostRuntime) -> Result<(), Fail> {
-    let alloc = rt.alloc();
-    let mut display = two_displays(alloc)?;
-    let mut holds = no_holds(alloc);
-    let reserve = Act::Reserve {
-        width: 4,
-        height: 2,
-        format: 1,
-        bytes: 4097,
-    };
-    let reserved = ActReply::Reserved {
-        key: 1,
-        pages: Seq::from_vec(vec![in alloc; 0u32, 1]?),
-    };
-    assert!(rt; act(&mut display, &mut holds, alloc, reserve)? == reserved);
-    assert_eq!(rt; ask(&mut display, alloc, 1, &[1, 1, 4, 2])?, 0x1100);
-    assert_eq!(rt; ask(&mut display, alloc, 3, &[0, 0, 4, 2, 1, 1])?, 0x1100);
-    let refused = |refusal| ActReply::Refused { refusal };
-    let load = Act::Load {
-        key: 1,
-        offset: 4090,
-        length: 8,
-    };
-    let cases = [
-        (load, refused(ShareRefusal::OutOfRange { bytes: 4097 })),
-        (Act::Take { scanout: 2 }, refused(ShareRefusal::UnknownKey)),
-        (Act::Drop { scanout: 1 }, refused(ShareRefusal::NotHeld)),
-        (Act::Take { scanout: 1 }, ActReply::Ok),
-        (
-            Act::Take { scanout: 1 },
-            refused(ShareRefusal::ScanoutHeld { by: 1 }),
-        ),
-        (
-            Act::Drop { scanout: 1 },
-            refused(ShareRefusal::InUse { scanout: 1 }),
-        ),
-        (
-            Act::Release { key: 1 },
-            refused(ShareRefusal::InUse { scanout: 1 }),
-        ),
-    ];
-    for (what, due) in cases {
-        assert!(rt; act(&mut display, &mut holds, alloc, what)? == due);
+/// What is denied: nothing, a resource or a scanout, by 0, 1 and 2, and its number.
+fn told(what: Option<What>) -> (u8, u32) {
+    match what {
+        None => (0, 0),
+        Some(What::Resource { n }) => (1, n),
+        Some(What::Scanout { n }) => (2, n),
+        Some(What::Name) => (3, 0),
     }
-    assert_eq!(rt; ask(&mut display, alloc, 3, &[0, 0, 0, 0, 1, 0])?, 0x1100);
-    let cases = [
-        (Act::Free { key: 1 }, refused(ShareRefusal::NotHeld)),
-        (Act::Release { key: 1 }, ActReply::Last),
-        (Act::Release { key: 1 }, refused(ShareRefusal::NotHeld)),
-        (Act::Free { key: 1 }, refused(ShareRefusal::ResourceLive)),
-    ];
-    for (what, due) in cases {
-        assert!(rt; act(&mut display, &mut holds, alloc, what)? == due);
-    }
-    assert_eq!(rt; ask(&mut display, alloc, 2, &[1, 0])?, 0x1100);
-    assert!(rt; act(&mut display, &mut holds, alloc, Act::Free { key: 1 })? == ActReply::Ok);
-    assert!(rt; act(&mut display, &mut holds, alloc, Act::Leave)? == ActReply::Ok);
-    assert!(rt; holds.buffers.is_empty() && holds.taking_down.is_empty());
-    assert_eq!(rt; holds.scanouts.as_slice(), [1].as_slice());
-    Ok(())
 }
 
 #[test]
@@ -345,46 +278,27 @@ fn what_is_denied_is_told(rt: HostRuntime) -> Result<(), Fail> {
     holds.taking_down.push(4)?;
     holds.scanouts.push(1)?;
     let cases = [
-        (0u8, [].as_slice(), None),
-        (1, [3u32, 1, 4, 2].as_slice(), None),
-        (1, [5, 1, 4, 2].as_slice(), Some(What::Resource { n: 5 })),
-        (
-            1,
-            [2147483648, 1, 4, 2].as_slice(),
-            Some(What::Resource { n: 2147483648 }),
-        ),
-        (2, [2147483648, 0].as_slice(), None),
-        (
-            2,
-            [2147483647, 0].as_slice(),
-            Some(What::Resource { n: 2147483647 }),
-        ),
-        (3, [0, 0, 4, 2, 1, 0].as_slice(), None),
-        (
-            3,
-            [0, 0, 4, 2, 0, 3].as_slice(),
-            Some(What::Scanout { n: 0 }),
-        ),
-        (3, [0, 0, 4, 2, 2, 3].as_slice(), None),
-        (
-            3,
-            [0, 0, 4, 2, 0, 5].as_slice(),
-            Some(What::Resource { n: 5 }),
-        ),
-        (4, [0, 0, 4, 2, 4, 0].as_slice(), None),
-        (
-            5,
-            [0, 0, 4, 2, 0, 0, 1, 0].as_slice(),
-            Some(What::Resource { n: 1 }),
-        ),
-        (6, [1, 0].as_slice(), Some(What::Resource { n: 1 })),
-        (6, [1].as_slice(), None),
-        (7, [1, 0].as_slice(), Some(What::Resource { n: 1 })),
+        (0u8, 0usize, [0u32, 0, 0, 0, 0, 0, 0, 0], (0u8, 0u32)),
+        (1, 4, [3, 1, 4, 2, 0, 0, 0, 0], (0, 0)),
+        (1, 4, [5, 1, 4, 2, 0, 0, 0, 0], (1, 5)),
+        (1, 4, [2147483648, 1, 4, 2, 0, 0, 0, 0], (1, 2147483648)),
+        (2, 2, [2147483648, 0, 0, 0, 0, 0, 0, 0], (0, 0)),
+        (2, 2, [2147483647, 0, 0, 0, 0, 0, 0, 0], (1, 2147483647)),
+        (3, 6, [0, 0, 4, 2, 1, 0, 0, 0], (0, 0)),
+        (3, 6, [0, 0, 4, 2, 0, 3, 0, 0], (2, 0)),
+        (3, 6, [0, 0, 4, 2, 2, 3, 0, 0], (0, 0)),
+        (3, 6, [0, 0, 4, 2, 0, 5, 0, 0], (1, 5)),
+        (4, 6, [0, 0, 4, 2, 4, 0, 0, 0], (0, 0)),
+        (5, 8, [0, 0, 4, 2, 0, 0, 1, 0], (1, 1)),
+        (6, 2, [1, 0, 0, 0, 0, 0, 0, 0], (1, 1)),
+        (6, 1, [1, 0, 0, 0, 0, 0, 0, 0], (0, 0)),
+        (7, 2, [1, 0, 0, 0, 0, 0, 0, 0], (1, 1)),
     ];
-    for (kind, fields, due) in cases {
-        let bytes = bytes_of(alloc, kind, fields)?;
-        let told = denied(alloc, &holds, Queue::Control, bytes.as_slice())?;
-        assert!(rt; told == due, "{kind} {fields:?}");
+    for (kind, count, fields, due) in cases {
+        assert!(rt; count <= 8);
+        let bytes = bytes_of(alloc, kind, &fields[..count])?;
+        let what = denied(alloc, &holds, Queue::Control, bytes.as_slice())?;
+        assert!(rt; told(what) == due);
     }
     Ok(())
 }
