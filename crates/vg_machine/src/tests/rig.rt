@@ -1,0 +1,302 @@
+//! A display machine for tests, and the calls that they make of it.
+
+use crate::{Act, ActReply, Display, Frame, Holds, Setup, ShareRefusal, What};
+use std::alloc::{AllocError, Global};
+use std::process::Abort;
+use vg_list::Seq;
+use vg_wire::Queue;
+
+// The low bytes of the commands' types (VIRTIO 1.2, 5.7.6.7), which all have 1 above them. With each stand the fields after
+// the header, of four bytes: a rectangle is x, y, width, height, a number of eight bytes is its low half and its high half,
+// and an entry is address low, address high, length, 0.
+/// No fields.
+pub(crate) const DISPLAY_INFO: u8 = 0;
+
+/// Resource, format, width, height.
+pub(crate) const CREATE: u8 = 1;
+
+/// Resource, 0.
+pub(crate) const UNREF: u8 = 2;
+
+/// Rectangle, scanout, resource.
+pub(crate) const SET_SCANOUT: u8 = 3;
+
+/// Rectangle, resource, 0.
+pub(crate) const FLUSH: u8 = 4;
+
+/// Rectangle, offset low, offset high, resource, 0.
+pub(crate) const TRANSFER: u8 = 5;
+
+/// Resource, number of entries, entries.
+pub(crate) const ATTACH: u8 = 6;
+
+/// Resource, 0.
+pub(crate) const DETACH: u8 = 7;
+
+/// OK_NODATA.
+pub(crate) const OK: u32 = 0x1100;
+
+/// The greatest number of 32 bits.
+pub(crate) const MOST: u32 = 0xffff_ffff;
+
+/// An act with its numbers in the order of its fields. A buffer has a geometry of 4 by 2 and format 1.
+#[derive(Clone, Copy)]
+pub(crate) enum Do<'a> {
+    Enter,
+    Reserve(u32),
+    Store(u32, u32, &'a [u8], u32),
+    Load(u32, u32, u32),
+    Release(u32),
+    Free(u32),
+    Take(u32),
+    Drop(u32),
+    Denied(What),
+    Leave,
+}
+
+/// The reply that is due.
+#[derive(Clone, Copy)]
+pub(crate) enum Due<'a> {
+    Ok,
+    /// A key, and pages.
+    Key(u32, &'a [u32]),
+    Bytes(&'a [u8]),
+    Last,
+    /// Fewer pages are free; so many are.
+    Full(u32),
+    Unknown,
+    NotHeld,
+    /// The scanout is leased to this client.
+    HeldBy(u32),
+    /// The buffer has so many bytes.
+    Past(u32),
+    /// This scanout shows it, or shows something.
+    InUse(u32),
+    Live,
+}
+
+/// A display machine with displays of 4 by 2 and 640 by 480 and with 16 guest pages, which stand from 0x100000 to 0x110000,
+/// and what its clients 1 and 2 hold.
+#[derive(Drop)]
+pub(crate) struct Rig {
+    pub(crate) alloc: Global,
+    pub(crate) display: Display,
+    pub(crate) first: Holds,
+    pub(crate) second: Holds,
+}
+
+/// An entry of a test: a command, which is what it shows, its type, its fields and the type of its response, or an act, which
+/// is what it shows, its client, which is 1 or 2, and its reply.
+#[derive(Clone, Copy)]
+pub(crate) enum Row<'a> {
+    Command(&'a str, u8, &'a [u32], u32),
+    Act(&'a str, u32, Do<'a>, Due<'a>),
+}
+
+/// A frame: scanout, width, height, the number of its entry, and its pixels.
+pub(crate) type FrameCase<'a> = (u32, u32, u32, u64, &'a [u8]);
+
+impl Rig {
+    pub(crate) fn new(alloc: Global) -> Result<Rig, AllocError> {
+        let displays = vec![in alloc; (4u32, 2u32), (640, 480)]?;
+        let setup = Setup {
+            displays: Seq::from_vec(displays),
+            pages: 16,
+            accepted: 0x11000001f,
+            clients: 2,
+        };
+        Ok(Rig {
+            alloc,
+            display: Display::new(alloc, &setup)?,
+            first: no_holds(alloc, 1),
+            second: no_holds(alloc, 2),
+        })
+    }
+
+    /// Runs a row, whose answer is the one that is due.
+    fn row(&mut self, rt: &impl Abort, row: &Row<'_>) -> Result<(), AllocError> {
+        match *row {
+            Row::Command(name, kind, fields, code) => self.command(rt, name, kind, fields, code),
+            Row::Act(name, client, what, due) => self.act_once(rt, name, client, what, due),
+        }
+    }
+
+    /// Runs a command on the control queue, which is answered by a header alone, of this type and without a fence.
+    fn command(
+        &mut self,
+        rt: &impl Abort,
+        name: &str,
+        kind: u8,
+        fields: &[u32],
+        code: u32,
+    ) -> Result<(), AllocError> {
+        let request = request(self.alloc, kind, fields)?;
+        assert!(rt; self.display.entries() < 1000);
+        let answer = self
+            .display
+            .command(self.alloc, Queue::Control, request.as_slice(), 408)?;
+        assert_eq!(rt; answer.as_slice(), plain_header(code).as_slice(), "{name}");
+        Ok(())
+    }
+
+    /// Does an act of client 1 or 2, and gives its reply.
+    fn act(&mut self, rt: &impl Abort, client: u32, act: &Act) -> Result<ActReply, AllocError> {
+        assert!(rt; self.display.entries() < 1000);
+        if client == 1 {
+            self.display.act(self.alloc, 1, &mut self.first, act)
+        } else {
+            self.display.act(self.alloc, 2, &mut self.second, act)
+        }
+    }
+
+    /// Does an act of client 1 or 2, whose reply is the one that is due.
+    pub(crate) fn act_once(
+        &mut self,
+        rt: &impl Abort,
+        name: &str,
+        client: u32,
+        what: Do<'_>,
+        due: Due<'_>,
+    ) -> Result<(), AllocError> {
+        let act = act_of(self.alloc, what)?;
+        let reply = self.act(rt, client, &act)?;
+        assert!(rt; is_due(&reply, due), "{name}: {reply:?}");
+        Ok(())
+    }
+
+    /// Checks the frames, each of which is scanout, width, height, the number of its entry, and its pixels.
+    fn check_frames(&self, rt: &impl Abort, frames: &[FrameCase<'_>]) {
+        let made = self.display.frames();
+        assert_eq!(rt; made.len(), frames.len());
+        for (frame, due) in made.iter().zip(frames) {
+            check_frame(rt, frame, *due);
+        }
+    }
+}
+
+/// Runs the rows on a new machine, each of which is counted, and checks the frames that they have made.
+pub(crate) fn run(
+    rt: &impl Abort,
+    alloc: Global,
+    rows: &[Row<'_>],
+    frames: &[FrameCase<'_>],
+) -> Result<(), AllocError> {
+    let mut rig = Rig::new(alloc)?;
+    for row in rows {
+        rig.row(rt, row)?;
+    }
+    assert_eq!(rt; rig.display.entries(), rows.len() as u64);
+    rig.check_frames(rt, frames);
+    Ok(())
+}
+
+/// Runs the rows on a new machine, and checks how many frames they have made.
+pub(crate) fn run_and_count(
+    rt: &impl Abort,
+    alloc: Global,
+    rows: &[Row<'_>],
+    frames: usize,
+) -> Result<(), AllocError> {
+    let mut rig = Rig::new(alloc)?;
+    for row in rows {
+        rig.row(rt, row)?;
+    }
+    assert_eq!(rt; rig.display.frames().len(), frames);
+    Ok(())
+}
+
+/// What a client holds before its first act.
+fn no_holds(alloc: Global, client: u32) -> Holds {
+    Holds {
+        client,
+        displays: 2,
+        pages: 16,
+        buffers: Seq::from_vec(Vec::new(alloc)),
+        taking_down: Seq::from_vec(Vec::new(alloc)),
+        scanouts: Seq::from_vec(Vec::new(alloc)),
+    }
+}
+
+/// The bytes of a request with no flags.
+pub(crate) fn request(alloc: Global, kind: u8, fields: &[u32]) -> Result<Vec<u8>, AllocError> {
+    let mut bytes = vec![in alloc; kind, 1]?;
+    bytes.extend_from_slice(&[0; 22])?;
+    for field in fields {
+        bytes.extend_from_slice(&field.to_le_bytes())?;
+    }
+    Ok(bytes)
+}
+
+/// The header of a response without a fence.
+fn plain_header(code: u32) -> [u8; 24] {
+    let [low, high, _, _] = code.to_le_bytes();
+    [
+        low, high, 0, 0, 0, 0, 0, 0, 0, 0, 0, 0, 0, 0, 0, 0, 0, 0, 0, 0, 0, 0, 0, 0,
+    ]
+}
+
+fn check_frame(rt: &impl Abort, frame: &Frame, due: FrameCase<'_>) {
+    let (scanout, width, height, entry, pixels) = due;
+    assert_eq!(rt; frame.scanout, scanout, "frame of entry {entry}");
+    assert_eq!(rt; frame.width, width, "frame of entry {entry}");
+    assert_eq!(rt; frame.height, height, "frame of entry {entry}");
+    assert_eq!(rt; frame.entry, entry);
+    assert_eq!(rt; frame.pixels.as_slice(), pixels, "frame of entry {entry}");
+}
+
+/// The act in full.
+fn act_of(alloc: Global, what: Do<'_>) -> Result<Act, AllocError> {
+    let act = match what {
+        Do::Enter => Act::Enter,
+        Do::Reserve(bytes) => Act::Reserve {
+            width: 4,
+            height: 2,
+            format: 1,
+            bytes,
+        },
+        Do::Store(key, offset, bytes, times) => Act::Store {
+            key,
+            offset,
+            bytes: Seq::from_vec(bytes.to_vec(alloc)?),
+            times,
+        },
+        Do::Load(key, offset, length) => Act::Load {
+            key,
+            offset,
+            length,
+        },
+        Do::Release(key) => Act::Release { key },
+        Do::Free(key) => Act::Free { key },
+        Do::Take(scanout) => Act::Take { scanout },
+        Do::Drop(scanout) => Act::Drop { scanout },
+        Do::Denied(what) => Act::Denied { what },
+        Do::Leave => Act::Leave,
+    };
+    Ok(act)
+}
+
+/// Whether a reply is the one that is due.
+fn is_due(reply: &ActReply, due: Due<'_>) -> bool {
+    match (reply, due) {
+        (ActReply::Ok, Due::Ok) | (ActReply::Last, Due::Last) => true,
+        (ActReply::Reserved { key, pages }, Due::Key(number, list)) => {
+            *key == number && pages.as_slice() == list
+        }
+        (ActReply::Bytes { bytes }, Due::Bytes(list)) => bytes.as_slice() == list,
+        (ActReply::Refused { refusal }, due) => is_due_refusal(*refusal, due),
+        _ => false,
+    }
+}
+
+fn is_due_refusal(refusal: ShareRefusal, due: Due<'_>) -> bool {
+    match (refusal, due) {
+        (ShareRefusal::GuestFull { free: n }, Due::Full(m))
+        | (ShareRefusal::ScanoutHeld { by: n }, Due::HeldBy(m))
+        | (ShareRefusal::OutOfRange { bytes: n }, Due::Past(m))
+        | (ShareRefusal::InUse { scanout: n }, Due::InUse(m)) => n == m,
+        (ShareRefusal::UnknownKey, Due::Unknown)
+        | (ShareRefusal::NotHeld, Due::NotHeld)
+        | (ShareRefusal::ResourceLive, Due::Live) => true,
+        _ => false,
+    }
+}
