@@ -1,5 +1,5 @@
 -- What a client holds, and what it may ask of the device. All of it is our own.
-use Rattle.std.specs.Prelude.{◌≡◌, ◌^◌, ℕ, ◌==◌, ◌||◌, ◌&&◌, Bool, true, false, not, nat_le, if◌then◌else◌, List, [], ◌∷◌, ◌++◌, length, Option, Some, None, Result, Ok, Err}
+use Rattle.std.specs.Prelude.{◌≡◌, ◌≢◌, ◌<◌, ◌^◌, ℕ, ◌==◌, ◌||◌, ◌&&◌, Bool, true, false, not, nat_le, if◌then◌else◌, List, [], ◌∷◌, ◌++◌, length, Option, Some, None, Result, Ok, Err}
 use Rattle.std.specs.List.{list_any}
 use Rattle.vg_wire.specs.declared.header.Header.{Header}
 use Rattle.vg_wire.specs.declared.request.Queue.{Queue}
@@ -101,3 +101,10 @@ denied_of holds queue bytes = denied_request holds (request_of queue bytes)
 -- The client may ask this of the device.
 abbrev pub Allowed : Holds → Queue → List ℕ → Type 0
 Allowed holds queue bytes = denied_of holds queue bytes ≡ None
+
+-- A client may be denied this: a name whenever; a resource that isn't 0 and whose buffer it doesn't hold; a scanout that there
+-- is and that isn't leased to it.
+abbrev pub Deniable : Holds → What → Type 0
+Deniable holds Name = Unit {0}
+Deniable holds (Resource n) = (n ≢ 0) × (list_any (has_key n) holds.buffers ≡ false)
+Deniable holds (Scanout n) = (n < holds.displays) × (has_number n holds.scanouts ≡ false)

@@ -1,11 +1,14 @@
 use Rattle.std.specs.Prelude.{◌≡◌, ◌≢◌, ◌≤◌, ◌<◌, ◌+◌, ◌-◌, ◌==◌, ℕ, Bool, true, false, List, [], ◌∷◌, ◌++◌, map, filter, count_by, nat_le, if◌then◌else◌}
-use Rattle.std.specs.List.{range_with_len, AllByRecursion}
+use Rattle.std.specs.List.{range_with_len, AllByRecursion, fold}
 use Rattle.vg_machine.specs.declared.setup.Setup.{Setup}
 use Rattle.vg_machine.specs.declared.act.Act.{Act}
 use Rattle.vg_machine.specs.declared.act.Act.TheVariants.{Enter, Release, Free, Drop, Leave}
 use Rattle.vg_machine.specs.declared.history.Entry.{Entry}
 use Rattle.vg_machine.specs.declared.history.Entry.TheVariants as entries
 use Rattle.vg_machine.specs.Lane.{lane_of}
+use Rattle.vg_machine.specs.declared.act.Act.TheVariants as acts
+use Rattle.vg_machine.specs.declared.holds.Holds.{Holds}
+use Rattle.vg_machine.specs.Holds.{Allowed, Deniable, first_holds, update}
 use Rattle.vg_machine.specs.Replay.{Agrees}
 
 abbrev pub client_of : Entry → ℕ
@@ -88,7 +91,32 @@ abbrev pub AreInOrder : List Entry → List Entry → Type 0
 AreInOrder before [] = Unit {0}
 AreInOrder before (entry ∷ more) = IsInOrder before entry × AreInOrder (before ++ entry ∷ []) more
 
+-- What a client holds after one of its entries.
+abbrev pub updated : Holds → Entry → Holds
+updated holds (entries.Act client call act reply) = update holds act reply
+updated holds (entries.Command client call request reply) = holds
+
+-- What the client of these holds holds after an entry of any client.
+abbrev pub holds_after : Holds → Entry → Holds
+holds_after holds entry = if client_of entry == holds.client then updated holds entry else holds
+
+-- What a client holds after these entries.
+abbrev pub holds_of : Setup → ℕ → List Entry → Holds
+holds_of setup client H = fold holds_after (first_holds setup client) H
+
+-- A command is one that its client may ask, by what it holds; and what a client was denied is something that it may be denied.
+abbrev pub IsAllowed : Holds → Entry → Type 0
+IsAllowed holds (entries.Command client call request reply) = Allowed holds request.queue request.bytes
+IsAllowed holds (entries.Act client call (acts.Denied what) reply) = Deniable holds what
+IsAllowed holds (entries.Act client call act reply) = Unit {0}
+
+-- Each of these entries is allowed, by what its client holds after those before it.
+abbrev pub AreAllowed : Setup → List Entry → List Entry → Type 0
+AreAllowed setup before [] = Unit {0}
+AreAllowed setup before (entry ∷ more) = IsAllowed (holds_of setup (client_of entry) before) entry × AreAllowed setup (before ++ entry ∷ []) more
+
 -- A history that the display and its clients can have.
 pub record Sound (setup : Setup) (H : List Entry) : Type 0 where
   pub agrees : Agrees setup H
   pub order : AreInOrder [] H
+  pub allowed : AreAllowed setup [] H

@@ -1,6 +1,6 @@
 use Rattle.std.specs.Prelude.{◌≡◌, List, [], ◌∷◌}
 use Rattle.vg_machine.specs.declared.setup.Setup.{Setup}
-use Rattle.vg_machine.specs.declared.shape.Shape.TheVariants.{Plain}
+use Rattle.vg_machine.specs.declared.shape.Shape.TheVariants.{Plain, Indirect}
 use Rattle.vg_machine.specs.declared.shape.Shape.{Shape}
 use Rattle.vg_machine.specs.declared.history.Entry.{Entry}
 use Rattle.vg_machine.specs.declared.history.Entry.TheVariants as entries
@@ -11,11 +11,16 @@ use Rattle.vg_machine.specs.State.{State, start}
 use Rattle.vg_machine.specs.ActStep.{act_step}
 use Rattle.vg_machine.specs.Step.{step}
 
--- A request of this shape: the display after it, and the reply.
-abbrev pub shaped_step : Shape → State → Request → State × Reply
-shaped_step Plain state request =
+-- A request as its bytes say: the display after it, and the reply.
+abbrev pub plain_step : State → Request → State × Reply
+plain_step state request =
     let done = step state request.queue request.bytes request.room in
     (done.0, replies.Response done.1)
+
+-- A request of this shape: in either its bytes come whole.
+abbrev pub shaped_step : Shape → State → Request → State × Reply
+shaped_step Plain state request = plain_step state request
+shaped_step Indirect state request = plain_step state request
 
 -- A request: the display after it, and the reply.
 abbrev pub request_step : State → Request → State × Reply

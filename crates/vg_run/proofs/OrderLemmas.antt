@@ -60,7 +60,7 @@ range-suc first (suc count) =
     let e : first + suc count ≡ (first + 1) + count = omega arith in
     ap (λ (n : ℕ). first ∷ (range_with_len (first + 1) count ++ n ∷ [])) e ∙ ap (λ (rest : List ℕ). first ∷ rest) (range-suc (first + 1) count)
 
-range-more : (first count n : ℕ) → first + count ≡ n → range_with_len first count ++ n ∷ [] ≡ range_with_len first (count + 1)
+pub range-more : (first count n : ℕ) → first + count ≡ n → range_with_len first count ++ n ∷ [] ≡ range_with_len first (count + 1)
 range-more first count n e =
     let next : suc count ≡ count + 1 = omega arith in
     ap (λ (m : ℕ). range_with_len first count ++ m ∷ []) (sym e) ∙ range-suc first count ∙ ap (range_with_len first) next
@@ -69,7 +69,7 @@ map-more : (H : List Entry) (entry : Entry) → map call_of (H ++ entry ∷ []) 
 map-more [] entry = refl
 map-more (first ∷ more) entry = ap (λ (rest : List ℕ). call_of first ∷ rest) (map-more more entry)
 
-all-more : (P : Entry → Type 0) (H : List Entry) (entry : Entry) → AllByRecursion P H → P entry → AllByRecursion P (H ++ entry ∷ [])
+pub all-more : (P : Entry → Type 0) (H : List Entry) (entry : Entry) → AllByRecursion P H → P entry → AllByRecursion P (H ++ entry ∷ [])
 all-more P [] entry all here = (here, tt)
 all-more P (first ∷ more) entry all here = (all.0, all-more P more entry all.1 here)
 

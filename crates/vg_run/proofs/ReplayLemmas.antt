@@ -10,7 +10,7 @@ use Rattle.vg_wire.specs.declared.two_d.Command2d.TheVariants.{DisplayInfo, Crea
 use Rattle.vg_wire.specs.Request.{request_of}
 use Rattle.vg_machine.specs.declared.setup.Setup.{Setup}
 use Rattle.vg_machine.specs.declared.shape.Shape.{Shape}
-use Rattle.vg_machine.specs.declared.shape.Shape.TheVariants.{Plain}
+use Rattle.vg_machine.specs.declared.shape.Shape.TheVariants.{Plain, Indirect}
 use Rattle.vg_formats.specs.declared.rect.Rect.{Rect}
 use Rattle.vg_wire.specs.declared.response.Response.{Response}
 use Rattle.vg_machine.specs.declared.act.Act.{Act}
@@ -88,9 +88,11 @@ answer_of-like state (Err malformed) = like-itself state
 
 shaped-setup : (shape : Shape) (state : State) (request : Request) → (shaped_step shape state request).0.setup ≡ state.setup
 shaped-setup Plain state request = (answer_of-like state (request_of request.queue request.bytes)).setup
+shaped-setup Indirect state request = (answer_of-like state (request_of request.queue request.bytes)).setup
 
 shaped-entries : (shape : Shape) (state : State) (request : Request) → (shaped_step shape state request).0.entries ≡ state.entries + 1
 shaped-entries Plain state request = ap (λ n. n + 1) (answer_of-like state (request_of request.queue request.bytes)).entries
+shaped-entries Indirect state request = ap (λ n. n + 1) (answer_of-like state (request_of request.queue request.bytes)).entries
 
 -- an act that is refused or not
 like-replied : (refusal : Option ShareRefusal) (state next : State) (reply : ActReply) → IsLike state next → IsLike state (replied_by refusal state next reply).0
@@ -112,6 +114,7 @@ effect-like state client Leave = record { setup = refl; entries = refl }
 -- a request runs as its bytes say
 pub shaped-plain : (shape : Shape) (state : State) (request : Request) → shaped_step shape state request ≡ ((step state request.queue request.bytes request.room).0, replies.Response (step state request.queue request.bytes request.room).1)
 shaped-plain Plain state request = refl
+shaped-plain Indirect state request = refl
 
 -- no entry changes the setup, and each is counted
 pub after-setup : (state : State) (entry : Entry) → (after state entry).setup ≡ state.setup
@@ -130,7 +133,7 @@ agrees-more : (state : State) (H : List Entry) (entry : Entry) → AgreesFrom st
 agrees-more state [] entry agrees reply = (reply, tt)
 agrees-more state (first ∷ more) entry agrees reply = (agrees.0, agrees-more (after state first) more entry agrees.1 reply)
 
-fold-more : {A B : Type 0} (f : B → A → B) (a : B) (xs : List A) (x : A) → fold f a (xs ++ x ∷ []) ≡ f (fold f a xs) x
+pub fold-more : {A B : Type 0} (f : B → A → B) (a : B) (xs : List A) (x : A) → fold f a (xs ++ x ∷ []) ≡ f (fold f a xs) x
 fold-more f a [] x = refl
 fold-more f a (first ∷ more) x = fold-more f (f a first) more x
 

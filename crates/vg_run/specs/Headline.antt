@@ -1,8 +1,8 @@
-use Rattle.std.specs.Prelude.{◌≡◌, ℕ, List, [], ◌∷◌, codes, Option, IfSome}
+use Rattle.std.specs.Prelude.{◌≡◌, ◌≤◌, ℕ, length, List, [], ◌∷◌, codes, Option, IfSome}
 use Rattle.vg_io.specs.Streams.{IsAtEnd, Takes, TakesSome}
 use Rattle.vg_machine.specs.declared.history.Entry.{Entry}
-use Rattle.vg_run.specs.declared.script.Script.{Script}
-use Rattle.vg_run.specs.Grammar.{Parses}
+use Rattle.vg_script.specs.declared.types.Script.{Script}
+use Rattle.vg_script.specs.Grammar.{Parses}
 use Rattle.vg_run.specs.Legal.{Legal, journal_of}
 use Rattle.vg_run.specs.Text.{text_of}
 
@@ -10,9 +10,13 @@ use Rattle.vg_run.specs.Text.{text_of}
 abbrev pub IsRun : List (List ℕ) → Type 0
 IsRun words = words ≡ codes "run" ∷ []
 
+-- No more bytes than a script may have.
+abbrev pub IsWithin : List ℕ → Type 0
+IsWithin bytes = length bytes ≤ 16777216
+
 -- The bytes are a script, and the sink took the journal of one history that is legal for it.
 abbrev pub Writes : Option (List ℕ) → Option (List ℕ) → List ℕ → Type 0
-Writes held held' bytes = (script : Script) × Parses bytes script × ((H : List Entry) × Legal script H × Takes held held' (text_of (journal_of script H)))
+Writes held held' bytes = (script : Script) × IsWithin bytes × Parses bytes script × ((H : List Entry) × Legal script H × Takes held held' (text_of (journal_of script H)))
 
 -- A run from a source to a sink: the source was read to its end, and what it gave was run and written.
 abbrev pub Runs : Option (List ℕ) → Option (List ℕ) → Option (List ℕ) → Option (List ℕ) → Type 0
@@ -20,7 +24,7 @@ Runs left left' held held' = IsAtEnd left' × IfSome left (Writes held held')
 
 -- The same as far as a front of the journal: nothing, or more.
 abbrev pub WritesSome : Option (List ℕ) → Option (List ℕ) → List ℕ → Type 0
-WritesSome held held' bytes = (script : Script) × Parses bytes script × ((H : List Entry) × Legal script H × TakesSome held held' (text_of (journal_of script H)))
+WritesSome held held' bytes = (script : Script) × IsWithin bytes × Parses bytes script × ((H : List Entry) × Legal script H × TakesSome held held' (text_of (journal_of script H)))
 
 abbrev pub RunsPartly : Option (List ℕ) → Option (List ℕ) → Option (List ℕ) → Option (List ℕ) → Type 0
 RunsPartly left left' held held' = IsAtEnd left' × IfSome left (WritesSome held held')

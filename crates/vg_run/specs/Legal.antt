@@ -6,16 +6,17 @@ use Rattle.vg_machine.specs.declared.history.Entry.{Entry}
 use Rattle.vg_machine.specs.declared.history.Entry.TheVariants as entries
 use Rattle.vg_machine.specs.Replay.{replay}
 use Rattle.vg_machine.specs.Order.{Sound, client_of}
-use Rattle.vg_run.specs.declared.script.Line.{Line}
-use Rattle.vg_run.specs.declared.script.Script.{Script}
+use Rattle.vg_script.specs.declared.types.Line.{Line}
+use Rattle.vg_script.specs.declared.types.Script.{Script}
 use Rattle.vg_run.specs.declared.journal.Journal.{Journal}
-use Rattle.vg_run.specs.Grammar.{setup_of}
+use Rattle.vg_machine.specs.declared.setup.Setup.{Setup}
+use Rattle.vg_run.specs.Setup.{setup_of}
 use Rattle.vg_run.specs.Calls.{Follows}
 
 -- Each client follows its lines, from this client on.
-abbrev pub FollowAll : ℕ → List (List Line) → List Entry → Type 0
-FollowAll client [] H = Unit {0}
-FollowAll client (lines ∷ more) H = Follows lines H client × FollowAll (client + 1) more H
+abbrev pub FollowAll : Setup → ℕ → List (List Line) → List Entry → Type 0
+FollowAll setup client [] H = Unit {0}
+FollowAll setup client (lines ∷ more) H = Follows setup lines H client × FollowAll setup (client + 1) more H
 
 -- The entry belongs to a client of the script.
 abbrev pub IsOfClients : Script → Entry → Type 0
@@ -24,7 +25,7 @@ IsOfClients script entry = (1 ≤ client_of entry) × (client_of entry ≤ lengt
 -- A history that the clients of the script can have with the display.
 pub record Legal (script : Script) (H : List Entry) : Type 0 where
   pub sound : Sound (setup_of script) H
-  pub follows : FollowAll 1 script.clients H
+  pub follows : FollowAll (setup_of script) 1 script.clients H
   pub clients : AllByRecursion (IsOfClients script) H
 
 abbrev pub is_control : Queue → Bool

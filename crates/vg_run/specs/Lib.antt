@@ -1,8 +1,14 @@
 pub mod Text
-pub mod Grammar
+pub mod Setup
+pub mod Names
+pub mod Known
+pub mod Client
+pub mod Moves
+pub mod Tasks
 pub mod Calls
 pub mod Legal
 pub mod Session
-pub mod Status
+pub mod Refs
 pub mod Headline
+pub mod Status
 pub mod Printing

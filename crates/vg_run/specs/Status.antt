@@ -1,18 +1,20 @@
-use Rattle.std.specs.Prelude.{ℕ, List, Option, IfSome, ⊤}
+use Rattle.std.specs.Prelude.{ℕ, ◌<◌, length, List, Option, IfSome, ⊤}
 use Rattle.vg_io.specs.Streams.{Rose, Takes, TakesSome}
 use Rattle.vg_machine.specs.declared.history.Entry.{Entry}
-use Rattle.vg_run.specs.declared.script.Script.{Script}
+use Rattle.vg_script.specs.declared.types.Script.{Script}
 use Rattle.vg_run.specs.declared.top.Status.{Status}
-use Rattle.vg_run.specs.declared.top.Status.TheVariants.{Done, Usage, ReadFault, WriteFault, NoMemory}
+use Rattle.vg_run.specs.declared.top.Status.TheVariants.{Done, Usage, ReadFault, WriteFault, TooLong, NoMemory}
 use Rattle.vg_run.specs.declared.top.Status.TheVariants as statuses
-use Rattle.vg_run.specs.Grammar.{Faulty}
+use Rattle.vg_script.specs.Grammar.{Faulty}
+use Rattle.vg_run.specs.Headline.{IsWithin}
 use Rattle.vg_run.specs.Legal.{Legal, journal_of}
 use Rattle.vg_run.specs.Text.{text_of}
 
--- Why a script couldn't be had from a source that had these bytes: its text has that fault, a read failed, or memory ran out.
+-- Why a script couldn't be had from a source that had these bytes: its text has that fault, a read failed, it has more bytes than a script may have, or memory ran out.
 abbrev pub Unread : Status → Option (List ℕ) → ℕ → ℕ → Type 0
-Unread (statuses.Script line kind) left faults faults' = IfSome left (λ bytes. Faulty bytes line kind)
+Unread (statuses.Script line kind) left faults faults' = IfSome left (λ bytes. IsWithin bytes × Faulty bytes line kind)
 Unread ReadFault left faults faults' = Rose faults faults'
+Unread TooLong left faults faults' = IfSome left (λ bytes. 16777216 < length bytes)
 Unread NoMemory left faults faults' = ⊤
 Unread Done left faults faults' = ⊥
 Unread Usage left faults faults' = ⊥
@@ -31,5 +33,6 @@ Ended Done script held held' faults faults' = Wrote script held held'
 Ended WriteFault script held held' faults faults' = Rose faults faults' × WroteSome script held held'
 Ended NoMemory script held held' faults faults' = WroteSome script held held'
 Ended (statuses.Script line kind) script held held' faults faults' = ⊥
+Ended TooLong script held held' faults faults' = ⊥
 Ended ReadFault script held held' faults faults' = ⊥
 Ended Usage script held held' faults faults' = ⊥

@@ -3,7 +3,7 @@ use Rattle.hex.specs.Hex.{encode_lower}
 use Rattle.vg_machine.specs.declared.setup.Setup.{Setup}
 use Rattle.vg_machine.specs.declared.scanout.Frame.{Frame}
 use Rattle.vg_machine.specs.declared.shape.Shape.{Shape}
-use Rattle.vg_machine.specs.declared.shape.Shape.TheVariants.{Plain}
+use Rattle.vg_machine.specs.declared.shape.Shape.TheVariants.{Plain, Indirect}
 use Rattle.vg_machine.specs.declared.act.Act.{Act}
 use Rattle.vg_machine.specs.declared.act.Act.TheVariants.{Enter, Reserve, Store, Load, Release, Free, Take, Drop, Denied, Leave}
 use Rattle.vg_machine.specs.declared.act.What.{What}
@@ -92,6 +92,7 @@ act_reply_text (act_replies.Refused refusal) = refusal_text refusal
 
 abbrev pub shape_text : Shape → List ℕ
 shape_text Plain = codes "plain"
+shape_text Indirect = codes "indirect"
 
 abbrev pub reply_text : Reply → List ℕ
 reply_text (Response bytes) = hex_text bytes

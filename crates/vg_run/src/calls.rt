@@ -1,144 +1,153 @@
-//! The calls of one client, each with the entries that it gives.
+//! The calls that lines of a script make.
 
-ghost use Rattle.std.specs.Prelude.{◌≡◌, ◌≢◌, ◌<◌, ◌≤◌, ◌-◌, ◌+◌, ◌^◌, ◌++◌, ◌∷◌, [], List, ℕ, length, count_by, IfOk, OnOk};
-ghost use Rattle.vg_wire.specs.declared.request.Queue.TheVariants as queues;
-ghost use Rattle.vg_machine.specs.Lane.{lane_of};
-ghost use Rattle.vg_machine.specs.Setup.{IsSetup};
-ghost use Rattle.vg_machine.specs.declared.act.Act.TheVariants as acts;
-ghost use Rattle.vg_machine.specs.declared.act.ActReply.TheVariants as act_replies;
+ghost use Rattle.std.specs.Prelude.{◌≡◌, ◌≤◌, ◌<◌, ◌+◌, ◌-◌, ◌^◌, ◌++◌, List, IfOk, OnOk};
 ghost use Rattle.vg_machine.specs.declared.history.Entry.{Entry as Entries};
-ghost use Rattle.vg_machine.specs.declared.history.Entry.TheVariants as entries;
+ghost use Rattle.vg_script.specs.Limits.{StepInLimits};
 ghost use Rattle.vg_run.specs.Calls as calls;
-ghost use Rattle.vg_run.specs.Calls.{Gives};
-ghost use Rattle.vg_run.specs.declared.script.Step.TheVariants as steps;
-ghost use Rattle.vg_run.specs.Session.{IsPresent, IsRun};
+ghost use Rattle.vg_run.specs.Calls.{Gives, newest, refs_after};
+ghost use Rattle.vg_run.specs.Client.{known};
+ghost use Rattle.vg_run.specs.Refs.{IsFitWith, generation_of, refs_of, unplaced};
+ghost use Rattle.vg_run.specs.Session.{IsSmall, Stands};
 
-use crate::script::Step;
+use crate::call::Call;
+use crate::client::{Client, call};
+use crate::names::NameRef;
+use crate::refs::{Refs, bind, ref_of};
 use crate::session::Session;
 use std::alloc::{AllocError, Global};
+use vg_formats::Rect;
 use vg_list::Seq;
-use vg_machine::{Act, Holds, Request, Setup, Shape};
-use vg_wire::{Command, Command2d, Header, Queue, write_request};
+use vg_script::{Area, Step};
 
-/// A client, which draws its own call numbers from 1.
-#[derive(Debug, Drop)]
-pub(crate) struct Client {
-    pub(crate) number: u32,
-    /// How many call numbers it has drawn.
-    pub(crate) used: u64,
-    pub(crate) holds: Holds,
-}
-
-/// The client begins, the first of all.
-pub(crate) fn enter(
-    alloc: Global,
-    session: &mut Session,
-    setup: &Setup,
-    number: u32,
-) -> Result<Client, AllocError>
-    requires setup { IsSetup setup.now }
-    requires empty { session.old.history ≡ [] }
-    ensures setup { session.new.setup ≡ session.old.setup }
-    ensures entry { OnOk result (session.new.history ≡ entries.Act number 1 acts.Enter act_replies.Ok ∷ []) }
-    ensures client { IfOk result (λ client. (client.number ≡ number) × (client.used ≡ 1)) }
-    ensures run { OnOk result (IsRun number 1 session.new.history) }
-    ensures present { OnOk result (IsPresent session.new.history) }
-{
-    let mut holds = Holds::new(alloc, setup, number);
-    session.act(alloc, number, 1, &mut holds, Act::Enter)?;
-    Ok(Client {
-        number,
-        used: 1,
-        holds,
-    })
-}
-
-/// The client makes the call of one line.
-pub(crate) fn call(
+/// Makes the call of a line, and gives the name of a buffer to what the call made.
+pub(crate) fn run_line<'a>(
     alloc: Global,
     session: &mut Session,
     client: &mut Client,
-    step: &Step,
+    refs: &mut Refs<'a>,
+    step: &'a Step,
 ) -> Result<(), AllocError>
-    requires run { IsRun client.old.number client.old.used session.old.history }
-    requires present { IsPresent session.old.history }
-    requires begun { 1 ≤ client.old.used }
-    requires room { client.old.used < 2 ^ 31 - 1 }
+    requires stands { Stands session.old.setup client.old.number client.old.used client.old.holds session.old.history }
+    requires small { IsSmall client.old.used client.old.holds.displays client.old.names client.old.shows.items }
+    requires limits { StepInLimits client.old.holds.displays step.now }
+    requires room { client.old.used + 20 < 2 ^ 31 - 1 }
     ensures setup { session.new.setup ≡ session.old.setup }
     ensures number { client.new.number ≡ client.old.number }
-    ensures used { OnOk result (client.new.used ≡ client.old.used + 1) }
-    ensures gives { OnOk result ((front : List Entries) × Gives client.old.number step.now front
+    ensures displays { OnOk result (client.new.holds.displays ≡ client.old.holds.displays) }
+    ensures used { OnOk result (client.new.used ≤ client.old.used + 19) }
+    ensures gives { OnOk result ((front : List Entries)
+        × Gives client.old.number (known client.old) (calls.call_of_step (refs_of refs.old) step.now) front (known client.new)
         × (session.new.history ≡ session.old.history ++ front)) }
-    ensures run { OnOk result (IsRun client.new.number client.new.used session.new.history) }
-    ensures present { OnOk result (IsPresent session.new.history) }
+    ensures refs { OnOk result (refs_of refs.new ≡ refs_after step.now (newest (known client.old) (known client.new)) (refs_of refs.old)) }
+    ensures stands { OnOk result (Stands session.new.setup client.new.number client.new.used client.new.holds session.new.history) }
+    ensures small { OnOk result (IsSmall client.new.used client.new.holds.displays client.new.names client.new.shows.items) }
+{
+    let asked = call_of(alloc, refs, step)?;
+    let outcome = call(alloc, session, client, &asked)?;
+    name_made(refs, step, outcome.name)
+}
+
+/// Gives the name of a buffer line to what its call made.
+fn name_made<'a>(
+    refs: &mut Refs<'a>,
+    step: &'a Step,
+    made: Option<NameRef>,
+) -> Result<(), AllocError>
+    ensures { OnOk result (refs_of refs.new ≡ refs_after step.now (generation_of made) (refs_of refs.old)) }
 {
     match step {
-        Step::Info => info(alloc, session, client),
+        Step::Buffer { name, .. } => bind(refs, name.as_slice(), made_or_none(made)),
+        _ => Ok(()),
     }
 }
 
-/// The client asks for the display information.
-fn info(alloc: Global, session: &mut Session, client: &mut Client) -> Result<(), AllocError>
-    requires run { IsRun client.old.number client.old.used session.old.history }
-    requires present { IsPresent session.old.history }
-    requires begun { 1 ≤ client.old.used }
-    requires room { client.old.used < 2 ^ 31 - 1 }
-    ensures setup { session.new.setup ≡ session.old.setup }
-    ensures number { client.new.number ≡ client.old.number }
-    ensures used { OnOk result (client.new.used ≡ client.old.used + 1) }
-    ensures gives { OnOk result ((front : List Entries) × Gives client.old.number steps.Info front
-        × (session.new.history ≡ session.old.history ++ front)) }
-    ensures run { OnOk result (IsRun client.new.number client.new.used session.new.history) }
-    ensures present { OnOk result (IsPresent session.new.history) }
+/// The name that was made, or one that is never current.
+fn made_or_none(made: Option<NameRef>) -> NameRef
+    ensures { result.generation ≡ generation_of made }
 {
-    let request = info_request(alloc, session.next_ordinal())?;
-    let number = client.used + 1;
-    session.command(alloc, client.number, number, request)?;
-    client.used = number;
-    Ok(())
+    match made {
+        Some(name) => name,
+        None => NameRef {
+            index: 0,
+            generation: 0,
+        },
+    }
 }
 
-/// The request of GET_DISPLAY_INFO with this ordinal.
-fn info_request(alloc: Global, ordinal: u64) -> Result<Request, AllocError>
-    ensures request { IfOk result (λ request. request ≡ calls.info_request ordinal) }
-    ensures lane { IfOk result (λ request. lane_of queues.Control request.bytes ≡ 0) }
+fn rect_of(area: Area) -> Rect
+    ensures { result ≡ calls.rect_of area }
 {
-    let header = Header {
-        kind: 0x0100,
-        flags: 1,
-        fence_id: ordinal,
-        ctx_id: 0,
-        ring_idx: 0,
-    };
-    let bytes = write_request(alloc, &header, &Command::TwoD(Command2d::DisplayInfo))?;
-    Ok(Request {
-        queue: Queue::Control,
-        lane: 0,
-        ordinal,
-        room: 408,
-        shape: Shape::Plain,
-        bytes: Seq::from_vec(bytes),
+    Rect {
+        x: area.x,
+        y: area.y,
+        width: area.width,
+        height: area.height,
+    }
+}
+
+/// The call that a line makes.
+fn call_of(alloc: Global, refs: &Refs, step: &Step) -> Result<Call, AllocError>
+    ensures same { IfOk result (λ call. unplaced call ≡ calls.call_of_step (refs_of refs.now) step.now) }
+    ensures fit { IfOk result (IsFitWith step.now) }
+{
+    Ok(match step {
+        Step::Info => Call::Info,
+        Step::Buffer {
+            width,
+            height,
+            format,
+            ..
+        } => Call::Buffer {
+            width: *width,
+            height: *height,
+            format: *format,
+        },
+        Step::Store {
+            name,
+            offset,
+            bytes,
+            times,
+        } => Call::Store {
+            name: ref_of(refs, name.as_slice()),
+            offset: *offset,
+            bytes: Seq::from_vec(bytes.as_slice().to_vec(alloc)?),
+            times: *times,
+        },
+        Step::Load {
+            name,
+            offset,
+            length,
+        } => Call::Load {
+            name: ref_of(refs, name.as_slice()),
+            offset: *offset,
+            length: *length,
+        },
+        Step::Send { name, area } => Call::Send {
+            name: ref_of(refs, name.as_slice()),
+            rect: rect_of(*area),
+        },
+        Step::Flush { name, area } => Call::Flush {
+            name: ref_of(refs, name.as_slice()),
+            rect: rect_of(*area),
+        },
+        Step::Take { scanout } => Call::Take { scanout: *scanout },
+        Step::Drop { scanout } => Call::Drop { scanout: *scanout },
+        Step::Hide { scanout } => Call::Hide { scanout: *scanout },
+        Step::Show {
+            scanout,
+            name,
+            area,
+        } => Call::Show {
+            scanout: *scanout,
+            name: ref_of(refs, name.as_slice()),
+            rect: rect_of(*area),
+        },
+        Step::Flip { scanout, name } => Call::Flip {
+            scanout: *scanout,
+            name: ref_of(refs, name.as_slice()),
+        },
+        Step::Close { name } => Call::Close {
+            name: ref_of(refs, name.as_slice()),
+        },
     })
-}
-
-/// The client leaves.
-pub(crate) fn end(alloc: Global, session: &mut Session, client: Client) -> Result<(), AllocError>
-    requires run { IsRun client.number client.used session.old.history }
-    requires present { IsPresent session.old.history }
-    requires begun { 1 ≤ client.used }
-    requires room { client.used < 2 ^ 31 - 1 }
-    ensures setup { session.new.setup ≡ session.old.setup }
-    ensures entry { OnOk result (session.new.history
-        ≡ session.old.history ++ entries.Act client.number (client.used + 1) acts.Leave act_replies.Ok ∷ []) }
-    ensures run { OnOk result (IsRun client.number (client.used + 1) session.new.history) }
-{
-    let mut client = client;
-    session.act(
-        alloc,
-        client.number,
-        client.used + 1,
-        &mut client.holds,
-        Act::Leave,
-    )?;
-    Ok(())
 }

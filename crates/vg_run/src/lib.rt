@@ -1,17 +1,21 @@
 //! Runs a script on the display machine, and writes its journal.
 #![tactic(auto)]
 
+mod call;
 mod calls;
+mod client;
 mod journal;
 mod laws;
+mod names;
+mod refs;
 mod run;
-mod script;
 mod session;
+mod task;
+mod tasks;
 mod top;
 
 pub use journal::{Journal, print};
-pub use laws::{a_script_or_a_fault, at_most_one_history};
-pub use script::{Line, Script, ScriptFault, Step, parse};
+pub use laws::at_most_one_history;
 pub use top::{Status, vgpu};
 
 #[cfg(test)]

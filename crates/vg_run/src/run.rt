@@ -1,32 +1,35 @@
 //! A script's run, from its first client to its journal.
 
-ghost use Rattle.std.specs.Prelude.{◌≡◌, ◌≤◌, [], length, count_by, IfOk, OnOk};
+ghost use Rattle.std.specs.Prelude.{◌≡◌, ◌≤◌, [], All, length, count_by, IfOk, OnOk};
 ghost use Rattle.std.specs.List.{AllByRecursion};
-ghost use Rattle.vg_machine.specs.Order.{AreInOrder, client_of};
+ghost use Rattle.vg_machine.specs.Order.{AreAllowed, AreInOrder, client_of};
 ghost use Rattle.vg_machine.specs.Setup.{IsSetup};
+ghost use Rattle.vg_script.specs.Limits.{ClientInLimits, ScriptInLimits};
 ghost use Rattle.vg_run.specs.Calls.{Follows};
-ghost use Rattle.vg_run.specs.Grammar as grammar;
+ghost use Rattle.vg_run.specs.Setup as setups;
 ghost use Rattle.vg_run.specs.Legal as legal;
-ghost use Rattle.vg_run.specs.Legal.{FollowAll, IsLegalJournal, IsOfClients};
-ghost use Rattle.vg_run.specs.Session.{IsRunnable, ShortLines};
+ghost use Rattle.vg_run.specs.Legal.{FollowAll, IsLegalJournal};
 
-use crate::calls::{call, end, enter};
+use crate::calls::run_line;
+use crate::client::{end, enter};
 use crate::journal::Journal;
-use crate::script::{Line, Script};
+use crate::refs::Refs;
 use crate::session::Session;
 use std::alloc::{AllocError, Global};
+use std::collections::BTreeMap;
 use vg_list::Seq;
 use vg_machine::{Entry, Setup};
+use vg_script::{Line, Script};
 use vg_wire::Queue;
 
 /// Runs a script on a display of its own.
-pub(crate) fn play(alloc: Global, script: &Script) -> Result<Journal, AllocError>
-    requires { IsRunnable script.now }
+pub(crate) fn run(alloc: Global, script: &Script) -> Result<Journal, AllocError>
+    requires { ScriptInLimits script.now }
     ensures { IfOk result (IsLegalJournal script.now) }
 {
-    let setup = setup_of(alloc, script)?;
+    let setup = setup_of(script)?;
     let mut session = Session::new(alloc, &setup)?;
-    play_clients(alloc, &mut session, &setup, script.clients.as_slice())?;
+    run_clients(alloc, &mut session, &setup, script.clients.as_slice())?;
     let (entries, frames) = session.close();
     let control = count_control(entries.as_slice());
     let cursor = count_cursor(entries.as_slice());
@@ -40,11 +43,10 @@ pub(crate) fn play(alloc: Global, script: &Script) -> Result<Journal, AllocError
 }
 
 /// What a script settles before its first client enters.
-fn setup_of(alloc: Global, script: &Script) -> Result<Setup, AllocError>
-    requires { IsRunnable script.now }
-    ensures { IfOk result (λ setup. setup ≡ grammar.setup_of script.now) }
+fn setup_of(script: &Script) -> Result<Setup, AllocError>
+    requires { ScriptInLimits script.now }
+    ensures { IfOk result (λ setup. setup ≡ setups.setup_of script.now) }
 {
-    let _ = alloc;
     Ok(Setup {
         displays: script.displays.clone()?,
         pages: script.pages,
@@ -54,50 +56,56 @@ fn setup_of(alloc: Global, script: &Script) -> Result<Setup, AllocError>
 }
 
 /// Runs the clients, of whom there is one at most.
-fn play_clients(
+fn run_clients(
     alloc: Global,
     session: &mut Session,
     setup: &Setup,
     clients: &[Seq<Line>],
 ) -> Result<(), AllocError>
     requires setup { IsSetup setup.now }
+    requires same { session.old.setup ≡ setup.now }
     requires none { session.old.history ≡ [] }
     requires one { length clients.now ≤ 1 }
-    requires short { ShortLines clients.now }
+    requires short { All (λ lines. length lines ≤ 100000) clients.now }
+    requires limits { All (ClientInLimits (length setup.now.displays)) clients.now }
     ensures setup { session.new.setup ≡ session.old.setup }
-    ensures follows { OnOk result (FollowAll 1 clients.now session.new.history) }
+    ensures follows { OnOk result (FollowAll setup.now 1 clients.now session.new.history) }
     ensures order { OnOk result (AreInOrder [] session.new.history) }
+    ensures allowed { OnOk result (AreAllowed setup.now [] session.new.history) }
     ensures owners { OnOk result (AllByRecursion (λ e. (1 ≤ client_of e) × (client_of e ≤ length clients.now)) session.new.history) }
 {
     match clients {
-        [lines] => play_client(alloc, session, setup, lines.as_slice()),
+        [lines] => run_client(alloc, session, setup, lines.as_slice()),
         _ => Ok(()),
     }
 }
 
 /// Runs client 1.
-fn play_client(
+fn run_client(
     alloc: Global,
     session: &mut Session,
     setup: &Setup,
     lines: &[Line],
 ) -> Result<(), AllocError>
     requires setup { IsSetup setup.now }
+    requires same { session.old.setup ≡ setup.now }
     requires none { session.old.history ≡ [] }
     requires short { length lines.now ≤ 100000 }
+    requires limits { ClientInLimits (length setup.now.displays) lines.now }
     ensures setup { session.new.setup ≡ session.old.setup }
-    ensures follows { OnOk result (Follows lines.now session.new.history 1) }
+    ensures follows { OnOk result (Follows setup.now lines.now session.new.history 1) }
     ensures order { OnOk result (AreInOrder [] session.new.history) }
+    ensures allowed { OnOk result (AreAllowed setup.now [] session.new.history) }
     ensures owners { OnOk result (AllByRecursion (λ e. client_of e ≡ 1) session.new.history) }
 {
     let mut client = enter(alloc, session, setup, 1)?;
+    let mut refs: Refs = BTreeMap::new(alloc);
     for line in lines {
-        call(alloc, session, &mut client, &line.step)?;
+        run_line(alloc, session, &mut client, &mut refs, &line.step)?;
     }
     end(alloc, session, client)?;
     Ok(())
 }
-
 /// Whether the entry is a command on this queue.
 fn is_control(entry: &Entry) -> bool
     ensures { result ≡ legal.is_on_control entry.now }

@@ -1,10 +1,12 @@
 //! A display and the history of all that it was asked.
 
-ghost use Rattle.std.specs.Prelude.{◌≡◌, ◌==◌, ◌<◌, if◌then◌else◌, ◌-◌, ◌+◌, ◌^◌, ◌++◌, ◌∷◌, [], length, count_by, IfOk, OnOk};
+ghost use Rattle.std.specs.Prelude.{◌≡◌, ◌==◌, ◌<◌, if◌then◌else◌, ◌-◌, ◌+◌, ◌^◌, ◌++◌, ◌∷◌, [], List, length, count_by, IfOk, OnOk};
 ghost use Rattle.vg_machine.specs.Setup.{IsSetup};
 ghost use Rattle.vg_machine.specs.Replay.{Agrees, replay};
 ghost use Rattle.vg_machine.specs.Order.{is_of_lane};
 ghost use Rattle.vg_machine.specs.ActStep.{act_step};
+ghost use Rattle.vg_machine.specs.Holds.{update};
+ghost use Rattle.vg_machine.specs.declared.history.Entry.{Entry as Entries};
 ghost use Rattle.vg_machine.specs.declared.history.Entry.TheVariants as entries;
 ghost use Rattle.vg_machine.specs.declared.history.Reply.{Reply as Replies};
 
@@ -66,6 +68,7 @@ impl Session {
         ensures setup { self.new.setup ≡ self.old.setup }
         ensures entry { OnOk result (self.new.history
             ≡ self.old.history ++ entries.Act client call act (act_step (replay self.old.setup self.old.history) client act).1 ∷ []) }
+        ensures holds { OnOk result (holds.new ≡ update holds.old act (act_step (replay self.old.setup self.old.history) client act).1) }
     {
         self.history.reserve(1)?;
         let reply = self.display.act(alloc, client, holds, &act)?;
@@ -110,6 +113,21 @@ impl Session {
         };
         self.history.push(entry).unwrap();
         Ok(())
+    }
+
+    /// How many entries there are.
+    pub(crate) fn len(&self) -> usize
+        ensures { result ≡ length self.now.history }
+    {
+        self.history.len()
+    }
+
+    /// The last entry.
+    pub(crate) fn last(&self) -> &Entry
+        requires { 0 < length self.now.history }
+        ensures { (front : List Entries) × (self.now.history ≡ front ++ result.now ∷ []) }
+    {
+        &self.history[self.history.len() - 1]
     }
 
     /// The history and the frames.

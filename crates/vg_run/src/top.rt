@@ -1,17 +1,17 @@
 //! The program's one call.
 
-ghost use Rattle.std.specs.Prelude.{◌≡◌, ◌≤◌, ◌↔◌, ◌⊎◌, ℕ, map, string_bytes, Err, IfOk, IfErr, IfSome, IsTrue};
+ghost use Rattle.std.specs.Prelude.{◌≡◌, ◌≤◌, ◌↔◌, ◌<◌, ◌⊎◌, ℕ, length, map, string_bytes, Err, IfOk, IfErr, IfSome, IsTrue};
 ghost use Rattle.vg_io.specs.Streams.{GivesUpTo, IsAtEnd, Rose};
-ghost use Rattle.vg_run.specs.Grammar.{Faulty, Parses};
-ghost use Rattle.vg_run.specs.Headline.{IsRun, Runs, RunsPartly};
-ghost use Rattle.vg_run.specs.Session.{IsRunnable};
+ghost use Rattle.vg_script.specs.Grammar.{Faulty, Parses};
+ghost use Rattle.vg_script.specs.Limits.{ScriptInLimits};
+ghost use Rattle.vg_run.specs.Headline.{IsRun, IsWithin, Runs, RunsPartly};
 ghost use Rattle.vg_run.specs.Status.{Ended, Unread};
 
 use crate::journal::print;
-use crate::run::play;
-use crate::script::{Script, parse};
+use crate::run::run;
 use std::alloc::Global;
 use vg_io::{ReadError, Sink, Source, read_all};
+use vg_script::{Script, parse};
 
 /// How a call of the program ended.
 #[derive(Clone, Copy, Debug, PartialEq, Eq)]
@@ -20,18 +20,20 @@ pub enum Status {
     Done,
     /// The words after the program's name aren't known.
     Usage,
-    /// The text is no script: its first fault is on this line, from 1, and of this kind, 2 for a word.
+    /// The text is no script: its first fault is on this line, from 1, and of this kind, as `ScriptFault` has them.
     Script { line: u32, kind: u8 },
     /// A read failed.
     ReadFault,
     /// A write failed.
     WriteFault,
+    /// The source has more bytes than a script may have.
+    TooLong,
     /// Memory ran out.
     NoMemory,
 }
 
 /// How many bytes a script has at most.
-const LIMIT: usize = 28;
+const LIMIT: usize = 16_777_216;
 
 /// Runs the program: `words` are those after its name. The one word `run` reads a script from `source`
 /// and writes its journal to `sink`.
@@ -44,7 +46,7 @@ pub fn vgpu<S: Source, K: Sink>(
     source: &mut S,
     sink: &mut K,
 ) -> Status
-    // The source was read to its end; its bytes are a script; and what the sink took is the journal and
+    // The source was read to its end; its bytes are a script, within the limit; and what the sink took is the journal and
     // the frames of one history that is legal for that script.
     ensures done { result ≡ Status.Done
         → Runs (S.left source.old) (S.left source.new) (K.held sink.old) (K.held sink.new) }
@@ -52,16 +54,18 @@ pub fn vgpu<S: Source, K: Sink>(
     ensures usage { (result ≡ Status.Usage) ↔ ¬ IsRun (map string_bytes words.now) }
     ensures usage_same { result ≡ Status.Usage → (source.new ≡ source.old) × (sink.new ≡ sink.old) }
     ensures script { (line kind : ℕ) → result ≡ Status.Script line kind
-        → IfSome (S.left source.old) (λ bytes. Faulty bytes line kind) × (sink.new ≡ sink.old) }
+        → IfSome (S.left source.old) (λ bytes. IsWithin bytes × Faulty bytes line kind) × (sink.new ≡ sink.old) }
     ensures read_fault { result ≡ Status.ReadFault
         → Rose (S.faults source.old) (S.faults source.new) × (sink.new ≡ sink.old) }
-    ensures read_early { result ≡ Status.ReadFault → GivesUpTo (S.left source.old) (S.left source.new) 28 }
+    ensures read_early { result ≡ Status.ReadFault → GivesUpTo (S.left source.old) (S.left source.new) 16777216 }
+    ensures too_long { result ≡ Status.TooLong
+        → IfSome (S.left source.old) (λ bytes. 16777216 < length bytes) × (sink.new ≡ sink.old) }
     ensures write_fault { result ≡ Status.WriteFault → Rose (K.faults sink.old) (K.faults sink.new)
         × RunsPartly (S.left source.old) (S.left source.new) (K.held sink.old) (K.held sink.new) }
     ensures no_memory { result ≡ Status.NoMemory → (sink.new ≡ sink.old)
         ⊎ RunsPartly (S.left source.old) (S.left source.new) (K.held sink.old) (K.held sink.new) }
 
-    ensures taken { GivesUpTo (S.left source.old) (S.left source.new) 29 }
+    ensures taken { GivesUpTo (S.left source.old) (S.left source.new) 16777217 }
     ensures read_count { S.faults source.old ≤ S.faults source.new }
     ensures write_count { K.faults sink.old ≤ K.faults sink.new }
 {
@@ -87,18 +91,18 @@ fn is_run(words: &[String]) -> bool
 /// The script that a source gives, or why it can't be had.
 fn read_script<S: Source>(alloc: Global, source: &mut S) -> Result<Script, Status>
     ensures end { IfOk result (λ script. IsAtEnd (S.left source.new)) }
-    ensures parses { IfOk result (λ script. IfSome (S.left source.old) (λ bytes. Parses bytes script)) }
-    ensures runnable { IfOk result IsRunnable }
+    ensures parses { IfOk result (λ script. IfSome (S.left source.old) (λ bytes. IsWithin bytes × Parses bytes script)) }
+    ensures runnable { IfOk result ScriptInLimits }
     ensures err { IfErr result (λ status. Unread status (S.left source.old) (S.faults source.old) (S.faults source.new)) }
-    ensures taken { GivesUpTo (S.left source.old) (S.left source.new) 29 }
-    ensures early { result ≡ Err Status.ReadFault → GivesUpTo (S.left source.old) (S.left source.new) 28 }
+    ensures taken { GivesUpTo (S.left source.old) (S.left source.new) 16777217 }
+    ensures early { result ≡ Err Status.ReadFault → GivesUpTo (S.left source.old) (S.left source.new) 16777216 }
     ensures count { S.faults source.old ≤ S.faults source.new }
 {
     let bytes = match read_all(alloc, source, LIMIT) {
         Ok(bytes) => bytes,
         Err(ReadError::Memory) => return Err(Status::NoMemory),
         Err(ReadError::Fault) => return Err(Status::ReadFault),
-        Err(ReadError::TooLong) => return Err(Status::Script { line: 1, kind: 2 }),
+        Err(ReadError::TooLong) => return Err(Status::TooLong),
     };
     match parse(alloc, bytes.as_slice()) {
         Ok(Ok(script)) => Ok(script),
@@ -112,12 +116,12 @@ fn read_script<S: Source>(alloc: Global, source: &mut S) -> Result<Script, Statu
 
 /// Runs a script, and writes its journal.
 fn write_run<K: Sink>(alloc: Global, script: &Script, sink: &mut K) -> Status
-    requires { IsRunnable script.now }
+    requires { ScriptInLimits script.now }
     ensures ended { (Ended result script.now (K.held sink.old) (K.held sink.new) (K.faults sink.old) (K.faults sink.new))
         ⊎ ((result ≡ Status.NoMemory) × (sink.new ≡ sink.old)) }
     ensures count { K.faults sink.old ≤ K.faults sink.new }
 {
-    let journal = match play(alloc, script) {
+    let journal = match run(alloc, script) {
         Ok(journal) => journal,
         Err(_) => return Status::NoMemory,
     };

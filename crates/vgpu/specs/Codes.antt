@@ -1,6 +1,6 @@
 use Rattle.std.specs.Prelude.{ℕ, ◌==◌, if◌then◌else◌, Option, None, Some}
 use Rattle.vg_run.specs.declared.top.Status.{Status}
-use Rattle.vg_run.specs.declared.top.Status.TheVariants.{Done, Usage, ReadFault, WriteFault, NoMemory}
+use Rattle.vg_run.specs.declared.top.Status.TheVariants.{Done, Usage, ReadFault, WriteFault, TooLong, NoMemory}
 use Rattle.vg_run.specs.declared.top.Status.TheVariants as statuses
 use Rattle.vgpu.specs.declared.fault.Kind.{Kind}
 use Rattle.vgpu.specs.declared.fault.Kind.TheVariants.{Text, Word, Number, Limit, Name, WaitCycle}
@@ -14,6 +14,7 @@ exit_code Usage = 2
 exit_code (statuses.Script line kind) = 3
 exit_code ReadFault = 4
 exit_code WriteFault = 5
+exit_code TooLong = 6
 exit_code NoMemory = 7
 
 -- What is wrong with a line, by its number from 1 to 6.
@@ -33,4 +34,5 @@ fault_told Usage = Some faults.Usage
 fault_told (statuses.Script line kind) = Some (faults.Script line (kind_told kind))
 fault_told ReadFault = Some faults.ReadFault
 fault_told WriteFault = Some faults.WriteFault
+fault_told TooLong = Some faults.TooLong
 fault_told NoMemory = Some faults.NoMemory

@@ -17,6 +17,8 @@ pub enum Fault {
     ReadFault,
     #[error("write fault")]
     WriteFault,
+    #[error("too long")]
+    TooLong,
     #[error("out of memory")]
     NoMemory,
 }
@@ -65,6 +67,7 @@ pub fn fault_of(status: Status) -> Option<Fault>
         }),
         Status::ReadFault => Some(Fault::ReadFault),
         Status::WriteFault => Some(Fault::WriteFault),
+        Status::TooLong => Some(Fault::TooLong),
         Status::NoMemory => Some(Fault::NoMemory),
     }
 }
@@ -79,6 +82,7 @@ pub fn code_of(status: Status) -> u8
         Status::Script { .. } => 3,
         Status::ReadFault => 4,
         Status::WriteFault => 5,
+        Status::TooLong => 6,
         Status::NoMemory => 7,
     }
 }

@@ -41,6 +41,7 @@ fn each_status_has_its_text_and_code(rt: HostRuntime) -> Result<(), Fail> {
         ),
         (Status::ReadFault, 4, "read fault"),
         (Status::WriteFault, 5, "write fault"),
+        (Status::TooLong, 6, "too long"),
         (Status::NoMemory, 7, "out of memory"),
     ];
     for (status, code, text) in said {

@@ -211,6 +211,7 @@ fn put_shape(out: &mut Vec<u8>, shape: &Shape) -> Result<(), AllocError>
 {
     match shape {
         Shape::Plain => put(out, b"plain"),
+        Shape::Indirect => put(out, b"indirect"),
     }
 }
 

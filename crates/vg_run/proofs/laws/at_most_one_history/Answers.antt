@@ -1,4 +1,4 @@
-use Rattle.vg_run.specs.Grammar.{setup_of}
+use Rattle.vg_run.specs.Setup.{setup_of}
 use Rattle.vg_run.proofs.LawLemmas.{same_history}
 use Rattle.vg_run.proofs.laws.at_most_one_history.Goals as goal
 

@@ -1,0 +1,20 @@
+-- The names that words were last given to, after one more was given.
+use Rattle.std.proofs.Common.{◌≡◌, ℕ, Bool, true, false, cond, List, refl, ◌∙◌, ap, Bor, bytes_eq, Option, Some}
+use mathlib.Core.Path.{fun_ext}
+use Rattle.std.proofs.lemmas.Map.Text.{is_eq-slice_cmp}
+use Rattle.std.specs.BTreeMap.{BTreeMap, UpdatesBy, get_by}
+use Rattle.std.specs.Cmp.Lexicographic.{slice_cmp}
+use Rattle.std.specs.Ordering.{nat_cmp}
+use Rattle.vg_run.specs.declared.names.NameRef.{NameRef}
+use Rattle.vg_run.specs.Calls.{with_ref}
+use Rattle.vg_run.specs.Refs.{generation_of, refs_of}
+
+chosen : (b : Bool) (one other : Option NameRef) → generation_of (cond b one other) ≡ cond b (generation_of one) (generation_of other)
+chosen true one other = refl
+chosen false one other = refl
+
+pub refs-bound : (old new : BTreeMap (Bor (List ℕ)) NameRef) (word : List ℕ) (name : NameRef) → UpdatesBy (λ x y. slice_cmp nat_cmp x.now y.now) (λ k. slice_cmp nat_cmp word k.now) old new (Some name)
+    → refs_of new ≡ with_ref word name.generation (refs_of old)
+refs-bound old new word name updates =
+    fun_ext (λ q. ap generation_of (updates.0 (record { ref_ptr = (0, 0); now = q })) ∙ ap (λ b. generation_of (cond b (Some name) (get_by (λ k. slice_cmp nat_cmp q k.now) old))) (is_eq-slice_cmp word q)
+    ∙ chosen (bytes_eq word q) (Some name) (get_by (λ k. slice_cmp nat_cmp q k.now) old))

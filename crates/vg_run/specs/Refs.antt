@@ -1,0 +1,37 @@
+use Rattle.std.specs.Prelude.{ℕ, List, Option, Some, None}
+use Rattle.std.specs.BTreeMap.{BTreeMap, get_by}
+use Rattle.std.specs.Cmp.Lexicographic.{slice_cmp}
+use Rattle.std.specs.Ordering.{nat_cmp}
+use denote.Ref.{Bor}
+use Rattle.vg_script.specs.declared.types.Step.{Step}
+use Rattle.vg_script.specs.Limits.{StepInLimits}
+use Rattle.vg_run.specs.declared.call.Call.{Call}
+use Rattle.vg_run.specs.declared.call.Call.TheVariants as calls
+use Rattle.vg_run.specs.declared.names.NameRef.{NameRef}
+use Rattle.vg_run.specs.Session.{IsCallFit}
+
+abbrev pub generation_of : Option NameRef → ℕ
+generation_of (Some name) = name.generation
+generation_of None = 0
+
+-- The generation of the name that each word was last given to.
+abbrev pub refs_of : BTreeMap (Bor (List ℕ)) NameRef → (List ℕ → ℕ)
+refs_of refs = λ word. generation_of (get_by (λ k. slice_cmp nat_cmp word k.now) refs)
+
+-- A name without its place, which tells nothing of what it is.
+abbrev pub without_place : NameRef → NameRef
+without_place name = record { index = 0; generation = name.generation }
+
+abbrev pub unplaced : Call → Call
+unplaced (calls.Store name offset bytes times) = calls.Store (without_place name) offset bytes times
+unplaced (calls.Load name offset n) = calls.Load (without_place name) offset n
+unplaced (calls.Send name rect) = calls.Send (without_place name) rect
+unplaced (calls.Flush name rect) = calls.Flush (without_place name) rect
+unplaced (calls.Show scanout name rect) = calls.Show scanout (without_place name) rect
+unplaced (calls.Flip scanout name) = calls.Flip scanout (without_place name)
+unplaced (calls.Close name) = calls.Close (without_place name)
+unplaced call = call
+
+-- The call is within its limits where the line is.
+abbrev pub IsFitWith : Step → Call → Type 0
+IsFitWith step call = (displays : ℕ) → StepInLimits displays step → IsCallFit displays call

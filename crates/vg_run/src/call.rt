@@ -1,0 +1,91 @@
+//! The calls of a client, and what they give.
+
+use crate::names::NameRef;
+use vg_formats::Rect;
+use vg_list::Seq;
+use vg_machine::{ActReply, Reply};
+
+/// A call of a client. Offsets and lengths are in bytes, rectangles in pixels.
+#[derive(Debug, Drop)]
+pub(crate) enum Call {
+    /// Asks for the display information.
+    Info,
+    /// Makes a buffer of pixels, with a resource that has its pages as its backing.
+    Buffer {
+        width: u32,
+        height: u32,
+        format: u32,
+    },
+    /// Writes `bytes` into a buffer, so many times one after another.
+    Store {
+        name: NameRef,
+        offset: u32,
+        bytes: Seq<u8>,
+        times: u32,
+    },
+    /// Reads bytes of a buffer.
+    Load {
+        name: NameRef,
+        offset: u32,
+        length: u32,
+    },
+    /// Transfers a rectangle of a buffer to the device.
+    Send {
+        name: NameRef,
+        rect: Rect,
+    },
+    /// Flushes a rectangle of a buffer to the scanouts that show it.
+    Flush {
+        name: NameRef,
+        rect: Rect,
+    },
+    /// Leases a scanout.
+    Take {
+        scanout: u32,
+    },
+    /// Ends a lease.
+    Drop {
+        scanout: u32,
+    },
+    /// Shows nothing on a scanout.
+    Hide {
+        scanout: u32,
+    },
+    /// Shows a rectangle of a buffer on a scanout.
+    Show {
+        scanout: u32,
+        name: NameRef,
+        rect: Rect,
+    },
+    /// Transfers, shows and flushes a whole buffer.
+    Flip {
+        scanout: u32,
+        name: NameRef,
+    },
+    /// Gives a buffer up.
+    Close {
+        name: NameRef,
+    },
+}
+
+/// What a command was answered, and the number of its entry.
+#[derive(Debug, Drop)]
+pub(crate) struct Answer {
+    pub(crate) entry: u64,
+    pub(crate) reply: Reply,
+}
+
+/// The reply of a call's last entry.
+#[derive(Debug, Drop)]
+pub(crate) enum Last {
+    Act { reply: ActReply },
+    Command { answer: Answer },
+}
+
+/// What a call gave: the numbers of its entries, the reply of the last of them, and the name that it made, if it made one.
+#[derive(Debug, Drop)]
+pub(crate) struct Outcome {
+    pub(crate) entries: Seq<u64>,
+    pub(crate) last: Last,
+    pub(crate) name: Option<NameRef>,
+}
