@@ -5,7 +5,7 @@ use Rattle.vg_machine.specs.declared.setup.Setup.{Setup}
 use Rattle.vg_machine.specs.Holds.{first_holds}
 use Rattle.vg_run.specs.Names.{NamesState}
 
--- `shows` has for each scanout the key of the buffer that the client shows there, if it does.
+-- `shows` has for each scanout the key that the client showed there last, if nothing of its own has freed the scanout since.
 pub record Known : Type 0 where
   pub holds : Holds
   pub names : NamesState

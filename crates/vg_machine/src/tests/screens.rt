@@ -51,20 +51,20 @@ fn a_flush_shows_what_lies_in_both(rt: HostRuntime) -> Result<(), Fail> {
         Command("attach", ATTACH, &[1, 1, 0x10_0000, 0, 48, 0], OK),
         Command("transfer", TRANSFER, &[0, 0, 4, 3, 0, 0, 1, 0], OK),
         Command(
-            "show columns 1 to 3 of rows 1 and 2",
+            "show columns 1 to 3 of the last two rows",
             SET_SCANOUT,
             &[1, 1, 3, 2, 0, 1],
             OK,
         ),
         Command(
-            "flush columns 0 to 2 of rows 0 and 1",
+            "flush columns 0 to 2 of the first two rows",
             FLUSH,
             &[0, 0, 3, 2, 1, 0],
             OK,
         ),
         Command("flush the last pixel", FLUSH, &[3, 2, 1, 1, 1, 0], OK),
         Command(
-            "flush row 0, which isn't shown",
+            "flush the first row, which isn't shown",
             FLUSH,
             &[0, 0, 4, 1, 1, 0],
             OK,
@@ -156,7 +156,7 @@ fn each_scanout_that_shows_it_makes_a_frame(rt: HostRuntime) -> Result<(), Fail>
         Command("transfer", TRANSFER, &[0, 0, 2, 2, 0, 0, 1, 0], OK),
         Command("another", CREATE, &[2, 1, 2, 2], OK),
         Command(
-            "show row 1 on scanout 1",
+            "show the second row on scanout 1",
             SET_SCANOUT,
             &[0, 1, 2, 1, 1, 1],
             OK,

@@ -66,7 +66,7 @@ fn a_flip_of_another_order_of_bytes(rt: HostRuntime) -> Result<(), Fail> {
     writes_parts(&rt, rt.alloc(), text.as_slice(), &PARTS)
 }
 
-/// A transfer of row 1 from column 2 on: byte 4 * (4 * 1 + 2) of the buffer.
+/// A transfer of the second row from column 2 on: byte 4 * (4 * 1 + 2) of the buffer.
 #[test]
 fn a_part_is_sent_from_its_own_place(rt: HostRuntime) -> Result<(), Fail> {
     static PARTS: [&[u8]; 2] = [
