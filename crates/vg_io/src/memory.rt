@@ -1,6 +1,6 @@
 //! A source and a sink in memory, which fail where they are told to.
 
-ghost use Rattle.std.specs.Prelude.{◌≡◌, ◌<◌, ◌≤◌, ◌-◌, ◌+◌, ◌++◌, ◌↔◌, ℕ, List, [], Some, length, take, drop, min, IfOk, OnErr, IsErr};
+ghost use Rattle.std.specs.Prelude.{◌≡◌, ◌<◌, ◌≤◌, ◌-◌, ◌+◌, ◌++◌, ◌↔◌, ℕ, List, [], Some, length, take, drop, min, IfOk, OnErr, OnOk, IsErr};
 ghost use Rattle.vg_io.specs.Streams.{Rose, Gives, IsAtEnd, Takes, next_count};
 ghost use Rattle.vg_io.specs.Memory.{ReadFails, WriteFails};
 
@@ -66,6 +66,7 @@ impl Source for MemSource {
         ensures end { IfOk result (λ n. n ≡ 0 → 0 < length buf.old → IsAtEnd (Some self.new.rest)) }
         ensures none { OnErr result (Gives (Some self.old.rest) (Some self.new.rest) []) }
         ensures cause { OnErr result (Rose self.old.faults self.new.faults) }
+        ensures same { OnOk result (self.new.faults ≡ self.old.faults) }
         ensures count { self.old.faults ≤ self.new.faults }
 
         // When it fails, and what each answer leaves.
@@ -159,6 +160,7 @@ impl Sink for MemSink {
         ensures some { IfOk result (λ n. 0 < length bytes.now → 0 < n) }
         ensures none { OnErr result (Takes (Some self.old.bytes) (Some self.new.bytes) []) }
         ensures cause { OnErr result (Rose self.old.faults self.new.faults) }
+        ensures same { OnOk result (self.new.faults ≡ self.old.faults) }
         ensures count { self.old.faults ≤ self.new.faults }
 
         // When it fails, and what each answer leaves.

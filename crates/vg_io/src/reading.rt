@@ -54,6 +54,9 @@ pub fn read_all<S: Source>(
         IfSome (S.left source.old) (λ xs. limit < length xs) }
     ensures fault { IsErrOf result ReadError.Fault → Rose (S.faults source.old) (S.faults source.new) }
     ensures early { IsErrOf result ReadError.Fault → GivesUpTo (S.left source.old) (S.left source.new) limit }
+    ensures same { OnOk result (S.faults source.new ≡ S.faults source.old) }
+    ensures same_long { IsErrOf result ReadError.TooLong → S.faults source.new ≡ S.faults source.old }
+    ensures same_memory { IsErrOf result ReadError.Memory → S.faults source.new ≡ S.faults source.old }
     ensures count { S.faults source.old ≤ S.faults source.new }
 
     // What was taken: never a second byte past the limit.

@@ -1,6 +1,6 @@
 //! A source over any reader of std, and a sink over any writer.
 
-ghost use Rattle.std.specs.Prelude.{◌≡◌, ◌<◌, ◌≤◌, List, [], None, length, take, IfOk, OnErr};
+ghost use Rattle.std.specs.Prelude.{◌≡◌, ◌<◌, ◌≤◌, List, [], None, length, take, IfOk, OnErr, OnOk};
 ghost use Rattle.std.specs.Io.KnownBytes.{Consumes, Appends, Keeps, IsAtEnd as IsKnownEnd};
 ghost use Rattle.vg_io.specs.Streams.{Rose, Gives, IsAtEnd, Takes, next_count};
 
@@ -47,6 +47,7 @@ impl<R: Read> Source for StdSource<R> {
         ensures end { IfOk result (λ n. n ≡ 0 → 0 < length buf.old → IsAtEnd None) }
         ensures none { OnErr result (Gives None None []) }
         ensures cause { OnErr result (Rose self.old.faults self.new.faults) }
+        ensures same { OnOk result (self.new.faults ≡ self.old.faults) }
         ensures count { self.old.faults ≤ self.new.faults }
 
         // What the reader tells is handed on, and each fault is counted once.
@@ -55,7 +56,6 @@ impl<R: Read> Source for StdSource<R> {
         ensures reader_end { IfOk result (λ n.
             n ≡ 0 → 0 < length buf.old → IsKnownEnd (R.remaining self.new.inner)) }
         ensures kept { OnErr result (Keeps (R.remaining self.old.inner) (R.remaining self.new.inner)) }
-        ensures same { IfOk result (λ n. self.new.faults ≡ self.old.faults) }
         ensures next { OnErr result (self.new.faults ≡ next_count self.old.faults) }
     {
         for _ in 0..u64::MAX {
@@ -113,13 +113,13 @@ impl<W: Write> Sink for StdSink<W> {
         ensures some { IfOk result (λ n. 0 < length bytes.now → 0 < n) }
         ensures none { OnErr result (Takes None None []) }
         ensures cause { OnErr result (Rose self.old.faults self.new.faults) }
+        ensures same { OnOk result (self.new.faults ≡ self.old.faults) }
         ensures count { self.old.faults ≤ self.new.faults }
 
         // What the writer tells is what it took, and each fault is counted once.
         ensures handed_on { IfOk result (λ n.
             Appends (W.contents self.old.inner) (W.contents self.new.inner) (take n bytes.now)) }
         ensures kept { OnErr result (Keeps (W.contents self.old.inner) (W.contents self.new.inner)) }
-        ensures same { IfOk result (λ n. self.new.faults ≡ self.old.faults) }
         ensures next { OnErr result (self.new.faults ≡ next_count self.old.faults) }
     {
         for _ in 0..u64::MAX {

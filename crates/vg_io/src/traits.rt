@@ -1,6 +1,6 @@
 //! What a source and a sink of bytes promise.
 
-ghost use Rattle.std.specs.Prelude.{◌≡◌, ◌<◌, ◌≤◌, ℕ, List, [], Option, length, take, IfOk, OnErr};
+ghost use Rattle.std.specs.Prelude.{◌≡◌, ◌<◌, ◌≤◌, ℕ, List, [], Option, length, take, IfOk, OnErr, OnOk};
 ghost use Rattle.vg_io.specs.Streams.{Rose, Gives, IsAtEnd, Takes};
 
 /// The answer of a read or a write that failed.
@@ -9,8 +9,8 @@ pub struct Failed;
 
 /// Where bytes come from.
 ///
-/// Its meanings are the bytes that are left, where it tells them, and a count of its faults, which
-/// never falls. A count that stands at 2^64 - 1 counts as one that rose.
+/// Its meanings are the bytes that are left, where it tells them, and a count of its faults, which rises where a
+/// read fails and nowhere else. A count that stands at 2^64 - 1 counts as one that rose.
 pub trait Source {
     ghost left: { Self → Option (List ℕ) };
 
@@ -24,13 +24,14 @@ pub trait Source {
         ensures end { IfOk result (λ n. n ≡ 0 → 0 < length buf.old → IsAtEnd (left self.new)) }
         ensures none { OnErr result (Gives (left self.old) (left self.new) []) }
         ensures cause { OnErr result (Rose (faults self.old) (faults self.new)) }
+        ensures same { OnOk result (faults self.new ≡ faults self.old) }
         ensures count { faults self.old ≤ faults self.new };
 }
 
 /// Where bytes go.
 ///
-/// Its meanings are the bytes that it holds, where it tells them, and a count of its faults, which
-/// never falls. A count that stands at 2^64 - 1 counts as one that rose.
+/// Its meanings are the bytes that it holds, where it tells them, and a count of its faults, which rises where a
+/// write fails and nowhere else. A count that stands at 2^64 - 1 counts as one that rose.
 pub trait Sink {
     ghost held: { Self → Option (List ℕ) };
 
@@ -44,5 +45,6 @@ pub trait Sink {
         ensures some { IfOk result (λ n. 0 < length bytes.now → 0 < n) }
         ensures none { OnErr result (Takes (held self.old) (held self.new) []) }
         ensures cause { OnErr result (Rose (faults self.old) (faults self.new)) }
+        ensures same { OnOk result (faults self.new ≡ faults self.old) }
         ensures count { faults self.old ≤ faults self.new };
 }

@@ -1,4 +1,4 @@
-use Rattle.std.proofs.Common.{◌<◌, ◌≤◌, ◌+◌, ◌-◌, vec_len}
+use Rattle.std.proofs.Common.{◌≡◌, ◌<◌, ◌≤◌, ◌+◌, ◌-◌, vec_len}
 use Rattle.vg_io.specs.Streams.{Gives}
 use Rattle.vg_io.proofs.reading.read_all.Given as goal
 
@@ -7,7 +7,7 @@ invariant-loop-piece g l =
     record {
       bytes : Gives (g.S.Source.left l.fn.source) (g.S.Source.left l.source) l.bytes.items;
       within : vec_len l.bytes ≤ l.limit + 1;
-      count : g.S.Source.faults l.fn.source ≤ g.S.Source.faults l.source;
+      same : g.S.Source.faults l.source ≡ g.S.Source.faults l.fn.source;
       piece : 0 < vec_len l.piece;
     }
 
