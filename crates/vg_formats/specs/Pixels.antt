@@ -1,10 +1,18 @@
 -- The pixels of a rectangle.
-use Rattle.std.specs.Prelude.{ℕ, ◌+◌, ◌-◌, ◌<◌, ◌≤◌, ◌&&◌, Bool, nat_lt, min, max}
+use Rattle.std.specs.Prelude.{ℕ, ◌+◌, ◌-◌, ◌<◌, ◌≤◌, ◌==◌, ◌&&◌, ◌||◌, Bool, nat_le, nat_lt, min, max}
 use Rattle.vg_formats.specs.declared.rect.Rect.{Rect}
 
 -- The pixel in column x and row y lies in the rectangle.
 abbrev pub Covers : Rect → ℕ → ℕ → Type 0
 Covers r x y = (r.x ≤ x) × (x < r.x + r.width) × (r.y ≤ y) × (y < r.y + r.height)
+
+-- No edge of the rectangle passes an area of this many columns and rows from 0, 0.
+abbrev pub is_inside : Rect → ℕ → ℕ → Bool
+is_inside r width height = nat_le (r.x + r.width) width && nat_le (r.y + r.height) height
+
+-- No pixel lies in the rectangle.
+abbrev pub is_empty : Rect → Bool
+is_empty r = r.width == 0 || r.height == 0
 
 -- No pixel lies in both.
 abbrev pub AreApart : Rect → Rect → Type 0

@@ -9,7 +9,4 @@ mod rect;
 pub use entry::MemEntry;
 pub use format::Format;
 pub use laws::{each_code_once, pixels_tell_the_rectangle};
-pub use rect::Rect;
-
-#[cfg(test)]
-mod tests;
+pub use rect::{Rect, pixel_bytes};

@@ -1,6 +1,6 @@
 //! Rectangles of pixels.
 
-ghost use Rattle.std.specs.Prelude.{◌≡◌, ◌+◌, ◌<◌, ◌≤◌, min, max, IfSome, IfNone};
+ghost use Rattle.std.specs.Prelude.{◌≡◌, ◌+◌, ◌*◌, ◌<◌, ◌≤◌, min, max, IfSome, IfNone};
 
 /// A rectangle of pixels (VIRTIO 1.2, 5.7.6.8, struct virtio_gpu_rect): its left column, its top row, and
 /// how many columns and rows it has, in pixels. It is empty where one of these is 0. Its right and
@@ -15,16 +15,24 @@ pub struct Rect {
 
 impl Rect {
     ghost use Rattle.std.specs.Prelude.{◌≡◌, ◌+◌, ◌≤◌, ◌↔◌, IsTrue, IsNone, IfSome, if◌then◌else◌, Some, None};
-    ghost use Rattle.vg_formats.specs.Pixels.{AreApart, CoversCommon, HasPixels, LiesWithin, are_meeting, common_of};
+    ghost use Rattle.vg_formats.specs.Pixels.{AreApart, CoversCommon, HasPixels, LiesWithin, are_meeting, common_of, is_empty, is_inside};
 
     /// Whether no edge of the rectangle passes an area of `width` columns and `height` rows from 0, 0. An
     /// empty rectangle is judged by its edges too.
     pub fn inside(&self, width: u32, height: u32) -> bool
-        ensures { IsTrue result
+        ensures value { result ≡ is_inside self.now width height }
+        ensures edges { IsTrue result
             ↔ ((self.now.x + self.now.width ≤ width) × (self.now.y + self.now.height ≤ height)) }
     {
         u64::from(self.x) + u64::from(self.width) <= u64::from(width)
             && u64::from(self.y) + u64::from(self.height) <= u64::from(height)
+    }
+
+    /// Whether the rectangle has no pixels.
+    pub fn is_empty(&self) -> bool
+        ensures { result ≡ is_empty self.now }
+    {
+        self.width == 0 || self.height == 0
     }
 
     /// The rectangle of the pixels that lie in both, which isn't empty.
@@ -44,6 +52,13 @@ impl Rect {
             height,
         })
     }
+}
+
+/// How many bytes so many columns and rows of pixels have, four each.
+pub fn pixel_bytes(width: u32, height: u32) -> u128
+    ensures { result ≡ 4 * width * height }
+{
+    4 * u128::from(width) * u128::from(height)
 }
 
 /// The common part of two runs of pixels, each given by its first place and its length: its first place and

@@ -12,6 +12,3 @@ pub use reading::{ReadError, read_all};
 pub use standard::{StdSink, StdSource};
 pub use traits::{Failed, Sink, Source};
 pub use writing::write_all;
-
-#[cfg(test)]
-mod tests;

@@ -14,10 +14,10 @@ use Rattle.vg_machine.specs.declared.act.Geometry.{Geometry}
 use Rattle.vg_machine.specs.declared.act.ShareRefusal.{ShareRefusal}
 use Rattle.vg_machine.specs.declared.share.Buffer.{Buffer}
 use Rattle.vg_machine.specs.declared.act.ShareRefusal.TheVariants.{NotHeld, OutOfRange}
-use Rattle.vg_machine.specs.Backing.{AreHeld}
 use Rattle.vg_machine.specs.Refusals.{refusal_of}
 use Rattle.vg_machine.specs.Cells.{pages_of, repeated, stored}
 use Rattle.vg_machine.specs.Share.{ShareState, SharesPages, buffer_at, freed, given_back, is_holder, leased, pages_at, pages_in, place_refusal, refused_by, released, unleased, with_buffer, with_left}
+use Rattle.vg_machine.specs.Fits.{AreHeld}
 
 -- what clients share, beside guest memory, so many scanouts and so many entries
 pub record ShareFits (memory : Memory) (count entries : ℕ) (share : ShareState) : Type 0 where

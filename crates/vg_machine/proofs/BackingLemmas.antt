@@ -1,5 +1,5 @@
 -- The bytes of entries that stand one after another, and the runs that tell where each begins.
-use Rattle.std.proofs.Common.{◌≡◌, ℕ, zero, suc, ◌+◌, ◌-◌, ◌^◌, ◌<◌, ◌≤◌, List, [], ◌∷◌, ◌++◌, length, get_or, take, drop, refl, sym, ap, subst, Bool, ◌∙◌, inl, inr, append_assoc, arith}
+use Rattle.std.proofs.Common.{◌≡◌, ℕ, zero, suc, ◌+◌, ◌-◌, ◌*◌, ◌^◌, ◌<◌, ◌≤◌, ◌⊎◌, List, [], ◌∷◌, ◌++◌, length, get_or, take, drop, refl, sym, ap, subst, Bool, true, ◌∙◌, inl, inr, append_assoc, arith}
 use Rattle.std.specs.List.{All}
 use Rattle.std.proofs.Math.Seq.{take-add, take-append_seam, drop-append_seam, drop-append-add}
 use Rattle.std.proofs.lemmas.List.{length-map, length-take, length-drop, length-append, take-append-le, drop-append-le, drop-take, drop-drop, take-take, take_all, get_or-map}
@@ -9,12 +9,16 @@ use Rattle.std.proofs.lemmas.Map.Views.{All-values-insert_entry, All-map-remove_
 use Rattle.std.specs.Map.{remove_entry, values_of}
 use Rattle.std.specs.BTreeMap.{insert_entry}
 use Rattle.std.specs.Ordering.{nat_cmp}
-use Rattle.std.proofs.lemmas.Bool.{cases_lt}
+use Rattle.std.proofs.lemmas.Bool.{cases_eq, cases_lt}
+use Rattle.std.proofs.lemmas.Bool.Decides.{nat_tests}
 use borrow.Rule.Slice.PartMut.{put_mid}
 use Rattle.vg_formats.specs.declared.entry.MemEntry.{MemEntry}
+use Rattle.vg_formats.specs.declared.rect.Rect.{Rect}
+use Rattle.vg_formats.specs.Pixels.{is_empty}
 use Rattle.vg_pages.specs.Memory.{Memory, Holds, bytes_at}
 use Rattle.vg_machine.specs.declared.backing.Run.{Run}
-use Rattle.vg_machine.specs.Backing.{AreHeld, ArePlaced, HasByte, backing_bytes, entries_of, total}
+use Rattle.vg_machine.specs.Backing.{backing_bytes, total}
+use Rattle.vg_machine.specs.Fits.{AreHeld, ArePlaced, HasByte, entries_of}
 
 -- bytes from another place on in a range of memory
 bytes-within : (bytes : List ℕ) (addr length skip n start : ℕ) → start ≤ addr → skip + n ≤ length
@@ -158,3 +162,11 @@ held-without P es test held = held-entries P (remove_entry test es) (All-map-rem
 
 abbrev pub AllHeld : Memory → List (ℕ × List MemEntry) → Type 0
 AllHeld memory backings = All (λ entry. AreHeld memory entry.1) backings
+
+-- a rectangle without pixels has no columns or no rows
+pub empty-parts : (rect : Rect) → is_empty rect ≡ true → (4 * rect.width ≡ 0) ⊎ (rect.height ≡ 0)
+empty-parts rect empty =
+    elim (cases_eq rect.width 0) [
+      | inl none ↦ inl (omega (arith, none))
+      | inr some ↦ inr (grind (arith, nat_tests))
+    ]

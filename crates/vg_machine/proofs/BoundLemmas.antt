@@ -9,15 +9,15 @@ use Rattle.vg_formats.specs.declared.rect.Rect.{Rect}
 use Rattle.vg_machine.specs.declared.resource.Resource.{Resource}
 use Rattle.vg_machine.specs.declared.scanout.Binding.{Binding}
 use Rattle.vg_machine.specs.declared.scanout.Screen.{Screen}
-use Rattle.vg_machine.specs.declared.scanout.TheConstants.{MOST_SCREEN_BYTES, MOST_FRAME_BYTES}
-use Rattle.vg_machine.specs.Backing.{is_empty, is_within}
 use Rattle.vg_machine.specs.Refusals.{refusal_of, unless_refused}
-use Rattle.vg_machine.specs.Resource.{IsWhole, resource_at, without}
-use Rattle.vg_machine.specs.Scanout.{FitSurface, FitsSurface, ScanoutState, after_flush, bind, bound, flush, flushed, flushed_screen, frame_bytes, fresh_screen, is_bound_to, is_flushed, unbound_from}
+use Rattle.vg_machine.specs.Resource.{resource_at, without}
+use Rattle.vg_machine.specs.Scanout.{ScanoutState, after_flush, bind, bound, flush, flushed, flushed_screen, are_too_many, fresh_screen, is_bound_to, is_flushed, is_too_large, unbound_from}
 use Rattle.vg_machine.specs.State.{IsShowing, ShowsResource, ShowsSome}
 use Rattle.vg_machine.specs.Step.{binding_of}
 use Rattle.vg_machine.proofs.MapLemmas.{remove_other}
 use Rattle.vg_machine.proofs.ShowingLemmas.{found-shown, shown-found}
+use Rattle.vg_formats.specs.Pixels.{is_empty, is_inside}
+use Rattle.vg_machine.specs.Fits.{FitSurface, FitsSurface, IsWhole}
 
 -- as many screens, which show resources that there are
 pub record AreShowing (resources : List (ℕ × Resource)) (count : ℕ) (screens : List (Option Screen)) : Type 0 where
@@ -48,7 +48,7 @@ pub showing-bind : (resources : List (ℕ × Resource)) (scanout : ℕ) (binding
     → ShowsSome binding (resource_at binding.resource resources) → AreShowing resources count old.screens → AreShowing resources count now.screens
 unfolding bind
 showing-bind resources scanout binding old now done count step shows were =
-    showing-after resources count (refusal_of ((nat_lt MOST_SCREEN_BYTES (4 * binding.rect.width * binding.rect.height), 0x1201) ∷ [])) old now (bound scanout binding old) done step were
+    showing-after resources count (refusal_of ((is_too_large binding.rect, 0x1201) ∷ [])) old now (bound scanout binding old) done step were
     (showing-bound resources scanout binding old count shows were)
 
 pub showing-unbound : (resources : List (ℕ × Resource)) (scanout count : ℕ) (screens : List (Option Screen)) → AreShowing resources count screens → AreShowing resources count (set screens scanout None)
@@ -58,7 +58,7 @@ showing-unbound resources scanout count screens were = record {
 }
 
 -- a binding to a resource inside of it
-pub shows-binding : (id : ℕ) (rect : Rect) (resource : Resource) → is_empty rect ≡ false → is_within rect resource.width resource.height ≡ true → ShowsResource (binding_of id rect resource) resource
+pub shows-binding : (id : ℕ) (rect : Rect) (resource : Resource) → is_empty rect ≡ false → is_inside rect resource.width resource.height ≡ true → ShowsResource (binding_of id rect resource) resource
 shows-binding id rect resource some within = record {
   within = within;
   some_width = grind (arith, nat_tests);
@@ -78,7 +78,7 @@ pub showing-flush : (resources : List (ℕ × Resource)) (entry id : ℕ) (rect 
     → AreShowing resources count old.screens → AreShowing resources count now.screens
 unfolding flush
 showing-flush resources entry id rect surface old now done count step were =
-    showing-after resources count (refusal_of ((nat_lt MOST_FRAME_BYTES (frame_bytes (flushed entry id rect surface old).frames), 0x1201) ∷ [])) old now (flushed entry id rect surface old) done step were
+    showing-after resources count (refusal_of ((are_too_many (flushed entry id rect surface old).frames, 0x1201) ∷ [])) old now (flushed entry id rect surface old) done step were
     (record {
       count_is = length-map old.screens (after_flush id rect surface) ∙ were.count_is;
       showing = All-map (IsShowing resources) (after_flush id rect surface) old.screens
@@ -132,7 +132,7 @@ fits-one resources id resource (Some screen) is whole showing = λ same.
 pub fits-surface : (resources : List (ℕ × Resource)) (id : ℕ) (resource : Resource) (screens : List (Option Screen)) → resource_at id resources ≡ Some resource → IsWhole resource → All (IsShowing resources) screens → All (FitSurface id (length resource.pixels)) screens
 fits-surface resources id resource screens is whole showing = λ k d within. fits-one resources id resource (get_or screens k d) is whole (showing k d within)
 
-pub within-true : (rect : Rect) (width height : ℕ) → rect.x + rect.width ≤ width → rect.y + rect.height ≤ height → is_within rect width height ≡ true
+pub within-true : (rect : Rect) (width height : ℕ) → rect.x + rect.width ≤ width → rect.y + rect.height ≤ height → is_inside rect width height ≡ true
 within-true rect width height across down = grind (arith, nat_tests)
 
 -- scanouts that are all disabled

@@ -9,11 +9,11 @@ use Rattle.std.proofs.lemmas.List.Elements.{All-get_or, All-map}
 use Rattle.vg_formats.specs.declared.rect.Rect.{Rect}
 use Rattle.vg_machine.specs.declared.scanout.Screen.{Screen}
 use Rattle.vg_machine.specs.declared.scanout.Frame.{Frame}
-use Rattle.vg_machine.specs.Scanout.{IsScreen, unbound_screen, is_bound_to, is_flushed, flushed_screen, flushed_pixels, area_of, after_flush, frame_bytes, new_frame, new_frames, new_frame_bytes, new_bytes, flush, ScanoutState}
-use Rattle.vg_machine.specs.declared.scanout.TheConstants.{MOST_FRAME_BYTES}
+use Rattle.vg_machine.specs.Scanout.{unbound_screen, is_bound_to, is_flushed, flushed_screen, flushed_pixels, area_of, after_flush, frame_bytes, new_frame, new_frames, new_frame_bytes, new_bytes, flush, ScanoutState}
 use Rattle.std.proofs.lemmas.Bool.Decides.{nat_tests}
 use Rattle.std.specs.Prelude.{Result, Ok, Err, nat_lt}
 use Rattle.vg_formats.specs.Pixels.{common_of}
+use Rattle.vg_machine.specs.Fits.{IsScreen}
 
 -- the first i elements were changed, and the next is changed now
 front-more : {X : Type 0} (f : X → X) (xs : List X) (i : ℕ) (d : X) → i < length xs
@@ -131,20 +131,20 @@ more-than a b less = grind (arith, nat_tests)
 no-more-than : (a b : ℕ) → b ≤ a → nat_lt a b ≡ false
 no-more-than a b within = grind (arith, nat_tests)
 
-pub flush-refused : (entry id : ℕ) (rect : Rect) (surface : List ℕ) (state : ScanoutState) → MOST_FRAME_BYTES < frame_bytes state.frames + new_bytes id rect state.screens
+pub flush-refused : (entry id : ℕ) (rect : Rect) (surface : List ℕ) (state : ScanoutState) → 268435456 < frame_bytes state.frames + new_bytes id rect state.screens
     → ◌≡◌ {A = ScanoutState × Result Unit ℕ} (state, Err 0x1201) (flush entry id rect surface state)
 unfolding flush
 flush-refused entry id rect surface state many =
     let bytes = bytes-flushed entry id rect surface state.screens state.frames in
-    let test : nat_lt MOST_FRAME_BYTES (frame_bytes (state.frames ++ new_frames entry id rect surface 0 state.screens)) ≡ true = more-than _ _ (omega (arith, bytes, many)) in
+    let test : nat_lt 268435456 (frame_bytes (state.frames ++ new_frames entry id rect surface 0 state.screens)) ≡ true = more-than _ _ (omega (arith, bytes, many)) in
     rw test refl
 
 pub flush-done : (entry id : ℕ) (rect : Rect) (surface : List ℕ) (state : ScanoutState) (screens : List (Option Screen)) (frames : List Frame)
-    → frame_bytes state.frames + new_bytes id rect state.screens ≤ MOST_FRAME_BYTES → screens ≡ map (after_flush id rect surface) state.screens
+    → frame_bytes state.frames + new_bytes id rect state.screens ≤ 268435456 → screens ≡ map (after_flush id rect surface) state.screens
     → frames ≡ state.frames ++ new_frames entry id rect surface 0 state.screens
     → ◌≡◌ {A = ScanoutState × Result Unit ℕ} (record { screens = screens; frames = frames }, Ok tt) (flush entry id rect surface state)
 unfolding flush
 flush-done entry id rect surface state screens frames few shown made =
     let bytes = bytes-flushed entry id rect surface state.screens state.frames in
-    let test : nat_lt MOST_FRAME_BYTES (frame_bytes (state.frames ++ new_frames entry id rect surface 0 state.screens)) ≡ false = no-more-than _ _ (omega (arith, bytes, few)) in
+    let test : nat_lt 268435456 (frame_bytes (state.frames ++ new_frames entry id rect surface 0 state.screens)) ≡ false = no-more-than _ _ (omega (arith, bytes, few)) in
     rw (test, shown, made) refl

@@ -4,17 +4,20 @@ use Rattle.std.specs.Prelude.{is_none, is_some, nat_lt}
 use Rattle.std.specs.List.{All}
 use Rattle.std.specs.Ordering.{nat_cmp}
 use Rattle.std.proofs.lemmas.Bool.{cases_eq}
+use Rattle.vg_formats.specs.declared.entry.MemEntry.{MemEntry}
 use Rattle.vg_formats.specs.declared.format.Format.{Format}
+use Rattle.vg_formats.specs.declared.rect.Rect.{Rect}
 use Rattle.vg_formats.specs.Formats.{format_of}
 use Rattle.vg_machine.specs.declared.resource.Resource.{Resource}
 use Rattle.vg_machine.specs.declared.scanout.Binding.{Binding}
 use Rattle.vg_machine.specs.declared.scanout.Screen.{Screen}
-use Rattle.vg_machine.specs.Backing.{is_within}
+use Rattle.vg_pages.specs.Memory.{Memory}
+use Rattle.vg_machine.specs.Receive.{receive, receive_refusal, with_received}
 use Rattle.vg_machine.specs.Refusals.{refusal_of, unless_refused}
 use Rattle.vg_machine.specs.Resource.{blank, create, create_refusals, pixel_bytes, resource_at, with_blank, with_pixels}
-use Rattle.vg_machine.specs.declared.resource.TheConstants.{MOST_PIXEL_BYTES}
 use Rattle.vg_machine.specs.State.{IsShowing, ShowsResource, ShowsSome}
 use Rattle.vg_machine.proofs.MapLemmas.{insert_other, set_itself, set_other}
+use Rattle.vg_formats.specs.Pixels.{is_inside}
 
 -- the same size and format
 pub record IsLike (one other : Resource) : Type 0 where
@@ -28,7 +31,7 @@ Keeping old now = (id : ℕ) (resource : Resource) → resource_at id old ≡ So
 
 shows-like : (binding : Binding) (one other : Resource) → IsLike one other → ShowsResource binding other → ShowsResource binding one
 shows-like binding one other like shows = record {
-  within = ap (λ width. is_within binding.rect width one.height) like.width ∙ ap (λ height. is_within binding.rect other.width height) like.height ∙ shows.within;
+  within = ap (λ width. is_inside binding.rect width one.height) like.width ∙ ap (λ height. is_inside binding.rect other.width height) like.height ∙ shows.within;
   some_width = shows.some_width;
   some_height = shows.some_height;
   format = shows.format ∙ sym like.format;
@@ -83,7 +86,7 @@ keeping-blank id width height (Some format) old free other resource is =
 abbrev later-create : ℕ → ℕ → ℕ → List (ℕ × Resource) → List (Bool × ℕ)
 later-create width height format old =
     (is_none (format_of format) || (width == 0 || height == 0), 0x1205)
-    ∷ (nat_lt MOST_PIXEL_BYTES (pixel_bytes old + 4 * width * height), 0x1201)
+    ∷ (nat_lt 134217728 (pixel_bytes old + 4 * width * height), 0x1201)
     ∷ []
 
 create-by : (id width height format : ℕ) (old now : List (ℕ × Resource)) (done : Result (Unit {0}) ℕ) (refusal : Option ℕ)
@@ -115,3 +118,18 @@ keeping-pixels id resource pixels old there other found is =
       | inl same ↦ (next, ap (λ n. resource_at n (with_pixels id resource pixels old)) same ∙ set_itself id resource next old there, like-pixels resource found pixels (some-same (sym there ∙ ap (λ n. resource_at n old) (sym same) ∙ is)))
       | inr apart ↦ (found, set_other other id next apart old ∙ is, like-itself found)
     ]
+
+received-by : (memory : Memory) (id : ℕ) (rect : Rect) (offset : ℕ) (backings : List (ℕ × List MemEntry)) (old now : List (ℕ × Resource)) (done : Result (Unit {0}) ℕ) (found : Option Resource) (refusal : Option ℕ)
+    → resource_at id old ≡ found
+    → ◌≡◌ {A = List (ℕ × Resource) × Result (Unit {0}) ℕ} (now, done) (unless_refused refusal old (with_received memory id rect offset backings found old))
+    → Keeping old now
+received-by memory id rect offset backings old now done found (Some code) is step = subst (Keeping old) (sym (ap (λ pair. pair.0) step)) (keeping-itself old)
+received-by memory id rect offset backings old now done None None is step = subst (Keeping old) (sym (ap (λ pair. pair.0) step)) (keeping-itself old)
+received-by memory id rect offset backings old now done (Some resource) None is step =
+    subst (Keeping old) (sym (ap (λ pair. pair.0) step)) (keeping-pixels id resource _ old is)
+
+pub keeping-receive : (memory : Memory) (id : ℕ) (rect : Rect) (offset : ℕ) (backings : List (ℕ × List MemEntry)) (old now : List (ℕ × Resource)) (done : Result (Unit {0}) ℕ)
+    → ◌≡◌ {A = List (ℕ × Resource) × Result (Unit {0}) ℕ} (now, done) (receive memory id rect offset backings old) → Keeping old now
+unfolding receive
+keeping-receive memory id rect offset backings old now done step =
+    received-by memory id rect offset backings old now done (resource_at id old) (receive_refusal id rect offset backings (resource_at id old)) refl step

@@ -1,5 +1,5 @@
 -- What the acts of clients do and answer. All of it is our own.
-use Rattle.std.specs.Prelude.{ℕ, ◌+◌, ◌*◌, ◌==◌, ◌&&◌, Bool, false, is_some, List, length, if◌then◌else◌, Option, Some, None}
+use Rattle.std.specs.Prelude.{◌≡◌, ℕ, ◌+◌, ◌*◌, ◌==◌, ◌&&◌, Bool, false, is_some, List, length, if◌then◌else◌, Option, Some, None}
 use Rattle.std.specs.List.{find, range_with_len}
 use Rattle.vg_machine.specs.declared.act.Act.{Act}
 use Rattle.vg_machine.specs.declared.act.Act.TheVariants.{Enter, Reserve, Store, Load, Release, Free, Take, Drop, Denied, Leave}
@@ -87,3 +87,8 @@ effect_of state client Leave = (record state { share = with_left client state.sh
 -- One act of a client: the display after it, and the reply.
 abbrev pub act_step : State → ℕ → Act → State × ActReply
 act_step state client act = effect_of (counted state) client act
+
+-- A refused act has changed nothing: `new` is the display as it was.
+abbrev pub KeepsIfRefused : ActReply → State → State → Type 0
+KeepsIfRefused (act_replies.Refused refusal) old new = new ≡ old
+KeepsIfRefused reply old new = Unit {0}

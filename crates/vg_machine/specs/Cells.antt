@@ -2,19 +2,18 @@
 use Rattle.std.specs.Prelude.{ℕ, ◌+◌, ◌-◌, ◌*◌, ◌/◌, ◌%◌, ◌==◌, ◌&&◌, nat_le, nat_lt, if◌then◌else◌, List, length, slice_index}
 use Rattle.std.specs.List.{position_or_len}
 use Rattle.vg_places.specs.Places.{tabulate}
-use Rattle.vg_pages.specs.declared.TheConstants.{PAGE_BYTES}
 
 -- How many pages hold so many bytes.
 abbrev pub pages_of : ℕ → ℕ
-pages_of bytes = (bytes + (PAGE_BYTES - 1)) / PAGE_BYTES
+pages_of bytes = (bytes + 4095) / 4096
 
 -- Where byte b of a buffer with these pages stands in guest memory, counted from its first byte.
 abbrev pub place_in_memory : List ℕ → ℕ → ℕ
-place_in_memory pages b = PAGE_BYTES * slice_index pages (b / PAGE_BYTES) + b % PAGE_BYTES
+place_in_memory pages b = 4096 * slice_index pages (b / 4096) + b % 4096
 
 -- Which byte of the buffer stands at a place of guest memory; past the buffer's end, where none does.
 abbrev pub place_in_buffer : List ℕ → ℕ → ℕ
-place_in_buffer pages place = PAGE_BYTES * position_or_len (λ page. page == place / PAGE_BYTES) pages + place % PAGE_BYTES
+place_in_buffer pages place = 4096 * position_or_len (λ page. page == place / 4096) pages + place % 4096
 
 -- The n bytes of the buffer from `offset` on.
 unfoldable pub loaded : List ℕ → List ℕ → ℕ → ℕ → List ℕ

@@ -1,10 +1,13 @@
 pub mod Setup
 pub mod Lane
+pub mod Codes
 pub mod Refusals
 pub mod Lists
 pub mod Resource
 pub mod Backing
+pub mod Receive
 pub mod Scanout
+pub mod Fits
 pub mod Cells
 pub mod Share
 pub mod Holds

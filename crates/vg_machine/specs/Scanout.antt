@@ -1,5 +1,5 @@
 -- The scanouts (VIRTIO 1.2, 5.7.6.8, SET_SCANOUT and RESOURCE_FLUSH).
-use Rattle.std.specs.Prelude.{◌≡◌, ℕ, slice_get, ◌+◌, ◌-◌, ◌*◌, ◌≤◌, ◌==◌, ◌&&◌, Bool, false, nat_lt, if◌then◌else◌, List, [], ◌∷◌, ◌++◌, length, map, replicate, Option, Some, None, Result}
+use Rattle.std.specs.Prelude.{ℕ, slice_get, ◌+◌, ◌-◌, ◌*◌, ◌==◌, ◌&&◌, Bool, false, nat_lt, if◌then◌else◌, List, [], ◌∷◌, ◌++◌, length, map, replicate, Option, Some, None, Result}
 use Rattle.std.specs.List.{sum_by, slice_set}
 use Rattle.vg_formats.specs.declared.rect.Rect.{Rect}
 use Rattle.vg_formats.specs.Pixels.{are_meeting, common_of}
@@ -8,7 +8,7 @@ use Rattle.vg_shown.specs.Shown.{shown_rows}
 use Rattle.vg_machine.specs.declared.scanout.Binding.{Binding}
 use Rattle.vg_machine.specs.declared.scanout.Frame.{Frame}
 use Rattle.vg_machine.specs.declared.scanout.Screen.{Screen}
-use Rattle.vg_machine.specs.declared.scanout.TheConstants.{MOST_SCREEN_BYTES, MOST_FRAME_BYTES}
+use Rattle.vg_machine.specs.Codes.{ERR_OUT_OF_MEMORY}
 use Rattle.vg_machine.specs.Refusals.{refusal_of, unless_refused}
 
 -- What the scanouts have: of each, from scanout 0, its screen where it is bound, and None where it is disabled; and the
@@ -28,10 +28,13 @@ fresh_screen binding = record { binding = binding; pixels = replicate (4 * bindi
 abbrev pub bound : ℕ → Binding → ScanoutState → ScanoutState
 bound scanout binding state = record state { screens = slice_set state.screens scanout (Some (fresh_screen binding)) }
 
--- A screen has a limit.
+-- A screen of this rectangle would have more bytes than a screen may have.
+abbrev pub is_too_large : Rect → Bool
+is_too_large rect = nat_lt 33554432 (4 * rect.width * rect.height)
+
 unfoldable pub bind : ℕ → Binding → ScanoutState → ScanoutState × Result Unit ℕ
 bind scanout binding state =
-    unless_refused (refusal_of ((nat_lt MOST_SCREEN_BYTES (4 * binding.rect.width * binding.rect.height), 0x1201) ∷ [])) state (bound scanout binding state)
+    unless_refused (refusal_of ((is_too_large binding.rect, ERR_OUT_OF_MEMORY) ∷ [])) state (bound scanout binding state)
 
 abbrev pub unbound : ℕ → ScanoutState → ScanoutState
 unbound scanout state = record state { screens = slice_set state.screens scanout None }
@@ -113,23 +116,11 @@ flushed entry id rect surface state = record {
   frames = state.frames ++ new_frames entry id rect surface 0 state.screens;
 }
 
--- The frames of a run have a limit.
+-- These frames have more bytes than all frames of a run may have.
+abbrev pub are_too_many : List Frame → Bool
+are_too_many frames = nat_lt 268435456 (frame_bytes frames)
+
 unfoldable pub flush : ℕ → ℕ → Rect → List ℕ → ScanoutState → ScanoutState × Result Unit ℕ
 flush entry id rect surface state =
-    unless_refused (refusal_of ((nat_lt MOST_FRAME_BYTES (frame_bytes (flushed entry id rect surface state).frames), 0x1201) ∷ [])) state
+    unless_refused (refusal_of ((are_too_many (flushed entry id rect surface state).frames, ERR_OUT_OF_MEMORY) ∷ [])) state
     (flushed entry id rect surface state)
-
--- The pixels of a binding's rectangle stand in a surface of so many bytes.
-abbrev pub FitsSurface : ℕ → Binding → Type 0
-FitsSurface size binding =
-    binding.offset + binding.stride * (binding.rect.y + binding.rect.height - 1) + 4 * (binding.rect.x + binding.rect.width) ≤ size
-
--- Those of the screens that are bound to the resource do.
-abbrev pub FitSurface : ℕ → ℕ → Option Screen → Type 0
-FitSurface id size (Some screen) = screen.binding.resource ≡ id → FitsSurface size screen.binding
-FitSurface id size None = Unit {0}
-
--- A screen has the pixels of its rectangle, within the limit.
-abbrev pub IsScreen : Option Screen → Type 0
-IsScreen (Some screen) = (length screen.pixels ≡ 4 * screen.binding.rect.width * screen.binding.rect.height) × (length screen.pixels ≤ MOST_SCREEN_BYTES)
-IsScreen None = Unit {0}

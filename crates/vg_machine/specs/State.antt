@@ -7,7 +7,8 @@ use Rattle.vg_machine.specs.declared.resource.Resource.{Resource}
 use Rattle.vg_machine.specs.declared.scanout.Binding.{Binding}
 use Rattle.vg_machine.specs.declared.scanout.Screen.{Screen}
 use Rattle.vg_machine.specs.declared.setup.Setup.{Setup}
-use Rattle.vg_machine.specs.Backing.{AreHeld, is_within}
+use Rattle.vg_formats.specs.Pixels.{is_inside}
+use Rattle.vg_machine.specs.Fits.{AreHeld}
 use Rattle.vg_machine.specs.Resource.{resource_at}
 use Rattle.vg_machine.specs.Scanout.{ScanoutState}
 use Rattle.vg_machine.specs.Setup.{IsSetup}
@@ -41,7 +42,7 @@ counted state = record state { entries = state.entries + 1 }
 
 -- A binding to a resource shows a rectangle of it.
 pub record ShowsResource (binding : Binding) (resource : Resource) : Type 0 where
-  pub within : is_within binding.rect resource.width resource.height ≡ true
+  pub within : is_inside binding.rect resource.width resource.height ≡ true
   pub some_width : 0 < binding.rect.width
   pub some_height : 0 < binding.rect.height
   pub format : binding.format ≡ resource.format

@@ -1,4 +1,4 @@
-use Rattle.std.specs.Prelude.{◌≡◌, ℕ, ◌+◌, ◌*◌, ◌==◌, ◌&&◌, ◌||◌, not, is_none, List, [], ◌∷◌, length, take, map, nat_le, if◌then◌else◌, Option, Some, None, Result, Ok, Err, bit_and}
+use Rattle.std.specs.Prelude.{◌≡◌, ℕ, ◌+◌, ◌*◌, ◌==◌, ◌&&◌, ◌||◌, not, Bool, is_none, is_some, List, [], ◌∷◌, length, take, map, nat_le, if◌then◌else◌, Option, Some, None, Result, Ok, Err, bit_and}
 use Rattle.vg_wire.specs.declared.request.Queue.{Queue}
 use Rattle.vg_wire.specs.declared.request.Command.{Command}
 use Rattle.vg_wire.specs.declared.request.Command.TheVariants.{TwoD}
@@ -11,14 +11,20 @@ use Rattle.vg_wire.specs.declared.response.Response.TheVariants as responses
 use Rattle.vg_wire.specs.Header.{header_of}
 use Rattle.vg_wire.specs.Request.{request_of}
 use Rattle.vg_wire.specs.Response.{response_bytes, response_kind}
+use Rattle.std.specs.Ordering.{nat_cmp}
+use Rattle.std.specs.BTreeMap.{insert_entry}
 use Rattle.vg_formats.specs.declared.rect.Rect.{Rect}
+use Rattle.vg_formats.specs.Formats.{format_of}
+use Rattle.vg_formats.specs.Pixels.{is_empty, is_inside}
 use Rattle.vg_formats.specs.declared.entry.MemEntry.{MemEntry}
 use Rattle.vg_machine.specs.declared.resource.Resource.{Resource}
 use Rattle.vg_machine.specs.declared.scanout.Binding.{Binding}
+use Rattle.vg_machine.specs.Codes.{ERR_INVALID_PARAMETER, ERR_INVALID_RESOURCE_ID, ERR_INVALID_SCANOUT_ID, ERR_OUT_OF_MEMORY, ERR_UNSPEC}
 use Rattle.vg_machine.specs.Refusals.{refusal_of}
-use Rattle.vg_machine.specs.Backing.{attach, detach, detached, entries_at, transferred, transfer_refusals, is_empty, is_within}
-use Rattle.vg_machine.specs.Resource.{create, resource_at, with_pixels, without}
-use Rattle.vg_machine.specs.Scanout.{bind, flush, unbound, unbound_from}
+use Rattle.vg_machine.specs.Backing.{attach_refusals, detach_refusals, detached}
+use Rattle.vg_machine.specs.Receive.{receive_refusal, with_received}
+use Rattle.vg_machine.specs.Resource.{create_refusals, height_of, resource_at, unref_refusals, width_of, with_blank, without}
+use Rattle.vg_machine.specs.Scanout.{ScanoutState, are_too_many, bound, flushed, is_too_large, unbound, unbound_from}
 use Rattle.vg_machine.specs.State.{State, counted}
 
 -- The header of a response to a request with FENCE: the fence goes back (VIRTIO 1.2, 5.7.6.7); here ctx_id does too, and the ring
@@ -38,22 +44,19 @@ answer_header bytes kind =
     if nat_le 24 (length bytes) && (bit_and (header_of bytes).flags 1 == 1) then fenced_header (header_of bytes) kind
     else record { kind = kind; flags = 0; fence_id = 0; ctx_id = 0; ring_idx = 0 }
 
--- The response of what was refused with a code, or wasn't.
-abbrev pub response_of : Result Unit ℕ → Response
-response_of (Ok done) = responses.Nodata
-response_of (Err code) = responses.Error code
-
--- A command whose refusal is this: the display stays as it was, or becomes `next`.
+-- A command whose refusals are these: the first that holds is answered, and the display stays as it was; where none does the
+-- display becomes `next`, and the answer is OK_NODATA.
 abbrev pub answered_by : Option ℕ → State → State → State × Response
 answered_by (Some code) state next = (state, responses.Error code)
 answered_by None state next = (next, responses.Nodata)
 
+-- RESOURCE_CREATE_2D is refused as `create_refusals` (Resource) says.
 abbrev pub create_step : State → ℕ → ℕ → ℕ → ℕ → State × Response
 create_step state resource format width height =
-    let done = create resource width height format state.resources in
-    (record state { resources = done.0 }, response_of done.1)
+    answered_by (refusal_of (create_refusals resource width height format state.resources)) state
+    (record state { resources = with_blank resource width height (format_of format) state.resources })
 
--- RESOURCE_UNREF of a resource that there is: its scanouts are disabled, and its backing ends.
+-- The scanouts of a resource that ends are disabled, and its backing ends.
 abbrev pub unreferenced : State → ℕ → State
 unreferenced state resource = record state {
   resources = without resource state.resources;
@@ -61,9 +64,9 @@ unreferenced state resource = record state {
   scanouts = unbound_from resource state.scanouts;
 }
 
+-- RESOURCE_UNREF is refused as `unref_refusals` (Resource) says.
 abbrev pub unref_step : State → ℕ → State × Response
-unref_step state resource =
-    answered_by (refusal_of ((is_none (resource_at resource state.resources), 0x1203) ∷ [])) state (unreferenced state resource)
+unref_step state resource = answered_by (refusal_of (unref_refusals resource state.resources)) state (unreferenced state resource)
 
 -- How a scanout shows a rectangle of a resource.
 abbrev pub binding_of : ℕ → Rect → Resource → Binding
@@ -77,59 +80,73 @@ binding_of id rect resource = record {
   offset = 0;
 }
 
--- SET_SCANOUT of a resource: an unknown one; a rectangle that is empty or outside of it; then what the scanouts refuse.
-abbrev pub show_step : State → Rect → ℕ → ℕ → Option Resource → State × Response
-show_step state rect scanout id None = (state, responses.Error 0x1203)
-show_step state rect scanout id (Some resource) =
-    if is_empty rect || not (is_within rect resource.width resource.height) then (state, responses.Error 0x1205)
-    else
-    let done = bind scanout (binding_of id rect resource) state.scanouts in
-    (record state { scanouts = done.0 }, response_of done.1)
+-- A resource is shown unless there isn't one; the rectangle is empty or lies outside of it; its screen would be too large.
+abbrev pub show_refusals : Rect → Option Resource → List (Bool × ℕ)
+show_refusals rect found =
+    (is_none found, ERR_INVALID_RESOURCE_ID)
+    ∷ (is_empty rect || not (is_inside rect (width_of found) (height_of found)), ERR_INVALID_PARAMETER)
+    ∷ (is_too_large rect, ERR_OUT_OF_MEMORY)
+    ∷ []
 
--- SET_SCANOUT: a scanout that there isn't is refused first, and resource 0 disables one.
+-- SET_SCANOUT is refused for a scanout that there isn't; then, of a resource other than 0, as `show_refusals` says.
+abbrev pub set_scanout_refusals : State → Rect → ℕ → ℕ → List (Bool × ℕ)
+set_scanout_refusals state rect scanout id =
+    (nat_le (length state.setup.displays) scanout, ERR_INVALID_SCANOUT_ID)
+    ∷ (if id == 0 then [] else show_refusals rect (resource_at id state.resources))
+
+-- The scanout shows a rectangle of the resource.
+abbrev pub with_shown : State → Rect → ℕ → ℕ → Option Resource → State
+with_shown state rect scanout id (Some resource) = record state { scanouts = bound scanout (binding_of id rect resource) state.scanouts }
+with_shown state rect scanout id None = state
+
+-- Resource 0 disables a scanout.
+abbrev pub with_scanout : State → Rect → ℕ → ℕ → State
+with_scanout state rect scanout id =
+    if id == 0 then record state { scanouts = unbound scanout state.scanouts }
+    else with_shown state rect scanout id (resource_at id state.resources)
+
 abbrev pub set_scanout_step : State → Rect → ℕ → ℕ → State × Response
 set_scanout_step state rect scanout id =
-    if nat_le (length state.setup.displays) scanout then (state, responses.Error 0x1202)
-    else if id == 0 then (record state { scanouts = unbound scanout state.scanouts }, responses.Nodata)
-    else show_step state rect scanout id (resource_at id state.resources)
+    answered_by (refusal_of (set_scanout_refusals state rect scanout id)) state (with_scanout state rect scanout id)
 
--- RESOURCE_FLUSH: an unknown resource; a rectangle outside of it; then what the scanouts refuse. The frames have the number
--- of the entry that is being made.
-abbrev pub flush_step : State → Rect → ℕ → Option Resource → State × Response
-flush_step state rect id None = (state, responses.Error 0x1203)
-flush_step state rect id (Some resource) =
-    if not (is_within rect resource.width resource.height) then (state, responses.Error 0x1205)
-    else
-    let done = flush (state.entries + 1) id rect resource.pixels state.scanouts in
-    (record state { scanouts = done.0 }, response_of done.1)
+abbrev pub pixels_of : Option Resource → List ℕ
+pixels_of (Some resource) = resource.pixels
+pixels_of None = []
 
--- A resource's pixels come from its backing.
-abbrev pub with_transfer : State → Rect → ℕ → ℕ → Resource → State
-with_transfer state rect offset id resource = record state {
-  resources = with_pixels id resource (transferred state.memory (entries_at id state.backings) rect offset resource.width resource.pixels) state.resources;
-}
+-- The scanouts after a rectangle of the resource was flushed. The frames have the number of the entry that is being made.
+abbrev pub flushed_by : State → Rect → ℕ → ScanoutState
+flushed_by state rect id = flushed (state.entries + 1) id rect (pixels_of (resource_at id state.resources)) state.scanouts
 
--- TRANSFER_TO_HOST_2D: an unknown resource, then what the backings refuse.
-abbrev pub transfer_step : State → Rect → ℕ → ℕ → Option Resource → State × Response
-transfer_step state rect offset id None = (state, responses.Error 0x1203)
-transfer_step state rect offset id (Some resource) =
-    answered_by (refusal_of (transfer_refusals id rect offset resource.width resource.height state.backings)) state
-    (with_transfer state rect offset id resource)
+-- RESOURCE_FLUSH is refused for a resource that there isn't; a rectangle outside of it; too many bytes of frames with the new ones.
+abbrev pub flush_refusals : State → Rect → ℕ → List (Bool × ℕ)
+flush_refusals state rect id =
+    let found = resource_at id state.resources in
+    (is_none found, ERR_INVALID_RESOURCE_ID)
+    ∷ (not (is_inside rect (width_of found) (height_of found)), ERR_INVALID_PARAMETER)
+    ∷ (are_too_many (flushed_by state rect id).frames, ERR_OUT_OF_MEMORY)
+    ∷ []
 
--- RESOURCE_ATTACH_BACKING and RESOURCE_DETACH_BACKING: an unknown resource, then what the backings refuse.
+abbrev pub flush_step : State → Rect → ℕ → State × Response
+flush_step state rect id =
+    answered_by (refusal_of (flush_refusals state rect id)) state (record state { scanouts = flushed_by state rect id })
+
+-- TRANSFER_TO_HOST_2D is refused as `transfer_refusals` (Backing) says.
+abbrev pub transfer_step : State → Rect → ℕ → ℕ → State × Response
+transfer_step state rect offset id =
+    let found = resource_at id state.resources in
+    answered_by (receive_refusal id rect offset state.backings found) state
+    (record state { resources = with_received state.memory id rect offset state.backings found state.resources })
+
+-- RESOURCE_ATTACH_BACKING is refused as `attach_refusals` (Backing) says, and RESOURCE_DETACH_BACKING as `detach_refusals`.
 abbrev pub attach_step : State → ℕ → List MemEntry → State × Response
 attach_step state id entries =
-    if is_none (resource_at id state.resources) then (state, responses.Error 0x1203)
-    else
-    let done = attach state.memory id entries state.backings in
-    (record state { backings = done.0 }, response_of done.1)
+    answered_by (refusal_of (attach_refusals (is_some (resource_at id state.resources)) state.memory id entries state.backings)) state
+    (record state { backings = insert_entry nat_cmp state.backings id entries })
 
 abbrev pub detach_step : State → ℕ → State × Response
 detach_step state id =
-    if is_none (resource_at id state.resources) then (state, responses.Error 0x1203)
-    else
-    let done = detach id state.backings in
-    (record state { backings = done.0 }, response_of done.1)
+    answered_by (refusal_of (detach_refusals (is_some (resource_at id state.resources)) id state.backings)) state
+    (record state { backings = detached id state.backings })
 
 -- What a 2D command does and answers (VIRTIO 1.2, 5.7.6.8). Which error is answered, and in which order they are looked for, is
 -- our own; the standard gives the codes.
@@ -138,8 +155,8 @@ two_d_step state DisplayInfo = (state, responses.DisplayInfo (map Some state.set
 two_d_step state (Create2d resource format width height) = create_step state resource format width height
 two_d_step state (Unref resource) = unref_step state resource
 two_d_step state (SetScanout rect scanout resource) = set_scanout_step state rect scanout resource
-two_d_step state (Flush rect resource) = flush_step state rect resource (resource_at resource state.resources)
-two_d_step state (Transfer rect offset resource) = transfer_step state rect offset resource (resource_at resource state.resources)
+two_d_step state (Flush rect resource) = flush_step state rect resource
+two_d_step state (Transfer rect offset resource) = transfer_step state rect offset resource
 two_d_step state (Attach resource entries) = attach_step state resource entries
 two_d_step state (Detach resource) = detach_step state resource
 
@@ -150,7 +167,7 @@ command_step state (TwoD command) = two_d_step state command
 -- What a request does and answers: one that is malformed is answered ERR_UNSPEC and does nothing.
 abbrev pub answer_of : State → Result (Header × Command) Malformed → State × Response
 answer_of state (Ok (header, command)) = command_step state command
-answer_of state (Err malformed) = (state, responses.Error 0x1200)
+answer_of state (Err malformed) = (state, responses.Error ERR_UNSPEC)
 
 -- The response's bytes as far as the room holds them.
 abbrev pub answered : List ℕ → ℕ → Response → List ℕ
@@ -168,7 +185,7 @@ step state queue bytes room =
     let done = effect_and_bytes state queue bytes room in
     (counted done.0, done.1)
 
--- A response other than OK_NODATA has changed nothing.
+-- A response other than OK_NODATA has changed nothing: `new` is the display as it was.
 abbrev pub Keeps : Response → State → State → Type 0
 Keeps responses.Nodata old new = Unit {0}
 Keeps (responses.DisplayInfo modes) old new = new ≡ old

@@ -1,11 +1,13 @@
 //! Backings: the ranges of guest memory that a resource's pixels come from (VIRTIO 1.2, 5.7.6.8).
 
-ghost use Rattle.std.specs.Prelude.{◌≡◌, ◌+◌, ◌*◌, ◌<◌, ◌≤◌, ◌⊎◌, ◌^◌, [], true, length, take, drop, IfOk, IfSome, IfNone, OnErr, false, All, option_copied};
+ghost use Rattle.std.specs.Prelude.{◌≡◌, ◌+◌, ◌-◌, ◌*◌, ◌<◌, ◌≤◌, ◌⊎◌, ◌^◌, [], true, length, take, drop, IfOk, IfSome, IfNone, OnErr, false, All, option_copied};
 ghost use Rattle.std.specs.List.{list_any};
 ghost use Rattle.vg_pages.specs.Memory.{Memory};
-ghost use Rattle.vg_machine.specs.Backing.{AreHeld, are_bad, attach, ArePlaced, EndsInRange, HasByte, backing_at, backing_bytes, detach, detached, entries_of, is_bad, is_empty, total, transfer_end, transferred};
+ghost use Rattle.vg_formats.specs.Pixels.{is_empty};
+ghost use Rattle.vg_machine.specs.Backing.{are_bad, attach, backing_at, backing_bytes, detach, detached, is_bad, total, transfer, transfer_end, transferred};
+ghost use Rattle.vg_machine.specs.Fits.{AreHeld, ArePlaced, EndsInRange, HasByte, entries_of};
 
-use crate::codes::{INVALID_PARAMETER, UNSPEC};
+use crate::codes::{ERR_INVALID_PARAMETER, ERR_UNSPEC};
 use std::alloc::{AllocError, Global};
 use std::collections::BTreeMap;
 use std::marker::Model;
@@ -29,7 +31,8 @@ pub(crate) struct Backing {
 impl Model for Backing {
     ghost use Rattle.std.specs.Prelude.{◌≡◌, ◌<◌, ◌^◌, List};
     ghost use Rattle.vg_formats.specs.declared.entry.MemEntry.{MemEntry};
-    ghost use Rattle.vg_machine.specs.Backing.{ArePlaced, entries_of, total};
+    ghost use Rattle.vg_machine.specs.Backing.{total};
+    ghost use Rattle.vg_machine.specs.Fits.{ArePlaced, entries_of};
 
     ghost Value = { List MemEntry };
 
@@ -113,7 +116,7 @@ impl Backing {
         requires source { (is_empty rect.now ≡ true) ⊎ (transfer_end rect.now offset width ≤ total self.now) }
         ensures { pixels.new ≡ transferred pages.now self.now rect.now offset width pixels.old }
     {
-        if rect.width == 0 || rect.height == 0 {
+        if rect.is_empty() {
             return;
         }
         self.transfer_rows(pages, rect, offset, width, pixels);
@@ -234,15 +237,15 @@ impl Backings {
         entries: &[MemEntry],
     ) -> Result<Result<(), u32>, AllocError>
         requires number { length entries.now < 2 ^ 32 }
-        ensures done { IfOk result (λ done. (self.new, done) ≡ attach pages.now resource entries.now self.old) }
+        ensures done { IfOk result (λ done. (self.new, done) ≡ attach true pages.now resource entries.now self.old) }
         ensures held { All (λ entry. AreHeld pages.now entry.1) self.old → All (λ entry. AreHeld pages.now entry.1) self.new }
         ensures err { OnErr result (self.new ≡ self.old) }
     {
         if self.map.contains_key(&resource) {
-            return Ok(Err(UNSPEC));
+            return Ok(Err(ERR_UNSPEC));
         }
         let Some(backing) = Backing::new(alloc, pages, entries)? else {
-            return Ok(Err(INVALID_PARAMETER));
+            return Ok(Err(ERR_INVALID_PARAMETER));
         };
         self.map.insert(resource, backing)?;
         Ok(Ok(()))
@@ -251,12 +254,12 @@ impl Backings {
     /// Ends a resource's backing, or answers the code of its refusal.
     #[tactic(auto, unfolding(crate::specs::Backing::detach))]
     pub(crate) fn detach(&mut self, resource: u32) -> Result<(), u32>
-        ensures done { (self.new, result) ≡ detach resource self.old }
+        ensures done { (self.new, result) ≡ detach true resource self.old }
         ensures held { (memory : Memory) → All (λ entry. AreHeld memory entry.1) self.old → All (λ entry. AreHeld memory entry.1) self.new }
     {
         match self.map.remove(&resource) {
             Some(_) => Ok(()),
-            None => Err(UNSPEC),
+            None => Err(ERR_UNSPEC),
         }
     }
 
@@ -268,10 +271,50 @@ impl Backings {
         self.map.remove(&resource);
     }
 
+    /// Copies a rectangle of a resource of `width` by `height` pixels from its backing, of which the first byte is that at
+    /// `offset`, or answers the code of its refusal.
+    #[tactic(auto, unfolding(crate::specs::Backing::transfer))]
+    pub(crate) fn transfer(
+        &self,
+        pages: &Pages,
+        resource: u32,
+        rect: &Rect,
+        offset: u64,
+        width: u32,
+        height: u32,
+        pixels: &mut [u8],
+    ) -> Result<(), u32>
+        requires held { All (λ entry. AreHeld pages.now entry.1) self.now }
+        requires whole { length pixels.old ≡ 4 * width * height }
+        ensures { (pixels.new, result) ≡ transfer true pages.now resource rect.now offset width height self.now pixels.old }
+    {
+        let Some(backing) = self.get(resource) else {
+            return Err(ERR_UNSPEC);
+        };
+        if !rect.inside(width, height) {
+            return Err(ERR_INVALID_PARAMETER);
+        }
+        if !rect.is_empty() && u128::from(backing.length()) < end_of(rect, offset, width) {
+            return Err(ERR_INVALID_PARAMETER);
+        }
+        backing.transfer(pages, rect, offset, width, pixels);
+        Ok(())
+    }
+
     /// The backing of a resource.
-    pub(crate) fn get(&self, resource: u32) -> Option<&Backing>
+    fn get(&self, resource: u32) -> Option<&Backing>
         ensures value { option_copied result ≡ backing_at resource self.now }
     {
         self.map.get(&resource)
     }
+}
+
+/// One past the last byte of the backing that a transfer reads.
+fn end_of(rect: &Rect, offset: u64, width: u32) -> u128
+    requires { 0 < rect.now.height }
+    ensures { result ≡ transfer_end rect.now offset width }
+{
+    u128::from(offset)
+        + 4 * u128::from(width) * (u128::from(rect.height) - 1)
+        + 4 * u128::from(rect.width)
 }

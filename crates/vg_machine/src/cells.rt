@@ -3,17 +3,17 @@
 ghost use Rattle.std.specs.Prelude.{◌≡◌, ◌+◌, ◌-◌, ◌*◌, ◌%◌, ◌≤◌, ◌<◌, IfOk, length, ◌^◌};
 ghost use Rattle.vg_pages.specs.Memory.{AreGivable};
 ghost use Rattle.vg_machine.specs.Cells.{loaded, pages_of, place_in_memory, repeated, stored};
-ghost use Rattle.vg_pages.specs.declared.TheConstants.{MEMORY_START, PAGE_BYTES};
 
 use std::alloc::{AllocError, Global};
 use std::cmp::min;
-use vg_pages::{MEMORY_START, PAGE_BYTES, Pages};
+use vg_pages::{PAGE_BYTES, Pages};
+use vg_places::zeros;
 
 /// How many pages hold so many bytes.
 pub(crate) fn pages_of(bytes: u32) -> u32
     ensures { result ≡ pages_of bytes }
 {
-    bytes.div_ceil(4096)
+    bytes.div_ceil(PAGE_BYTES as u32)
 }
 
 /// These bytes, so many times, one after another.
@@ -34,7 +34,7 @@ pub(crate) fn repeated(alloc: Global, bytes: &[u8], times: u32) -> Result<Vec<u8
 /// Writes `piece` into the buffer with these pages, from `offset` on.
 pub(crate) fn store(memory: &mut Pages, pages: &[u32], offset: u32, piece: &[u8])
     requires pages { AreGivable memory.old.taken pages.now }
-    requires inside { offset + length piece.now ≤ PAGE_BYTES * length pages.now }
+    requires inside { offset + length piece.now ≤ 4096 * length pages.now }
     ensures { memory.new ≡ record memory.old { bytes = stored pages.now offset piece.now memory.old.bytes } }
 {
     let mut done = 0;
@@ -56,7 +56,7 @@ pub(crate) fn load(
     count: u32,
 ) -> Result<Vec<u8>, AllocError>
     requires pages { AreGivable memory.now.taken pages.now }
-    requires inside { offset + count ≤ PAGE_BYTES * length pages.now }
+    requires inside { offset + count ≤ 4096 * length pages.now }
     ensures { IfOk result (λ bytes. bytes.items ≡ loaded memory.now.bytes pages.now offset count) }
 {
     let mut bytes = zeros(alloc, count as usize)?;
@@ -67,7 +67,7 @@ pub(crate) fn load(
 /// Reads the bytes of the buffer with these pages from `offset` on into `out`, as many as it has.
 fn fill(memory: &Pages, pages: &[u32], offset: u32, out: &mut [u8])
     requires pages { AreGivable memory.now.taken pages.now }
-    requires inside { offset + length out.old ≤ PAGE_BYTES * length pages.now }
+    requires inside { offset + length out.old ≤ 4096 * length pages.now }
     ensures { out.new ≡ loaded memory.now.bytes pages.now offset (length out.old) }
 {
     let mut done = 0;
@@ -83,19 +83,9 @@ fn fill(memory: &Pages, pages: &[u32], offset: u32, out: &mut [u8])
 /// The address of byte `at` of the buffer with these pages.
 fn address(memory: &Pages, pages: &[u32], at: usize) -> u64
     requires pages { AreGivable memory.now.taken pages.now }
-    requires inside { at < PAGE_BYTES * length pages.now }
-    ensures place { result ≡ MEMORY_START + place_in_memory pages.now at }
-    ensures page { place_in_memory pages.now at - at % PAGE_BYTES + PAGE_BYTES ≤ length memory.now.bytes }
+    requires inside { at < 4096 * length pages.now }
+    ensures place { result ≡ 1048576 + place_in_memory pages.now at }
+    ensures page { place_in_memory pages.now at - at % 4096 + 4096 ≤ length memory.now.bytes }
 {
-    // Asked for what it tells beside its answer: that each page has its bytes.
-    let _held = memory.holds(MEMORY_START, 0);
-    let page = pages[at / PAGE_BYTES];
-    MEMORY_START + u64::from(page) * PAGE_BYTES as u64 + (at % PAGE_BYTES) as u64
-}
-
-/// This many bytes, all 0.
-fn zeros(alloc: Global, size: usize) -> Result<Vec<u8>, AllocError>
-    ensures { IfOk result (λ bytes. length bytes.items ≡ size) }
-{
-    vec![in alloc; 0u8; size]
+    memory.address(pages[at / PAGE_BYTES]) + (at % PAGE_BYTES) as u64
 }

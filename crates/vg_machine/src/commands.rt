@@ -1,15 +1,12 @@
 //! What the 2D commands do (VIRTIO 1.2, 5.7.6.8), one function each.
 
-ghost use Rattle.std.specs.Prelude.{◌≡◌, IfOk, OnErr, map, Some, ◌<◌, ◌^◌, ◌-◌, length};
+ghost use Rattle.std.specs.Prelude.{◌≡◌, ◌≢◌, IfOk, OnErr, map, Some, ◌<◌, ◌^◌, ◌-◌, length};
 ghost use Rattle.vg_wire.specs.TwoD.{FitsCount};
 ghost use Rattle.vg_wire.specs.declared.response.Response.TheVariants as responses;
-ghost use Rattle.vg_machine.specs.Step as step_words;
-ghost use Rattle.vg_machine.specs.Backing as backing_words;
-ghost use Rattle.vg_machine.specs.Backing.{transfer_end};
-ghost use Rattle.vg_machine.specs.Step.{Keeps, attach_step, create_step, detach_step, flush_step, set_scanout_step, show_step, transfer_step, two_d_step, unref_step};
-ghost use Rattle.vg_machine.specs.Resource.{resource_at};
+ghost use Rattle.vg_machine.specs.Fits as fit_words;
+ghost use Rattle.vg_machine.specs.Step.{attach_step, create_step, detach_step, flush_step, set_scanout_step, transfer_step, two_d_step, unref_step};
 
-use crate::codes::{INVALID_PARAMETER, INVALID_RESOURCE, INVALID_SCANOUT, UNSPEC};
+use crate::codes::{ERR_INVALID_PARAMETER, ERR_INVALID_RESOURCE_ID, ERR_INVALID_SCANOUT_ID};
 use crate::display::Display;
 use crate::scanout::Binding;
 use std::alloc::{AllocError, Global};
@@ -17,7 +14,7 @@ use vg_formats::{MemEntry, Rect};
 use vg_wire::{Command2d, Modes, Response};
 
 impl Display {
-    /// Runs a 2D command, and gives its response. A response that isn't OK_NODATA changes nothing.
+    /// Runs a 2D command, and gives its response.
     pub(crate) fn run_2d(
         &mut self,
         alloc: Global,
@@ -26,7 +23,6 @@ impl Display {
         requires entries { self.old.entries < 2 ^ 31 - 1 }
         requires count { FitsCount command.now }
         ensures step { IfOk result (λ response. two_d_step self.old command.now ≡ (self.new, response)) }
-        ensures keeps { IfOk result (λ response. Keeps response self.old self.new) }
         ensures err { OnErr result (self.new ≡ self.old) }
     {
         match command {
@@ -75,7 +71,6 @@ impl Display {
         height: u32,
     ) -> Result<Response, AllocError>
         ensures step { IfOk result (λ response. create_step self.old resource format width height ≡ (self.new, response)) }
-        ensures keeps { IfOk result (λ response. Keeps response self.old self.new) }
         ensures err { OnErr result (self.new ≡ self.old) }
     {
         let done = self
@@ -86,14 +81,10 @@ impl Display {
 
     fn unref(&mut self, resource: u32) -> Response
         ensures step { unref_step self.old resource ≡ (self.new, result) }
-        ensures keeps { Keeps result self.old self.new }
     {
-        if self.resources.get(resource).is_none() {
-            return Response::Error {
-                code: INVALID_RESOURCE,
-            };
+        if let Err(code) = self.resources.remove(resource) {
+            return Response::Error { code };
         }
-        self.resources.remove(resource);
         self.backings.remove(resource);
         self.scanouts.unbind_resource(resource);
         Response::Nodata
@@ -107,12 +98,11 @@ impl Display {
         resource: u32,
     ) -> Result<Response, AllocError>
         ensures step { IfOk result (λ response. set_scanout_step self.old rect.now scanout resource ≡ (self.new, response)) }
-        ensures keeps { IfOk result (λ response. Keeps response self.old self.new) }
         ensures err { OnErr result (self.new ≡ self.old) }
     {
         if self.setup.displays.len() <= scanout as usize {
             return Ok(Response::Error {
-                code: INVALID_SCANOUT,
+                code: ERR_INVALID_SCANOUT_ID,
             });
         }
         if resource == 0 {
@@ -130,19 +120,19 @@ impl Display {
         scanout: u32,
         resource: u32,
     ) -> Result<Response, AllocError>
-        requires { scanout < length self.old.setup.displays }
-        ensures step { IfOk result (λ response. show_step self.old rect.now scanout resource (resource_at resource self.old.resources) ≡ (self.new, response)) }
-        ensures keeps { IfOk result (λ response. Keeps response self.old self.new) }
+        requires scanout { scanout < length self.old.setup.displays }
+        requires resource { resource ≢ 0 }
+        ensures step { IfOk result (λ response. set_scanout_step self.old rect.now scanout resource ≡ (self.new, response)) }
         ensures err { OnErr result (self.new ≡ self.old) }
     {
         let Some(surface) = self.resources.get(resource) else {
             return Ok(Response::Error {
-                code: INVALID_RESOURCE,
+                code: ERR_INVALID_RESOURCE_ID,
             });
         };
-        if is_empty(rect) || !rect.inside(surface.width, surface.height) {
+        if rect.is_empty() || !rect.inside(surface.width, surface.height) {
             return Ok(Response::Error {
-                code: INVALID_PARAMETER,
+                code: ERR_INVALID_PARAMETER,
             });
         }
         let binding = Binding {
@@ -160,18 +150,17 @@ impl Display {
 
     fn flush(&mut self, alloc: Global, rect: &Rect, resource: u32) -> Result<Response, AllocError>
         requires { self.old.entries < 2 ^ 31 - 1 }
-        ensures step { IfOk result (λ response. flush_step self.old rect.now resource (resource_at resource self.old.resources) ≡ (self.new, response)) }
-        ensures keeps { IfOk result (λ response. Keeps response self.old self.new) }
+        ensures step { IfOk result (λ response. flush_step self.old rect.now resource ≡ (self.new, response)) }
         ensures err { OnErr result (self.new ≡ self.old) }
     {
         let Some(surface) = self.resources.get(resource) else {
             return Ok(Response::Error {
-                code: INVALID_RESOURCE,
+                code: ERR_INVALID_RESOURCE_ID,
             });
         };
         if !rect.inside(surface.width, surface.height) {
             return Ok(Response::Error {
-                code: INVALID_PARAMETER,
+                code: ERR_INVALID_PARAMETER,
             });
         }
         let entry = self.entries + 1;
@@ -182,31 +171,12 @@ impl Display {
     }
 
     fn transfer(&mut self, rect: &Rect, offset: u64, resource: u32) -> Response
-        ensures step { transfer_step self.old rect.now offset resource (resource_at resource self.old.resources) ≡ (self.new, result) }
-        ensures keeps { Keeps result self.old self.new }
+        ensures step { transfer_step self.old rect.now offset resource ≡ (self.new, result) }
     {
-        let Some(target) = self.resources.get(resource) else {
-            return Response::Error {
-                code: INVALID_RESOURCE,
-            };
-        };
-        let (width, height) = (target.width, target.height);
-        let Some(backing) = self.backings.get(resource) else {
-            return Response::Error { code: UNSPEC };
-        };
-        if !rect.inside(width, height) {
-            return Response::Error {
-                code: INVALID_PARAMETER,
-            };
-        }
-        if !is_empty(rect) && u128::from(backing.length()) < end_of(rect, offset, width) {
-            return Response::Error {
-                code: INVALID_PARAMETER,
-            };
-        }
-        self.resources
-            .receive(resource, &self.pages, backing, rect, offset);
-        Response::Nodata
+        response_of(
+            self.resources
+                .receive(resource, &self.pages, &self.backings, rect, offset),
+        )
     }
 
     fn attach(
@@ -217,12 +187,11 @@ impl Display {
     ) -> Result<Response, AllocError>
         requires { length entries.now < 2 ^ 32 }
         ensures step { IfOk result (λ response. attach_step self.old resource entries.now ≡ (self.new, response)) }
-        ensures keeps { IfOk result (λ response. Keeps response self.old self.new) }
         ensures err { OnErr result (self.new ≡ self.old) }
     {
         if self.resources.get(resource).is_none() {
             return Ok(Response::Error {
-                code: INVALID_RESOURCE,
+                code: ERR_INVALID_RESOURCE_ID,
             });
         }
         let done = self.backings.attach(alloc, &self.pages, resource, entries)?;
@@ -231,11 +200,10 @@ impl Display {
 
     fn detach(&mut self, resource: u32) -> Response
         ensures step { detach_step self.old resource ≡ (self.new, result) }
-        ensures keeps { Keeps result self.old self.new }
     {
         if self.resources.get(resource).is_none() {
             return Response::Error {
-                code: INVALID_RESOURCE,
+                code: ERR_INVALID_RESOURCE_ID,
             };
         }
         response_of(self.backings.detach(resource))
@@ -251,27 +219,10 @@ fn enabled(alloc: Global, displays: &[(u32, u32)]) -> Result<Vec<Option<(u32, u3
 
 /// OK_NODATA, or the error of a code.
 fn response_of(done: Result<(), u32>) -> Response
-    ensures { result ≡ step_words.response_of done }
+    ensures { result ≡ fit_words.response_of done }
 {
     match done {
         Ok(()) => Response::Nodata,
         Err(code) => Response::Error { code },
     }
-}
-
-/// Whether a rectangle has no pixels.
-fn is_empty(rect: &Rect) -> bool
-    ensures { result ≡ backing_words.is_empty rect.now }
-{
-    rect.width == 0 || rect.height == 0
-}
-
-/// One past the last byte of the backing that a transfer reads.
-fn end_of(rect: &Rect, offset: u64, width: u32) -> u128
-    requires { 0 < rect.now.height }
-    ensures { result ≡ transfer_end rect.now offset width }
-{
-    u128::from(offset)
-        + 4 * u128::from(width) * (u128::from(rect.height) - 1)
-        + 4 * u128::from(rect.width)
 }

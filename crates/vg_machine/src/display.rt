@@ -1,17 +1,17 @@
 //! The device on one thread.
 
-ghost use Rattle.std.specs.Prelude.{◌≡◌, ◌==◌, ◌<◌, ◌-◌, ◌^◌, if◌then◌else◌, bit_and, IfOk, OnErr};
+ghost use Rattle.std.specs.Prelude.{◌≡◌, ◌==◌, ◌<◌, ◌-◌, ◌^◌, if◌then◌else◌, bit_and, IfOk, OnOk, OnErr};
 ghost use Rattle.vg_wire.specs.Request.{request_of};
 ghost use Rattle.vg_wire.specs.Response.{response_kind};
 ghost use Rattle.vg_machine.specs.Setup.{IsSetup};
-ghost use Rattle.vg_machine.specs.State.{start};
-ghost use Rattle.vg_machine.specs.ActStep.{act_step};
+ghost use Rattle.vg_machine.specs.State.{counted, start};
+ghost use Rattle.vg_machine.specs.ActStep.{KeepsIfRefused, act_step};
 ghost use Rattle.vg_machine.specs.Holds.{update};
 ghost use Rattle.vg_machine.specs.Step.{Keeps, answer_header, answer_of, answered, effect_and_bytes, step};
 
 use crate::act::{Act, ActReply};
 use crate::backing::Backings;
-use crate::codes::UNSPEC;
+use crate::codes::ERR_UNSPEC;
 use crate::holds::Holds;
 use crate::resource::Resources;
 use crate::scanout::{Frame, Scanouts};
@@ -50,7 +50,7 @@ impl Display {
         requires { IsSetup setup.now }
         ensures { IfOk result (λ display. display ≡ start setup.now) }
     {
-        let count = setup.displays.len();
+        let count = setup.displays.len() as u32;
         Ok(Display {
             setup: copy_of(setup)?,
             entries: 0,
@@ -94,6 +94,7 @@ impl Display {
     ) -> Result<Vec<u8>, AllocError>
         requires { self.old.entries < 2 ^ 31 - 1 }
         ensures step { IfOk result (λ bytes. (self.new, bytes.items) ≡ step self.old queue request.now room) }
+        ensures refused { OnOk result (Keeps (answer_of self.old (request_of queue request.now)).1 (counted self.old) self.new) }
         ensures err { OnErr result (self.new ≡ self.old) }
     {
         let bytes = self.answer(alloc, queue, request, room)?;
@@ -109,8 +110,10 @@ impl Display {
         holds: &mut Holds,
         act: &Act,
     ) -> Result<ActReply, AllocError>
-        requires { self.old.entries < 2 ^ 31 - 1 }
+        requires count { self.old.entries < 2 ^ 31 - 1 }
+        requires holds { holds.old.client ≡ client }
         ensures step { IfOk result (λ reply. (self.new, reply) ≡ act_step self.old client act.now) }
+        ensures refused { IfOk result (λ reply. KeepsIfRefused reply (counted self.old) self.new) }
         ensures holds { IfOk result (λ reply. holds.new ≡ update holds.old act.now reply) }
         ensures err { OnErr result ((self.new ≡ self.old) × (holds.new ≡ holds.old)) }
     {
@@ -142,7 +145,7 @@ impl Display {
         }
     }
 
-    /// What a request is answered. A response that isn't OK_NODATA changes nothing.
+    /// What a request is answered.
     fn respond(
         &mut self,
         alloc: Global,
@@ -151,12 +154,11 @@ impl Display {
     ) -> Result<Response, AllocError>
         requires { self.old.entries < 2 ^ 31 - 1 }
         ensures step { IfOk result (λ response. answer_of self.old (request_of queue request.now) ≡ (self.new, response)) }
-        ensures keeps { IfOk result (λ response. Keeps response self.old self.new) }
         ensures err { OnErr result (self.new ≡ self.old) }
     {
         match read_request(alloc, request, queue)? {
             Ok((_, Command::TwoD(command))) => self.run_2d(alloc, &command),
-            Err(_) => Ok(Response::Error { code: UNSPEC }),
+            Err(_) => Ok(Response::Error { code: ERR_UNSPEC }),
         }
     }
 }

@@ -28,6 +28,3 @@ pub use resource::Resource;
 pub use scanout::{Binding, Frame};
 pub use setup::Setup;
 pub use shape::Shape;
-
-#[cfg(test)]
-mod tests;

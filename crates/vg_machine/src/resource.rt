@@ -1,20 +1,23 @@
 //! The 2D resources (VIRTIO 1.2, 5.7.6.8).
 
-ghost use Rattle.std.specs.Prelude.{◌≡◌, ◌<◌, ◌≤◌, [], Some, None, ◌+◌, IfOk, IfErr, OnOk, IfNone, OnErr, IfSome, replicate, ◌*◌, true, option_copied, ◌⊎◌};
-ghost use Rattle.vg_machine.specs.Backing.{AreHeld, is_within, is_empty, total, transfer_end, transferred};
-ghost use Rattle.vg_machine.specs.Resource.{IsWhole, blank, create, create_refusals, pixel_bytes, resource_at, with_pixels, without};
+ghost use Rattle.std.specs.Prelude.{◌≡◌, ◌<◌, ◌≤◌, [], Some, None, ◌+◌, IfOk, IfErr, OnOk, OnErr, IfSome, ◌*◌, true, option_copied};
+ghost use Rattle.std.specs.List.{All};
+ghost use Rattle.vg_machine.specs.Backing.{transfer};
+ghost use Rattle.vg_machine.specs.Receive.{receive};
+ghost use Rattle.vg_machine.specs.Fits.{AreHeld, IsWhole};
+ghost use Rattle.vg_machine.specs.Resource.{blank, create, create_refusals, pixel_bytes, remove, resource_at, with_pixels};
 ghost use Rattle.vg_machine.specs.Refusals.{refusal_of};
-ghost use Rattle.vg_machine.specs.declared.resource.TheConstants.{MOST_PIXEL_BYTES};
 ghost use Rattle.vg_formats.specs.Formats.{format_of};
 
-use crate::backing::Backing;
-use crate::codes::{INVALID_PARAMETER, INVALID_RESOURCE, OUT_OF_MEMORY};
+use crate::backing::Backings;
+use crate::codes::{ERR_INVALID_PARAMETER, ERR_INVALID_RESOURCE_ID, ERR_OUT_OF_MEMORY};
 use std::alloc::{AllocError, Global};
 use std::collections::BTreeMap;
 use std::marker::Model;
-use vg_formats::{Format, Rect};
+use vg_formats::{Format, Rect, pixel_bytes};
 use vg_list::Seq;
 use vg_pages::Pages;
+use vg_places::zeros;
 
 /// How many bytes the pixels of all resources may have.
 pub(crate) const MOST_PIXEL_BYTES: u64 = 134_217_728;
@@ -41,14 +44,14 @@ impl Model for Resources {
     ghost use Rattle.std.specs.List.{All};
     ghost use Rattle.std.specs.Map.{values_of};
     ghost use Rattle.vg_machine.specs.declared.resource.Resource.{Resource};
-    ghost use Rattle.vg_machine.specs.declared.resource.TheConstants.{MOST_PIXEL_BYTES};
-    ghost use Rattle.vg_machine.specs.Resource.{IsWhole, pixel_bytes};
+    ghost use Rattle.vg_machine.specs.Fits.{IsWhole};
+    ghost use Rattle.vg_machine.specs.Resource.{pixel_bytes};
 
     ghost Value = { List (ℕ × Resource) };
 
     ghost view = { λ r. r.map.entries };
 
-    ghost invariant = { λ r. (r.bytes ≡ pixel_bytes r.map.entries) × (r.bytes ≤ MOST_PIXEL_BYTES) × All IsWhole (values_of r.map.entries) };
+    ghost invariant = { λ r. (r.bytes ≡ pixel_bytes r.map.entries) × (r.bytes ≤ 134217728) × All IsWhole (values_of r.map.entries) };
 }
 
 impl Resources {
@@ -89,31 +92,43 @@ impl Resources {
     fn judge(&self, id: u32, width: u32, height: u32, format: u32) -> Result<Format, u32>
         ensures ok { IfOk result (λ known. (format_of format ≡ Some known) × (refusal_of (create_refusals id width height format self.now) ≡ None)) }
         ensures free { OnOk result (resource_at id self.now ≡ None) }
-        ensures room { OnOk result ((0 < width) × (0 < height) × (pixel_bytes self.now + 4 * width * height ≤ MOST_PIXEL_BYTES)) }
+        ensures room { OnOk result ((0 < width) × (0 < height) × (pixel_bytes self.now + 4 * width * height ≤ 134217728)) }
         ensures err { IfErr result (λ code. refusal_of (create_refusals id width height format self.now) ≡ Some code) }
     {
         if id == 0 || self.map.contains_key(&id) {
-            return Err(INVALID_RESOURCE);
+            return Err(ERR_INVALID_RESOURCE_ID);
         }
         let Some(known) = Format::of(format) else {
-            return Err(INVALID_PARAMETER);
+            return Err(ERR_INVALID_PARAMETER);
         };
         if width == 0 || height == 0 {
-            return Err(INVALID_PARAMETER);
+            return Err(ERR_INVALID_PARAMETER);
         }
         if pixel_bytes(width, height) > u128::from(MOST_PIXEL_BYTES - self.bytes) {
-            return Err(OUT_OF_MEMORY);
+            return Err(ERR_OUT_OF_MEMORY);
         }
         Ok(known)
     }
 
-    /// Takes the resource away, if there is one.
-    pub(crate) fn remove(&mut self, id: u32)
-        ensures { self.new ≡ without id self.old }
+    /// Takes the resource away, or answers the code of its refusal.
+    #[tactic(auto, unfolding(crate::specs::Resource::remove))]
+    pub(crate) fn remove(&mut self, id: u32) -> Result<(), u32>
+        ensures { (self.new, result) ≡ remove id self.old }
     {
-        if let Some(resource) = self.map.remove(&id) {
-            self.bytes -= resource.pixels.len() as u64;
+        match self.map.remove(&id) {
+            Some(resource) => {
+                self.bytes -= resource.pixels.len() as u64;
+                Ok(())
+            }
+            None => Err(ERR_INVALID_RESOURCE_ID),
         }
+    }
+
+    /// How many bytes the pixels of all resources have.
+    pub(crate) fn bytes(&self) -> u64
+        ensures { result ≡ pixel_bytes self.now }
+    {
+        self.bytes
     }
 
     /// The resource of this id.
@@ -124,32 +139,21 @@ impl Resources {
         self.map.get(&id)
     }
 
-    /// Copies a rectangle of the resource from its backing, of which the first byte is that at `offset`.
+    /// Copies a rectangle of the resource from its backing, of which the first byte is that at `offset`, or answers the
+    /// code of its refusal.
     pub(crate) fn receive(
         &mut self,
         id: u32,
         pages: &Pages,
-        backing: &Backing,
+        backings: &Backings,
         rect: &Rect,
         offset: u64,
-    )
-        requires held { AreHeld pages.now backing.now }
-        requires fits { IfSome (resource_at id self.old) (λ resource.
-            (is_within rect.now resource.width resource.height ≡ true)
-            × ((is_empty rect.now ≡ true) ⊎ (transfer_end rect.now offset resource.width ≤ total backing.now))) }
-        ensures some { IfSome (resource_at id self.old) (λ resource.
-            self.new ≡ with_pixels id resource (transferred pages.now backing.now rect.now offset resource.width resource.pixels) self.old) }
-        ensures none { IfNone (resource_at id self.old) (self.new ≡ self.old) }
+    ) -> Result<(), u32>
+        requires held { All (λ entry. AreHeld pages.now entry.1) backings.now }
+        ensures { (self.new, result) ≡ receive pages.now id rect.now offset backings.now self.old }
     {
-        receive_in(&mut self.map, id, pages, backing, rect, offset);
+        receive_in(&mut self.map, id, pages, backings, rect, offset)
     }
-}
-
-/// How many bytes this many pixels have.
-fn pixel_bytes(width: u32, height: u32) -> u128
-    ensures { result ≡ 4 * width * height }
-{
-    4 * u128::from(width) * u128::from(height)
 }
 
 #[tactic(auto, unfolding(crate::specs::Resource::blank))]
@@ -172,43 +176,42 @@ fn blank(
     })
 }
 
-/// This many bytes, all 0.
-fn zeros(alloc: Global, size: usize) -> Result<Vec<u8>, AllocError>
-    ensures { IfOk result (λ bytes. bytes.items ≡ replicate size 0) }
-{
-    vec![in alloc; 0u8; size]
-}
-
 fn receive_in(
     map: &mut BTreeMap<u32, Resource>,
     id: u32,
     pages: &Pages,
-    backing: &Backing,
+    backings: &Backings,
     rect: &Rect,
     offset: u64,
-)
-    requires held { AreHeld pages.now backing.now }
+) -> Result<(), u32>
+    requires held { All (λ entry. AreHeld pages.now entry.1) backings.now }
     requires whole { IfSome (resource_at id map.old.entries) IsWhole }
-    requires fits { IfSome (resource_at id map.old.entries) (λ resource.
-        (is_within rect.now resource.width resource.height ≡ true)
-        × ((is_empty rect.now ≡ true) ⊎ (transfer_end rect.now offset resource.width ≤ total backing.now))) }
-    ensures some { IfSome (resource_at id map.old.entries) (λ resource.
-        map.new.entries ≡ with_pixels id resource (transferred pages.now backing.now rect.now offset resource.width resource.pixels) map.old.entries) }
-    ensures none { IfNone (resource_at id map.old.entries) (map.new.entries ≡ map.old.entries) }
+    ensures { (map.new.entries, result) ≡ receive pages.now id rect.now offset backings.now map.old.entries }
 {
-    if let Some(resource) = map.get_mut(&id) {
-        receive_one(resource, pages, backing, rect, offset);
+    match map.get_mut(&id) {
+        Some(resource) => receive_one(resource, id, pages, backings, rect, offset),
+        None => Err(ERR_INVALID_RESOURCE_ID),
     }
 }
 
-fn receive_one(resource: &mut Resource, pages: &Pages, backing: &Backing, rect: &Rect, offset: u64)
-    requires held { AreHeld pages.now backing.now }
+fn receive_one(
+    resource: &mut Resource,
+    id: u32,
+    pages: &Pages,
+    backings: &Backings,
+    rect: &Rect,
+    offset: u64,
+) -> Result<(), u32>
+    requires held { All (λ entry. AreHeld pages.now entry.1) backings.now }
     requires whole { IsWhole resource.old }
-    requires within { is_within rect.now resource.old.width resource.old.height ≡ true }
-    requires source { (is_empty rect.now ≡ true) ⊎ (transfer_end rect.now offset resource.old.width ≤ total backing.now) }
-    ensures { resource.new ≡ record resource.old { pixels = transferred pages.now backing.now rect.now offset resource.old.width resource.old.pixels } }
+    ensures pixels { resource.new ≡ record resource.old {
+      pixels =
+          (transfer true pages.now id rect.now offset resource.old.width resource.old.height backings.now resource.old.pixels).0;
+    } }
+    ensures done { result
+        ≡ (transfer true pages.now id rect.now offset resource.old.width resource.old.height backings.now resource.old.pixels).1 }
 {
-    let width = resource.width;
+    let (width, height) = (resource.width, resource.height);
     let pixels = resource.pixels.as_mut_slice();
-    backing.transfer(pages, rect, offset, width, pixels);
+    backings.transfer(pages, id, rect, offset, width, height, pixels)
 }

@@ -2,14 +2,15 @@
 
 ghost use Rattle.std.specs.Prelude.{◌≡◌, ◌<◌, ◌+◌, ◌-◌, ◌*◌, ◌^◌, [], Some, None, All, IfOk, OnErr, if◌then◌else◌, length, map, min, replicate, option_copied, option_to_list};
 ghost use Rattle.vg_formats.specs.Pixels.{HasPixels, LiesWithin, common_of};
-ghost use Rattle.vg_machine.specs.Scanout.{FitSurface, FitsSurface, IsScreen, after_flush, bind, binding_at, flush, is_flushed, new_bytes, new_frame, new_frame_bytes, new_frames, pixels_with, unbound, unbound_from, unbound_screen};
+ghost use Rattle.vg_machine.specs.Fits.{FitSurface, FitsSurface, IsScreen};
+ghost use Rattle.vg_machine.specs.Scanout.{after_flush, bind, binding_at, flush, is_flushed, new_bytes, new_frame, new_frame_bytes, new_frames, pixels_with, unbound, unbound_from, unbound_screen};
 
-use crate::codes::OUT_OF_MEMORY;
+use crate::codes::ERR_OUT_OF_MEMORY;
 use std::alloc::{AllocError, Global};
 use std::marker::Model;
-use vg_formats::{Format, Rect};
+use vg_formats::{Format, Rect, pixel_bytes};
 use vg_list::Seq;
-use vg_places::Area;
+use vg_places::{Area, zeros};
 use vg_shown::show_rows;
 
 /// How many bytes one screen may have.
@@ -64,23 +65,22 @@ pub(crate) struct Scanouts {
 impl Model for Scanouts {
     ghost use Rattle.std.specs.Prelude.{◌≡◌, ◌≤◌, ◌<◌, ◌^◌, length};
     ghost use Rattle.std.specs.List.{All};
-    ghost use Rattle.vg_machine.specs.declared.scanout.TheConstants.{MOST_FRAME_BYTES};
-    ghost use Rattle.vg_machine.specs.Scanout.{ScanoutState, IsScreen, frame_bytes};
+    ghost use Rattle.vg_machine.specs.Fits.{IsScreen};
+    ghost use Rattle.vg_machine.specs.Scanout.{ScanoutState, frame_bytes};
 
     ghost Value = { ScanoutState };
 
     ghost view = { λ s. record { screens = s.screens.items; frames = s.frames.items } };
 
-    ghost invariant = { λ s. (s.bytes ≡ frame_bytes s.frames.items) × (s.bytes ≤ MOST_FRAME_BYTES) × All IsScreen s.screens.items × (length s.screens.items < 2 ^ 32) };
+    ghost invariant = { λ s. (s.bytes ≡ frame_bytes s.frames.items) × (s.bytes ≤ 268435456) × All IsScreen s.screens.items × (length s.screens.items < 2 ^ 32) };
 }
 
 impl Scanouts {
     /// So many scanouts, all of them disabled.
-    pub(crate) fn new(alloc: Global, count: usize) -> Result<Scanouts, AllocError>
-        requires { count < 2 ^ 32 }
+    pub(crate) fn new(alloc: Global, count: u32) -> Result<Scanouts, AllocError>
         ensures { IfOk result (λ scanouts. scanouts ≡ record { screens = replicate count None; frames = [] }) }
     {
-        let screens = vec![in alloc; None; count]?;
+        let screens = vec![in alloc; None; count as usize]?;
         Ok(Scanouts {
             screens,
             frames: Vec::new(alloc),
@@ -100,9 +100,9 @@ impl Scanouts {
         ensures done { IfOk result (λ done. (self.new, done) ≡ bind scanout binding self.old) }
         ensures err { OnErr result (self.new ≡ self.old) }
     {
-        let size = screen_bytes(binding.rect.width, binding.rect.height);
+        let size = pixel_bytes(binding.rect.width, binding.rect.height);
         if size > u128::from(MOST_SCREEN_BYTES) {
-            return Ok(Err(OUT_OF_MEMORY));
+            return Ok(Err(ERR_OUT_OF_MEMORY));
         }
         let pixels = Seq::from_vec(zeros(alloc, size as usize)?);
         self.screens[scanout as usize] = Some(Screen { binding, pixels });
@@ -151,7 +151,7 @@ impl Scanouts {
     {
         let bytes = bytes_after(self.screens.as_slice(), resource, rect, self.bytes);
         if bytes > MOST_FRAME_BYTES {
-            return Ok(Err(OUT_OF_MEMORY));
+            return Ok(Err(ERR_OUT_OF_MEMORY));
         }
         let screens = self.screens.as_slice();
         let mut frames = make_frames(alloc, entry, resource, rect, surface, screens)?;
@@ -188,20 +188,6 @@ impl Screen {
             None
         }
     }
-}
-
-/// How many bytes a screen of this size has.
-fn screen_bytes(width: u32, height: u32) -> u128
-    ensures { result ≡ 4 * width * height }
-{
-    4 * u128::from(width) * u128::from(height)
-}
-
-/// This many bytes, all 0.
-fn zeros(alloc: Global, size: usize) -> Result<Vec<u8>, AllocError>
-    ensures { IfOk result (λ bytes. bytes.items ≡ replicate size 0) }
-{
-    vec![in alloc; 0u8; size]
 }
 
 /// Disables each of the scanouts that is bound to the resource.

@@ -48,10 +48,10 @@ impl Model for Share {
 
 impl Share {
     /// No buffers, and so many scanouts, none of them leased.
-    pub(crate) fn new(alloc: Global, scanouts: usize) -> Result<Share, AllocError>
+    pub(crate) fn new(alloc: Global, scanouts: u32) -> Result<Share, AllocError>
         ensures { IfOk result (λ share. share ≡ record { buffers = []; reserved = 0; leases = replicate scanouts None; left = [] }) }
     {
-        let leases = vec![in alloc; None; scanouts]?;
+        let leases = vec![in alloc; None; scanouts as usize]?;
         Ok(Share {
             buffers: BTreeMap::new(alloc),
             reserved: 0,

@@ -2,7 +2,6 @@
 use Rattle.std.specs.Prelude.{◌≡◌, ◌≢◌, ℕ, ◌+◌, ◌-◌, ◌*◌, ◌/◌, ◌<◌, ◌≤◌, ◌==◌, Bool, true, false, not, if◌then◌else◌, List, ◌++◌, length, take, drop, replicate, slice_index, slice_index_or, slice_get, Some}
 use Rattle.std.specs.List.{filter, range_with_len, list_any, All, AllPairs}
 use Rattle.vg_places.specs.Places.{tabulate}
-use Rattle.vg_pages.specs.declared.TheConstants.{PAGE_BYTES, MEMORY_START, MOST_PAGES}
 
 -- Guest memory: its bytes in the order of their addresses, and of each page whether it is taken.
 pub record Memory : Type 0 where
@@ -12,25 +11,29 @@ pub record Memory : Type 0 where
 -- There is a page, there are not too many, and each has its bytes.
 abbrev pub HasWholePages : Memory → Type 0
 HasWholePages memory =
-    (length memory.bytes ≡ PAGE_BYTES * length memory.taken)
-    × (0 < length memory.taken) × (length memory.taken ≤ MOST_PAGES)
+    (length memory.bytes ≡ 4096 * length memory.taken)
+    × (0 < length memory.taken) × (length memory.taken ≤ 65536)
+
+-- The address of the first byte of a page.
+abbrev pub page_address : ℕ → ℕ
+page_address page = 1048576 + 4096 * page
 
 -- Memory of this many pages at first: each byte is 0, and no page is taken.
 unfoldable pub fresh_memory : ℕ → Memory
-fresh_memory count = record { bytes = replicate (PAGE_BYTES * count) 0; taken = replicate count false }
+fresh_memory count = record { bytes = replicate (4096 * count) 0; taken = replicate count false }
 
 -- The n bytes from this address on lie wholly in memory. An empty range does at each address up to its end.
 abbrev pub Holds : Memory → ℕ → ℕ → Type 0
-Holds memory addr n = (MEMORY_START ≤ addr) × (addr + n ≤ MEMORY_START + length memory.bytes)
+Holds memory addr n = (1048576 ≤ addr) × (addr + n ≤ 1048576 + length memory.bytes)
 
 -- The n bytes of memory from this address on.
 abbrev pub bytes_at : List ℕ → ℕ → ℕ → List ℕ
-bytes_at bytes addr n = take n (drop (addr - MEMORY_START) bytes)
+bytes_at bytes addr n = take n (drop (addr - 1048576) bytes)
 
 -- The bytes of memory after these were written from this address on.
 abbrev pub written_at : List ℕ → ℕ → List ℕ → List ℕ
 written_at bytes addr piece =
-    take (addr - MEMORY_START) bytes ++ piece ++ drop (addr - MEMORY_START + length piece) bytes
+    take (addr - 1048576) bytes ++ piece ++ drop (addr - 1048576 + length piece) bytes
 
 abbrev pub is_free : List Bool → ℕ → Bool
 is_free taken page = not (slice_index_or taken page true)
@@ -50,7 +53,7 @@ marked pages now taken =
 -- Each byte of these pages is 0, and each other byte as before.
 unfoldable pub zeroed : List ℕ → List ℕ → List ℕ
 zeroed pages bytes =
-    tabulate (length bytes) (λ place. if is_among pages (place / PAGE_BYTES) then 0 else slice_index bytes place)
+    tabulate (length bytes) (λ place. if is_among pages (place / 4096) then 0 else slice_index bytes place)
 
 -- Memory after these pages were taken.
 abbrev pub after_taking : Memory → List ℕ → Memory

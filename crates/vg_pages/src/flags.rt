@@ -3,12 +3,12 @@
 ghost use Rattle.std.specs.Prelude.{◌≡◌, ◌+◌, ◌*◌, ◌<◌, ◌≤◌, All, IfOk, length, take};
 ghost use Rattle.vg_pages.specs.Memory.{free_pages, marked, zeroed};
 
-use crate::{MOST_PAGES, PAGE_BYTES};
+use crate::PAGE_BYTES;
 use std::alloc::{AllocError, Global};
 
 /// How many pages are free.
 pub(crate) fn count_free(taken: &[bool]) -> u32
-    requires { length taken.now ≤ MOST_PAGES }
+    requires { length taken.now ≤ 65536 }
     ensures { result ≡ length (free_pages taken.now) }
 {
     let mut count = 0;
@@ -22,7 +22,7 @@ pub(crate) fn count_free(taken: &[bool]) -> u32
 
 /// The `n` lowest free pages, rising.
 pub(crate) fn lowest_free(alloc: Global, taken: &[bool], n: usize) -> Result<Vec<u32>, AllocError>
-    requires { length taken.now ≤ MOST_PAGES }
+    requires { length taken.now ≤ 65536 }
     ensures lowest { IfOk result (λ pages. pages.items ≡ take n (free_pages taken.now)) }
     ensures inside { IfOk result (λ pages. All (λ page. page < length taken.now) pages.items) }
 {
@@ -50,7 +50,7 @@ pub(crate) fn mark(taken: &mut [bool], pages: &[u32], now: bool)
 
 /// Writes zeros over these pages.
 pub(crate) fn zero(bytes: &mut [u8], pages: &[u32])
-    requires { All (λ page. PAGE_BYTES * page + PAGE_BYTES ≤ length bytes.old) pages.now }
+    requires { All (λ page. 4096 * page + 4096 ≤ length bytes.old) pages.now }
     ensures { bytes.new ≡ zeroed pages.now bytes.old }
 {
     for page in pages {

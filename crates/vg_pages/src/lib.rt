@@ -1,6 +1,9 @@
 //! Guest memory, page by page.
 #![tactic(auto)]
 
+ghost use Rattle.std.specs.Prelude.{◌≡◌};
+ghost use Rattle.vg_pages.specs.Memory as memory_words;
+
 mod flags;
 mod memory;
 
@@ -12,8 +15,9 @@ pub const PAGE_BYTES: usize = 4_096;
 /// The address of the first byte of page 0.
 pub const MEMORY_START: u64 = 1_048_576;
 
-/// How many pages there are at most.
-pub const MOST_PAGES: u32 = 65_536;
-
-#[cfg(test)]
-mod tests;
+/// The address of the first byte of a page, whether there is such a page or not.
+pub fn page_address(page: u32) -> u64
+    ensures { result ≡ memory_words.page_address page }
+{
+    MEMORY_START + PAGE_BYTES as u64 * u64::from(page)
+}

@@ -1,13 +1,13 @@
 //! Guest memory as one buffer, with a flag for each page.
 
-ghost use Rattle.std.specs.Prelude.{◌≡◌, ℕ, List, All, ◌<◌, ◌≤◌, ◌↔◌, IfOk, IfSome, IfNone, OnErr, IsNone, IsTrue, length, take, false, replicate, vec_len};
-ghost use Rattle.vg_pages.specs.declared.TheConstants.{MOST_PAGES};
-ghost use Rattle.vg_pages.specs.Memory.{HasWholePages, fresh_memory, Holds, bytes_at, written_at, free_pages, is_among, marked, after_taking, AreGivable, AreTakeable};
+ghost use Rattle.std.specs.Prelude.{◌≡◌, ℕ, List, All, ◌<◌, ◌≤◌, ◌*◌, ◌↔◌, IfOk, IfSome, IfNone, OnErr, IsNone, IsTrue, length, take, false, vec_len};
+ghost use Rattle.vg_pages.specs.Memory.{HasWholePages, fresh_memory, Holds, bytes_at, written_at, free_pages, is_among, marked, after_taking, AreGivable, AreTakeable, page_address};
 
 use crate::flags::{count_free, lowest_free, mark, zero};
-use crate::{MEMORY_START, PAGE_BYTES};
+use crate::{MEMORY_START, PAGE_BYTES, page_address};
 use std::alloc::{AllocError, Global};
 use std::marker::Model;
+use vg_places::zeros;
 
 /// Guest memory: pages of 4,096 bytes, page p at the address 1,048,576 + 4,096 * p. Addresses and lengths
 /// are in bytes. A clause sees the bytes of all pages as one list, and for each page whether it is taken.
@@ -32,7 +32,7 @@ impl Pages {
     #[tactic(auto, unfolding(crate::specs::Memory::fresh_memory))]
     pub fn new(alloc: Global, count: u32) -> Result<Pages, AllocError>
         requires some { 0 < count }
-        requires limit { count ≤ MOST_PAGES }
+        requires limit { count ≤ 65536 }
         ensures fresh { IfOk result (λ memory. memory ≡ fresh_memory count) }
         ensures count { IfOk result (λ memory. length memory.taken ≡ count) }
         ensures pages { IfOk result HasWholePages }
@@ -119,6 +119,16 @@ impl Pages {
         MEMORY_START <= addr && addr <= end && length <= end - addr
     }
 
+    /// The address of the first byte of a page that there is.
+    pub fn address(&self, page: u32) -> u64
+        requires { page < length self.now.taken }
+        ensures address { result ≡ page_address page }
+        ensures pages { HasWholePages self.now }
+    {
+        prove!((page as usize) < self.taken.len());
+        page_address(page)
+    }
+
     /// Copies the bytes from the address `addr` on into `out`, as many as it has.
     pub fn read(&self, addr: u64, out: &mut [u8])
         requires { Holds self.now addr (length out.old) }
@@ -140,11 +150,4 @@ impl Pages {
         let end = start + bytes.len();
         memory[start..end].copy_from_slice(bytes);
     }
-}
-
-/// This many bytes, all 0.
-fn zeros(alloc: Global, size: usize) -> Result<Vec<u8>, AllocError>
-    ensures { IfOk result (λ bytes. bytes.items ≡ replicate size 0) }
-{
-    vec![in alloc; 0u8; size]
 }

@@ -3,10 +3,11 @@
 
 mod rectangles;
 
-ghost use Rattle.std.specs.Prelude.{◌≡◌, ◌<◌, ℕ, List, Some, length, slice_get};
+ghost use Rattle.std.specs.Prelude.{◌≡◌, ◌<◌, ℕ, List, Some, IfOk, length, replicate, slice_get};
 ghost use Rattle.vg_places.specs.Places.{tabulate};
 
-pub use rectangles::{Area, copy_rows, fill_at_each_place};
+pub use rectangles::{Area, fill_at_each_place};
+use std::alloc::{AllocError, Global};
 
 /// A law, and no work: two lists of one length that agree at each place are equal.
 pub fn agree_at_each_place<T>()
@@ -20,5 +21,9 @@ pub fn tabulate_at_each_place<T>()
     ensures element { (n : ℕ) (f : ℕ → T) (k : ℕ) → k < n → slice_get (tabulate n f) k ≡ Some (f k) }
 {}
 
-#[cfg(test)]
-mod tests;
+/// This many bytes, all 0.
+pub fn zeros(alloc: Global, size: usize) -> Result<Vec<u8>, AllocError>
+    ensures { IfOk result (λ bytes. bytes.items ≡ replicate size 0) }
+{
+    vec![in alloc; 0u8; size]
+}

@@ -16,6 +16,3 @@ pub use kind::Kind;
 pub use laws::{defined_names, first_fault, script_limits, script_or_fault};
 pub use text::parse;
 pub use types::{Area, Line, Script, ScriptFault, Step};
-
-#[cfg(test)]
-mod tests;

@@ -7,6 +7,3 @@ mod rows;
 
 pub use laws::show_each_pixel;
 pub use rows::{show_row, show_rows};
-
-#[cfg(test)]
-mod tests;

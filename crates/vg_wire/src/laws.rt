@@ -1,8 +1,8 @@
 //! Laws of the grammar, each the contract of a function that does nothing.
 
-ghost use Rattle.std.specs.Prelude.{◌≡◌, ◌<◌, ◌≤◌, ◌⊎◌, ◌↔◌, ℕ, List, length, true, false};
+ghost use Rattle.std.specs.Prelude.{◌≡◌, ◌<◌, ◌≤◌, ◌⊎◌, ◌↔◌, ℕ, List, None, drop, length, true, false};
 ghost use Rattle.vg_wire.specs.Header.{header_of};
-ghost use Rattle.vg_wire.specs.Request.{Reads, Refuses, is_known, is_queue_of};
+ghost use Rattle.vg_wire.specs.Request.{Reads, Refuses, command_of, is_known, is_queue_of};
 ghost use Rattle.vg_wire.specs.declared.header.Header.{Header as Headers};
 ghost use Rattle.vg_wire.specs.declared.request.Command.{Command as Commands};
 ghost use Rattle.vg_wire.specs.declared.request.Malformed.{Malformed as Refusals};
@@ -17,11 +17,14 @@ pub fn a_request_or_a_refusal()
         → Reads queue bytes header command → Refuses queue bytes malformed → ⊥ }
 {}
 
-/// When each reason comes, but for too few bytes of fields, which is what is left.
+/// When each reason comes.
 pub fn each_refusal()
     ensures short { (queue : Queues) (bytes : List ℕ) → Refuses queue bytes refusals.ShortHeader ↔ (length bytes < 24) }
     ensures unknown { (queue : Queues) (bytes : List ℕ) (kind : ℕ) → Refuses queue bytes (refusals.UnknownKind kind)
         ↔ ((24 ≤ length bytes) × (is_known kind ≡ false) × ((header_of bytes).kind ≡ kind)) }
     ensures wrong { (queue : Queues) (bytes : List ℕ) → Refuses queue bytes refusals.WrongQueue
         ↔ ((24 ≤ length bytes) × (is_known (header_of bytes).kind ≡ true) × (is_queue_of (header_of bytes).kind queue ≡ false)) }
+    ensures body { (queue : Queues) (bytes : List ℕ) → Refuses queue bytes refusals.ShortBody
+        ↔ ((24 ≤ length bytes) × (is_known (header_of bytes).kind ≡ true) × (is_queue_of (header_of bytes).kind queue ≡ true)
+        × (command_of (header_of bytes).kind (drop 24 bytes) ≡ None)) }
 {}

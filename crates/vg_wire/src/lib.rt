@@ -20,6 +20,3 @@ pub use modes::Modes;
 pub use request::{Command, Malformed, Queue, read_request, write_request};
 pub use response::{Response, read_response, write_response};
 pub use two_d::{Command2d, read_2d};
-
-#[cfg(test)]
-mod tests;

@@ -1,7 +1,7 @@
 //! A whole response: a header and what it answers (VIRTIO 1.2, 5.7.6.7 and 5.7.6.8).
 
-ghost use Rattle.std.specs.Prelude.{◌≡◌, ◌++◌, Some, IfOk, OnOk, IfSome};
-ghost use Rattle.vg_wire.specs.Header.{IsHeader};
+ghost use Rattle.std.specs.Prelude.{◌≡◌, ◌≤◌, ◌++◌, Some, IfOk, OnErr, OnOk, IfSome, IsSome, length};
+ghost use Rattle.vg_wire.specs.Header.{IsHeader, header_of};
 ghost use Rattle.vg_wire.specs.declared.header.Header.{Header as HeaderFields};
 ghost use Rattle.vg_wire.specs.declared.response.Response.{Response as Responses};
 ghost use Rattle.vg_wire.specs.Response as spelling;
@@ -49,7 +49,8 @@ pub fn write_response(
 
 /// The response that a header of this kind begins, as far as its fields tell.
 fn read_body(alloc: Global, kind: u32, bytes: &[u8]) -> Result<Option<Response>, AllocError>
-    ensures { IfOk result (λ response. response ≡ spelling.body_of kind bytes.now) }
+    ensures value { IfOk result (λ response. response ≡ spelling.body_of kind bytes.now) }
+    ensures memory { OnErr result (IsSome (spelling.body_of kind bytes.now)) }
 {
     if kind == 0x1100 {
         return Ok(Some(Response::Nodata));
@@ -71,6 +72,8 @@ pub fn read_response(alloc: Global, bytes: &[u8]) -> Result<Option<(Header, Resp
     // What is spelled is read as what it spells, so None comes exactly where nothing does.
     ensures only { IfOk result (λ read. (header : HeaderFields) (response : Responses) → IsHeader header → FitsResponse response
         → Spells header response bytes.now → read ≡ Some (header, response)) }
+    // Memory is asked for only by bytes that have the kind and the length of a response.
+    ensures memory { OnErr result ((24 ≤ length bytes.now) × IsSome (spelling.body_of (header_of bytes.now).kind bytes.now)) }
 {
     let Some(header) = read_header(bytes) else {
         return Ok(None);

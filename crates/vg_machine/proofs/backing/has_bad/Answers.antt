@@ -3,8 +3,9 @@ use Rattle.std.proofs.Common.{◌||◌, get_or, sym, ap, ◌∙◌}
 use Rattle.std.proofs.lemmas.List.Folds.{list_any_more}
 use Rattle.std.proofs.lemmas.List.Elements.{All-more}
 use Rattle.vg_formats.specs.declared.entry.MemEntry.{MemEntry}
-use Rattle.vg_machine.specs.Backing.{EndsInRange, is_bad}
+use Rattle.vg_machine.specs.Backing.{is_bad}
 use Rattle.vg_machine.proofs.backing.has_bad.Goals as goal
+use Rattle.vg_machine.specs.Fits.{EndsInRange}
 
 abbrev nothing : MemEntry
 nothing = record { addr = 0; length = 0 }

@@ -1,7 +1,8 @@
 use Rattle.std.proofs.Common.{◌≡◌, take, false}
 use Rattle.std.specs.List.{list_any, All}
-use Rattle.vg_machine.specs.Backing.{EndsInRange, is_bad}
+use Rattle.vg_machine.specs.Backing.{is_bad}
 use Rattle.vg_machine.proofs.backing.has_bad.Given as goal
+use Rattle.vg_machine.specs.Fits.{EndsInRange}
 
 abbrev pub invariant-loop-entry : goal.invariant-loop-entry
 invariant-loop-entry l = record {

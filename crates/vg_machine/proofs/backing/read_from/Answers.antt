@@ -4,9 +4,10 @@ use Rattle.std.proofs.lemmas.List.{length-take, length-drop, drop-drop}
 use borrow.Rule.Slice.PartMut.{put_mid}
 use Rattle.vg_pages.specs.Memory.{bytes_at}
 use Rattle.vg_machine.specs.declared.backing.Run.{Run}
-use Rattle.vg_machine.specs.Backing.{backing_bytes, entries_of}
+use Rattle.vg_machine.specs.Backing.{backing_bytes}
 use Rattle.vg_machine.proofs.BackingLemmas.{run-at, next-run, bytes-here, more-written, length-backing_bytes}
 use Rattle.vg_machine.proofs.backing.read_from.Goals as goal
+use Rattle.vg_machine.specs.Fits.{entries_of}
 
 abbrev nothing : Run
 nothing = record { start = 0; entry = record { addr = 0; length = 0 } }

@@ -1,6 +1,7 @@
 use Rattle.std.proofs.Common.{◌≡◌, ◌≤◌, ◌<◌, ◌-◌, ◌+◌, ◌++◌, take, drop, length}
-use Rattle.vg_machine.specs.Backing.{HasByte, entries_of, backing_bytes}
+use Rattle.vg_machine.specs.Backing.{backing_bytes}
 use Rattle.vg_machine.proofs.backing.read_from.Given as goal
+use Rattle.vg_machine.specs.Fits.{HasByte, entries_of}
 
 abbrev pub invariant-loop-done : goal.invariant-loop-done
 invariant-loop-done l = record {

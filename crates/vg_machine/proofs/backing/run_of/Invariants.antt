@@ -1,6 +1,7 @@
 use Rattle.std.proofs.Common.{◌≤◌, ◌<◌, ◌-◌, take, length}
-use Rattle.vg_machine.specs.Backing.{total, entries_of}
+use Rattle.vg_machine.specs.Backing.{total}
 use Rattle.vg_machine.proofs.backing.run_of.Given as goal
+use Rattle.vg_machine.specs.Fits.{entries_of}
 
 abbrev pub invariant-loop-high : goal.invariant-loop-high
 invariant-loop-high l = record {

@@ -1,7 +1,8 @@
 use Rattle.std.proofs.Common.{◌∙◌, ap, slice_set, length}
-use Rattle.vg_machine.specs.Scanout.{after_flush, IsScreen, FitSurface}
+use Rattle.vg_machine.specs.Scanout.{after_flush}
 use Rattle.vg_machine.proofs.ScreenLemmas.{mapped-more, mapped-all, mapped-holds}
 use Rattle.vg_machine.proofs.scanout.show_on_each.Goals as goal
+use Rattle.vg_machine.specs.Fits.{FitSurface, IsScreen}
 
 pub loop-i-preserved : goal.loop-i-preserved
 loop-i-preserved c =

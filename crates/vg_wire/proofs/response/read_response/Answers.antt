@@ -23,29 +23,30 @@ same_body bytes read header body response fields is found = is ∙ ap (λ (h : H
 pub returns-in_default-2-clause-only : goal.returns-in_default-2-clause-only
 returns-in_default-2-clause-only c = λ header response good fits spells.
     let found = spelled-found c.args.bytes.now header response good fits spells in
-    let same = same_body c.args.bytes.now c.in-Some.header header c.in_ok-response.field-0 response c.in-Some.ensures.fields c.in_ok-response.ensures found in
+    let same = same_body c.args.bytes.now c.in-Some.header header c.in_ok-response.field-0 response c.in-Some.ensures.fields c.in_ok-response.ensures.value found in
     let none = c.in_default-2.is in
     cc (same, none)
 
 pub returns-then-eq : goal.returns-then-eq
 returns-then-eq c =
-    let good = body_of-valid c.in-Some.header.kind c.args.bytes.now c.in-Some-2.response (sym c.in_ok-response.ensures ∙ c.in-Some-2.is) in
+    let good = body_of-valid c.in-Some.header.kind c.args.bytes.now c.in-Some-2.response (sym c.in_ok-response.ensures.value ∙ c.in-Some-2.is) in
     let same = (bytes_eq-Decides c.as_slice.result.now c.args.bytes.now).0 (sym c.eq.ensures ∙ c.if-eq.true) in
     record {
       found = record { valid = good.0; kind = good.1; spelled = sym same ∙ c.as_slice.ensures.value ∙ c.in_ok-spelled.ensures };
       only = λ header response good fits spells.
           let found = spelled-found c.args.bytes.now header response good fits spells in
           let head = same_header c.args.bytes.now c.in-Some.header header response c.in-Some.ensures.fields found in
-          let body = same_body c.args.bytes.now c.in-Some.header header c.in_ok-response.field-0 response c.in-Some.ensures.fields c.in_ok-response.ensures found in
+          let body = same_body c.args.bytes.now c.in-Some.header header c.in_ok-response.field-0 response c.in-Some.ensures.fields c.in_ok-response.ensures.value found in
           let read = c.in-Some-2.is in
           cc (head, body, read);
+      memory = tt;
     }
 
 pub returns-else-eq-clause-only : goal.returns-else-eq-clause-only
 returns-else-eq-clause-only c = λ header response good fits spells.
     let found = spelled-found c.args.bytes.now header response good fits spells in
     let head = same_header c.args.bytes.now c.in-Some.header header response c.in-Some.ensures.fields found in
-    let body = same_body c.args.bytes.now c.in-Some.header header c.in_ok-response.field-0 response c.in-Some.ensures.fields c.in_ok-response.ensures found in
+    let body = same_body c.args.bytes.now c.in-Some.header header c.in_ok-response.field-0 response c.in-Some.ensures.fields c.in_ok-response.ensures.value found in
     let read = c.in-Some-2.is in
     let response_is : c.in-Some-2.response ≡ response = cc (body, read) in
     let spelled : c.as_slice.result.now ≡ c.args.bytes.now = c.as_slice.ensures.value ∙ c.in_ok-spelled.ensures ∙ ap (λ (h : Header). response_bytes h c.in-Some-2.response) head ∙ ap (response_bytes header) response_is ∙ sym spells.spelled in

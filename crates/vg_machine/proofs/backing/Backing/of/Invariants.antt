@@ -1,6 +1,7 @@
 use Rattle.std.proofs.Common.{◌≡◌, ◌≤◌, ◌*◌, take}
-use Rattle.vg_machine.specs.Backing.{total, entries_of, ArePlaced}
+use Rattle.vg_machine.specs.Backing.{total}
 use Rattle.vg_machine.proofs.backing.Backing.of.Given as goal
+use Rattle.vg_machine.specs.Fits.{ArePlaced, entries_of}
 
 abbrev pub invariant-loop-entry : goal.invariant-loop-entry
 invariant-loop-entry l = record {

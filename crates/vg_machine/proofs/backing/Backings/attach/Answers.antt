@@ -1,8 +1,8 @@
 -- The new entries are held, and the others stay.
 use Rattle.std.proofs.Common.{sym, subst}
-use Rattle.vg_machine.specs.Backing.{AreHeld}
 use Rattle.vg_machine.proofs.BackingLemmas.{AllHeld, held-with}
 use Rattle.vg_machine.proofs.backing.Backings.attach.Goals as goal
+use Rattle.vg_machine.specs.Fits.{AreHeld}
 
 pub returns-clause-held : goal.returns-clause-held
 returns-clause-held c held =

@@ -2,9 +2,9 @@
 use Rattle.std.proofs.Common.{sym, subst}
 use Rattle.std.specs.Ordering.{nat_cmp}
 use Rattle.std.specs.BTreeMap.{is_at}
-use Rattle.vg_machine.specs.Backing.{AreHeld}
 use Rattle.vg_machine.proofs.BackingLemmas.{AllHeld, held-without}
 use Rattle.vg_machine.proofs.backing.Backings.detach.Goals as goal
+use Rattle.vg_machine.specs.Fits.{AreHeld}
 
 pub returns-clause-held : goal.returns-clause-held
 returns-clause-held c memory held =

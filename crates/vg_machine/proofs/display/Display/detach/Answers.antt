@@ -1,5 +1,8 @@
+use Rattle.std.proofs.Common.{◌≡◌, true, rules}
+use Rattle.std.specs.Prelude.{is_some}
+use Rattle.vg_machine.specs.Resource.{resource_at}
 use Rattle.std.proofs.Common.{}
-use Rattle.vg_machine.proofs.KeepLemmas.{keeps-detach}
+use Rattle.vg_machine.proofs.KeepLemmas.{lifted-detach}
 use Rattle.vg_machine.proofs.display.Display.detach.Goals as goal
 
 pub invariant_of-self : goal.invariant_of-self
@@ -16,10 +19,13 @@ invariant_of-self c =
       reserved = was.reserved;
     }
 
-pub returns-clause-keeps : goal.returns-clause-keeps
-returns-clause-keeps c =
+pub returns : goal.returns
+returns c =
     let s = c.self.inside in
-    rw (c.response_of.ensures, ← c.self.view_is)
-    (keeps-detach
-    (λ backings. record { setup = s.setup; entries = s.entries; memory = s.pages; resources = s.resources; backings = backings; scanouts = s.scanouts; share = s.share })
-    c.args.resource s.backings c.detach.new.self c.detach.result c.detach.ensures.done)
+    let known : is_some (resource_at c.args.resource s.resources) ≡ true = search rules in
+    record {
+      step =
+          rw (c.response_of.ensures, ← c.self.view_is)
+          (lifted-detach (λ backings. record { setup = s.setup; entries = s.entries; memory = s.pages; resources = s.resources; backings = backings; scanouts = s.scanouts; share = s.share })
+          (is_some (resource_at c.args.resource s.resources)) c.args.resource s.backings c.detach.new.self c.detach.result known c.detach.ensures.done);
+    }

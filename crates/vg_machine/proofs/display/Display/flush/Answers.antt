@@ -1,5 +1,7 @@
+use Rattle.std.proofs.Common.{◌≡◌, true, rules}
+use Rattle.vg_formats.specs.Pixels.{is_inside}
 use Rattle.std.proofs.Common.{sym}
-use Rattle.vg_machine.proofs.KeepLemmas.{keeps-flush}
+use Rattle.vg_machine.proofs.KeepLemmas.{step-flush}
 use Rattle.vg_machine.proofs.BoundLemmas.{fits-surface, showing-flush}
 use Rattle.vg_machine.proofs.display.Display.flush.Goals as goal
 
@@ -25,10 +27,10 @@ invariant_of-self-2 c =
       reserved = was.reserved;
     }
 
-pub returns-clause-keeps : goal.returns-clause-keeps
-returns-clause-keeps c =
+pub returns-clause-step : goal.returns-clause-step
+returns-clause-step c =
     let s = c.self.inside in
+    let surface = c.in-Some.surface.now in
+    let inside : is_inside c.args.rect.now surface.width surface.height ≡ true = search rules in
     rw (c.response_of.ensures, ← c.self.view_is)
-    (keeps-flush
-    (λ scanouts. record { setup = s.setup; entries = s.entries; memory = s.pages; resources = s.resources; backings = s.backings; scanouts = scanouts; share = s.share })
-    _ c.args.resource c.args.rect.now _ s.scanouts c.flush.new.self c.in_ok-done.done c.in_ok-done.ensures.done)
+    (step-flush (record { setup = s.setup; entries = s.entries; memory = s.pages; resources = s.resources; backings = s.backings; scanouts = s.scanouts; share = s.share }) c.args.rect.now c.args.resource surface c.flush.new.self c.in_ok-done.done (sym c.in-Some.ensures.value) inside (rw c.as_slice.ensures at c.in_ok-done.ensures.done))

@@ -1,7 +1,11 @@
+use Rattle.std.proofs.Common.{◌≡◌, ◌==◌, ◌||◌, false, not, arith, length}
+use Rattle.std.specs.Prelude.{nat_le}
+use Rattle.std.proofs.lemmas.Bool.Decides.{nat_tests}
+use Rattle.vg_formats.specs.Pixels.{is_empty, is_inside}
 use Rattle.std.proofs.Common.{rules, sym}
 use Rattle.vg_machine.specs.Resource.{resource_at}
 use Rattle.vg_machine.specs.Step.{binding_of}
-use Rattle.vg_machine.proofs.KeepLemmas.{keeps-bind}
+use Rattle.vg_machine.proofs.KeepLemmas.{step-show}
 use Rattle.vg_machine.proofs.ShowingLemmas.{found-shown}
 use Rattle.vg_machine.proofs.BoundLemmas.{showing-bind, shows-binding, within-true}
 use Rattle.vg_machine.proofs.display.Display.show.Goals as goal
@@ -25,10 +29,12 @@ invariant_of-self-2 c =
       reserved = was.reserved;
     }
 
-pub returns-clause-keeps : goal.returns-clause-keeps
-returns-clause-keeps c =
+pub returns-clause-step : goal.returns-clause-step
+returns-clause-step c =
     let s = c.self.inside in
+    let surface = c.in-Some.surface.now in
+    let there : nat_le (length s.setup.displays) c.args.scanout ≡ false = grind (arith, nat_tests) in
+    let some : (c.args.resource == 0) ≡ false = grind (arith, nat_tests) in
+    let fits : (is_empty c.args.rect.now || not (is_inside c.args.rect.now surface.width surface.height)) ≡ false = search rules in
     rw (c.response_of.ensures, ← c.self.view_is)
-    (keeps-bind
-    (λ scanouts. record { setup = s.setup; entries = s.entries; memory = s.pages; resources = s.resources; backings = s.backings; scanouts = scanouts; share = s.share })
-    c.args.scanout (binding_of c.args.resource c.args.rect.now c.in-Some.surface.now) s.scanouts c.bind.new.self c.in_ok-done.done c.in_ok-done.ensures.done)
+    (step-show (record { setup = s.setup; entries = s.entries; memory = s.pages; resources = s.resources; backings = s.backings; scanouts = s.scanouts; share = s.share }) c.args.rect.now c.args.scanout c.args.resource surface c.bind.new.self c.in_ok-done.done there some (sym c.in-Some.ensures.value) fits c.in_ok-done.ensures.done)

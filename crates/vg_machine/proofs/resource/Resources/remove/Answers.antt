@@ -6,9 +6,10 @@ use Rattle.std.specs.Ordering.{nat_cmp}
 use Rattle.std.specs.BTreeMap.{is_at}
 use Rattle.std.proofs.lemmas.Map.Views.{All-map-remove_entry}
 use Rattle.vg_machine.specs.declared.resource.Resource.{Resource}
-use Rattle.vg_machine.specs.Resource.{IsWhole, pixel_bytes}
+use Rattle.vg_machine.specs.Resource.{pixel_bytes}
 use Rattle.vg_machine.proofs.ResourceLemmas.{bytes-without}
 use Rattle.vg_machine.proofs.resource.Resources.remove.Goals as goal
+use Rattle.vg_machine.specs.Fits.{IsWhole}
 
 pub overflow_sub-self : goal.overflow_sub-self
 overflow_sub-self c =

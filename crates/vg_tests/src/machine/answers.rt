@@ -1,10 +1,10 @@
 //! Answers as bytes (VIRTIO 1.2, 5.7.6.7 and 5.7.6.8), and lanes.
 
 use super::rig::Rig;
-use crate::lane_of;
 use std::alloc::{AllocError, Global};
 use std::process::Abort;
 use std::test::Fail;
+use vg_machine::lane_of;
 use vg_wire::Queue;
 
 /// A request: what it shows, its queue, its bytes, the room, how long its answer is, and the answer's first bytes, behind which

@@ -1,6 +1,6 @@
 ghost use Rattle.std.specs.Prelude.{◌≡◌, ◌+◌, ◌-◌, ◌*◌, ◌<◌, ◌≤◌, length};
 
-use super::{Area, agree_at_each_place, copy_rows, fill_at_each_place, tabulate_at_each_place};
+use vg_places::{Area, agree_at_each_place, copy_rows, fill_at_each_place, tabulate_at_each_place};
 
 // A list of three rows of four zeros, after a rectangle of it was copied.
 fn copied(area: Area, source: &[u8], stride: usize, offset: usize) -> [u8; 12]

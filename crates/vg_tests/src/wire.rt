@@ -3,14 +3,14 @@
 ghost use Rattle.std.specs.Prelude.{◌≡◌, ◌+◌, ◌<◌, ◌^◌, length, IfOk};
 ghost use Rattle.vg_wire.specs.TwoD.{FitsCount, kind_of_2d};
 
-use super::{
-    Command, Command2d, Entries, Header, Malformed, Modes, Queue, Response, read_2d, read_header,
-    read_request, read_response, write_request, write_response,
-};
 use std::alloc::{AllocError, Global};
 use std::process::Abort;
 use std::test::Fail;
 use vg_formats::{MemEntry, Rect};
+use vg_wire::{
+    Command, Command2d, Entries, Header, Malformed, Modes, Queue, Response, read_2d, read_header,
+    read_request, read_response, write_request, write_response,
+};
 
 /// A header whose fields all differ, as the layout has it, with padding 0.
 const SPELLED: [u8; 24] = [

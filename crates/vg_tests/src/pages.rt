@@ -1,10 +1,10 @@
 ghost use Rattle.std.specs.Prelude.{◌≡◌, ℕ, List, IfOk};
 ghost use Rattle.vg_pages.specs.Memory.{AreGivable};
 
-use super::Pages;
 use std::alloc::Global;
 use std::process::Abort;
 use std::test::Fail;
+use vg_pages::Pages;
 
 const START: u64 = 1_048_576;
 

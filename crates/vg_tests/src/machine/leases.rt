@@ -2,10 +2,10 @@
 
 use super::rig::Row::{self, Act};
 use super::rig::{Do, Due, Rig, run};
-use crate::{Holds, What};
 use std::alloc::{AllocError, Global};
 use std::process::Abort;
 use std::test::Fail;
+use vg_machine::{Holds, What};
 
 #[test]
 fn scanouts_are_leased_to_one_client(rt: HostRuntime) -> Result<(), Fail> {

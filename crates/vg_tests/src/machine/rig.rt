@@ -1,9 +1,9 @@
 //! A display machine for tests, and the calls that they make of it.
 
-use crate::{Act, ActReply, Display, Frame, Holds, Setup, ShareRefusal, What};
 use std::alloc::{AllocError, Global};
 use std::process::Abort;
 use vg_list::Seq;
+use vg_machine::{Act, ActReply, Display, Frame, Holds, Setup, ShareRefusal, What};
 use vg_wire::Queue;
 
 // The low bytes of the commands' types (VIRTIO 1.2, 5.7.6.7), which all have 1 above them. With each stand the fields after

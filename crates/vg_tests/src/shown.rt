@@ -1,8 +1,8 @@
 ghost use Rattle.std.specs.Prelude.{◌≡◌, ℕ, ◌+◌, ◌-◌, ◌*◌, ◌%◌, ◌<◌, ◌≤◌, length};
 
-use super::{show_each_pixel, show_row, show_rows};
 use vg_formats::Format;
 use vg_places::Area;
+use vg_shown::{show_each_pixel, show_row, show_rows};
 
 #[test]
 fn rows_are_shown_pixel_by_pixel(rt: HostRuntime) {

@@ -1,4 +1,4 @@
-use super::{Format, MemEntry, Rect, each_code_once, pixels_tell_the_rectangle};
+use vg_formats::{Format, MemEntry, Rect, each_code_once, pixels_tell_the_rectangle};
 
 const MOST: u32 = u32::MAX;
 

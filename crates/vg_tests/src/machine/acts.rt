@@ -2,8 +2,8 @@
 
 use super::rig::Row::{self, Act, Command};
 use super::rig::{CREATE, Do, Due, MOST, OK, SET_SCANOUT, UNREF, run};
-use crate::What;
 use std::test::Fail;
+use vg_machine::What;
 
 #[test]
 fn pages_are_the_lowest_free_ones(rt: HostRuntime) -> Result<(), Fail> {

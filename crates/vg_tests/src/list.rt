@@ -1,5 +1,5 @@
-use super::Seq;
 use std::test::Fail;
+use vg_list::Seq;
 
 #[test]
 fn keeps_its_elements(rt: HostRuntime) -> Result<(), Fail> {

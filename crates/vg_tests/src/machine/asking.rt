@@ -3,11 +3,11 @@
 use super::rig::{
     ATTACH, CREATE, DETACH, DISPLAY_INFO, FLUSH, MOST, SET_SCANOUT, TRANSFER, UNREF, request,
 };
-use crate::{Holds, What, denied};
 use std::alloc::{AllocError, Global};
 use std::process::Abort;
 use std::test::Fail;
 use vg_list::Seq;
+use vg_machine::{Holds, What, denied};
 use vg_wire::Queue;
 
 /// A client of two displays with buffer 3, with buffer 4, which it takes down, and with scanout 1.
