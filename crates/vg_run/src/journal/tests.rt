@@ -156,66 +156,28 @@ fn answered(call: u64, act: Act, reply: ActReply) -> Entry {
     }
 }
 
-/// Each act with a reply, and each refusal.
+/// Acts and replies that no script has today, and each refusal.
 fn each_act(alloc: Global) -> Result<Vec<Entry>, AllocError> {
     let mut entries = Vec::new(alloc);
-    let reserve = Act::Reserve {
-        width: 640,
-        height: 480,
-        format: 67,
-        bytes: 4097,
-    };
-    let pages = Seq::from_vec(vec![in alloc; 3u32, 16383]?);
-    entries.push(answered(1, reserve, ActReply::Reserved { key: 7, pages }))?;
     let blank = Act::Reserve {
         width: 0,
         height: 0,
         format: 0,
         bytes: 0,
     };
-    let none = Seq::from_vec(Vec::new(alloc));
-    entries.push(answered(
-        2,
-        blank,
-        ActReply::Reserved {
-            key: 8,
-            pages: none,
-        },
-    ))?;
-    let store = Act::Store {
-        key: 7,
-        offset: 4095,
-        bytes: Seq::from_vec(vec![in alloc; 10u8, 255]?),
-        times: 1,
-    };
-    entries.push(answered(3, store, ActReply::Ok))?;
-    let load = Act::Load {
-        key: 7,
-        offset: 0,
-        length: 3,
-    };
-    let bytes = Seq::from_vec(vec![in alloc; 0u8, 1, 171]?);
-    entries.push(answered(4, load, ActReply::Bytes { bytes }))?;
-    entries.push(answered(5, Act::Release { key: 7 }, ActReply::Kept))?;
-    entries.push(answered(6, Act::Release { key: 8 }, ActReply::Last))?;
-    entries.push(answered(7, Act::Free { key: 8 }, ActReply::Ok))?;
-    entries.push(answered(8, Act::Take { scanout: 1 }, ActReply::Ok))?;
-    entries.push(answered(9, Act::Drop { scanout: 1 }, ActReply::Ok))?;
-    for (call, what) in [
-        (10u64, What::Name),
-        (11, What::Resource { n: 4294967295 }),
-        (12, What::Scanout { n: 0 }),
-    ] {
-        entries.push(answered(call, Act::Denied { what }, ActReply::Ok))?;
-    }
+    let pages = Seq::from_vec(Vec::new(alloc));
+    entries.push(answered(1, blank, ActReply::Reserved { key: 8, pages }))?;
+    entries.push(answered(2, Act::Release { key: 7 }, ActReply::Kept))?;
+    let what = What::Resource { n: 4294967295 };
+    entries.push(answered(3, Act::Denied { what }, ActReply::Ok))?;
     for (call, refusal) in [
-        (13u64, ShareRefusal::GuestFull { free: 5 }),
-        (14, ShareRefusal::UnknownKey),
-        (15, ShareRefusal::NotHeld),
-        (16, ShareRefusal::ScanoutHeld { by: 2 }),
-        (17, ShareRefusal::OutOfRange { bytes: 32 }),
-        (18, ShareRefusal::InUse { scanout: 15 }),
-        (19, ShareRefusal::ResourceLive),
+        (4u64, ShareRefusal::GuestFull { free: 5 }),
+        (5, ShareRefusal::UnknownKey),
+        (6, ShareRefusal::NotHeld),
+        (7, ShareRefusal::ScanoutHeld { by: 2 }),
+        (8, ShareRefusal::OutOfRange { bytes: 32 }),
+        (9, ShareRefusal::InUse { scanout: 15 }),
+        (10, ShareRefusal::ResourceLive),
     ] {
         let refused = ActReply::Refused { refusal };
         entries.push(answered(call, Act::Free { key: 0 }, refused))?;
@@ -224,25 +186,16 @@ fn each_act(alloc: Global) -> Result<Vec<Entry>, AllocError> {
 }
 
 /// The lines of `each_act`.
-const EACH_ACT: &[u8] = b"1 1 1 act reserve 640 480 67 4097 = key 7 pages 3,16383\n\
-    2 1 2 act reserve 0 0 0 0 = key 8 pages -\n\
-    3 1 3 act store 7 4095 0aff 1 = ok\n\
-    4 1 4 act load 7 0 3 = bytes 0001ab\n\
-    5 1 5 act release 7 = kept\n\
-    6 1 6 act release 8 = last\n\
-    7 1 7 act free 8 = ok\n\
-    8 1 8 act take 1 = ok\n\
-    9 1 9 act drop 1 = ok\n\
-    10 1 10 act denied name = ok\n\
-    11 1 11 act denied resource 4294967295 = ok\n\
-    12 1 12 act denied scanout 0 = ok\n\
-    13 1 13 act free 0 = full 5\n\
-    14 1 14 act free 0 = unknown\n\
-    15 1 15 act free 0 = notheld\n\
-    16 1 16 act free 0 = held 2\n\
-    17 1 17 act free 0 = range 32\n\
-    18 1 18 act free 0 = inuse 15\n\
-    19 1 19 act free 0 = live\n";
+const EACH_ACT: &[u8] = b"1 1 1 act reserve 0 0 0 0 = key 8 pages -\n\
+    2 1 2 act release 7 = kept\n\
+    3 1 3 act denied resource 4294967295 = ok\n\
+    4 1 4 act free 0 = full 5\n\
+    5 1 5 act free 0 = unknown\n\
+    6 1 6 act free 0 = notheld\n\
+    7 1 7 act free 0 = held 2\n\
+    8 1 8 act free 0 = range 32\n\
+    9 1 9 act free 0 = inuse 15\n\
+    10 1 10 act free 0 = live\n";
 
 #[test]
 fn acts_and_replies_have_these_texts(rt: HostRuntime) -> Result<(), Fail> {
