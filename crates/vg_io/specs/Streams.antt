@@ -34,6 +34,10 @@ Takes None new bytes = ⊤
 Takes (Some xs) None bytes = ⊥
 Takes (Some xs) (Some ys) bytes = ys ≡ xs ++ bytes
 
--- It takes some front of these.
+-- It takes some front of these, all of them or fewer.
 abbrev pub TakesSome : Option (List ℕ) → Option (List ℕ) → List ℕ → Type 0
 TakesSome old new bytes = (n : ℕ) × Takes old new (take n bytes)
+
+-- It takes some front of these, and not all of them.
+abbrev pub TakesPart : Option (List ℕ) → Option (List ℕ) → List ℕ → Type 0
+TakesPart old new bytes = (n : ℕ) × (n < length bytes) × Takes old new (take n bytes)

@@ -19,7 +19,7 @@ use Rattle.vg_machine.specs.Order.{updated}
 use Rattle.vg_machine.specs.declared.act.What.{What}
 use Rattle.vg_machine.specs.Holds.{Deniable}
 use Rattle.vg_run.specs.Session.{IsFewPages, IsFitPlan, IsPlanOf, IsSmall, Stands, planned, weight, weights}
-use Rattle.vg_run.specs.Tasks.{follow_ups, is_accepted, is_unref, left_after}
+use Rattle.vg_run.specs.Tasks.{follow_ups, is_accepted, is_unref_response, left_after}
 use Rattle.vg_run.proofs.StandLemmas.{updated-kept}
 use Rattle.vg_run.proofs.TaskLemmas.{fit-append, weights-append}
 
@@ -84,7 +84,7 @@ weight-some (tasks.Release generation key) = omega arith
 weight-some task = omega arith
 
 pub left-few : (stops : Bool) (task : Task) (entry : Entry) (left : List Task) → weights (left_after stops task entry left) + 1 ≤ weights (task ∷ left)
-left-few stops task entry left = by_test (not stops || is_unref task || is_accepted entry) (follow-few task entry) (weights-append (follow_ups task entry) left) (weight-some task)
+left-few stops task entry left = by_test (not stops || is_unref_response task entry || is_accepted entry) (follow-few task entry) (weights-append (follow_ups task entry) left) (weight-some task)
   where
     by_test : (b : Bool) → weights (follow_ups task entry) + 1 ≤ weight task → weights (follow_ups task entry ++ left) ≡ weights (follow_ups task entry) + weights left → 1 ≤ weight task
         → weights (cond b (follow_ups task entry ++ left) []) + 1 ≤ weights (task ∷ left)
@@ -92,7 +92,7 @@ left-few stops task entry left = by_test (not stops || is_unref task || is_accep
     by_test false few both some = omega arith
 
 pub left-fit : (stops : Bool) (task : Task) (entry : Entry) (left : List Task) → IsFewPages entry → AllByRecursion IsFit left → AllByRecursion IsFit (left_after stops task entry left)
-left-fit stops task entry left few fit = by_test (not stops || is_unref task || is_accepted entry) (fit-append (follow_ups task entry) left (follow-fit task entry few) fit)
+left-fit stops task entry left few fit = by_test (not stops || is_unref_response task entry || is_accepted entry) (fit-append (follow_ups task entry) left (follow-fit task entry few) fit)
   where
     by_test : (b : Bool) → AllByRecursion IsFit (follow_ups task entry ++ left) → AllByRecursion IsFit (cond b (follow_ups task entry ++ left) [])
     by_test true both = both

@@ -1,6 +1,6 @@
 use Rattle.std.proofs.Common.{ℕ, codes, ◌≡◌, ◌+◌, ◌<◌, List, get_or, Result, Ok, Err, OnErr, [], ◌++◌, length, take, drop, Option, Some, None, append_assoc, append-nil, sym, ap, ◌∙◌, refl, subst}
 use Rattle.std.proofs.lemmas.List.{take-append-drop, take_at}
-use Rattle.vg_io.specs.Streams.{Takes, TakesSome}
+use Rattle.vg_io.specs.Streams.{Takes, TakesPart, TakesSome}
 use Rattle.vg_run.specs.Printing.{Printed, PrintedSome}
 use Rattle.vg_machine.specs.declared.scanout.Frame.{Frame}
 use Rattle.vg_run.specs.Text.{numbered, frame_line, frame_text}
@@ -85,6 +85,12 @@ taken_some a b text some =
     let front : some.front ≡ take (length some.front) text =
     sym (take_at some.front some.rest (length some.front) refl) ∙ ap (take (length some.front)) some.whole in
     (length some.front, subst (Takes a b) front some.taken)
+
+-- A front that leaves something.
+pub taken_part : (a b : Option (List ℕ)) (text front rest : List ℕ) → Takes a b front → front ++ rest ≡ text → length front < length text → TakesPart a b text
+taken_part a b text front rest taken whole less =
+    let same : front ≡ take (length front) text = sym (take_at front rest (length front) refl) ∙ ap (take (length front)) whole in
+    (length front, less, subst (Takes a b) same taken)
 
 -- One text of a list more.
 pub printed_more : {X : Type 0} (text : ℕ → X → List ℕ) (n : ℕ) (xs : List X) (i j : ℕ) (x d : X) (a b c : Option (List ℕ)) (old pending pending' : List ℕ) → Printed a b (old ++ numbered text n (take i xs)) pending → Printed b c (pending ++ text j x) pending' → j ≡ n + i → i < length xs → x ≡ get_or xs i d → Printed a c (old ++ numbered text n (take (i + 1) xs)) pending'

@@ -19,8 +19,6 @@ use Rattle.vg_machine.specs.declared.act.ActReply.{ActReply}
 use Rattle.vg_machine.specs.declared.act.ShareRefusal.{ShareRefusal}
 use Rattle.vg_machine.specs.declared.resource.Resource.{Resource}
 use Rattle.vg_machine.specs.ActStep.{effect_of, replied_by, shown_at}
-use Rattle.vg_machine.specs.Backing.{transfer_refusals}
-use Rattle.vg_machine.specs.Refusals.{refusal_of}
 use Rattle.vg_machine.specs.Resource.{resource_at}
 use Rattle.vg_machine.specs.Scanout.{binding_at}
 use Rattle.vg_machine.specs.Share.{drop_refusal, free_refusal, place_refusal, release_refusal, reserve_refusal, take_refusal}
@@ -29,7 +27,7 @@ use Rattle.vg_machine.specs.declared.history.Entry.TheVariants as entries
 use Rattle.vg_machine.specs.declared.history.Request.{Request}
 use Rattle.vg_machine.specs.declared.history.Reply.TheVariants as replies
 use Rattle.vg_machine.specs.State.{State, counted, start}
-use Rattle.vg_machine.specs.Step.{answer_of, answered_by, flush_step, show_step, step, transfer_step, two_d_step, unreferenced, with_transfer}
+use Rattle.vg_machine.specs.Step.{answer_of, answered_by, step, two_d_step, with_shown}
 use Rattle.vg_machine.specs.Replay.{AgreesFrom, Agrees, HasReply, after, replay, replay_from, shaped_step}
 use Rattle.vg_machine.specs.Order.{is_of_lane}
 use Rattle.vg_run.specs.Session.{IsReplay}
@@ -46,41 +44,24 @@ like-answered : (refusal : Option ℕ) (state next : State) → IsLike state nex
 like-answered (Some code) state next like = like-itself state
 like-answered None state next like = like
 
-like-if : (b : Bool) (state : State) (one other : State × Response) → IsLike state one.0 → IsLike state other.0 → IsLike state (cond b one other).0
-like-if true state one other first second = first
-like-if false state one other first second = second
+like-scanout : (b : Bool) (state one : State) (other : State) → IsLike state one → IsLike state other → IsLike state (cond b one other)
+like-scanout true state one other first second = first
+like-scanout false state one other first second = second
 
-like-show : (state : State) (rect : Rect) (scanout id : ℕ) (found : Option Resource) → IsLike state (show_step state rect scanout id found).0
-like-show state rect scanout id None = like-itself state
-like-show state rect scanout id (Some resource) =
-    like-if _ state _ _ (like-itself state) (record { setup = refl; entries = refl })
-
-like-flush : (state : State) (rect : Rect) (id : ℕ) (found : Option Resource) → IsLike state (flush_step state rect id found).0
-like-flush state rect id None = like-itself state
-like-flush state rect id (Some resource) =
-    like-if _ state _ _ (like-itself state) (record { setup = refl; entries = refl })
-
-like-transfer : (state : State) (rect : Rect) (offset id : ℕ) (found : Option Resource) → IsLike state (transfer_step state rect offset id found).0
-like-transfer state rect offset id None = like-itself state
-like-transfer state rect offset id (Some resource) =
-    like-answered (refusal_of (transfer_refusals id rect offset resource.width resource.height state.backings)) state (with_transfer state rect offset id resource)
-    (record { setup = refl; entries = refl })
+like-shown : (state : State) (rect : Rect) (scanout id : ℕ) (found : Option Resource) → IsLike state (with_shown state rect scanout id found)
+like-shown state rect scanout id None = like-itself state
+like-shown state rect scanout id (Some resource) = record { setup = refl; entries = refl }
 
 two_d-like : (state : State) (command : Command2d) → IsLike state (two_d_step state command).0
 two_d-like state DisplayInfo = like-itself state
-two_d-like state (Create2d resource format width height) = record { setup = refl; entries = refl }
-two_d-like state (Unref resource) =
-    like-answered (refusal_of ((is_none (resource_at resource state.resources), 0x1203) ∷ [])) state (unreferenced state resource)
-    (record { setup = refl; entries = refl })
+two_d-like state (Create2d resource format width height) = like-answered _ state _ (record { setup = refl; entries = refl })
+two_d-like state (Unref resource) = like-answered _ state _ (record { setup = refl; entries = refl })
 two_d-like state (SetScanout rect scanout resource) =
-    like-if (nat_le (length state.setup.displays) scanout) state _ _ (like-itself state)
-    (like-if (resource == 0) state _ _ (record { setup = refl; entries = refl }) (like-show state rect scanout resource (resource_at resource state.resources)))
-two_d-like state (Flush rect resource) = like-flush state rect resource (resource_at resource state.resources)
-two_d-like state (Transfer rect offset resource) = like-transfer state rect offset resource (resource_at resource state.resources)
-two_d-like state (Attach resource entries) =
-    like-if (is_none (resource_at resource state.resources)) state _ _ (like-itself state) (record { setup = refl; entries = refl })
-two_d-like state (Detach resource) =
-    like-if (is_none (resource_at resource state.resources)) state _ _ (like-itself state) (record { setup = refl; entries = refl })
+    like-answered _ state _ (like-scanout (resource == 0) state _ _ (record { setup = refl; entries = refl }) (like-shown state rect scanout resource (resource_at resource state.resources)))
+two_d-like state (Flush rect resource) = like-answered _ state _ (record { setup = refl; entries = refl })
+two_d-like state (Transfer rect offset resource) = like-answered _ state _ (record { setup = refl; entries = refl })
+two_d-like state (Attach resource entries) = like-answered _ state _ (record { setup = refl; entries = refl })
+two_d-like state (Detach resource) = like-answered _ state _ (record { setup = refl; entries = refl })
 
 answer_of-like : (state : State) (read : Result (Header × Command) Malformed) → IsLike state (answer_of state read).0
 answer_of-like state (Ok (header, TwoD command)) = two_d-like state command

@@ -101,3 +101,7 @@ stands-left setup client used holds H reply stands =
       run = run-more client used H entry stands.run stands.present refl refl tt (λ none. absurd (run-begun client used H stands.run stands.begun none)) (λ gives. given);
       allowed = allowed-here setup client holds H entry stands.holding refl tt stands.allowed;
     }
+
+-- a client that stands rightly has its own holds
+pub stands-owner : (setup : Setup) (client used : ℕ) (holds : Holds) (H : List Entry) → Stands setup client used holds H → holds.client ≡ client
+stands-owner setup client used holds H stands = ap (λ (h : Holds). h.client) stands.holding ∙ fold-client (first_holds setup client) H

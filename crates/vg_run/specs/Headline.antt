@@ -1,5 +1,5 @@
 use Rattle.std.specs.Prelude.{◌≡◌, ◌≤◌, ℕ, length, List, [], ◌∷◌, codes, Option, IfSome}
-use Rattle.vg_io.specs.Streams.{IsAtEnd, Takes, TakesSome}
+use Rattle.vg_io.specs.Streams.{IsAtEnd, Takes, TakesPart, TakesSome}
 use Rattle.vg_machine.specs.declared.history.Entry.{Entry}
 use Rattle.vg_script.specs.declared.types.Script.{Script}
 use Rattle.vg_script.specs.Grammar.{Parses}
@@ -28,3 +28,10 @@ WritesSome held held' bytes = (script : Script) × IsWithin bytes × Parses byte
 
 abbrev pub RunsPartly : Option (List ℕ) → Option (List ℕ) → Option (List ℕ) → Option (List ℕ) → Type 0
 RunsPartly left left' held held' = IsAtEnd left' × IfSome left (WritesSome held held')
+
+-- The same as far as a front of the journal that isn't all of it.
+abbrev pub WritesPart : Option (List ℕ) → Option (List ℕ) → List ℕ → Type 0
+WritesPart held held' bytes = (script : Script) × IsWithin bytes × Parses bytes script × ((H : List Entry) × Legal script H × TakesPart held held' (text_of (journal_of script H)))
+
+abbrev pub RunsNotToItsEnd : Option (List ℕ) → Option (List ℕ) → Option (List ℕ) → Option (List ℕ) → Type 0
+RunsNotToItsEnd left left' held held' = IsAtEnd left' × IfSome left (WritesPart held held')

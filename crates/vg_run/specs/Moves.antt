@@ -2,7 +2,7 @@
 use Rattle.std.specs.Prelude.{ℕ, ◌+◌, ◌*◌, ◌^◌, ◌<◌, ◌≤◌, nat_lt, if◌then◌else◌, length, map}
 use Rattle.vg_formats.specs.declared.rect.Rect.{Rect}
 use Rattle.vg_formats.specs.declared.entry.MemEntry.{MemEntry}
-use Rattle.vg_pages.specs.declared.TheConstants.{MEMORY_START, PAGE_BYTES}
+use Rattle.vg_pages.specs.Memory.{page_address}
 use Rattle.vg_wire.specs.declared.header.Header.{Header}
 use Rattle.vg_wire.specs.declared.request.Queue.TheVariants.{Control}
 use Rattle.vg_wire.specs.declared.request.Command.TheVariants.{TwoD}
@@ -25,7 +25,7 @@ no_rect = record { x = 0; y = 0; width = 0; height = 0 }
 
 -- A page of guest memory as a range of it.
 abbrev pub page_entry : ℕ → MemEntry
-page_entry page = record { addr = MEMORY_START + PAGE_BYTES * page; length = PAGE_BYTES }
+page_entry page = record { addr = page_address page; length = 4096 }
 
 -- SET_SCANOUT that disables a scanout.
 abbrev pub disable : ℕ → Move

@@ -1,5 +1,5 @@
-use Rattle.std.specs.Prelude.{ℕ, ◌<◌, length, List, Option, IfSome, ⊤}
-use Rattle.vg_io.specs.Streams.{Rose, Takes, TakesSome}
+use Rattle.std.specs.Prelude.{◌≡◌, ℕ, ◌<◌, length, List, Option, IfSome}
+use Rattle.vg_io.specs.Streams.{Rose, Takes, TakesPart, TakesSome}
 use Rattle.vg_machine.specs.declared.history.Entry.{Entry}
 use Rattle.vg_script.specs.declared.types.Script.{Script}
 use Rattle.vg_run.specs.declared.top.Status.{Status}
@@ -12,10 +12,10 @@ use Rattle.vg_run.specs.Text.{text_of}
 
 -- Why a script couldn't be had from a source that had these bytes: its text has that fault, a read failed, it has more bytes than a script may have, or memory ran out.
 abbrev pub Unread : Status → Option (List ℕ) → ℕ → ℕ → Type 0
-Unread (statuses.Script line kind) left faults faults' = IfSome left (λ bytes. IsWithin bytes × Faulty bytes line kind)
+Unread (statuses.Script line kind) left faults faults' = IfSome left (λ bytes. IsWithin bytes × Faulty bytes line kind) × (faults' ≡ faults)
 Unread ReadFault left faults faults' = Rose faults faults'
-Unread TooLong left faults faults' = IfSome left (λ bytes. 16777216 < length bytes)
-Unread NoMemory left faults faults' = ⊤
+Unread TooLong left faults faults' = IfSome left (λ bytes. 16777216 < length bytes) × (faults' ≡ faults)
+Unread NoMemory left faults faults' = faults' ≡ faults
 Unread Done left faults faults' = ⊥
 Unread Usage left faults faults' = ⊥
 Unread WriteFault left faults faults' = ⊥
@@ -27,12 +27,21 @@ Wrote script held held' = (H : List Entry) × Legal script H × Takes held held'
 abbrev pub WroteSome : Script → Option (List ℕ) → Option (List ℕ) → Type 0
 WroteSome script held held' = (H : List Entry) × Legal script H × TakesSome held held' (text_of (journal_of script H))
 
+abbrev pub WrotePart : Script → Option (List ℕ) → Option (List ℕ) → Type 0
+WrotePart script held held' = (H : List Entry) × Legal script H × TakesPart held held' (text_of (journal_of script H))
+
 -- How the run of a script ended.
 abbrev pub Ended : Status → Script → Option (List ℕ) → Option (List ℕ) → ℕ → ℕ → Type 0
-Ended Done script held held' faults faults' = Wrote script held held'
+Ended Done script held held' faults faults' = Wrote script held held' × (faults' ≡ faults)
 Ended WriteFault script held held' faults faults' = Rose faults faults' × WroteSome script held held'
-Ended NoMemory script held held' faults faults' = WroteSome script held held'
+Ended NoMemory script held held' faults faults' = WrotePart script held held' × (faults' ≡ faults)
 Ended (statuses.Script line kind) script held held' faults faults' = ⊥
 Ended TooLong script held held' faults faults' = ⊥
 Ended ReadFault script held held' faults faults' = ⊥
 Ended Usage script held held' faults faults' = ⊥
+
+-- What ends without a fault of a read or a write.
+abbrev pub IsFaultless : Status → Type 0
+IsFaultless ReadFault = ⊥
+IsFaultless WriteFault = ⊥
+IsFaultless status = Unit {0}

@@ -114,11 +114,12 @@ abbrev pub is_accepted : Entry → Bool
 is_accepted (entries.Act client call act reply) = not (is_denied act) && not (is_refused reply)
 is_accepted (entries.Command client call request reply) = is_ok_reply reply
 
-abbrev pub is_unref : Task → Bool
-is_unref (Unref key) = true
-is_unref task = false
+-- The entry is the response to the RESOURCE_UNREF of a task.
+abbrev pub is_unref_response : Task → Entry → Bool
+is_unref_response (Unref key) (entries.Command client call request reply) = true
+is_unref_response task entry = false
 
 -- What is left to do after a task, whose entry this is. A call that stops does so after its first entry that isn't accepted;
--- the response to RESOURCE_UNREF stops none.
+-- the response to RESOURCE_UNREF stops none, whatever it is.
 abbrev pub left_after : Bool → Task → Entry → List Task → List Task
-left_after stops task entry more = if not stops || is_unref task || is_accepted entry then follow_ups task entry ++ more else []
+left_after stops task entry more = if not stops || is_unref_response task entry || is_accepted entry then follow_ups task entry ++ more else []

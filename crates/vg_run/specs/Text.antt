@@ -139,11 +139,12 @@ unfoldable pub counts_text : ℕ → ℕ → ℕ → List ℕ
 counts_text control cursor frames =
     codes "rings " ++ decimal control ++ codes " " ++ decimal cursor ++ codes "\n" ++ codes "frames " ++ decimal frames ++ codes "\n"
 
--- The journal: its setup, its history, how many of its commands were on each queue, and the frames.
-abbrev pub journal_text : Setup → List Entry → ℕ → ℕ → List Frame → List ℕ
-journal_text setup H control cursor frames =
-    head_text setup ++ numbered entry_line 1 H ++ counts_text control cursor (length frames) ++ numbered frame_text 1 frames ++ codes "end\n"
+-- The journal in front of its last line: its setup, its history, how many of its commands were on each queue, and the frames.
+abbrev pub front_text : Journal → List ℕ
+front_text journal =
+    head_text journal.setup ++ numbered entry_line 1 journal.entries
+    ++ counts_text journal.control journal.cursor (length journal.frames) ++ numbered frame_text 1 journal.frames
 
 -- The text of a journal.
 abbrev pub text_of : Journal → List ℕ
-text_of journal = journal_text journal.setup journal.entries journal.control journal.cursor journal.frames
+text_of journal = front_text journal ++ codes "end\n"

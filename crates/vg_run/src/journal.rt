@@ -1,7 +1,7 @@
 //! The journal of a run as text.
 
 ghost use Rattle.std.specs.Prelude.{◌≡◌, ◌≤◌, IfOk, OnOk, OnErr};
-ghost use Rattle.vg_io.specs.Streams.{Rose, Takes, TakesSome};
+ghost use Rattle.vg_io.specs.Streams.{Rose, Takes, TakesPart, TakesSome};
 ghost use Rattle.vg_run.specs.Text.{text_of};
 
 mod lines;
@@ -23,8 +23,8 @@ pub struct Journal {
     pub frames: Seq<Frame>,
 }
 
-/// Writes the journal's text in pieces of at most 65,536 bytes. After a fault or want of memory a front
-/// of the text is written.
+/// Writes the journal's text in pieces of at most 65,536 bytes. After a fault a front of
+/// the text is written, after want of memory a front that isn't all of it.
 #[tactic(auto, using(crate::proofs::PrintingLemmas::taken_some))]
 pub fn print<K: Sink>(
     alloc: Global,
@@ -33,8 +33,10 @@ pub fn print<K: Sink>(
 ) -> Result<Result<(), Failed>, AllocError>
     ensures done { IfOk result (λ printed. OnOk printed (Takes (K.held sink.old) (K.held sink.new) (text_of journal.now))) }
     ensures failed { IfOk result (λ printed. OnErr printed (TakesSome (K.held sink.old) (K.held sink.new) (text_of journal.now))) }
-    ensures memory { OnErr result (TakesSome (K.held sink.old) (K.held sink.new) (text_of journal.now)) }
+    ensures memory { OnErr result (TakesPart (K.held sink.old) (K.held sink.new) (text_of journal.now)) }
     ensures cause { IfOk result (λ printed. OnErr printed (Rose (K.faults sink.old) (K.faults sink.new))) }
+    ensures same { IfOk result (λ printed. OnOk printed (K.faults sink.new ≡ K.faults sink.old)) }
+    ensures same_memory { OnErr result (K.faults sink.new ≡ K.faults sink.old) }
     ensures count { K.faults sink.old ≤ K.faults sink.new }
 {
     match print_text(alloc, sink, journal) {
@@ -43,6 +45,3 @@ pub fn print<K: Sink>(
         Err(PrintError::Memory) => Err(AllocError),
     }
 }
-
-#[cfg(test)]
-mod tests;

@@ -17,6 +17,3 @@ mod top;
 pub use journal::{Journal, print};
 pub use laws::at_most_one_history;
 pub use top::{Status, vgpu};
-
-#[cfg(test)]
-mod tests;

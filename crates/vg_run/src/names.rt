@@ -166,6 +166,3 @@ fn current_of(alloc: Global, places: &[usize], held: &Slab<Held>) -> Result<Vec<
     }
     Ok(current)
 }
-
-#[cfg(test)]
-mod tests;

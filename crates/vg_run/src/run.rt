@@ -27,7 +27,7 @@ pub(crate) fn run(alloc: Global, script: &Script) -> Result<Journal, AllocError>
     requires { ScriptInLimits script.now }
     ensures { IfOk result (IsLegalJournal script.now) }
 {
-    let setup = setup_of(script)?;
+    let setup = setup_of(alloc, script)?;
     let mut session = Session::new(alloc, &setup)?;
     run_clients(alloc, &mut session, &setup, script.clients.as_slice())?;
     let (entries, frames) = session.close();
@@ -43,12 +43,12 @@ pub(crate) fn run(alloc: Global, script: &Script) -> Result<Journal, AllocError>
 }
 
 /// What a script settles before its first client enters.
-fn setup_of(script: &Script) -> Result<Setup, AllocError>
+fn setup_of(alloc: Global, script: &Script) -> Result<Setup, AllocError>
     requires { ScriptInLimits script.now }
     ensures { IfOk result (λ setup. setup ≡ setups.setup_of script.now) }
 {
     Ok(Setup {
-        displays: script.displays.clone()?,
+        displays: Seq::from_vec(script.displays.as_slice().to_vec(alloc)?),
         pages: script.pages,
         accepted: 0x11000001f,
         clients: script.clients.len() as u32,

@@ -64,7 +64,8 @@ impl Session {
         holds: &mut Holds,
         act: Act,
     ) -> Result<(), AllocError>
-        requires { length self.old.history < 2 ^ 31 - 1 }
+        requires room { length self.old.history < 2 ^ 31 - 1 }
+        requires holds { holds.old.client ≡ client }
         ensures setup { self.new.setup ≡ self.old.setup }
         ensures entry { OnOk result (self.new.history
             ≡ self.old.history ++ entries.Act client call act (act_step (replay self.old.setup self.old.history) client act).1 ∷ []) }

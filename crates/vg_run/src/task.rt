@@ -11,7 +11,7 @@ use std::alloc::{AllocError, Global};
 use vg_formats::{MemEntry, Rect};
 use vg_list::Seq;
 use vg_machine::Act;
-use vg_pages::{MEMORY_START, PAGE_BYTES};
+use vg_pages::{PAGE_BYTES, page_address};
 use vg_wire::Command2d;
 
 /// A task of a call. `key` is a buffer's, and the number of its resource.
@@ -220,7 +220,7 @@ fn page_entry(page: u32) -> MemEntry
     ensures { result ≡ moves.page_entry page }
 {
     MemEntry {
-        addr: MEMORY_START + PAGE_BYTES as u64 * u64::from(page),
+        addr: page_address(page),
         length: PAGE_BYTES as u32,
     }
 }

@@ -395,7 +395,7 @@ fn release_each(tasks: &mut Vec<Task>, current: &[Held]) -> Result<(), AllocErro
 }
 
 /// What is left to do after a task, whose entry this is. A call that stops does so after its first entry that isn't accepted;
-/// the response to RESOURCE_UNREF stops none.
+/// the response to RESOURCE_UNREF stops none, whatever it is.
 pub(crate) fn leave_tasks(
     alloc: Global,
     stops: bool,
@@ -405,7 +405,7 @@ pub(crate) fn leave_tasks(
 ) -> Result<(), AllocError>
     ensures { OnOk result (left.new.items ≡ left_after stops task.now entry.now left.old.items) }
 {
-    if stops && !is_unref(task) && !is_accepted(entry) {
+    if stops && !is_unref_response(task, entry) && !is_accepted(entry) {
         left.clear();
         return Ok(());
     }
@@ -489,11 +489,12 @@ fn take_down(key: u32, left: &mut VecDeque<Task>) -> Result<(), AllocError>
     Ok(())
 }
 
-fn is_unref(task: &Task) -> bool
-    ensures { result ≡ plan.is_unref task.now }
+/// Whether the entry is the response to the RESOURCE_UNREF of a task.
+fn is_unref_response(task: &Task, entry: &Entry) -> bool
+    ensures { result ≡ plan.is_unref_response task.now entry.now }
 {
-    match task {
-        Task::Unref { .. } => true,
+    match (task, entry) {
+        (Task::Unref { .. }, Entry::Command { .. }) => true,
         _ => false,
     }
 }

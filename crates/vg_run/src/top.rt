@@ -1,11 +1,11 @@
 //! The program's one call.
 
-ghost use Rattle.std.specs.Prelude.{◌≡◌, ◌≤◌, ◌↔◌, ◌<◌, ◌⊎◌, ℕ, length, map, string_bytes, Err, IfOk, IfErr, IfSome, IsTrue};
+ghost use Rattle.std.specs.Prelude.{◌≡◌, ◌≤◌, ◌↔◌, ◌<◌, ◌⊎◌, ℕ, length, map, string_bytes, Err, IfOk, IfErr, OnOk, IfSome, IsTrue};
 ghost use Rattle.vg_io.specs.Streams.{GivesUpTo, IsAtEnd, Rose};
 ghost use Rattle.vg_script.specs.Grammar.{Faulty, Parses};
 ghost use Rattle.vg_script.specs.Limits.{ScriptInLimits};
-ghost use Rattle.vg_run.specs.Headline.{IsRun, IsWithin, Runs, RunsPartly};
-ghost use Rattle.vg_run.specs.Status.{Ended, Unread};
+ghost use Rattle.vg_run.specs.Headline.{IsRun, IsWithin, Runs, RunsNotToItsEnd, RunsPartly};
+ghost use Rattle.vg_run.specs.Status.{Ended, IsFaultless, Unread};
 
 use crate::journal::print;
 use crate::run::run;
@@ -39,7 +39,7 @@ const LIMIT: usize = 16_777_216;
 /// and writes its journal to `sink`.
 ///
 /// At most one byte past the longest script is taken from the source. After want of memory nothing, or
-/// a front of the journal, is written.
+/// a front of the journal that isn't all of it, is written.
 pub fn vgpu<S: Source, K: Sink>(
     alloc: Global,
     words: &[String],
@@ -63,7 +63,12 @@ pub fn vgpu<S: Source, K: Sink>(
     ensures write_fault { result ≡ Status.WriteFault → Rose (K.faults sink.old) (K.faults sink.new)
         × RunsPartly (S.left source.old) (S.left source.new) (K.held sink.old) (K.held sink.new) }
     ensures no_memory { result ≡ Status.NoMemory → (sink.new ≡ sink.old)
-        ⊎ RunsPartly (S.left source.old) (S.left source.new) (K.held sink.old) (K.held sink.new) }
+        ⊎ RunsNotToItsEnd (S.left source.old) (S.left source.new) (K.held sink.old) (K.held sink.new) }
+
+    // No read or write fails unless that is the answer.
+    ensures faultless { IsFaultless result
+        → (S.faults source.new ≡ S.faults source.old) × (K.faults sink.new ≡ K.faults sink.old) }
+    ensures read_before { result ≡ Status.WriteFault → S.faults source.new ≡ S.faults source.old }
 
     ensures taken { GivesUpTo (S.left source.old) (S.left source.new) 16777217 }
     ensures read_count { S.faults source.old ≤ S.faults source.new }
@@ -94,6 +99,7 @@ fn read_script<S: Source>(alloc: Global, source: &mut S) -> Result<Script, Statu
     ensures parses { IfOk result (λ script. IfSome (S.left source.old) (λ bytes. IsWithin bytes × Parses bytes script)) }
     ensures runnable { IfOk result ScriptInLimits }
     ensures err { IfErr result (λ status. Unread status (S.left source.old) (S.faults source.old) (S.faults source.new)) }
+    ensures same { OnOk result (S.faults source.new ≡ S.faults source.old) }
     ensures taken { GivesUpTo (S.left source.old) (S.left source.new) 16777217 }
     ensures early { result ≡ Err Status.ReadFault → GivesUpTo (S.left source.old) (S.left source.new) 16777216 }
     ensures count { S.faults source.old ≤ S.faults source.new }

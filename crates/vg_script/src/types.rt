@@ -3,7 +3,7 @@
 use vg_list::Seq;
 
 /// A whole script, as `parse` gives it.
-#[derive(Clone, Debug, Drop, PartialEq)]
+#[derive(Debug, Drop, PartialEq)]
 pub struct Script {
     /// The width and height of each display in pixels, from scanout 0 on.
     pub displays: Seq<(u32, u32)>,
@@ -14,7 +14,7 @@ pub struct Script {
 }
 
 /// A line of a client.
-#[derive(Clone, Debug, Drop, PartialEq)]
+#[derive(Debug, Drop, PartialEq)]
 pub struct Line {
     /// The line's number in the text, from 1 on.
     pub number: u32,
@@ -32,7 +32,7 @@ pub struct Area {
 }
 
 /// A call of a client. A `name` is the bytes of a buffer's name, and a `scanout` counts the displays from 0 on.
-#[derive(Clone, Debug, Drop, PartialEq)]
+#[derive(Debug, Drop, PartialEq)]
 pub enum Step {
     /// Asks for the display information.
     Info,

@@ -7,6 +7,8 @@ mod formats;
 #[cfg(test)]
 mod io;
 #[cfg(test)]
+mod journal;
+#[cfg(test)]
 mod list;
 #[cfg(test)]
 mod machine;
@@ -14,6 +16,8 @@ mod machine;
 mod pages;
 #[cfg(test)]
 mod places;
+#[cfg(test)]
+mod run;
 #[cfg(test)]
 mod script;
 #[cfg(test)]

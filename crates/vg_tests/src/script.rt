@@ -1,10 +1,10 @@
 //! What a text says; rows/ has the fault of each text that is no script.
 
-use vg_script::{Area, Line, Step, parse};
 use std::alloc::{AllocError, Global};
 use std::process::Abort;
 use std::test::Fail;
 use vg_list::Seq;
+use vg_script::{Area, Line, Step, parse};
 
 fn bytes_of(alloc: Global, bytes: &[u8]) -> Result<Seq<u8>, AllocError> {
     Ok(Seq::from_vec(bytes.to_vec(alloc)?))

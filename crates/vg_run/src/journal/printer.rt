@@ -1,9 +1,9 @@
 //! The text of a journal on its way to a sink, through a buffer.
 
 ghost use Rattle.std.specs.Prelude.{◌≡◌, ◌<◌, ◌≤◌, ◌++◌, [], length, OnOk, OnErr, IsErrOf};
-ghost use Rattle.vg_io.specs.Streams.{Rose, Takes, TakesSome};
+ghost use Rattle.vg_io.specs.Streams.{Rose, Takes, TakesPart, TakesSome};
 ghost use Rattle.vg_run.specs.Printing.{Printed, PrintedSome};
-ghost use Rattle.vg_run.specs.Text.{numbered, entry_line, frame_text, text_of};
+ghost use Rattle.vg_run.specs.Text.{numbered, entry_line, frame_text, front_text, text_of};
 ghost use Rattle.vg_run.specs.declared.journal.printer.PrintError.TheVariants.{Memory, Fault};
 
 use super::Journal;
@@ -46,6 +46,7 @@ fn hand_on<K: Sink>(sink: &mut K, buffer: &mut Vec<u8>) -> Result<(), Failed>
     ensures empty { OnOk result (buffer.new.items ≡ []) }
     ensures failed { OnErr result (TakesSome (K.held sink.old) (K.held sink.new) buffer.old.items) }
     ensures cause { OnErr result (Rose (K.faults sink.old) (K.faults sink.new)) }
+    ensures same { OnOk result (K.faults sink.new ≡ K.faults sink.old) }
     ensures count { K.faults sink.old ≤ K.faults sink.new }
 {
     write_all(sink, buffer.as_slice())?;
@@ -60,6 +61,7 @@ fn hand_on_piece<K: Sink>(sink: &mut K, buffer: &mut Vec<u8>) -> Result<(), Fail
     ensures small { OnOk result (length buffer.new.items < 65536) }
     ensures failed { OnErr result (TakesSome (K.held sink.old) (K.held sink.new) buffer.old.items) }
     ensures cause { OnErr result (Rose (K.faults sink.old) (K.faults sink.new)) }
+    ensures same { OnOk result (K.faults sink.new ≡ K.faults sink.old) }
     ensures count { K.faults sink.old ≤ K.faults sink.new }
 {
     if buffer.len() < PIECE {
@@ -82,6 +84,8 @@ fn print_entry<K: Sink>(
         PrintedSome (K.held sink.old) (K.held sink.new)
         (buffer.old.items ++ entry_line number entry.now)) }
     ensures cause { IsErrOf result PrintError.Fault → Rose (K.faults sink.old) (K.faults sink.new) }
+    ensures same { OnOk result (K.faults sink.new ≡ K.faults sink.old) }
+    ensures same_memory { IsErrOf result PrintError.Memory → K.faults sink.new ≡ K.faults sink.old }
     ensures count { K.faults sink.old ≤ K.faults sink.new }
 {
     put_entry(buffer, number, entry)?;
@@ -103,6 +107,8 @@ fn print_frame<K: Sink>(
         PrintedSome (K.held sink.old) (K.held sink.new)
         (buffer.old.items ++ frame_text number frame.now)) }
     ensures cause { IsErrOf result PrintError.Fault → Rose (K.faults sink.old) (K.faults sink.new) }
+    ensures same { OnOk result (K.faults sink.new ≡ K.faults sink.old) }
+    ensures same_memory { IsErrOf result PrintError.Memory → K.faults sink.new ≡ K.faults sink.old }
     ensures count { K.faults sink.old ≤ K.faults sink.new }
 {
     put_frame(buffer, number, frame)?;
@@ -124,6 +130,8 @@ fn print_entries<K: Sink>(
         PrintedSome (K.held sink.old) (K.held sink.new)
         (buffer.old.items ++ numbered entry_line 1 entries.now)) }
     ensures cause { IsErrOf result PrintError.Fault → Rose (K.faults sink.old) (K.faults sink.new) }
+    ensures same { OnOk result (K.faults sink.new ≡ K.faults sink.old) }
+    ensures same_memory { IsErrOf result PrintError.Memory → K.faults sink.new ≡ K.faults sink.old }
     ensures count { K.faults sink.old ≤ K.faults sink.new }
 {
     for (at, entry) in entries.iter().enumerate() {
@@ -144,6 +152,8 @@ fn print_frames<K: Sink>(
         PrintedSome (K.held sink.old) (K.held sink.new)
         (buffer.old.items ++ numbered frame_text 1 frames.now)) }
     ensures cause { IsErrOf result PrintError.Fault → Rose (K.faults sink.old) (K.faults sink.new) }
+    ensures same { OnOk result (K.faults sink.new ≡ K.faults sink.old) }
+    ensures same_memory { IsErrOf result PrintError.Memory → K.faults sink.new ≡ K.faults sink.old }
     ensures count { K.faults sink.old ≤ K.faults sink.new }
 {
     for (at, frame) in frames.iter().enumerate() {
@@ -152,7 +162,34 @@ fn print_frames<K: Sink>(
     Ok(())
 }
 
-/// Writes all of the journal's text. Where it fails, a front of the text is written.
+// All of the text in front of its last line.
+fn print_front<K: Sink>(
+    sink: &mut K,
+    buffer: &mut Vec<u8>,
+    journal: &Journal,
+) -> Result<(), PrintError>
+    requires { buffer.old.items ≡ [] }
+    ensures ok { OnOk result (Printed (K.held sink.old) (K.held sink.new) (front_text journal.now) buffer.new.items) }
+    ensures some { OnErr result (
+        PrintedSome (K.held sink.old) (K.held sink.new) (front_text journal.now)) }
+    ensures cause { IsErrOf result PrintError.Fault → Rose (K.faults sink.old) (K.faults sink.new) }
+    ensures same { OnOk result (K.faults sink.new ≡ K.faults sink.old) }
+    ensures same_memory { IsErrOf result PrintError.Memory → K.faults sink.new ≡ K.faults sink.old }
+    ensures count { K.faults sink.old ≤ K.faults sink.new }
+{
+    put_head(buffer, &journal.setup)?;
+    print_entries(sink, buffer, journal.entries.as_slice())?;
+    put_counts(
+        buffer,
+        journal.control,
+        journal.cursor,
+        journal.frames.len() as u64,
+    )?;
+    print_frames(sink, buffer, journal.frames.as_slice())?;
+    Ok(())
+}
+
+/// Writes all of the journal's text. Where it fails, a front of the text is written; for want of memory never all of it.
 pub(super) fn print_text<K: Sink>(
     alloc: Global,
     sink: &mut K,
@@ -161,19 +198,14 @@ pub(super) fn print_text<K: Sink>(
     ensures ok { OnOk result (Takes (K.held sink.old) (K.held sink.new) (text_of journal.now)) }
     ensures some { OnErr result (
         PrintedSome (K.held sink.old) (K.held sink.new) (text_of journal.now)) }
+    ensures part { IsErrOf result PrintError.Memory → TakesPart (K.held sink.old) (K.held sink.new) (text_of journal.now) }
     ensures cause { IsErrOf result PrintError.Fault → Rose (K.faults sink.old) (K.faults sink.new) }
+    ensures same { OnOk result (K.faults sink.new ≡ K.faults sink.old) }
+    ensures same_memory { IsErrOf result PrintError.Memory → K.faults sink.new ≡ K.faults sink.old }
     ensures count { K.faults sink.old ≤ K.faults sink.new }
 {
     let mut buffer = Vec::new(alloc);
-    put_head(&mut buffer, &journal.setup)?;
-    print_entries(sink, &mut buffer, journal.entries.as_slice())?;
-    put_counts(
-        &mut buffer,
-        journal.control,
-        journal.cursor,
-        journal.frames.len() as u64,
-    )?;
-    print_frames(sink, &mut buffer, journal.frames.as_slice())?;
+    print_front(sink, &mut buffer, journal)?;
     put(&mut buffer, b"end\n")?;
     hand_on(sink, &mut buffer)?;
     Ok(())

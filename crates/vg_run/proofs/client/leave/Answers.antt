@@ -6,11 +6,14 @@ use Rattle.vg_machine.specs.ActStep.{act_step}
 use Rattle.vg_machine.specs.Replay.{replay}
 use Rattle.vg_run.specs.Session.{HasLeft}
 use Rattle.vg_run.proofs.OrderLemmas.{length-run}
-use Rattle.vg_run.proofs.StandLemmas.{stands-left}
+use Rattle.vg_run.proofs.StandLemmas.{stands-owner, stands-left}
 use Rattle.vg_run.proofs.client.leave.Goals as goal
 
-pub act-requires : goal.act-requires
-act-requires c = omega (arith, length-run c.args.client.now.number c.args.client.now.used c.args.session.now.history c.requires.stands.run, c.requires.room)
+pub act-requires-clause-room : goal.act-requires-clause-room
+act-requires-clause-room c = omega (arith, length-run c.args.client.now.number c.args.client.now.used c.args.session.now.history c.requires.stands.run, c.requires.room)
+
+pub act-requires-clause-holds : goal.act-requires-clause-holds
+act-requires-clause-holds c = stands-owner c.args.session.now.setup c.args.client.now.number c.args.client.now.used c.args.client.now.holds c.args.session.now.history c.requires.stands
 
 pub returns-clause-left : goal.returns-clause-left
 returns-clause-left c =

@@ -1,4 +1,4 @@
-use Rattle.std.proofs.Common.{arith}
+use Rattle.std.proofs.Common.{◌∙◌, arith}
 use Rattle.vg_run.specs.Text.{entry_line}
 use Rattle.vg_run.proofs.PrintingLemmas.{on_err, some_more, printed_more}
 use Rattle.vg_run.proofs.journal.printer.print_entries.Goals as goal
@@ -11,5 +11,5 @@ pub loop-at-preserved : goal.loop-at-preserved
 loop-at-preserved g c =
     record {
       printed = printed_more entry_line 1 _ _ _ _ _ _ _ _ _ _ _ c.loop-at.invariant.printed c.in_ok-print_entry.ensures.ok (omega arith) c.loop-at-test.true c.index-entries-at.is;
-      count = omega arith;
+      same = c.in_ok-print_entry.ensures.same ∙ c.loop-at.invariant.same;
     }

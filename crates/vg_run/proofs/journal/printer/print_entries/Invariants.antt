@@ -1,4 +1,4 @@
-use Rattle.std.proofs.Common.{◌≤◌, ◌++◌, take}
+use Rattle.std.proofs.Common.{◌≡◌, ◌++◌, take}
 use Rattle.vg_run.specs.Printing.{Printed}
 use Rattle.vg_run.specs.Text.{numbered, entry_line}
 use Rattle.vg_run.proofs.journal.printer.print_entries.Given as goal
@@ -7,5 +7,5 @@ abbrev pub invariant-loop-at : goal.invariant-loop-at
 invariant-loop-at g l =
     record {
       printed : Printed (g.K.Sink.held l.fn.sink) (g.K.Sink.held l.sink) (l.fn.buffer.items ++ numbered entry_line 1 (take l.at l.entries)) l.buffer.items;
-      count : g.K.Sink.faults l.fn.sink ≤ g.K.Sink.faults l.sink;
+      same : g.K.Sink.faults l.sink ≡ g.K.Sink.faults l.fn.sink;
     }

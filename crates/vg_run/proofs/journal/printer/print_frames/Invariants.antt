@@ -1,4 +1,4 @@
-use Rattle.std.proofs.Common.{◌≤◌, ◌++◌, take}
+use Rattle.std.proofs.Common.{◌≡◌, ◌++◌, take}
 use Rattle.vg_run.specs.Printing.{Printed}
 use Rattle.vg_run.specs.Text.{numbered, frame_text}
 use Rattle.vg_run.proofs.journal.printer.print_frames.Given as goal
@@ -7,5 +7,5 @@ abbrev pub invariant-loop-at : goal.invariant-loop-at
 invariant-loop-at g l =
     record {
       printed : Printed (g.K.Sink.held l.fn.sink) (g.K.Sink.held l.sink) (l.fn.buffer.items ++ numbered frame_text 1 (take l.at l.frames)) l.buffer.items;
-      count : g.K.Sink.faults l.fn.sink ≤ g.K.Sink.faults l.sink;
+      same : g.K.Sink.faults l.sink ≡ g.K.Sink.faults l.fn.sink;
     }

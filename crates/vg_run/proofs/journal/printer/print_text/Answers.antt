@@ -1,32 +1,20 @@
-use Rattle.vg_run.proofs.PrintingLemmas.{on_err}
-use Rattle.vg_run.proofs.JournalLemmas.{entries_some, entries_printed, counts_some, counts_printed, frames_some, frames_printed, last_some, rest_some}
+use Rattle.std.proofs.Common.{}
+use Rattle.vg_run.proofs.PrintingLemmas.{on_err, some_of}
+use Rattle.vg_run.proofs.JournalLemmas.{front_part, front_some, rest_some}
 use Rattle.vg_run.proofs.journal.printer.print_text.Goals as goal
 
-pub returns-in_err-print_entries-clause-some : goal.returns-in_err-print_entries-clause-some
-returns-in_err-print_entries-clause-some g c =
-    on_err _ (entries_some _ _ c.args.journal.now _ _ _ c.new-buffer.ensures.items c.in_ok-put_head.ensures c.as_slice.ensures c.in_err-print_entries.ensures.some)
+pub returns-in_err-print_front-clause-some : goal.returns-in_err-print_front-clause-some
+returns-in_err-print_front-clause-some g c = on_err _ (front_some _ _ c.args.journal.now c.in_err-print_front.ensures.some)
 
-pub returns-in_err-put_counts-clause-some : goal.returns-in_err-put_counts-clause-some
-returns-in_err-put_counts-clause-some g c =
-    on_err _ (counts_some _ _ c.args.journal.now _
-    (entries_printed _ _ c.args.journal.now _ _ _ _ c.new-buffer.ensures.items c.in_ok-put_head.ensures c.as_slice.ensures c.in_ok-print_entries.ensures.ok))
-
-pub returns-in_err-print_frames-clause-some : goal.returns-in_err-print_frames-clause-some
-returns-in_err-print_frames-clause-some g c =
-    let entries = entries_printed _ _ c.args.journal.now _ _ _ _ c.new-buffer.ensures.items c.in_ok-put_head.ensures c.as_slice.ensures c.in_ok-print_entries.ensures.ok in
-    let counts = counts_printed _ _ c.args.journal.now _ _ _ entries c.len.ensures c.in_ok-put_counts.ensures in
-    on_err _ (frames_some _ _ _ c.args.journal.now _ _ counts c.as_slice-2.ensures c.in_err-print_frames.ensures.some)
+pub returns-in_err-print_front-clause-part : goal.returns-in_err-print_front-clause-part
+returns-in_err-print_front-clause-part g c = λ is. front_part _ _ c.args.journal.now c.in_err-print_front.ensures.some
 
 pub returns-in_err-put-clause-some : goal.returns-in_err-put-clause-some
-returns-in_err-put-clause-some g c =
-    let entries = entries_printed _ _ c.args.journal.now _ _ _ _ c.new-buffer.ensures.items c.in_ok-put_head.ensures c.as_slice.ensures c.in_ok-print_entries.ensures.ok in
-    let counts = counts_printed _ _ c.args.journal.now _ _ _ entries c.len.ensures c.in_ok-put_counts.ensures in
-    let frames = frames_printed _ _ _ c.args.journal.now _ _ _ counts c.as_slice-2.ensures c.in_ok-print_frames.ensures.ok in
-    on_err _ (last_some _ _ c.args.journal.now _ frames)
+returns-in_err-put-clause-some g c = on_err _ (front_some _ _ c.args.journal.now (some_of _ _ _ _ c.in_ok-print_front.ensures.ok))
+
+pub returns-in_err-put-clause-part : goal.returns-in_err-put-clause-part
+returns-in_err-put-clause-part g c = λ is. front_part _ _ c.args.journal.now (some_of _ _ _ _ c.in_ok-print_front.ensures.ok)
 
 pub returns-in_err-hand_on-clause-some : goal.returns-in_err-hand_on-clause-some
 returns-in_err-hand_on-clause-some g c =
-    let entries = entries_printed _ _ c.args.journal.now _ _ _ _ c.new-buffer.ensures.items c.in_ok-put_head.ensures c.as_slice.ensures c.in_ok-print_entries.ensures.ok in
-    let counts = counts_printed _ _ c.args.journal.now _ _ _ entries c.len.ensures c.in_ok-put_counts.ensures in
-    let frames = frames_printed _ _ _ c.args.journal.now _ _ _ counts c.as_slice-2.ensures c.in_ok-print_frames.ensures.ok in
-    on_err _ (rest_some _ _ _ c.args.journal.now _ _ frames c.in_ok-put.ensures c.in_err-hand_on.ensures.failed)
+    on_err _ (rest_some _ _ _ c.args.journal.now _ _ c.in_ok-print_front.ensures.ok c.in_ok-put.ensures c.in_err-hand_on.ensures.failed)

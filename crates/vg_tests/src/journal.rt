@@ -2,13 +2,13 @@
 
 ghost use Rattle.std.specs.Prelude.{None};
 
-use super::{Journal, print};
-use crate::tests::Sip;
+use super::run::Sip;
 use std::alloc::{AllocError, Global};
 use std::test::Fail;
 use vg_io::{Failed, MemSink, Sink};
 use vg_list::Seq;
 use vg_machine::{Act, ActReply, Entry, Frame, Reply, Request, Setup, Shape, ShareRefusal, What};
+use vg_run::{Journal, print};
 use vg_wire::Queue;
 
 fn act(client: u32, call: u64, act: Act) -> Entry {

@@ -1,9 +1,9 @@
 //! What no row of rows/ can show: reads and writes that fail at each call, and sources and sinks that move single bytes.
 
-use crate::{Status, at_most_one_history, vgpu};
 use std::alloc::{AllocError, Global};
 use std::test::Fail;
 use vg_io::{Failed, MemSink, MemSource, Sink, Source};
+use vg_run::{Status, at_most_one_history, vgpu};
 
 /// How many bytes the journal here has at most.
 const ROOM: usize = 2_000;
