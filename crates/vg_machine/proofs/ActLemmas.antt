@@ -10,10 +10,10 @@ use Rattle.std.proofs.lemmas.List.FromFn.{length-range_with_len}
 use Rattle.std.proofs.lemmas.Map.Entries.{All-lookup}
 use Rattle.vg_formats.specs.declared.entry.MemEntry.{MemEntry}
 use Rattle.vg_pages.specs.Memory.{AreGivable, HasWholePages, Memory, after_taking, marked, zeroed}
-use Rattle.vg_machine.specs.declared.act.Geometry.{Geometry}
-use Rattle.vg_machine.specs.declared.act.ShareRefusal.{ShareRefusal}
+use Rattle.vg_machine.specs.declared.share.Geometry.{Geometry}
+use Rattle.vg_machine.specs.declared.share.ShareRefusal.{ShareRefusal}
 use Rattle.vg_machine.specs.declared.share.Buffer.{Buffer}
-use Rattle.vg_machine.specs.declared.act.ShareRefusal.TheVariants.{NotHeld, OutOfRange}
+use Rattle.vg_machine.specs.declared.share.ShareRefusal.TheVariants.{NotHeld, OutOfRange}
 use Rattle.vg_machine.specs.Refusals.{refusal_of}
 use Rattle.vg_machine.specs.Cells.{pages_of, repeated, stored}
 use Rattle.vg_machine.specs.Share.{ShareState, SharesPages, buffer_at, freed, given_back, is_holder, leased, pages_at, pages_in, place_refusal, refused_by, released, unleased, with_buffer, with_left}

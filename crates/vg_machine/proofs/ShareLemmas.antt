@@ -16,7 +16,7 @@ use Rattle.std.proofs.lemmas.Option.{slice_get-get_or, slice_get_within, get_or_
 use Rattle.vg_places.proofs.Places.{length-tabulate, slice_get-tabulate}
 use Rattle.vg_pages.specs.Memory.{AreGivable, AreTakeable, Memory, fresh_memory, is_among, is_free, marked}
 use Rattle.vg_machine.specs.declared.share.Buffer.{Buffer}
-use Rattle.vg_machine.specs.declared.act.ShareRefusal.TheVariants.{NotHeld, OutOfRange}
+use Rattle.vg_machine.specs.declared.share.ShareRefusal.TheVariants.{NotHeld, OutOfRange}
 use Rattle.vg_machine.specs.Cells.{pages_of}
 use Rattle.vg_machine.specs.Refusals.{refusal_of}
 use Rattle.vg_machine.specs.Share.{HaveNoPageInCommon, SharesPages, ShareState, buffer_at, is_holder, pages_at, pages_in, place_refusal, refused_by, released_buffer, released_entries}

@@ -5,8 +5,8 @@ use Rattle.vg_machine.specs.declared.act.Act.{Act}
 use Rattle.vg_machine.specs.declared.act.Act.TheVariants.{Enter, Reserve, Store, Load, Release, Free, Take, Drop, Denied, Leave}
 use Rattle.vg_machine.specs.declared.act.ActReply.{ActReply}
 use Rattle.vg_machine.specs.declared.act.ActReply.TheVariants as act_replies
-use Rattle.vg_machine.specs.declared.act.Geometry.{Geometry}
-use Rattle.vg_machine.specs.declared.act.ShareRefusal.{ShareRefusal}
+use Rattle.vg_machine.specs.declared.share.Geometry.{Geometry}
+use Rattle.vg_machine.specs.declared.share.ShareRefusal.{ShareRefusal}
 use Rattle.vg_machine.specs.declared.scanout.Binding.{Binding}
 use Rattle.vg_pages.specs.Memory.{after_taking}
 use Rattle.vg_machine.specs.Cells.{loaded, repeated, stored}

@@ -7,9 +7,9 @@ use Rattle.std.specs.BTreeMap.{insert_entry, is_at}
 use Rattle.std.specs.BTreeSet.{insert_key}
 use Rattle.vg_pages.specs.Memory.{Memory, AreGivable, free_pages, is_among, marked}
 use Rattle.vg_machine.specs.declared.share.Buffer.{Buffer}
-use Rattle.vg_machine.specs.declared.act.Geometry.{Geometry}
-use Rattle.vg_machine.specs.declared.act.ShareRefusal.{ShareRefusal}
-use Rattle.vg_machine.specs.declared.act.ShareRefusal.TheVariants.{GuestFull, UnknownKey, NotHeld, ScanoutHeld, OutOfRange, InUse, ResourceLive}
+use Rattle.vg_machine.specs.declared.share.Geometry.{Geometry}
+use Rattle.vg_machine.specs.declared.share.ShareRefusal.{ShareRefusal}
+use Rattle.vg_machine.specs.declared.share.ShareRefusal.TheVariants.{GuestFull, UnknownKey, NotHeld, ScanoutHeld, OutOfRange, InUse, ResourceLive}
 use Rattle.vg_machine.specs.Cells.{pages_of}
 use Rattle.vg_machine.specs.Lists.{without_first}
 use Rattle.vg_machine.specs.Refusals.{refusal_of}

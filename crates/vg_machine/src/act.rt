@@ -1,5 +1,6 @@
 //! What a client does on the shared guest state without a command.
 
+use crate::share::ShareRefusal;
 use vg_list::Seq;
 
 /// Something that a client named and that isn't allowed to it.
@@ -11,16 +12,6 @@ pub enum What {
     Resource { n: u32 },
     /// The scanout of this number.
     Scanout { n: u32 },
-}
-
-/// What a buffer is for: width and height in pixels and the code of the pixels' format, as its client says them,
-/// and how many bytes it has.
-#[derive(Clone, Copy, Debug, PartialEq, Eq)]
-pub struct Geometry {
-    pub width: u32,
-    pub height: u32,
-    pub format: u32,
-    pub bytes: u32,
 }
 
 /// An act of a client. Keys are those of buffers, offsets and lengths are in bytes.
@@ -70,25 +61,6 @@ pub enum Act {
     },
     /// The client has left.
     Leave,
-}
-
-/// Why an act is refused.
-#[derive(Clone, Copy, Debug, PartialEq, Eq)]
-pub enum ShareRefusal {
-    /// Fewer pages are free than the buffer needs; so many are.
-    GuestFull { free: u32 },
-    /// No live buffer has the key, or there is no such scanout.
-    UnknownKey,
-    /// The client doesn't hold the buffer, doesn't take it down, or the scanout isn't leased to it.
-    NotHeld,
-    /// The scanout is leased to this client.
-    ScanoutHeld { by: u32 },
-    /// The bytes pass the end of the buffer, which has so many.
-    OutOfRange { bytes: u32 },
-    /// The buffer is shown on this scanout, or the scanout shows something.
-    InUse { scanout: u32 },
-    /// The device has a resource with the buffer's key.
-    ResourceLive,
 }
 
 /// What an act is answered.

@@ -7,11 +7,12 @@ ghost use Rattle.vg_machine.specs.ActStep.{drop_step, effect_of, free_step, is_s
 ghost use Rattle.vg_machine.specs.Holds.{has_key, update};
 ghost use Rattle.vg_machine.specs.Lists.{without_first};
 
-use crate::act::{Act, ActReply, Geometry, ShareRefusal};
+use crate::act::{Act, ActReply};
 use crate::cells::{load, pages_of, repeated, store};
 use crate::display::Display;
 use crate::holds::Holds;
 use crate::lists::remove_number;
+use crate::share::{Geometry, ShareRefusal};
 use std::alloc::{AllocError, Global};
 use vg_list::Seq;
 

@@ -19,7 +19,7 @@ mod setup;
 mod shape;
 mod share;
 
-pub use act::{Act, ActReply, Geometry, ShareRefusal, What};
+pub use act::{Act, ActReply, What};
 pub use display::Display;
 pub use history::{Entry, Reply, Request};
 pub use holds::{Holds, denied};
@@ -28,3 +28,4 @@ pub use resource::Resource;
 pub use scanout::{Binding, Frame};
 pub use setup::Setup;
 pub use shape::Shape;
+pub use share::{Geometry, ShareRefusal};

@@ -8,7 +8,6 @@ ghost use Rattle.vg_pages.specs.Memory.{AreGivable, Memory, after_taking};
 ghost use Rattle.vg_machine.specs.Cells.{pages_of};
 ghost use Rattle.vg_machine.specs.Share.{SharesPages, buffer_at, drop_refusal, free_refusal, freed, given_back, has_holder, holds_once, is_holder, is_leased, leased, new_buffer, new_pages, pages_at, place_refusal, release_refusal, released, released_buffer, released_entries, reserve_refusal, some_holder, take_refusal, unleased, with_buffer, with_left};
 
-use crate::act::{Geometry, ShareRefusal};
 use crate::cells::pages_of;
 use crate::lists::remove_number;
 use std::alloc::{AllocError, Global};
@@ -16,6 +15,35 @@ use std::collections::{BTreeMap, BTreeSet};
 use std::marker::Model;
 use vg_list::Seq;
 use vg_pages::Pages;
+
+/// Why an act is refused.
+#[derive(Clone, Copy, Debug, PartialEq, Eq)]
+pub enum ShareRefusal {
+    /// Fewer pages are free than the buffer needs; so many are.
+    GuestFull { free: u32 },
+    /// No live buffer has the key, or there is no such scanout.
+    UnknownKey,
+    /// The client doesn't hold the buffer, doesn't take it down, or the scanout isn't leased to it.
+    NotHeld,
+    /// The scanout is leased to this client.
+    ScanoutHeld { by: u32 },
+    /// The bytes pass the end of the buffer, which has so many.
+    OutOfRange { bytes: u32 },
+    /// The buffer is shown on this scanout, or the scanout shows something.
+    InUse { scanout: u32 },
+    /// The device has a resource with the buffer's key.
+    ResourceLive,
+}
+
+/// What a buffer is for: width and height in pixels and the code of the pixels' format, as its client says them,
+/// and how many bytes it has.
+#[derive(Clone, Copy, Debug, PartialEq, Eq)]
+pub struct Geometry {
+    pub width: u32,
+    pub height: u32,
+    pub format: u32,
+    pub bytes: u32,
+}
 
 /// A buffer that is live.
 #[derive(Debug, Drop)]

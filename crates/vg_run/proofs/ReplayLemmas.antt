@@ -16,7 +16,7 @@ use Rattle.vg_wire.specs.declared.response.Response.{Response}
 use Rattle.vg_machine.specs.declared.act.Act.{Act}
 use Rattle.vg_machine.specs.declared.act.Act.TheVariants.{Enter, Reserve, Store, Load, Release, Free, Take, Drop, Denied, Leave}
 use Rattle.vg_machine.specs.declared.act.ActReply.{ActReply}
-use Rattle.vg_machine.specs.declared.act.ShareRefusal.{ShareRefusal}
+use Rattle.vg_machine.specs.declared.share.ShareRefusal.{ShareRefusal}
 use Rattle.vg_machine.specs.declared.resource.Resource.{Resource}
 use Rattle.vg_machine.specs.ActStep.{effect_of, replied_by, shown_at}
 use Rattle.vg_machine.specs.Resource.{resource_at}

@@ -8,8 +8,8 @@ use Rattle.vg_machine.specs.declared.act.Act.{Act}
 use Rattle.vg_machine.specs.declared.act.Act.TheVariants.{Enter, Reserve, Store, Load, Release, Free, Take, Drop, Denied, Leave}
 use Rattle.vg_machine.specs.declared.act.What.{What}
 use Rattle.vg_machine.specs.declared.act.What.TheVariants as whats
-use Rattle.vg_machine.specs.declared.act.ShareRefusal.{ShareRefusal}
-use Rattle.vg_machine.specs.declared.act.ShareRefusal.TheVariants.{GuestFull, UnknownKey, NotHeld, ScanoutHeld, OutOfRange, InUse, ResourceLive}
+use Rattle.vg_machine.specs.declared.share.ShareRefusal.{ShareRefusal}
+use Rattle.vg_machine.specs.declared.share.ShareRefusal.TheVariants.{GuestFull, UnknownKey, NotHeld, ScanoutHeld, OutOfRange, InUse, ResourceLive}
 use Rattle.vg_machine.specs.declared.act.ActReply.{ActReply}
 use Rattle.vg_machine.specs.declared.act.ActReply.TheVariants as act_replies
 use Rattle.vg_machine.specs.declared.history.Entry.{Entry}
