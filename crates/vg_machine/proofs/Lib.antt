@@ -10,3 +10,4 @@ pub mod ScreenLemmas
 pub mod RemoveLemmas
 pub mod BackingLemmas
 pub mod ResourceLemmas
+pub mod PixelLemmas

@@ -13,6 +13,7 @@ pub mod Share
 pub mod Holds
 pub mod State
 pub mod Step
+pub mod Pixels
 pub mod ActStep
 pub mod Replay
 pub mod Order

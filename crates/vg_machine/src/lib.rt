@@ -12,6 +12,7 @@ mod display;
 mod history;
 mod holds;
 mod lane;
+mod laws;
 mod lists;
 mod resource;
 mod scanout;

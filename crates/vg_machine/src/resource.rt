@@ -2,6 +2,7 @@
 
 ghost use Rattle.std.specs.Prelude.{◌≡◌, ◌<◌, ◌≤◌, [], Some, None, ◌+◌, IfOk, IfErr, OnOk, OnErr, IfSome, ◌*◌, true, option_copied};
 ghost use Rattle.std.specs.List.{All};
+ghost use Rattle.std.specs.Map.{values_of};
 ghost use Rattle.vg_machine.specs.Backing.{transfer};
 ghost use Rattle.vg_machine.specs.Receive.{receive};
 ghost use Rattle.vg_machine.specs.Fits.{AreHeld, IsWhole};
@@ -129,6 +130,13 @@ impl Resources {
         ensures { result ≡ pixel_bytes self.now }
     {
         self.bytes
+    }
+
+    /// A law, and no work: each resource has its pixels.
+    pub(crate) fn are_whole(&self)
+        ensures { All IsWhole (values_of self.now) }
+    {
+        let _ = &self.map;
     }
 
     /// The resource of this id.

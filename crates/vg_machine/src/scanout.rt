@@ -162,6 +162,13 @@ impl Scanouts {
         Ok(Ok(()))
     }
 
+    /// A law, and no work: each screen has the pixels of its rectangle.
+    pub(crate) fn are_screens(&self)
+        ensures { All IsScreen self.now.screens }
+    {
+        let _ = &self.screens;
+    }
+
     /// The frames, in the order in which they were made.
     pub(crate) fn frames(&self) -> &[Frame]
         ensures { result.now ≡ self.now.frames }

@@ -1,0 +1,50 @@
+-- What RESOURCE_FLUSH shows and TRANSFER_TO_HOST_2D copies (VIRTIO 1.2, 5.7.6.8), pixel by pixel.
+use Rattle.std.specs.Prelude.{◌≡◌, ◌≢◌, ℕ, ◌+◌, ◌*◌, ◌<◌, List, Some, slice_get, take, drop}
+use Rattle.vg_formats.specs.declared.rect.Rect.{Rect}
+use Rattle.vg_formats.specs.Formats.{shown_bytes}
+use Rattle.vg_formats.specs.Pixels.{Covers}
+use Rattle.vg_machine.specs.declared.resource.Resource.{Resource}
+use Rattle.vg_machine.specs.declared.scanout.Screen.{Screen}
+use Rattle.vg_machine.specs.Backing.{backing_bytes, entries_at}
+use Rattle.vg_machine.specs.Resource.{resource_at}
+use Rattle.vg_machine.specs.State.{State}
+
+-- The four bytes of pixel (x, y), of rows of so many pixels.
+abbrev pub pixel_of : List ℕ → ℕ → ℕ → ℕ → List ℕ
+pixel_of pixels width x y = take 4 (drop (4 * (width * y + x)) pixels)
+
+-- RESOURCE_FLUSH (VIRTIO 1.2, 5.7.6.8): a pixel is the resource's at its point where the flush covers that, and else as before.
+abbrev pub ShowsPixel : Rect → Resource → Screen → Screen → ℕ → ℕ → Type 0
+ShowsPixel rect resource old new x y =
+    let whole = old.binding.rect in
+    let shown = shown_bytes resource.format (pixel_of resource.pixels resource.width (whole.x + x) (whole.y + y)) in
+    (Covers rect (whole.x + x) (whole.y + y) → pixel_of new.pixels whole.width x y ≡ shown)
+    × (¬ Covers rect (whole.x + x) (whole.y + y) → pixel_of new.pixels whole.width x y ≡ pixel_of old.pixels whole.width x y)
+
+-- RESOURCE_FLUSH (VIRTIO 1.2, 5.7.6.8): a screen of the resource shows each pixel so, and any other is as before.
+pub record ShowsScreen (id : ℕ) (rect : Rect) (resource : Resource) (old new : Screen) : Type 0 where
+  pub binding : new.binding ≡ old.binding
+  pub shown : old.binding.resource ≡ id → (x y : ℕ) → x < old.binding.rect.width → y < old.binding.rect.height → ShowsPixel rect resource old new x y
+  pub other : old.binding.resource ≢ id → new.pixels ≡ old.pixels
+
+-- RESOURCE_FLUSH (VIRTIO 1.2, 5.7.6.8): there is the resource, and each scanout that is bound has a screen that shows it so.
+abbrev pub ShowsEachPixel : Rect → ℕ → State → State → Type 0
+ShowsEachPixel rect id old new =
+    (resource : Resource) × (resource_at id old.resources ≡ Some resource)
+    × ((scanout : ℕ) (screen : Screen) → slice_get old.scanouts.screens scanout ≡ Some (Some screen)
+    → (next : Screen) × (slice_get new.scanouts.screens scanout ≡ Some (Some next)) × ShowsScreen id rect resource screen next)
+
+-- TRANSFER_TO_HOST_2D (VIRTIO 1.2, 5.7.6.8): pixel (i, j) of the rectangle has its bytes of these, and the others are as before.
+pub record CopiesPixels (rect : Rect) (offset : ℕ) (bytes : List ℕ) (old new : Resource) : Type 0 where
+  pub width : new.width ≡ old.width
+  pub height : new.height ≡ old.height
+  pub format : new.format ≡ old.format
+  pub copied : (i j : ℕ) → i < rect.width → j < rect.height → pixel_of new.pixels old.width (rect.x + i) (rect.y + j) ≡ take 4 (drop (offset + 4 * old.width * j + 4 * i) bytes)
+  pub kept : (x y : ℕ) → x < old.width → y < old.height → ¬ Covers rect x y → pixel_of new.pixels old.width x y ≡ pixel_of old.pixels old.width x y
+
+-- TRANSFER_TO_HOST_2D (VIRTIO 1.2, 5.7.6.8): the resource's pixels come so from its backing, and other resources are as before.
+abbrev pub CopiesEachPixel : Rect → ℕ → ℕ → State → State → Type 0
+CopiesEachPixel rect offset id old new =
+    (resource : Resource) × (next : Resource) × (resource_at id old.resources ≡ Some resource) × (resource_at id new.resources ≡ Some next)
+    × CopiesPixels rect offset (backing_bytes old.memory (entries_at id old.backings)) resource next
+    × ((other : ℕ) → other ≢ id → resource_at other new.resources ≡ resource_at other old.resources)

@@ -1,0 +1,36 @@
+//! What the 2D commands mean for each pixel (VIRTIO 1.2, 5.7.6.8): laws on a display's own steps, each the contract of a
+//! function that does no work.
+
+ghost use Rattle.std.specs.Prelude.{◌≡◌, ℕ};
+ghost use Rattle.vg_formats.specs.declared.rect.Rect.{Rect};
+ghost use Rattle.vg_wire.specs.declared.response.Response.TheVariants as responses;
+ghost use Rattle.vg_wire.specs.declared.two_d.Command2d.TheVariants as commands;
+ghost use Rattle.vg_machine.specs.Pixels.{CopiesEachPixel, ShowsEachPixel};
+ghost use Rattle.vg_machine.specs.Step.{two_d_step};
+
+use crate::display::Display;
+
+impl Display {
+    /// A law, and no work: after RESOURCE_FLUSH that is answered OK_NODATA each pixel of each screen that is bound to the
+    /// resource is the resource's pixel at its point, as the resource's format is shown (blue, green, red, alpha), where the
+    /// flushed rectangle covers that point, and is else as before. Rectangles are in pixels of the resource.
+    pub fn a_flush_shows_each_pixel(&self)
+        ensures { (rect : Rect) (id : ℕ) → (two_d_step self.now (commands.Flush rect id)).1 ≡ responses.Nodata
+            → ShowsEachPixel rect id self.now (two_d_step self.now (commands.Flush rect id)).0 }
+    {
+        let _ = &self.setup;
+        self.resources.are_whole();
+        self.scanouts.are_screens();
+    }
+
+    /// A law, and no work: after TRANSFER_TO_HOST_2D that is answered OK_NODATA pixel (x + i, y + j) of the resource, in
+    /// column i and row j of the rectangle at (x, y), is the four bytes of the backing from
+    /// `offset + 4 * width * j + 4 * i` on, with the resource's width in pixels, and each other pixel is as before.
+    pub fn a_transfer_copies_each_pixel(&self)
+        ensures { (rect : Rect) (offset id : ℕ) → (two_d_step self.now (commands.Transfer rect offset id)).1 ≡ responses.Nodata
+            → CopiesEachPixel rect offset id self.now (two_d_step self.now (commands.Transfer rect offset id)).0 }
+    {
+        let _ = &self.setup;
+        self.resources.are_whole();
+    }
+}
