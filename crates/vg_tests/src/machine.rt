@@ -6,5 +6,4 @@ mod asking;
 mod leases;
 mod refusals;
 mod rig;
-mod screens;
 mod transfers;

@@ -57,6 +57,24 @@ fn create_is_refused(rt: HostRuntime) -> Result<(), Fail> {
     Ok(())
 }
 
+/// The pixels of all resources may have 134,217,728 bytes.
+#[test]
+fn pixels_have_a_limit(rt: HostRuntime) -> Result<(), Fail> {
+    static ROWS: [Row<'static>; 4] = [
+        Command(
+            "as many as there may be",
+            CREATE,
+            &[1, 1, 33_554_432, 1],
+            OK,
+        ),
+        Command("a pixel more", CREATE, &[2, 1, 1, 1], 0x1201),
+        Command("unref", UNREF, &[1, 0], OK),
+        Command("the pixel after that", CREATE, &[2, 1, 1, 1], OK),
+    ];
+    run(&rt, rt.alloc(), &ROWS, &[])?;
+    Ok(())
+}
+
 #[test]
 fn unref_and_detach_are_refused(rt: HostRuntime) -> Result<(), Fail> {
     static ROWS: [Row<'static>; 15] = [
