@@ -1,0 +1,16 @@
+pub mod Updates
+pub mod Accounts
+pub mod SeatLemmas
+pub mod Looks
+pub mod Settling
+pub mod Turns
+pub mod Answering
+pub mod Cuts
+pub mod Ends
+pub mod HandLemmas
+pub mod TurnLemmas
+pub mod StepLemmas
+pub mod TokenLemmas
+pub mod LaneLemmas
+pub mod RootLemmas
+pub mod Sent

@@ -1,0 +1,45 @@
+use Rattle.std.proofs.Common.{arith, refl, ◌∙◌}
+use Rattle.vg_book.specs.Turns.{counted, order}
+use Rattle.vg_book.proofs.StepLemmas.{lane_may, turn_hand, turn_room, answers_of, answered_of, back_taken, looked_of}
+use Rattle.vg_book.proofs.TurnLemmas.{gives_of}
+use Rattle.vg_book.proofs.steps.answer.Goals as goal
+
+pub take_turn-requires-clause-seat : goal.take_turn-requires-clause-seat
+take_turn-requires-clause-seat g c = lane_may g.M.Machine c.args.seat.now.me _ _ c.requires.lane
+
+pub run_in_hand-requires-clause-hand : goal.run_in_hand-requires-clause-hand
+run_in_hand-requires-clause-hand g c = let t = c.take_turn.ensures.taken in (t.1, turn_hand g.M.Machine c.args.seat.now.me c.take_turn.new.seat.me t, turn_room g.M.Machine c.args.seat.now.me c.take_turn.new.seat.me t)
+
+pub store-requires : goal.store-requires
+store-requires g c = let t = c.take_turn.ensures.taken in let m = c.args.seat.now.me in let n = c.take_turn.new.seat.me in
+    let k = c.in-Ok.ensures.ok t.1 (turn_hand g.M.Machine m n t) in (
+      c.run_in_hand.ensures.id ∙ (c.take_turn.ensures.id ∙ c.requires.table.0),
+      omega (arith, c.requires.table.1),
+      answers_of g.M.Machine g.met.M.Machine.requests_count _ _ _ m n c.run_in_hand.new.seat.me (counted g.M.Machine c.args.lane c.args.count) (order g.M.Machine c.args.client c.args.call c.args.request) k.0 c.in-Ok.done.0 c.in-Ok.done.1
+          c.requires.lane t c.run_in_hand.ensures.view k.1 k.2 c.requires.tag,
+    )
+
+pub store-requires-in-Err : goal.store-requires-in-Err
+store-requires-in-Err g c = let t = c.take_turn.ensures.taken in let m = c.args.seat.now.me in let n = c.take_turn.new.seat.me in
+    let k = c.in-Err.ensures.err.1 t.1 (turn_hand g.M.Machine m n t) in (
+      c.run_in_hand.ensures.id ∙ (c.take_turn.ensures.id ∙ c.requires.table.0),
+      omega (arith, c.requires.table.1),
+      gives_of g.M.Machine _ _ _ m c.run_in_hand.new.seat.me c.run_in_hand.new.seat.me (lane_may g.M.Machine m _ _ c.requires.lane) (back_taken g.M.Machine m n c.run_in_hand.new.seat.me t k.0 c.run_in_hand.ensures.view k.1 k.2) refl,
+    )
+
+pub returns-in-Ok : goal.returns-in-Ok
+returns-in-Ok g c = let t = c.take_turn.ensures.taken in let m = c.args.seat.now.me in let n = c.take_turn.new.seat.me in
+    let k = c.in-Ok.ensures.ok t.1 (turn_hand g.M.Machine m n t) in record {
+      id = c.store.ensures.0 ∙ (c.run_in_hand.ensures.id ∙ c.take_turn.ensures.id);
+      ok = answered_of g.M.Machine m n c.run_in_hand.new.seat.me c.store.new.seat.me (counted g.M.Machine c.args.lane c.args.count) (order g.M.Machine c.args.client c.args.call c.args.request) k.0 c.in-Ok.done.0 c.in-Ok.done.1
+          c.requires.lane t c.run_in_hand.ensures.view k.1 k.2 c.store.ensures.2;
+      err = tt;
+    }
+
+pub returns-in-Err : goal.returns-in-Err
+returns-in-Err g c = let t = c.take_turn.ensures.taken in let m = c.args.seat.now.me in let n = c.take_turn.new.seat.me in
+    let k = c.in-Err.ensures.err.1 t.1 (turn_hand g.M.Machine m n t) in record {
+      id = c.store-in-Err.ensures.0 ∙ (c.run_in_hand.ensures.id ∙ c.take_turn.ensures.id);
+      ok = tt;
+      err = (c.in-Err.ensures.err.0, looked_of g.M.Machine m c.run_in_hand.new.seat.me c.store-in-Err.new.seat.me (lane_may g.M.Machine m _ _ c.requires.lane) (back_taken g.M.Machine m n c.run_in_hand.new.seat.me t k.0 c.run_in_hand.ensures.view k.1 k.2) c.store-in-Err.ensures.2);
+    }

@@ -1,0 +1,90 @@
+-- What a seat is at rest, and what the calls of the turn do to it.
+use Rattle.std.specs.Prelude.{◌≡◌, ◌⊎◌, ℕ, ◌+◌, ◌-◌, ◌^◌, ◌<◌, Bool, false, List, [], ◌∷◌, ◌++◌, length, Some}
+use mathlib.Core.List.{IsPrefix}
+use Rattle.atomic_table.specs.Table.{Me}
+use Rattle.atomic_table.specs.Seated.{TableId}
+use Rattle.vg_history.specs.declared.machine.Machine.{Ghosts}
+use Rattle.vg_history.specs.declared.entry.Entry.{Entry}
+use Rattle.vg_history.specs.declared.entry.Entry.TheVariants.{Act, Command}
+use Rattle.vg_history.specs.Lists.{Has}
+use Rattle.vg_book.specs.declared.board.Core.{Core}
+use Rattle.vg_book.specs.declared.board.Slot.{Slot}
+use Rattle.vg_book.specs.declared.board.Slot.TheVariants.{Held}
+use Rattle.vg_book.specs.declared.board.Order.{Order}
+use Rattle.vg_book.specs.declared.board.Finished.{Finished}
+use Rattle.vg_book.specs.declared.board.Account.{Account}
+use Rattle.vg_book.specs.declared.board.Counted.{Counted}
+use Rattle.vg_book.specs.declared.board.View.{View}
+use Rattle.vg_book.specs.Views.{taking, looked, entered, counted_up, first_account, newborn}
+use Rattle.vg_book.specs.Kept.{IsCoreOf, Shown}
+
+-- The seat is one of this table, which is a book's.
+abbrev pub IsAt : TableId → TableId → Type 0
+IsAt table seat = (seat ≡ table) × (table.words ≡ 1) × (table.slots ≡ 1)
+
+module _ {M S A R Q P H : Type 0} where
+  -- A seat without the turn that has just this.
+  pub record Sits (me : Me (Slot M S A R Q P H) (View M S A R Q P H)) (as' : List (Account M S A R Q P H)) (ls : List Counted) (os : List (Order M S A R Q P H)) (fs : List (Finished M S A R Q P H)) (root : Bool) : Type 0 where
+    pub accounts : me.0.accounts ≡ as'
+    pub lanes : me.0.lanes ≡ ls
+    pub passes : me.0.passes ≡ os
+    pub dones : me.0.dones ≡ fs
+    pub root_is : me.0.is_root ≡ root
+    pub idle : me.0.holding ≡ false
+    pub hand : me.1 ≡ []
+    pub begun : (s : S) × (me.0.start ≡ Some s)
+
+  -- The seat has a client or a lane, and may take the turn.
+  abbrev pub MayTake : Me (Slot M S A R Q P H) (View M S A R Q P H) → Type 0
+  MayTake m = ((s : S) × (m.0.start ≡ Some s)) × (((a : Account M S A R Q P H) × Has m.0.accounts a) ⊎ ((l : Counted) × Has m.0.lanes l)) × (m.1 ≡ []) × (m.0.holding ≡ false)
+
+  -- The seat has at most seen more.
+  abbrev pub Watches : Me (Slot M S A R Q P H) (View M S A R Q P H) → Me (Slot M S A R Q P H) (View M S A R Q P H) → Type 0
+  Watches m m' = (m' ≡ m) ⊎ ((log : List (Entry M S A R Q P H)) × (m' ≡ (looked m.0 log, m.1)) × IsPrefix m.0.seen log × IsPrefix m.0.heard log)
+
+module _ {M S A R Q P H : Type 0} (g : Ghosts M S A R Q P H) where
+  abbrev E : Type 0
+  E = Entry M S A R Q P H
+
+  abbrev Sat : Type 0
+  Sat = Me (Slot M S A R Q P H) (View M S A R Q P H)
+
+  -- The seat has the turn, and there is room for an entry.
+  abbrev pub HasTurn : Sat → Sat → Type 0
+  HasTurn m m' = (log : List E) × (c : Core M S A R Q P H) × (m' ≡ (taking m.0 log, (0, Held c) ∷ [])) × IsCoreOf g m.0.start log c × Shown g m.0 log × (length log < 2 ^ 31 - 1)
+
+  -- A client's own account, by what its token knows.
+  abbrev pub own : ℕ → H → Sat → Account M S A R Q P H
+  own number holds m = first_account (newborn number holds) m.0.accounts
+
+  -- A client's seat, of this number, of which so many numbers were drawn, and which holds this.
+  pub record IsClientSeat (me : Sat) (number used : ℕ) (holds : H) : Type 0 where
+    pub sits : Sits me (own number holds me ∷ []) [] [] [] false
+    pub number_is : (own number holds me).number ≡ number
+    pub used_is : (own number holds me).used ≡ used
+    pub holds_are : (own number holds me).holds ≡ holds
+
+  abbrev pub counted : ℕ → ℕ → Counted
+  counted lane count = record { lane = lane; count = count }
+
+  abbrev pub order : ℕ → ℕ → Q → Order M S A R Q P H
+  order client call request = record { client = client; call = call; request = request }
+
+  -- The act was entered: the seat after it, the number that was answered, and what the client holds.
+  pub record EntersAct (a : Account M S A R Q P H) (act : A) (m m' : Sat) (held : H) (number : ℕ) (reply : R) : Type 0 where
+    pub log : List E
+    pub more : IsPrefix m.0.seen log
+    pub after : m' ≡ (record m.0 { seen = log ++ Act a.number (a.used + 1) act reply ∷ []; heard = []; accounts = entered g.update a (Act a.number (a.used + 1) act reply) ∷ [] }, [])
+    pub shown : Shown g m'.0 (log ++ Act a.number (a.used + 1) act reply ∷ [])
+    pub holds_are : held ≡ g.update a.holds act reply
+    pub number_is : number ≡ length log + 1
+
+  -- The command was run: the seat after it, and its place.
+  pub record RunsOrder (l : Counted) (o : Order M S A R Q P H) (m m' : Sat) (place : ℕ) (reply : P) : Type 0 where
+    pub log : List E
+    pub more : IsPrefix m.0.seen log
+    pub heard : IsPrefix m.0.heard log
+    pub after : m' ≡ (record m.0 { seen = log ++ Command o.client o.call o.request reply ∷ []; heard = []; lanes = counted_up l ∷ []; passes = []; dones = record { order = o; reply = reply; place = place } ∷ [] }, [])
+    pub shown : Shown g m'.0 (log ++ Command o.client o.call o.request reply ∷ [])
+    pub place_is : place ≡ length log
+    pub room : length log < 2 ^ 31 - 1

@@ -1,0 +1,178 @@
+-- What a seat has, and how seats are cut in two and joined.
+use Rattle.std.specs.Prelude.{◌≡◌, ◌⊎◌, ℕ, ◌+◌, ◌==◌, true, false, List, [], ◌∷◌, ◌++◌, map, length, Option, Some, None, if◌then◌else◌}
+use mathlib.Core.Option as maybe
+use mathlib.Core.Option.{some}
+use Rattle.vg_history.specs.declared.entry.Entry.{Entry}
+use Rattle.vg_history.specs.declared.entry.Entry.TheVariants.{Act, Command}
+use Rattle.vg_history.specs.Lists.{Has}
+use Rattle.vg_history.specs.Entries.{call_of}
+use Rattle.vg_book.specs.declared.board.Slot.{Slot}
+use Rattle.vg_book.specs.declared.board.Slot.TheVariants.{Held, Told, Asked}
+use Rattle.vg_book.specs.declared.board.Order.{Order}
+use Rattle.vg_book.specs.declared.board.Finished.{Finished}
+use Rattle.vg_book.specs.declared.board.Account.{Account}
+use Rattle.vg_book.specs.declared.board.Counted.{Counted}
+use Rattle.vg_book.specs.declared.board.View.{View}
+
+abbrev pub counted_up : Counted → Counted
+counted_up l = record l { count = l.count + 1 }
+
+module _ {M S A R Q P H : Type 0} where
+  abbrev pub order_call : Order M S A R Q P H → ℕ
+  order_call o = o.call
+
+  abbrev pub order_of : Finished M S A R Q P H → Order M S A R Q P H
+  order_of f = f.order
+
+  -- The entry of an order that was run.
+  abbrev pub entry_of : Finished M S A R Q P H → Entry M S A R Q P H
+  entry_of f = Command f.order.client f.order.call f.order.request f.reply
+
+  -- The entry is the order's command.
+  abbrev pub IsEntryOf : Order M S A R Q P H → Entry M S A R Q P H → Type 0
+  IsEntryOf o e = (p : P) × (e ≡ Command o.client o.call o.request p)
+
+  -- These orders but the first with this number.
+  abbrev pub without : ℕ → List (Order M S A R Q P H) → List (Order M S A R Q P H)
+  without n [] = []
+  without n (o ∷ os) = if o.call == n then os else o ∷ without n os
+
+  -- The call numbers that a client knows of: of its entries, of its outstanding requests, and those that are spent.
+  abbrev pub calls : Account M S A R Q P H → List ℕ
+  calls a = map call_of a.mine ++ (map order_call a.out ++ a.spent)
+
+  -- What the seat carries for a client.
+  abbrev pub Carries : View M S A R Q P H → Order M S A R Q P H → Type 0
+  Carries v o = Has v.passes o ⊎ ((f : Finished M S A R Q P H) × Has v.dones f × (f.order ≡ o))
+
+  abbrev pub newborn : ℕ → H → Account M S A R Q P H
+  newborn n h = record { number = n; opening = h; holds = h; used = 0; mine = []; out = []; spent = [] }
+
+  abbrev pub first_account : Account M S A R Q P H → List (Account M S A R Q P H) → Account M S A R Q P H
+  first_account d [] = d
+  first_account d (a ∷ more) = a
+
+  abbrev pub first_view : S → View M S A R Q P H
+  first_view s = record { start = Some s; seen = []; heard = []; accounts = []; lanes = []; passes = []; dones = []; is_root = true; given = 0; lanes_made = 0; told = None; holding = false }
+
+  -- A seat that has nothing left.
+  abbrev pub nothing : View M S A R Q P H
+  nothing = record { start = None; seen = []; heard = []; accounts = []; lanes = []; passes = []; dones = []; is_root = false; given = 0; lanes_made = 0; told = None; holding = false }
+
+  -- A seat that knows what this one does, and has nothing.
+  abbrev pub noted : View M S A R Q P H → View M S A R Q P H
+  noted v = record { start = v.start; seen = v.seen; heard = []; accounts = []; lanes = []; passes = []; dones = []; is_root = false; given = 0; lanes_made = 0; told = None; holding = false }
+
+  -- What a seat carries goes to a new one.
+  abbrev pub emptied : View M S A R Q P H → View M S A R Q P H
+  emptied v = record v { passes = []; dones = [] }
+
+  abbrev pub handed : View M S A R Q P H → View M S A R Q P H
+  handed v = record (noted v) { passes = v.passes; dones = v.dones }
+
+  abbrev pub accounts_told : ℕ → Option H → List (Account M S A R Q P H)
+  accounts_told n None = []
+  accounts_told n (Some h) = newborn n h ∷ []
+
+  -- The root's seat makes a client with the holds that it was told.
+  abbrev pub with_client : View M S A R Q P H → View M S A R Q P H
+  with_client v = record v { given = v.given + 1; told = None }
+
+  abbrev pub client_made : View M S A R Q P H → View M S A R Q P H
+  client_made v = record (noted v) { accounts = accounts_told (v.given + 1) v.told }
+
+  -- The root's seat makes a lane.
+  abbrev pub with_lane : View M S A R Q P H → View M S A R Q P H
+  with_lane v = record v { lanes_made = v.lanes_made + 1 }
+
+  abbrev pub lane_made : View M S A R Q P H → View M S A R Q P H
+  lane_made v = record (noted v) { lanes = record { lane = v.lanes_made; count = 0 } ∷ [] }
+
+  -- A seat takes in all that another has, and hears what it has seen.
+  abbrev pub joined : View M S A R Q P H → View M S A R Q P H → View M S A R Q P H
+  joined v w = record v {
+    heard = w.seen;
+    accounts = v.accounts ++ w.accounts;
+    lanes = v.lanes ++ w.lanes;
+    passes = v.passes ++ w.passes;
+    dones = v.dones ++ w.dones;
+  }
+
+  -- The seat after a look at the whole history.
+  abbrev pub looked : View M S A R Q P H → List (Entry M S A R Q P H) → View M S A R Q P H
+  looked v log = record v { seen = log; heard = [] }
+
+  abbrev pub taking : View M S A R Q P H → List (Entry M S A R Q P H) → View M S A R Q P H
+  taking v log = record v { seen = log; heard = []; holding = true }
+
+  abbrev pub giving : View M S A R Q P H → View M S A R Q P H
+  giving v = record v { holding = false }
+
+  abbrev pub ordered_of : Account M S A R Q P H → Q → Order M S A R Q P H
+  ordered_of a q = record { client = a.number; call = a.used + 1; request = q }
+
+  -- The account after a request was made.
+  abbrev pub drawn : Account M S A R Q P H → Q → Account M S A R Q P H
+  drawn a q = record a { used = a.used + 1; out = a.out ++ ordered_of a q ∷ [] }
+
+  -- The account after an order of it came back, run or unrun.
+  abbrev pub settled : Account M S A R Q P H → Finished M S A R Q P H → Account M S A R Q P H
+  settled a f = record a { mine = a.mine ++ entry_of f ∷ []; out = without f.order.call a.out }
+
+  abbrev pub given_up : Account M S A R Q P H → Order M S A R Q P H → Account M S A R Q P H
+  given_up a o = record a { spent = a.spent ++ o.call ∷ []; out = without o.call a.out }
+
+  -- What the slot in hand has as the history.
+  abbrev pub entries_in : List (ℕ × Slot M S A R Q P H) → List (Entry M S A R Q P H)
+  entries_in ((k, Held c) ∷ more) = c.entries.items
+  entries_in _ = []
+
+  -- The account after this act of its client was entered.
+  abbrev pub entered : (H → A → R → H) → Account M S A R Q P H → Entry M S A R Q P H → Account M S A R Q P H
+  entered update a (Act client call act reply) = record a { used = a.used + 1; mine = a.mine ++ Act client call act reply ∷ []; holds = update a.holds act reply }
+  entered update a (Command client call request reply) = a
+
+  -- The seat after its client's act was entered, and after its pass was run.
+  abbrev pub wrote : (H → A → R → H) → View M S A R Q P H → Entry M S A R Q P H → View M S A R Q P H
+  wrote update v e = record v { seen = v.seen ++ e ∷ []; holding = false; accounts = map (λ a. entered update a e) v.accounts }
+
+  abbrev pub finished : List (Order M S A R Q P H) → Entry M S A R Q P H → ℕ → List (Finished M S A R Q P H)
+  finished [] e place = []
+  finished (o ∷ more) (Act client call act reply) place = []
+  finished (o ∷ more) (Command client call request reply) place = record { order = o; reply = reply; place = place } ∷ []
+
+  abbrev pub ran : View M S A R Q P H → Entry M S A R Q P H → View M S A R Q P H
+  ran v e = record v { seen = v.seen ++ e ∷ []; holding = false; lanes = map counted_up v.lanes; passes = []; dones = finished v.passes e (length v.seen) }
+
+  -- The root's seat is told what the next client holds.
+  abbrev pub telling : View M S A R Q P H → List (Entry M S A R Q P H) → H → View M S A R Q P H
+  telling v log h = record v { seen = log; heard = []; told = Some h }
+
+  abbrev pub told_said : View M S A R Q P H → List (Entry M S A R Q P H) → maybe.Option (Slot M S A R Q P H) → View M S A R Q P H
+  told_said v log (some (Told x)) = telling v log x.value
+  told_said v log _ = v
+
+  -- A client's seat makes a request, and carries the order.
+  abbrev pub drawing : View M S A R Q P H → Q → View M S A R Q P H
+  drawing v q = record v { accounts = map (λ a. drawn a q) v.accounts; passes = map (λ a. ordered_of a q) v.accounts }
+
+  abbrev pub drawn_said : View M S A R Q P H → maybe.Option (Slot M S A R Q P H) → View M S A R Q P H
+  drawn_said v (some (Asked x)) = drawing v x.value
+  drawn_said v _ = v
+
+  -- A client's seat settles an order that came back, run or unrun.
+  abbrev pub settle_first : List (Account M S A R Q P H) → List (Finished M S A R Q P H) → List (Account M S A R Q P H)
+  settle_first [] fs = []
+  settle_first (a ∷ more) [] = a ∷ more
+  settle_first (a ∷ more) (f ∷ fs) = settled a f ∷ more
+
+  abbrev pub settling : View M S A R Q P H → List (Entry M S A R Q P H) → View M S A R Q P H
+  settling v log = record v { seen = log; heard = []; accounts = settle_first v.accounts v.dones; dones = [] }
+
+  abbrev pub give_up_first : List (Account M S A R Q P H) → List (Order M S A R Q P H) → List (Account M S A R Q P H)
+  give_up_first [] os = []
+  give_up_first (a ∷ more) [] = a ∷ more
+  give_up_first (a ∷ more) (o ∷ os) = given_up a o ∷ more
+
+  abbrev pub returning : View M S A R Q P H → List (Entry M S A R Q P H) → View M S A R Q P H
+  returning v log = record v { seen = log; heard = []; accounts = give_up_first v.accounts v.passes; passes = [] }

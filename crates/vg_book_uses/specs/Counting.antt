@@ -1,0 +1,31 @@
+-- What a counter does.
+use Rattle.std.specs.Prelude.{◌≡◌, ℕ, ◌+◌, ◌%◌, ◌^◌, Bool, true, false, nat_le, refl}
+use Rattle.vg_book_uses.specs.declared.counter.Counter.{Counter}
+use Rattle.vg_book_uses.specs.declared.counter.Act.{Act}
+use Rattle.vg_book_uses.specs.declared.counter.Act.TheVariants.{Add, Stop}
+use Rattle.vg_book_uses.specs.declared.counter.Request.{Request}
+
+abbrev pub amount_of : Act → ℕ
+amount_of (Add n) = n
+amount_of Stop = 0
+
+abbrev pub held_of : ℕ → Act → ℕ
+held_of h (Add n) = h
+held_of h Stop = 0
+
+abbrev pub is_stop : Act → Bool
+is_stop (Add n) = false
+is_stop Stop = true
+
+abbrev pub plus : Counter → ℕ → Counter
+plus s n = record { entries = s.entries + 1; total = (s.total + n) % 2 ^ 64 }
+
+pub adds_one : (s : Counter) (n : ℕ) → (plus s n).entries ≡ s.entries + 1
+adds_one s n = refl
+
+true_is : (b : Bool) → true ≡ false → b ≡ true
+true_is b e = absurd (cc e)
+
+pub keeps : (h : ℕ) (a : Act) (q : Request) → is_stop a ≡ false → nat_le q.n h ≡ true → nat_le q.n (held_of h a) ≡ true
+keeps h (Add n) q stays may = may
+keeps h Stop q stays may = true_is (nat_le q.n 0) stays
