@@ -1,0 +1,6 @@
+pub mod Numbers
+pub mod Descriptor
+pub mod Memory
+pub mod Fault
+pub mod Walk
+pub mod Tour
