@@ -1,2 +1,7 @@
 mod NumberLemmas
 mod TourLemmas
+mod OneWalk
+mod PartLemmas
+mod PieceLemmas
+mod TableLemmas
+mod ShapeLemmas

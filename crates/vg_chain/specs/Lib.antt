@@ -4,3 +4,4 @@ pub mod Memory
 pub mod Fault
 pub mod Walk
 pub mod Tour
+pub mod Made

@@ -5,8 +5,12 @@
 mod chain;
 mod descriptor;
 mod fault;
+mod laws;
+mod shape;
 mod tour;
 
 pub use chain::{Chain, ChainFault, Parts};
 pub use descriptor::{Descriptor, Segment};
+pub use laws::{a_layout_is_walked, a_walk_has_one_result};
+pub use shape::Shape;
 pub use tour::walk;
