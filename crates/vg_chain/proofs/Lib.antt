@@ -3,5 +3,6 @@ mod TourLemmas
 mod OneWalk
 mod PartLemmas
 mod PieceLemmas
+mod CountLemmas
 mod TableLemmas
 mod ShapeLemmas

@@ -174,3 +174,21 @@ GivesIts Plain m table head n r b = GivesAll m table head n r b
 GivesIts (Pieces k) m table head n r b = GivesAll m table head n r b
 GivesIts Indirect m table head n r b = GivesAll m table head n r b
 GivesIts Mixed m table head n r b = GivesAll m table head n r b
+
+-- So many descriptors of the ring does the shape use, wherever they stand.
+abbrev pub IsNeeded : Shape → ℕ → ℕ → ℕ → Type 0
+IsNeeded shape n r count = (b q : ℕ) (places : List ℕ) → length (made shape n r b q places).ring ≡ count
+
+abbrev pub AreSoMany : ℕ → ℕ → ℕ → ℕ → Type 0
+AreSoMany k n r count = (b : ℕ) → length (parts_of k n r b) ≡ count
+
+abbrev pub AreSoManyPieces : ℕ → ℕ → ℕ → ℕ → Type 0
+AreSoManyPieces k size n count = (b : ℕ) → length (pieces k size b n) ≡ count
+
+-- The descriptor at this place of the shape's list in the ring, where the head and the place of the next one are these.
+abbrev pub IsInRing : Shape → ℕ → ℕ → ℕ → ℕ → ℕ → ℕ → ℕ → Descriptor → Type 0
+IsInRing shape n r b q head at next d =
+    (places : List ℕ) → slice_index places 0 ≡ head → slice_index places (at + 1) ≡ next → slice_get (made shape n r b q places).ring at ≡ Some d
+
+abbrev pub AreTables : Shape → ℕ → ℕ → ℕ → List ℕ → Type 0
+AreTables shape n r b tables = (q : ℕ) (places : List ℕ) → (made shape n r b q places).tables ≡ tables
