@@ -11,7 +11,8 @@ use Rattle.vg_chain.specs.Descriptor.{has_next, is_writable, is_indirect, is_rea
 use Rattle.vg_chain.specs.Memory.{Memory, lies_in, is_in_range}
 use Rattle.vg_chain.specs.Fault.{fault_of, is_bad_length}
 use Rattle.vg_chain.specs.Walk.{Visit, there, goes_on, visit_after, Visits, was_met, read_of, written_of, all_read, all_written, fault_at, AreClean, IsChain}
-use Rattle.vg_chain.specs.Made.{Part, flags_of, last_of, joined, followed, linked, Stands, AreOther, AreApart}
+use Rattle.vg_chain.specs.declared.part.Part.{Part}
+use Rattle.vg_chain.specs.Made.{flags_of, last_of, joined, followed, linked, Stands, AreOther, AreApart}
 
 bit_indirect : (writes more : Bool) → eqb (flags_of writes more / 4 % 2) 1 ≡ false
 bit_indirect true true = refl

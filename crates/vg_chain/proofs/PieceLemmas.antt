@@ -4,7 +4,8 @@ use Rattle.std.proofs.lemmas.Bool.Decides.{nat_tests, eqb_tells}
 use Rattle.std.proofs.Math.Nat.{div-add-mod, mod-lt}
 use Rattle.vg_chain.specs.declared.descriptor.Segment.{Segment}
 use Rattle.vg_chain.specs.Memory.{Memory, lies_in}
-use Rattle.vg_chain.specs.Made.{Part, pieces, room_of, or_empty, Covers}
+use Rattle.vg_chain.specs.declared.part.Part.{Part}
+use Rattle.vg_chain.specs.Made.{pieces, room_of, or_empty, Covers}
 use Rattle.vg_chain.proofs.PartLemmas.{reads, writes, AreFine, part_range}
 
 pub lies : (start size addr len : ℕ) → start ≤ addr → addr + len ≤ start + size → lies_in start size addr len ≡ true

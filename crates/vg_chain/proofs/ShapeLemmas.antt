@@ -12,7 +12,8 @@ use Rattle.vg_chain.specs.declared.shape.Shape.TheVariants.{Plain, Pieces, Indir
 use Rattle.vg_chain.specs.Descriptor.{is_indirect, has_next}
 use Rattle.vg_chain.specs.Memory.{Memory, memory, lies_in, table_of}
 use Rattle.vg_chain.specs.Walk.{Visit, start, there, goes_on, visit_after, Visits, was_met, all_read, all_written, fault_at, AreClean, IsChain, IsFault, Walks}
-use Rattle.vg_chain.specs.Made.{Part, last_of, joined, linked, pieces, room_of, or_empty, parts_of, rest_of, in_table, table_bytes, referring, made, mixed, flat, in_parts, by_table, Stands, AreOther, AreApart, IsRequest, IsLaid, memory_of, Covers, GivesAll, GivesIts}
+use Rattle.vg_chain.specs.declared.part.Part.{Part}
+use Rattle.vg_chain.specs.Made.{last_of, joined, linked, pieces, room_of, or_empty, parts_of, rest_of, in_table, table_bytes, referring, made, mixed, flat, in_parts, by_table, Stands, AreOther, AreApart, IsRequest, IsLaid, memory_of, Covers, GivesAll, GivesIts}
 use Rattle.vg_chain.proofs.PartLemmas.{walks_linked, AreFine, Unmet, reads, writes, last_is, joined_is, sound_part, visit_joined, joined_on}
 use Rattle.vg_chain.proofs.PieceLemmas.{lies, fine_pieces, fine_or_empty, covers_read, covers_written, covers_or_empty, writes_or_empty, enough, length_parts, length_or_empty, no_pieces, reads_room}
 use Rattle.vg_chain.proofs.TableLemmas.{AreDescriptors, table_is, refers_sound, apart_range, stands_in, length-linked, placed, fits_in, length-table_bytes}

@@ -11,7 +11,8 @@ use Rattle.vg_chain.specs.Numbers.{number_at}
 use Rattle.vg_chain.specs.Descriptor.{descriptor_at, descriptors_in, is_indirect}
 use Rattle.vg_chain.specs.Memory.{Memory, lies_in, table_of}
 use Rattle.vg_chain.specs.Fault.{fault_of, is_bad_length}
-use Rattle.vg_chain.specs.Made.{Part, flags_of, last_of, joined, followed, linked, in_table, bytes_of, table_bytes, referring, Stands, AreOther, AreApart}
+use Rattle.vg_chain.specs.declared.part.Part.{Part}
+use Rattle.vg_chain.specs.Made.{flags_of, last_of, joined, followed, linked, in_table, bytes_of, table_bytes, referring, Stands, AreOther, AreApart}
 use Rattle.vg_chain.proofs.NumberLemmas.{field_at}
 use Rattle.vg_chain.proofs.PartLemmas.{AreFine, part_range}
 use Rattle.vg_chain.proofs.PieceLemmas.{lies}

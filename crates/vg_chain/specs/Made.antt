@@ -1,20 +1,15 @@
-use Rattle.std.specs.Prelude.{◌≡◌, ◌≢◌, ℕ, zero, suc, ◌+◌, ◌-◌, ◌*◌, ◌/◌, ◌^◌, ◌≤◌, ◌==◌, Bool, true, false, Some, Ok, Err, List, [], ◌∷◌, ◌++◌, length, drop, min, replicate, slice_get, slice_index, if◌then◌else◌}
+use Rattle.std.specs.Prelude.{◌≡◌, ◌≢◌, ℕ, zero, suc, ◌+◌, ◌-◌, ◌*◌, ◌/◌, ◌^◌, ◌≤◌, ◌==◌, Bool, true, false, Option, None, Some, Ok, Err, List, [], ◌∷◌, ◌++◌, length, drop, min, replicate, slice_get, slice_index, if◌then◌else◌}
 use Rattle.std.specs.List.{range_with_len, flat_map}
 use Rattle.byteorder.specs.Endian.{little_bytes}
 use Rattle.vg_chain.specs.declared.chain.Chain.{Chain}
 use Rattle.vg_chain.specs.declared.chain.ChainFault.TheVariants.{Index, Loop, Nested, NextWithIndirect, TableLength, Order, Range}
 use Rattle.vg_chain.specs.declared.descriptor.Descriptor.{Descriptor}
 use Rattle.vg_chain.specs.declared.descriptor.Segment.{Segment}
+use Rattle.vg_chain.specs.declared.part.Part.{Part}
 use Rattle.vg_chain.specs.declared.shape.Shape.{Shape}
 use Rattle.vg_chain.specs.declared.shape.Shape.TheVariants.{Plain, Pieces, Indirect, Mixed, Bad}
 use Rattle.vg_chain.specs.Memory.{Memory, memory}
 use Rattle.vg_chain.specs.Walk.{Walks}
-
--- Bytes of a request, or of the room for its response, to which one descriptor refers.
-pub record Part : Type 0 where
-  pub addr : ℕ
-  pub len : ℕ
-  pub writes : Bool
 
 -- WRITE is bit 1, NEXT bit 0 (VIRTIO 1.2, 2.7.5).
 abbrev pub flags_of : Bool → Bool → ℕ
@@ -186,9 +181,25 @@ abbrev pub AreSoManyPieces : ℕ → ℕ → ℕ → ℕ → Type 0
 AreSoManyPieces k size n count = (b : ℕ) → length (pieces k size b n) ≡ count
 
 -- The descriptor at this place of the shape's list in the ring, where the head and the place of the next one are these.
-abbrev pub IsInRing : Shape → ℕ → ℕ → ℕ → ℕ → ℕ → ℕ → ℕ → Descriptor → Type 0
+abbrev pub IsInRing : Shape → ℕ → ℕ → ℕ → ℕ → ℕ → ℕ → ℕ → Option Descriptor → Type 0
 IsInRing shape n r b q head at next d =
-    (places : List ℕ) → slice_index places 0 ≡ head → slice_index places (at + 1) ≡ next → slice_get (made shape n r b q places).ring at ≡ Some d
+    (places : List ℕ) → slice_index places 0 ≡ head → slice_index places (at + 1) ≡ next → slice_get (made shape n r b q places).ring at ≡ d
 
+abbrev pub IsLinked : List Part → ℕ → ℕ → Option Descriptor → Type 0
+IsLinked parts at next d = (nexts : List ℕ) → slice_index nexts at ≡ next → slice_get (linked parts nexts) at ≡ d
+
+-- The bytes of the shape's tables, wherever the ring's descriptors stand.
 abbrev pub AreTables : Shape → ℕ → ℕ → ℕ → List ℕ → Type 0
 AreTables shape n r b tables = (q : ℕ) (places : List ℕ) → (made shape n r b q places).tables ≡ tables
+
+-- The parts in a table: all of them, or those after the first 24 bytes.
+abbrev pub inner_of : Bool → ℕ → ℕ → ℕ → List Part
+inner_of rest n r b = if rest then rest_of n r b else parts_of 1 n r b
+
+abbrev pub bytes_in : Option Descriptor → List ℕ
+bytes_in None = []
+bytes_in (Some d) = bytes_of d
+
+-- A base above which a request, its room and its tables stand.
+abbrev pub IsPlaced : ℕ → Type 0
+IsPlaced b = b + 65536 ≤ 2 ^ 64

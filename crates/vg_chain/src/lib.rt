@@ -6,11 +6,13 @@ mod chain;
 mod descriptor;
 mod fault;
 mod laws;
+mod part;
 mod shape;
 mod tour;
 
 pub use chain::{Chain, ChainFault, Parts};
 pub use descriptor::{Descriptor, Segment};
 pub use laws::{a_layout_is_walked, a_walk_has_one_result};
+pub use part::Extent;
 pub use shape::Shape;
 pub use tour::walk;

@@ -1,10 +1,11 @@
 //! How a request and the room for its response are laid out in descriptors.
 
-ghost use Rattle.std.specs.Prelude.{◌≡◌, ℕ, ◌+◌, ◌-◌, ◌/◌, ◌≤◌, List, length};
+ghost use Rattle.std.specs.Prelude.{◌≡◌, ℕ};
 ghost use Rattle.vg_chain.specs.declared.shape.Shape.TheVariants.{Bad};
-ghost use Rattle.vg_chain.specs.Made.{IsCount, IsNeeded, AreSoMany, AreSoManyPieces};
+ghost use Rattle.vg_chain.specs.Made.{IsCount, IsNeeded};
 
 use crate::chain::ChainFault;
+use crate::part::count_parts;
 
 /// The shape of a descriptor chain.
 #[derive(Clone, Copy, Debug, PartialEq, Eq)]
@@ -22,48 +23,6 @@ pub enum Shape {
     Mixed,
     /// A chain with this fault.
     Bad { fault: ChainFault },
-}
-
-/// How many pieces of this size make up `request` bytes, if there are at most `most`.
-fn count_pieces(most: u8, size: u32, request: u32) -> u16
-    requires { most ≤ 8 }
-    ensures count { AreSoManyPieces most size request result }
-    ensures bound { result ≤ most }
-{
-    let mut left = request;
-    let mut count = 0;
-    for _piece in 0..most {
-        if left > 0 {
-            count += 1;
-        }
-        left = left.saturating_sub(size);
-    }
-    count
-}
-
-/// How many bytes each of `most` pieces has, the last one perhaps fewer.
-fn piece_size(most: u8, request: u32) -> u32
-    requires { 1 ≤ most }
-    ensures { result ≡ (request + (most - 1)) / most }
-{
-    ((u64::from(request) + u64::from(most - 1)) / u64::from(most)) as u32
-}
-
-/// How many descriptors a request in at most `most` pieces has, with its room.
-fn count_parts(most: u8, request: u32, room: u32) -> u16
-    requires some { 1 ≤ most }
-    requires few { most ≤ 8 }
-    ensures count { AreSoMany most request room result }
-    ensures bound { result ≤ most + 1 }
-{
-    let count = count_pieces(most, piece_size(most, request), request);
-    if room > 0 {
-        count + 1
-    } else if count == 0 {
-        1
-    } else {
-        count
-    }
 }
 
 impl Shape {

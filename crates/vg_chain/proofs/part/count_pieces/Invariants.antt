@@ -1,6 +1,6 @@
 use Rattle.std.proofs.Common.{◌≡◌, ◌+◌, ◌-◌, ◌≤◌, length}
 use Rattle.vg_chain.specs.Made.{pieces}
-use Rattle.vg_chain.proofs.shape.count_pieces.Given as goal
+use Rattle.vg_chain.proofs.part.count_pieces.Given as goal
 
 abbrev pub invariant-loop-piece : goal.invariant-loop-piece
 invariant-loop-piece l = record {

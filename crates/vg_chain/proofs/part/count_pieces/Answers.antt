@@ -1,8 +1,8 @@
 use Rattle.std.proofs.Common.{◌≡◌, ℕ, suc, ◌+◌, ◌-◌, ◌<◌, length, refl, arith}
 use Rattle.vg_chain.specs.Made.{pieces}
 use Rattle.vg_chain.proofs.CountLemmas.{length_any, count_more}
-use Rattle.vg_chain.proofs.shape.count_pieces.Goals as goal
-use Rattle.vg_chain.proofs.shape.count_pieces.Goals.{then-left-gt0, else-left-gt0}
+use Rattle.vg_chain.proofs.part.count_pieces.Goals as goal
+use Rattle.vg_chain.proofs.part.count_pieces.Goals.{then-left-gt0, else-left-gt0}
 
 pub returns-clause-count : goal.returns-clause-count
 returns-clause-count c = λ b.
