@@ -1,7 +1,6 @@
-use Rattle.std.proofs.Common.{◌≡◌, ℕ, zero, suc, ◌+◌, ◌-◌, ◌*◌, ◌<◌, ◌≤◌, false, true, eqb, min, Option, Some, None, slice_get, ◌⊎◌, ◌++◌, List, [], ◌∷◌, length, refl, sym, ap, inl, inr, ◌∙◌, arith}
+use Rattle.std.proofs.Common.{◌≡◌, ℕ, zero, suc, ◌+◌, ◌-◌, ◌*◌, ◌<◌, false, true, min, Some, None, slice_get, ◌⊎◌, ◌++◌, List, [], ◌∷◌, length, refl, ap, inl, inr, arith}
 use Rattle.std.proofs.lemmas.Bool.Decides.{eqb_tells}
 use Rattle.std.proofs.lemmas.Option.{slice_get_past}
-use Rattle.vg_chain.specs.declared.part.Part.{Part}
 use Rattle.vg_chain.specs.Made.{pieces, room_of}
 use Rattle.vg_chain.proofs.PieceLemmas.{no_pieces}
 

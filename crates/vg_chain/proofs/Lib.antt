@@ -4,5 +4,6 @@ mod OneWalk
 mod PartLemmas
 mod PieceLemmas
 mod CountLemmas
+mod LayoutLemmas
 mod TableLemmas
 mod ShapeLemmas

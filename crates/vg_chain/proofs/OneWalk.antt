@@ -1,11 +1,11 @@
-use Rattle.std.proofs.Common.{◌≡◌, ℕ, ◌+◌, ◌<◌, ◌≤◌, Bool, true, false, Option, Some, None, Result, Ok, Err, ◌⊎◌, List, [], ◌∷◌, ◌++◌, length, refl, sym, ap, inl, inr, ◌∙◌, arith}
+use Rattle.std.proofs.Common.{◌≡◌, ℕ, ◌<◌, true, false, Some, None, Result, Ok, Err, List, [], ◌∷◌, length, sym, ap, inl, inr, ◌∙◌, arith}
 use Rattle.std.proofs.lemmas.Bool.{cases_eq, cases_order}
 use Rattle.vg_chain.specs.declared.chain.Chain.{Chain}
 use Rattle.vg_chain.specs.declared.chain.ChainFault.{ChainFault}
 use Rattle.vg_chain.specs.declared.descriptor.Descriptor.{Descriptor}
 use Rattle.vg_chain.specs.declared.descriptor.Segment.{Segment}
 use Rattle.vg_chain.specs.Memory.{Memory}
-use Rattle.vg_chain.specs.Walk.{Visit, start, there, goes_on, visit_after, Visits, all_read, all_written, fault_at, AreClean, IsChain, IsFault, Walks}
+use Rattle.vg_chain.specs.Walk.{Visit, there, goes_on, visit_after, Visits, all_read, all_written, fault_at, AreClean, IsChain, IsFault, Walks}
 
 -- visits of one walk, as many, are the same
 same_visits : (m : Memory) (table : List Descriptor) (head : ℕ) (t u : List Visit) → Visits m table head t → Visits m table head u → length t ≡ length u → t ≡ u

@@ -1,18 +1,17 @@
-use Rattle.std.proofs.Common.{◌≡◌, ◌≢◌, ℕ, zero, suc, ◌+◌, ◌-◌, ◌*◌, ◌/◌, ◌%◌, ◌<◌, ◌≤◌, Bool, true, false, not, ◌&&◌, ◌||◌, cond, eqb, ltb, leb, Option, Some, None, List, [], ◌∷◌, ◌++◌, length, get_or, drop, refl, sym, ap, subst, inl, inr, ◌∙◌, arith, slice_get, append_assoc, length-append}
+use Rattle.std.proofs.Common.{◌≡◌, ℕ, ◌+◌, ◌/◌, ◌%◌, Bool, true, false, not, ◌&&◌, ◌||◌, cond, eqb, ltb, Some, None, List, [], ◌∷◌, ◌++◌, length, refl, sym, ap, subst, ◌∙◌, arith, append_assoc, length-append}
 use Rattle.std.proofs.lemmas.List.{append-nil}
 use Rattle.std.proofs.lemmas.Bool.{ne_eqb}
 use Rattle.std.proofs.lemmas.Bool.Decides.{nat_tests}
 use Rattle.vg_chain.specs.declared.chain.Chain.{Chain}
-use Rattle.vg_chain.specs.declared.chain.ChainFault.{ChainFault}
 use Rattle.vg_chain.specs.declared.chain.ChainFault.TheVariants.{Loop, Nested, NextWithIndirect, TableLength, Order, Range}
 use Rattle.vg_chain.specs.declared.descriptor.Descriptor.{Descriptor}
 use Rattle.vg_chain.specs.declared.descriptor.Segment.{Segment}
-use Rattle.vg_chain.specs.Descriptor.{has_next, is_writable, is_indirect, is_read, is_write}
+use Rattle.vg_chain.specs.Descriptor.{has_next, is_writable, is_indirect}
 use Rattle.vg_chain.specs.Memory.{Memory, lies_in, is_in_range}
 use Rattle.vg_chain.specs.Fault.{fault_of, is_bad_length}
 use Rattle.vg_chain.specs.Walk.{Visit, there, goes_on, visit_after, Visits, was_met, read_of, written_of, all_read, all_written, fault_at, AreClean, IsChain}
 use Rattle.vg_chain.specs.declared.part.Part.{Part}
-use Rattle.vg_chain.specs.Made.{flags_of, last_of, joined, followed, linked, Stands, AreOther, AreApart}
+use Rattle.vg_chain.specs.Made.{flags_of, last_of, joined, linked, Stands, AreOther, AreApart}
 
 bit_indirect : (writes more : Bool) → eqb (flags_of writes more / 4 % 2) 1 ≡ false
 bit_indirect true true = refl

@@ -1,7 +1,7 @@
-use Rattle.std.proofs.Common.{◌≡◌, ◌≢◌, ℕ, zero, suc, ◌+◌, ◌-◌, ◌*◌, ◌/◌, ◌%◌, ◌^◌, ◌<◌, ◌≤◌, Bool, true, false, not, ◌&&◌, ◌||◌, cond, eqb, ltb, leb, min, Option, Some, None, Result, Ok, Err, List, [], ◌∷◌, ◌++◌, length, get_or, drop, refl, sym, ap, subst, inl, inr, ◌∙◌, arith, slice_get}
+use Rattle.std.proofs.Common.{◌≡◌, ℕ, suc, ◌+◌, ◌-◌, ◌*◌, ◌/◌, ◌^◌, ◌≤◌, Bool, true, false, cond, eqb, ltb, min, Some, None, Err, List, [], ◌∷◌, ◌++◌, length, get_or, refl, sym, ap, inl, inr, ◌∙◌, arith, slice_get}
 use Rattle.std.specs.List.{range_with_len}
 use Rattle.std.proofs.lemmas.Bool.{cases_lt, ne_eqb, eq-eqb}
-use Rattle.std.proofs.lemmas.Bool.Decides.{nat_tests, eqb_tells}
+use Rattle.std.proofs.lemmas.Bool.Decides.{nat_tests}
 use Rattle.std.proofs.lemmas.Option.{slice_get_past}
 use Rattle.vg_chain.specs.declared.chain.Chain.{Chain}
 use Rattle.vg_chain.specs.declared.chain.ChainFault.{ChainFault}
@@ -9,14 +9,14 @@ use Rattle.vg_chain.specs.declared.chain.ChainFault.TheVariants.{Index, Loop, Ne
 use Rattle.vg_chain.specs.declared.descriptor.Descriptor.{Descriptor}
 use Rattle.vg_chain.specs.declared.shape.Shape.{Shape}
 use Rattle.vg_chain.specs.declared.shape.Shape.TheVariants.{Plain, Pieces, Indirect, Mixed, Bad}
-use Rattle.vg_chain.specs.Descriptor.{is_indirect, has_next}
+use Rattle.vg_chain.specs.Descriptor.{is_indirect}
 use Rattle.vg_chain.specs.Memory.{Memory, memory, lies_in, table_of}
-use Rattle.vg_chain.specs.Walk.{Visit, start, there, goes_on, visit_after, Visits, was_met, all_read, all_written, fault_at, AreClean, IsChain, IsFault, Walks}
+use Rattle.vg_chain.specs.Walk.{Visit, start, there, goes_on, visit_after, Visits, was_met, all_read, all_written, fault_at, AreClean, IsChain, Walks}
 use Rattle.vg_chain.specs.declared.part.Part.{Part}
-use Rattle.vg_chain.specs.Made.{last_of, joined, linked, pieces, room_of, or_empty, parts_of, rest_of, in_table, table_bytes, referring, made, mixed, flat, in_parts, by_table, Stands, AreOther, AreApart, IsRequest, IsLaid, memory_of, Covers, GivesAll, GivesIts}
-use Rattle.vg_chain.proofs.PartLemmas.{walks_linked, AreFine, Unmet, reads, writes, last_is, joined_is, sound_part, visit_joined, joined_on}
-use Rattle.vg_chain.proofs.PieceLemmas.{lies, fine_pieces, fine_or_empty, covers_read, covers_written, covers_or_empty, writes_or_empty, enough, length_parts, length_or_empty, no_pieces, reads_room}
-use Rattle.vg_chain.proofs.TableLemmas.{AreDescriptors, table_is, refers_sound, apart_range, stands_in, length-linked, placed, fits_in, length-table_bytes}
+use Rattle.vg_chain.specs.Made.{joined, linked, pieces, room_of, or_empty, parts_of, rest_of, in_table, table_bytes, referring, made, mixed, flat, in_parts, by_table, Stands, AreApart, IsRequest, IsLaid, memory_of, Covers, GivesAll, GivesIts}
+use Rattle.vg_chain.proofs.PartLemmas.{walks_linked, AreFine, Unmet, reads, writes, joined_is, sound_part}
+use Rattle.vg_chain.proofs.PieceLemmas.{lies, fine_pieces, fine_or_empty, covers_read, covers_written, covers_or_empty, writes_or_empty, enough, length_parts, length_or_empty, reads_room}
+use Rattle.vg_chain.proofs.TableLemmas.{table_is, refers_sound, apart_range, stands_in, length-linked, placed, fits_in, length-table_bytes}
 
 unmet_none : (inside : Bool) (places : List ℕ) → Unmet inside [] places
 unmet_none inside [] = tt

@@ -1,24 +1,24 @@
-use Rattle.std.proofs.Common.{◌≡◌, ◌≢◌, ℕ, zero, suc, ◌+◌, ◌-◌, ◌*◌, ◌/◌, ◌%◌, ◌^◌, ◌<◌, ◌≤◌, Bool, true, false, not, ◌&&◌, ◌||◌, cond, eqb, ltb, leb, Option, Some, None, List, [], ◌∷◌, ◌++◌, length, map, drop, get_or, refl, sym, ap, subst, ◌∙◌, arith, slice_get, append_assoc, length-append}
+use Rattle.std.proofs.Common.{◌≡◌, ℕ, zero, suc, ◌+◌, ◌-◌, ◌*◌, ◌/◌, ◌%◌, ◌^◌, ◌<◌, ◌≤◌, Bool, true, false, not, ◌||◌, cond, eqb, ltb, Some, None, List, [], ◌∷◌, ◌++◌, length, map, drop, refl, sym, ap, subst, ◌∙◌, arith, slice_get, append_assoc, length-append}
 use Rattle.std.specs.List.{range_with_len}
-use Rattle.std.proofs.lemmas.List.{drop_at, append-nil}
-use Rattle.std.proofs.lemmas.List.FromFn.{length-range_with_len}
-use Rattle.std.proofs.lemmas.Bool.{ne_eqb, eq-eqb}
+use Rattle.std.proofs.lemmas.List.{drop_at}
+use Rattle.std.proofs.lemmas.Bool.{ne_eqb}
 use Rattle.std.proofs.lemmas.Bool.Decides.{nat_tests}
 use Rattle.byteorder.specs.Endian.{little_bytes, little_from}
 use Rattle.byteorder.specs.Numbers.{length-bytes_low_first, little_number-reads_back}
 use Rattle.vg_chain.specs.declared.descriptor.Descriptor.{Descriptor}
-use Rattle.vg_chain.specs.Numbers.{number_at}
-use Rattle.vg_chain.specs.Descriptor.{descriptor_at, descriptors_in, is_indirect}
+use Rattle.vg_chain.specs.Numbers.{number_at, le}
+use Rattle.vg_chain.specs.Descriptor.{descriptor_at, descriptors_in}
 use Rattle.vg_chain.specs.Memory.{Memory, lies_in, table_of}
-use Rattle.vg_chain.specs.Fault.{fault_of, is_bad_length}
+use Rattle.vg_chain.specs.Fault.{fault_of}
 use Rattle.vg_chain.specs.declared.part.Part.{Part}
-use Rattle.vg_chain.specs.Made.{flags_of, last_of, joined, followed, linked, in_table, bytes_of, table_bytes, referring, Stands, AreOther, AreApart}
+use Rattle.vg_chain.specs.Made.{flags_of, linked, in_table, bytes_of, table_bytes, referring, Stands, AreOther, AreApart}
 use Rattle.vg_chain.proofs.NumberLemmas.{field_at}
-use Rattle.vg_chain.proofs.PartLemmas.{AreFine, part_range}
+use Rattle.vg_chain.proofs.PartLemmas.{AreFine}
 use Rattle.vg_chain.proofs.PieceLemmas.{lies}
 
 -- a field that stands behind others is read as itself
-number_at-bytes : (k : ℕ) (front rest : List ℕ) (at n : ℕ) → length front ≡ at → n < 256 ^ k → number_at k at (front ++ (little_bytes k n ++ rest)) ≡ n
+number_at-bytes : (k : ℕ) (front rest : List ℕ) (at n : ℕ) → length front ≡ at → n < 256 ^ k → number_at k at (front ++ (le k n ++ rest)) ≡ n
+unfolding le
 number_at-bytes k front rest at n e h =
     sym (field_at k at (front ++ (little_bytes k n ++ rest)))
     ∙ ap (λ xs. little_from 0 k xs) (drop_at front (little_bytes k n ++ rest) at e)
@@ -35,7 +35,8 @@ abbrev pub AreDescriptors : List Descriptor → Type 0
 AreDescriptors [] = Unit {0}
 AreDescriptors (d ∷ more) = IsDescriptor d × AreDescriptors more
 
-long : (k n : ℕ) → length (little_bytes k n) ≡ k
+long : (k n : ℕ) → length (le k n) ≡ k
+unfolding le
 long k n = length-bytes_low_first 0 k n
 
 pub length-bytes_of : (d : Descriptor) → length (bytes_of d) ≡ 16
@@ -50,10 +51,10 @@ length-table_bytes (d ∷ more) = simp length-append (omega (arith, length-bytes
 descriptor_at-bytes_of : (d : Descriptor) (front rest : List ℕ) (at : ℕ) → length front ≡ at → IsDescriptor d → descriptor_at at (front ++ (bytes_of d ++ rest)) ≡ d
 unfolding bytes_of
 descriptor_at-bytes_of d front rest at here fits =
-    let a = little_bytes 8 d.addr in
-    let l = little_bytes 4 d.len in
-    let f = little_bytes 2 d.flags in
-    let n = little_bytes 2 d.next in
+    let a = le 8 d.addr in
+    let l = le 4 d.len in
+    let f = le 2 d.flags in
+    let n = le 2 d.next in
     let bytes : List ℕ = front ++ ((((a ++ l) ++ f) ++ n) ++ rest) in
     let one : length (front ++ a) ≡ at + 8 = simp length-append (omega (arith, long 8 d.addr)) in
     let two : length ((front ++ a) ++ l) ≡ at + 12 = simp length-append (omega (arith, long 8 d.addr, long 4 d.len)) in

@@ -1,6 +1,5 @@
 use Rattle.std.specs.Prelude.{◌≡◌, ◌≢◌, ℕ, zero, suc, ◌+◌, ◌-◌, ◌*◌, ◌/◌, ◌^◌, ◌≤◌, ◌==◌, Bool, true, false, Option, None, Some, Ok, Err, List, [], ◌∷◌, ◌++◌, length, drop, min, replicate, slice_get, slice_index, if◌then◌else◌}
 use Rattle.std.specs.List.{range_with_len, flat_map}
-use Rattle.byteorder.specs.Endian.{little_bytes}
 use Rattle.vg_chain.specs.declared.chain.Chain.{Chain}
 use Rattle.vg_chain.specs.declared.chain.ChainFault.TheVariants.{Index, Loop, Nested, NextWithIndirect, TableLength, Order, Range}
 use Rattle.vg_chain.specs.declared.descriptor.Descriptor.{Descriptor}
@@ -8,6 +7,7 @@ use Rattle.vg_chain.specs.declared.descriptor.Segment.{Segment}
 use Rattle.vg_chain.specs.declared.part.Part.{Part}
 use Rattle.vg_chain.specs.declared.shape.Shape.{Shape}
 use Rattle.vg_chain.specs.declared.shape.Shape.TheVariants.{Plain, Pieces, Indirect, Mixed, Bad}
+use Rattle.vg_chain.specs.Numbers.{le}
 use Rattle.vg_chain.specs.Memory.{Memory, memory}
 use Rattle.vg_chain.specs.Walk.{Walks}
 
@@ -55,7 +55,7 @@ rest_of n r b = pieces 1 (n - 24) (b + 24) (n - 24) ++ room_of r b
 
 -- A descriptor's 16 bytes (VIRTIO 1.2, 2.7.5), and those of a table.
 unfoldable pub bytes_of : Descriptor → List ℕ
-bytes_of d = little_bytes 8 d.addr ++ little_bytes 4 d.len ++ little_bytes 2 d.flags ++ little_bytes 2 d.next
+bytes_of d = le 8 d.addr ++ le 4 d.len ++ le 2 d.flags ++ le 2 d.next
 
 abbrev pub table_bytes : List Descriptor → List ℕ
 table_bytes table = flat_map bytes_of table
@@ -203,3 +203,14 @@ bytes_in (Some d) = bytes_of d
 -- A base above which a request, its room and its tables stand.
 abbrev pub IsPlaced : ℕ → Type 0
 IsPlaced b = b + 65536 ≤ 2 ^ 64
+
+-- Measures of a request and its room, and a base, for which there is space.
+pub record IsMeasured (n r b : ℕ) : Type 0 where
+  pub request : n ≤ 49152
+  pub room : r ≤ 8192
+  pub base : IsPlaced b
+
+-- The descriptor of a part, if there is one, by whether another comes after it.
+abbrev pub link_of : Option Part → Bool → ℕ → Option Descriptor
+link_of None more next = None
+link_of (Some part) more next = Some (if more then joined part next else last_of part)

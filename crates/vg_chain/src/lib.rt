@@ -6,6 +6,7 @@ mod chain;
 mod descriptor;
 mod fault;
 mod laws;
+mod layout;
 mod part;
 mod shape;
 mod tour;

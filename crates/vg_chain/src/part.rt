@@ -1,6 +1,7 @@
 //! The parts of a request and of the room for its response, each of which one descriptor refers to.
 
 ghost use Rattle.std.specs.Prelude.{◌≡◌, ◌+◌, ◌-◌, ◌/◌, ◌≤◌, ◌++◌, length, slice_get};
+ghost use Rattle.vg_chain.specs.Made as made;
 ghost use Rattle.vg_chain.specs.Made.{pieces, room_of, parts_of, inner_of, AreSoMany, AreSoManyPieces, IsPlaced};
 
 /// Where a request stands, with the room for its response.
@@ -112,4 +113,24 @@ pub(crate) fn part_of(most: u8, extent: &Extent, at: u16) -> Option<Part>
     }
     let size = piece_size(most, extent.request);
     part_at(most, size, extent.base, extent.request, extent, at)
+}
+
+/// The part at this place of those after the first 24 bytes.
+pub(crate) fn rest_of(extent: &Extent, at: u16) -> Option<Part>
+    requires request { extent.now.request ≤ 49152 }
+    requires base { IsPlaced extent.now.base }
+    ensures { result ≡ slice_get (made.rest_of extent.now.request extent.now.room extent.now.base) at }
+{
+    let left = extent.request.saturating_sub(24);
+    part_at(1, left, extent.base + 24, left, extent, at)
+}
+
+/// How many they are.
+pub(crate) fn count_rest(extent: &Extent) -> u16
+    ensures count { result ≡ length (made.rest_of extent.now.request extent.now.room extent.now.base) }
+    ensures bound { result ≤ 2 }
+{
+    let left = extent.request.saturating_sub(24);
+    let count = count_pieces(1, left, left);
+    if extent.room > 0 { count + 1 } else { count }
 }

@@ -1,4 +1,4 @@
-use Rattle.std.proofs.Common.{◌≡◌, ℕ, suc, ◌+◌, ◌-◌, ◌<◌, length, refl, arith}
+use Rattle.std.proofs.Common.{◌≡◌, suc, ◌+◌, ◌-◌, ◌<◌, length, refl, arith}
 use Rattle.vg_chain.specs.Made.{pieces}
 use Rattle.vg_chain.proofs.CountLemmas.{length_any, count_more}
 use Rattle.vg_chain.proofs.part.count_pieces.Goals as goal

@@ -1,4 +1,4 @@
-use Rattle.std.proofs.Common.{◌≡◌, ℕ, ◌+◌, ◌-◌, ◌*◌, ◌<◌, ◌≤◌, ◌⊎◌, min, Some, None, length, refl, sym, inl, inr, ◌∙◌, arith}
+use Rattle.std.proofs.Common.{◌≡◌, ◌+◌, ◌-◌, ◌*◌, ◌<◌, ◌⊎◌, min, length, refl, sym, inl, inr, ◌∙◌, arith}
 use Rattle.vg_chain.specs.Made.{pieces, room_of}
 use Rattle.vg_chain.proofs.CountLemmas.{piece_at, get_front, get_back, some_room, no_room}
 use Rattle.vg_chain.proofs.part.part_at.Goals as goal
