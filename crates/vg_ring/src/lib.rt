@@ -4,7 +4,12 @@
 mod cargo;
 mod parcel;
 mod tagged;
+mod words;
 
 pub use cargo::Cargo;
 pub use parcel::{Parcel, Tag};
 pub use tagged::Tagged;
+pub use words::words_are_bytes;
+
+#[cfg(test)]
+mod tests;
