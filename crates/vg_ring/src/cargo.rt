@@ -25,15 +25,17 @@ impl<P: Tagged> Model for Cargo<P> {
     ghost invariant = { λ c. P.tag_of c.pass ≡ (c.parcel.lane, c.parcel.ordinal) };
 }
 
-impl<P: Tagged> Cargo<P> {
+impl Parcel {
     /// The parcel with its pass.
-    pub fn load(parcel: Parcel, pass: P) -> Cargo<P>
-        requires { P.tag_of pass ≡ (parcel.lane, parcel.ordinal) }
-        ensures { result ≡ record { parcel = parcel; pass = pass } }
+    pub fn load<P: Tagged>(self, pass: P) -> Cargo<P>
+        requires { P.tag_of pass ≡ (self.lane, self.ordinal) }
+        ensures { result ≡ record { parcel = self; pass = pass } }
     {
-        Cargo { parcel, pass }
+        Cargo { parcel: self, pass }
     }
+}
 
+impl<P: Tagged> Cargo<P> {
     /// The lane and the ordinal.
     pub fn tag(&self) -> Tag
         ensures tag { (result.lane ≡ self.now.parcel.lane) × (result.ordinal ≡ self.now.parcel.ordinal) }

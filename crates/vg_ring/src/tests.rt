@@ -3,7 +3,7 @@
 ghost use Rattle.std.specs.Prelude.{◌≡◌, ◌≤◌};
 ghost use Rattle.vg_chain.specs.Made.{IsCount};
 
-use super::{Cargo, Parcel, Tag, Tagged};
+use super::{Parcel, Tag, Tagged};
 use crate::words::{descriptor_of, rest_word, used_of, used_word};
 use std::alloc::{AllocError, Global};
 use std::test::Fail;
@@ -61,7 +61,7 @@ fn a_cargo_is_filled_as_far_as_there_is_room(rt: HostRuntime) -> Result<(), Fail
     let parcel = parcel(rt.alloc(), false, Shape::Indirect, 4)?;
     assert_eq!(rt; parcel.head(), 7);
     assert_eq!(rt; (parcel.tag().lane, parcel.tag().ordinal), ticket.tag());
-    let mut cargo = Cargo::load(parcel, ticket);
+    let mut cargo = parcel.load(ticket);
     assert_eq!(rt; cargo.response(), [].as_slice());
     assert_eq!(rt; cargo.fill(&[9, 8, 7, 6, 5]), 4);
     assert_eq!(rt; cargo.response(), [9, 8, 7, 6].as_slice());
@@ -91,7 +91,7 @@ fn a_cursor_parcel_has_lane_65(rt: HostRuntime) -> Result<(), Fail> {
         ordinal: 9,
         wanted: false,
     };
-    let mut cargo = Cargo::load(parcel, ticket);
+    let mut cargo = parcel.load(ticket);
     assert_eq!(rt; cargo.fill(&[1]), 0);
     assert!(rt; !cargo.unload().wanted());
     Ok(())
