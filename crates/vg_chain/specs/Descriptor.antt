@@ -1,0 +1,38 @@
+use Rattle.std.specs.Prelude.{ℕ, ◌+◌, ◌*◌, ◌/◌, ◌%◌, ◌==◌, Bool, not, ◌&&◌, List, map}
+use Rattle.std.specs.List.{range_with_len}
+use Rattle.vg_chain.specs.declared.descriptor.Descriptor.{Descriptor}
+use Rattle.vg_chain.specs.declared.descriptor.Segment.{Segment}
+use Rattle.vg_chain.specs.Numbers.{number_at}
+
+-- The flags of a descriptor: bit 0 NEXT, bit 1 WRITE, bit 2 INDIRECT (VIRTIO 1.2, 2.7.5).
+abbrev pub has_next : Descriptor → Bool
+has_next d = d.flags % 2 == 1
+
+abbrev pub is_writable : Descriptor → Bool
+is_writable d = d.flags / 2 % 2 == 1
+
+abbrev pub is_indirect : Descriptor → Bool
+is_indirect d = d.flags / 4 % 2 == 1
+
+-- A descriptor that refers to a table is neither readable nor writable, whatever its WRITE bit is (VIRTIO 1.2, 2.7.5.3.2).
+abbrev pub is_read : Descriptor → Bool
+is_read d = not (is_indirect d) && not (is_writable d)
+
+abbrev pub is_write : Descriptor → Bool
+is_write d = not (is_indirect d) && is_writable d
+
+abbrev pub segment_of : Descriptor → Segment
+segment_of d = record { addr = d.addr; len = d.len }
+
+-- The descriptor whose 16 bytes stand from place at (VIRTIO 1.2, 2.7.5, struct virtq_desc).
+abbrev pub descriptor_at : ℕ → List ℕ → Descriptor
+descriptor_at at bytes = record {
+  addr = number_at 8 at bytes;
+  len = number_at 4 (at + 8) bytes;
+  flags = number_at 2 (at + 12) bytes;
+  next = number_at 2 (at + 14) bytes;
+}
+
+-- The n descriptors that stand one after another from the front (VIRTIO 1.2, 2.7.5.3, struct indirect_descriptor_table).
+abbrev pub descriptors_in : ℕ → List ℕ → List Descriptor
+descriptors_in n bytes = map (λ i. descriptor_at (16 * i) bytes) (range_with_len 0 n)

@@ -1,0 +1,7 @@
+pub mod Numbers
+pub mod Descriptor
+pub mod Memory
+pub mod Fault
+pub mod Walk
+pub mod Tour
+pub mod Made

@@ -1,0 +1,22 @@
+//! Chains of descriptors of a split virtqueue (VIRTIO 1.2, 2.7.5), and the shapes in which a request
+//! and the room for its response are laid out.
+#![tactic(auto)]
+
+mod chain;
+mod descriptor;
+mod fault;
+mod laws;
+mod layout;
+mod part;
+mod shape;
+mod tour;
+
+pub use chain::{Chain, ChainFault, Parts};
+pub use descriptor::{Descriptor, Segment};
+pub use laws::{a_layout_is_walked, a_walk_has_one_result};
+pub use part::Extent;
+pub use shape::Shape;
+pub use tour::walk;
+
+#[cfg(test)]
+mod tests;

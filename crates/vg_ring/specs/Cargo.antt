@@ -1,0 +1,54 @@
+use Rattle.std.specs.Prelude.{◌≡◌, ℕ, ◌+◌, ◌*◌, ◌^◌, ◌≤◌, List, length, take}
+use Rattle.vg_chain.specs.declared.shape.Shape.{Shape}
+use Rattle.vg_chain.specs.Made.{AreTables}
+use Rattle.vg_wire.specs.declared.request.Queue.{Queue}
+use Rattle.vg_wire.specs.declared.request.Queue.TheVariants.{Control, Cursor}
+
+-- A request on its way: the queue, the place of its head descriptor, its lane and ordinal, how it is laid out, its
+-- bytes, the length of the room for its response, the bytes of its indirect tables, and what is in the room so far.
+pub record ParcelData : Type 0 where
+  pub queue : Queue
+  pub head : ℕ
+  pub lane : ℕ
+  pub ordinal : ℕ
+  pub shape : Shape
+  pub request : List ℕ
+  pub room : ℕ
+  pub tables : List ℕ
+  pub response : List ℕ
+
+-- The address of a request's first byte.
+abbrev pub base_of : Queue → ℕ → ℕ
+base_of Control head = 2 ^ 48 + 65536 * head
+base_of Cursor head = 2 ^ 48 + 2 ^ 32 + 65536 * head
+
+-- The cursor queue is lane 65, and the lanes of the control queue are those up to 64.
+abbrev pub IsLane : Queue → ℕ → Type 0
+IsLane Control lane = lane ≤ 64
+IsLane Cursor lane = lane ≡ 65
+
+pub record IsParcel (p : ParcelData) : Type 0 where
+  pub request : length p.request ≤ 49152
+  pub room : p.room ≤ 8192
+  pub response : length p.response ≤ p.room
+  pub lane : IsLane p.queue p.lane
+  pub tables : AreTables p.shape (length p.request) p.room (base_of p.queue p.head) p.tables
+
+-- A parcel with the pass that goes with it.
+pub record CargoData (P : Type 0) : Type 0 where
+  pub parcel : ParcelData
+  pub pass : P
+
+-- What a parcel's fields stand for: the response is the front of the room, as far as it was filled.
+abbrev pub parcel_of : Queue → ℕ → ℕ → ℕ → Shape → List ℕ → List ℕ → List ℕ → ℕ → ParcelData
+parcel_of queue head lane ordinal shape request tables room filled = record {
+  queue = queue;
+  head = head;
+  lane = lane;
+  ordinal = ordinal;
+  shape = shape;
+  request = request;
+  room = length room;
+  tables = tables;
+  response = take filled room;
+}

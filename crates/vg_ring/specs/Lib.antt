@@ -1,0 +1,2 @@
+pub mod Cargo
+pub mod Words

@@ -1,0 +1,51 @@
+use Rattle.std.specs.Prelude.{ℕ, ◌+◌, ◌*◌, ◌/◌, ◌%◌, ◌^◌, List, ◌++◌, map, slice_index}
+use Rattle.std.specs.List.{range_with_len, flat_map}
+use Rattle.vg_chain.specs.declared.descriptor.Descriptor.{Descriptor}
+use Rattle.vg_chain.specs.Numbers.{le}
+
+-- Where a ring of size n has its words: the two indexes, two words for each descriptor, one for each available element
+-- and one for each used element (VIRTIO 1.2, 2.7.5, 2.7.6 and 2.7.8).
+abbrev pub available_index : ℕ
+available_index = 0
+
+abbrev pub used_index : ℕ
+used_index = 1
+
+abbrev pub addr_place : ℕ → ℕ
+addr_place h = 2 + 2 * h
+
+abbrev pub rest_place : ℕ → ℕ
+rest_place h = 3 + 2 * h
+
+abbrev pub available_place : ℕ → ℕ → ℕ
+available_place n k = 2 + 2 * n + k
+
+abbrev pub used_place : ℕ → ℕ → ℕ
+used_place n k = 2 + 3 * n + k
+
+-- The second word of a descriptor has its length, flags and next, the lowest bits first.
+abbrev pub rest_word : Descriptor → ℕ
+rest_word d = d.len + d.flags * 2 ^ 32 + d.next * 2 ^ 48
+
+abbrev pub descriptor_from : ℕ → ℕ → Descriptor
+descriptor_from addr rest = record { addr = addr; len = rest % 2 ^ 32; flags = rest / 2 ^ 32 % 2 ^ 16; next = rest / 2 ^ 48 }
+
+-- A used element has the head and the length of what was written.
+abbrev pub used_word : ℕ → ℕ → ℕ
+used_word head len = head + len * 2 ^ 32
+
+-- The ring's parts as a device over guest memory would see them, as bytes.
+pub record Image : Type 0 where
+  pub descriptors : List ℕ
+  pub available : List ℕ
+  pub used : List ℕ
+
+abbrev pub table_from : ℕ → List ℕ → List Descriptor
+table_from n words = map (λ h. descriptor_from (slice_index words (addr_place h)) (slice_index words (rest_place h))) (range_with_len 0 n)
+
+abbrev pub image_of : ℕ → List ℕ → Image
+image_of n words = record {
+  descriptors = flat_map (λ h. le 8 (slice_index words (addr_place h)) ++ le 8 (slice_index words (rest_place h))) (range_with_len 0 n);
+  available = le 2 0 ++ le 2 (slice_index words available_index) ++ flat_map (λ k. le 2 (slice_index words (available_place n k))) (range_with_len 0 n);
+  used = le 2 0 ++ le 2 (slice_index words used_index) ++ flat_map (λ k. le 8 (slice_index words (used_place n k))) (range_with_len 0 n);
+}

@@ -1,0 +1,15 @@
+//! The two ends of a split virtqueue that threads share (VIRTIO 1.2, 2.7).
+#![tactic(auto)]
+
+mod cargo;
+mod parcel;
+mod tagged;
+mod words;
+
+pub use cargo::Cargo;
+pub use parcel::{Parcel, Tag};
+pub use tagged::Tagged;
+pub use words::words_are_bytes;
+
+#[cfg(test)]
+mod tests;
