@@ -1,2 +1,4 @@
 pub mod Cargo
 pub mod Words
+pub mod Entries
+pub mod Rule

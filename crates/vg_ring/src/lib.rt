@@ -4,11 +4,13 @@
 mod cargo;
 mod parcel;
 mod tagged;
+mod views;
 mod words;
 
 pub use cargo::Cargo;
 pub use parcel::{Parcel, Tag};
 pub use tagged::Tagged;
+pub use views::{Answer, DeviceStage, DeviceView, DriverStage, DriverView, Entry, Stored, View};
 pub use words::words_are_bytes;
 
 #[cfg(test)]
