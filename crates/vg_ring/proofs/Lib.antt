@@ -1,1 +1,4 @@
 mod WordLemmas
+pub mod Frames
+pub mod Seats
+pub mod DriverSteps

@@ -159,3 +159,9 @@ module _ {P : Type 0} (wanted : P → Bool) (queue : Queue) (n : ℕ) where
 
   abbrev pub Ring : State (Option (CargoData P)) View → Type 0
   Ring s = IsNew s ⊎ ((d : DriverView) × (v : DeviceView) × (coming : List Entry) × (going : List Answer) × IsRing s d v coming going)
+
+abbrev pub staged : DriverView → DriverStage → DriverView
+staged d stage = record d { stage = stage }
+
+abbrev pub set_stage : DeviceView → DeviceStage → DeviceView
+set_stage v stage = record v { stage = stage }

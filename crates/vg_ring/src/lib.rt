@@ -3,6 +3,7 @@
 
 mod cargo;
 mod parcel;
+mod probe;
 mod tagged;
 mod views;
 mod words;

@@ -1,0 +1,70 @@
+use Rattle.std.proofs.Common.{◌≡◌, ◌≢◌, ℕ, zero, suc, ◌+◌, ◌*◌, ◌%◌, ◌<◌, ◌≤◌, Bool, true, false, cond, eqb, Option, Some, None, ◌⊎◌, List, [], ◌∷◌, ◌++◌, length, map, get_or, set, refl, sym, ap, subst, inl, inr, ◌∙◌, arith}
+use mathlib.Core.Option.{some, none, some-injective, some-ne-none}
+use lib.ListN.{get_elem?}
+use Rattle.std.proofs.lemmas.List.{get_or-set_other, get_or-set_same, length-set}
+use Rattle.std.proofs.lemmas.Bool.Decides.{eqb_tells}
+use Rattle.atomic_table.specs.Table.{State}
+use Rattle.atomic_table.proofs.Lists.{at_set, set_here, set_else}
+use Rattle.vg_chain.specs.declared.descriptor.Descriptor.{Descriptor}
+use Rattle.vg_wire.specs.declared.request.Queue.{Queue}
+use Rattle.vg_ring.specs.declared.views.Entry.{Entry}
+use Rattle.vg_ring.specs.declared.views.Answer.{Answer}
+use Rattle.vg_ring.specs.declared.views.Stored.{Stored}
+use Rattle.vg_ring.specs.declared.views.DriverView.{DriverView}
+use Rattle.vg_ring.specs.declared.views.DeviceView.{DeviceView}
+use Rattle.vg_ring.specs.declared.views.View.{View}
+use Rattle.vg_ring.specs.declared.views.View.TheVariants.{Start, Driver, Device, Right, Spent}
+use Rattle.vg_ring.specs.Words.{addr_place, rest_place, available_place, used_place}
+use Rattle.vg_ring.specs.Cargo.{CargoData}
+use Rattle.vg_ring.specs.Entries.{times, uses, stored_at, stored_of, entries}
+use Rattle.vg_ring.specs.Rule.{word_at, place_of, places_of, StandStored, Stand, Offers, Returns, IsGuest, AreSeated, IsNew, IsRing, Ring}
+
+times_here : (p q : ℕ) (more : List ℕ) → times p (q ∷ more) ≡ 0 → (q ≢ p) × (times p more ≡ 0)
+times_here p q more unused = elim (eqb_tells q p) [
+    inl w ↦ (let one : times p (q ∷ more) ≡ 1 + times p more = rw w.0 refl in absurd (omega arith))
+    | inr w ↦ (let same : times p (q ∷ more) ≡ 0 + times p more = rw w.0 refl in (w.1, omega arith))
+]
+
+-- a word that is stored elsewhere
+pub word_else : (ws : List ℕ) (i j x : ℕ) → j ≢ i → word_at (set ws i x) j ≡ word_at ws j
+word_else ws i j x other = get_or-set_other ws i j x 0 other
+
+-- a word of place p
+abbrev pub IsWordOf : ℕ → ℕ → Type 0
+IsWordOf p i = (i ≡ addr_place p) ⊎ (i ≡ rest_place p)
+
+apart_addr : (p q i : ℕ) → IsWordOf p i → q ≢ p → addr_place q ≢ i
+apart_addr p q i is other = λ e. elim is [ inl w ↦ other (omega arith) | inr w ↦ omega arith ]
+
+apart_rest : (p q i : ℕ) → IsWordOf p i → q ≢ p → rest_place q ≢ i
+apart_rest p q i is other = λ e. elim is [ inl w ↦ omega arith | inr w ↦ other (omega arith) ]
+
+pub stored_kept : (ws : List ℕ) (p i x : ℕ) (stored : List Stored) → IsWordOf p i → times p (places_of stored) ≡ 0 → StandStored ws stored → StandStored (set ws i x) stored
+stored_kept ws p i x [] is unused stand = tt
+stored_kept ws p i x (d ∷ more) is unused stand =
+    let apart = times_here p d.place (places_of more) unused in
+    (word_else ws i (addr_place d.place) x (apart_addr p d.place i is apart.0) ∙ stand.0,
+     word_else ws i (rest_place d.place) x (apart_rest p d.place i is apart.0) ∙ stand.1,
+     stored_kept ws p i x more is apart.1 stand.2)
+
+stored_at_times : (p : ℕ) (places : List ℕ) (ds : List Descriptor) → times p places ≡ 0 → times p (places_of (stored_at places ds)) ≡ 0
+stored_at_times p [] [] unused = refl
+stored_at_times p [] (d ∷ ds) unused = refl
+stored_at_times p (q ∷ places) [] unused = refl
+stored_at_times p (q ∷ places) (d ∷ ds) unused =
+    let apart = times_here p q places unused in
+    let rest = stored_at_times p places ds apart.1 in
+    elim (eqb_tells q p) [ inl w ↦ absurd (apart.0 w.1) | inr w ↦ rw (w.0, rest) refl ]
+
+pub stand_kept : (queue : Queue) (n : ℕ) (ws : List ℕ) (p i x : ℕ) (es : List Entry) → IsWordOf p i → uses p es ≡ 0 → Stand queue n ws es → Stand queue n (set ws i x) es
+stand_kept queue n ws p i x [] is unused stand = tt
+stand_kept queue n ws p i x (e ∷ es) is unused stand =
+    (stored_kept ws p i x (stored_of queue n e) is (stored_at_times p e.places _ (omega arith)) stand.0, stand_kept queue n ws p i x es is (omega arith) stand.1)
+
+pub offers_kept : (n : ℕ) (ws : List ℕ) (k i x : ℕ) (es : List Entry) → i < 2 + 2 * n → Offers n ws k es → Offers n (set ws i x) k es
+offers_kept n ws k i x [] low offers = tt
+offers_kept n ws k i x (e ∷ es) low offers = (word_else ws i (available_place n (k % n)) x (λ same. omega arith) ∙ offers.0, offers_kept n ws (suc k) i x es low offers.1)
+
+pub returns_kept : (n : ℕ) (ws : List ℕ) (k i x : ℕ) (answers : List Answer) → i < 2 + 2 * n → Returns n ws k answers → Returns n (set ws i x) k answers
+returns_kept n ws k i x [] low returns = tt
+returns_kept n ws k i x (a ∷ more) low returns = (word_else ws i (used_place n (k % n)) x (λ same. omega arith) ∙ returns.0, returns_kept n ws (suc k) i x more low returns.1)
