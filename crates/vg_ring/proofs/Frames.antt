@@ -2,9 +2,10 @@ use Rattle.std.proofs.Common.{◌≡◌, ◌≢◌, ℕ, zero, suc, ◌+◌, ◌
 use mathlib.Core.Option.{some, none, some-injective, some-ne-none}
 use lib.ListN.{get_elem?}
 use Rattle.std.proofs.lemmas.List.{get_or-set_other, get_or-set_same, length-set}
+use Rattle.std.proofs.lemmas.Bool.{eq-eqb}
 use Rattle.std.proofs.lemmas.Bool.Decides.{eqb_tells}
 use Rattle.atomic_table.specs.Table.{State}
-use Rattle.atomic_table.proofs.Lists.{at_set, set_here, set_else}
+use Rattle.atomic_table.proofs.Lists.{at_set, set_here, set_else, one_turn}
 use Rattle.vg_chain.specs.declared.descriptor.Descriptor.{Descriptor}
 use Rattle.vg_wire.specs.declared.request.Queue.{Queue}
 use Rattle.vg_ring.specs.declared.views.Entry.{Entry}
@@ -16,7 +17,7 @@ use Rattle.vg_ring.specs.declared.views.View.{View}
 use Rattle.vg_ring.specs.declared.views.View.TheVariants.{Start, Driver, Device, Right, Spent}
 use Rattle.vg_ring.specs.Words.{addr_place, rest_place, available_place, used_place}
 use Rattle.vg_ring.specs.Cargo.{CargoData}
-use Rattle.vg_ring.specs.Entries.{times, uses, stored_at, stored_of, entries}
+use Rattle.vg_ring.specs.Entries.{head_of, times, uses, stored_at, stored_of, entries}
 use Rattle.vg_ring.specs.Rule.{word_at, place_of, places_of, StandStored, Stand, Offers, Returns, IsGuest, AreSeated, IsNew, IsRing, Ring}
 
 times_here : (p q : ℕ) (more : List ℕ) → times p (q ∷ more) ≡ 0 → (q ≢ p) × (times p more ≡ 0)
@@ -65,6 +66,56 @@ pub offers_kept : (n : ℕ) (ws : List ℕ) (k i x : ℕ) (es : List Entry) → 
 offers_kept n ws k i x [] low offers = tt
 offers_kept n ws k i x (e ∷ es) low offers = (word_else ws i (available_place n (k % n)) x (λ same. omega arith) ∙ offers.0, offers_kept n ws (suc k) i x es low offers.1)
 
-pub returns_kept : (n : ℕ) (ws : List ℕ) (k i x : ℕ) (answers : List Answer) → i < 2 + 2 * n → Returns n ws k answers → Returns n (set ws i x) k answers
+pub returns_kept : (n : ℕ) (ws : List ℕ) (k i x : ℕ) (answers : List Answer) → i < 2 + 3 * n → Returns n ws k answers → Returns n (set ws i x) k answers
 returns_kept n ws k i x [] low returns = tt
 returns_kept n ws k i x (a ∷ more) low returns = (word_else ws i (used_place n (k % n)) x (λ same. omega arith) ∙ returns.0, returns_kept n ws (suc k) i x more low returns.1)
+
+-- an available element past those that stand
+pub offers_apart : (n : ℕ) (ws : List ℕ) (k m x : ℕ) (es : List Entry) → k + length es ≤ m → m < k + n → Offers n ws k es → Offers n (set ws (available_place n (m % n)) x) k es
+offers_apart n ws k m x [] past near offers = tt
+offers_apart n ws k m x (e ∷ es) past near offers =
+    let other : available_place n (k % n) ≢ available_place n (m % n) = λ same. (let turn : k ≡ m = one_turn k m n (omega arith) near (omega arith) in omega arith) in
+    (word_else ws (available_place n (m % n)) (available_place n (k % n)) x other ∙ offers.0, offers_apart n ws (suc k) m x es (omega arith) (omega arith) offers.1)
+
+pub offers_snoc : (n : ℕ) (ws : List ℕ) (k : ℕ) (es : List Entry) (e : Entry) → Offers n ws k es → word_at ws (available_place n ((k + length es) % n)) ≡ head_of e → Offers n ws k (es ++ e ∷ [])
+offers_snoc n ws k [] e offers here = (subst (λ (j : ℕ). word_at ws (available_place n (j % n)) ≡ head_of e) (omega arith) here, tt)
+offers_snoc n ws k (f ∷ es) e offers here =
+    (offers.0, offers_snoc n ws (suc k) es e offers.1 (subst (λ (j : ℕ). word_at ws (available_place n (j % n)) ≡ head_of e) (omega arith) here))
+
+-- a word above those of the descriptors
+pub stored_high : (ws : List ℕ) (n i x : ℕ) (stored : List Stored) → 2 + 2 * n ≤ i → ((h : ℕ) → 0 < times h (places_of stored) → h < n) → StandStored ws stored → StandStored (set ws i x) stored
+stored_high ws n i x [] high small stand = tt
+stored_high ws n i x (d ∷ more) high small stand =
+    let here : times d.place (places_of (d ∷ more)) ≡ 1 + times d.place (places_of more) = rw (eq-eqb d.place d.place refl) refl in
+    let below : d.place < n = small d.place (omega arith) in
+    let rest : (h : ℕ) → 0 < times h (places_of more) → h < n = λ h some. small h (omega arith) in
+    (word_else ws i (addr_place d.place) x (λ e. omega arith) ∙ stand.0, word_else ws i (rest_place d.place) x (λ e. omega arith) ∙ stand.1, stored_high ws n i x more high rest stand.2)
+
+stored_at_few : (h : ℕ) (places : List ℕ) (ds : List Descriptor) → times h (places_of (stored_at places ds)) ≤ times h places
+stored_at_few h [] [] = omega arith
+stored_at_few h [] (d ∷ ds) = omega arith
+stored_at_few h (q ∷ places) [] = omega arith
+stored_at_few h (q ∷ places) (d ∷ ds) = let rest = stored_at_few h places ds in omega (arith, rest)
+
+pub stored_of_few : (queue : Queue) (n h : ℕ) (e : Entry) → times h (places_of (stored_of queue n e)) ≤ times h e.places
+stored_of_few queue n h e = stored_at_few h e.places _
+
+pub stand_high : (queue : Queue) (n : ℕ) (ws : List ℕ) (i x : ℕ) (es : List Entry) → 2 + 2 * n ≤ i → ((h : ℕ) → 0 < uses h es → h < n) → Stand queue n ws es → Stand queue n (set ws i x) es
+stand_high queue n ws i x [] high small stand = tt
+stand_high queue n ws i x (e ∷ es) high small stand =
+    (stored_high ws n i x (stored_of queue n e) high (λ h is_there. small h (let few = stored_of_few queue n h e in omega (arith, few))) stand.0,
+     stand_high queue n ws i x es high (λ h some. small h (omega arith)) stand.1)
+
+pub stand_snoc : (queue : Queue) (n : ℕ) (ws : List ℕ) (es : List Entry) (e : Entry) → Stand queue n ws es → StandStored ws (stored_of queue n e) → Stand queue n ws (es ++ e ∷ [])
+stand_snoc queue n ws [] e stand here = (here, tt)
+stand_snoc queue n ws (f ∷ es) e stand here = (stand.0, stand_snoc queue n ws es e stand.1 here)
+
+-- words 0 and 1
+pub stored_low : (ws : List ℕ) (i x : ℕ) (stored : List Stored) → i < 2 → StandStored ws stored → StandStored (set ws i x) stored
+stored_low ws i x [] low stand = tt
+stored_low ws i x (d ∷ more) low stand =
+    (word_else ws i (addr_place d.place) x (λ e. omega arith) ∙ stand.0, word_else ws i (rest_place d.place) x (λ e. omega arith) ∙ stand.1, stored_low ws i x more low stand.2)
+
+pub stand_low : (queue : Queue) (n : ℕ) (ws : List ℕ) (i x : ℕ) (es : List Entry) → i < 2 → Stand queue n ws es → Stand queue n (set ws i x) es
+stand_low queue n ws i x [] low stand = tt
+stand_low queue n ws i x (e ∷ es) low stand = (stored_low ws i x (stored_of queue n e) low stand.0, stand_low queue n ws i x es low stand.1)

@@ -1,4 +1,6 @@
 mod WordLemmas
 pub mod Frames
+pub mod Counts
+pub mod Slots
 pub mod Seats
 pub mod DriverSteps

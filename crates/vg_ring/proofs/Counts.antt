@@ -1,0 +1,63 @@
+use Rattle.std.proofs.Common.{◌≡◌, ◌≢◌, ℕ, zero, suc, ◌+◌, ◌<◌, ◌≤◌, Bool, true, false, cond, eqb, ◌⊎◌, List, [], ◌∷◌, ◌++◌, length, map, get_or, refl, sym, ap, subst, inl, inr, ◌∙◌, arith, append_assoc}
+use Rattle.std.proofs.lemmas.List.{append-nil}
+use Rattle.std.proofs.lemmas.Bool.{eq-eqb, ne_eqb}
+use Rattle.std.proofs.lemmas.Bool.Decides.{eqb_tells}
+use Rattle.vg_ring.specs.declared.views.Entry.{Entry}
+use Rattle.vg_ring.specs.declared.views.Answer.{Answer}
+use Rattle.vg_ring.specs.declared.views.Stored.{Stored}
+use Rattle.vg_ring.specs.Entries.{head_of, entry_of, entries, times, uses, spread, heads, lane_count, InOrder}
+use Rattle.vg_ring.specs.Rule.{place_of, places_of, StandStored, HaveHeads}
+
+pub times-append : (h : ℕ) (xs ys : List ℕ) → times h (xs ++ ys) ≡ times h xs + times h ys
+times-append h [] ys = omega arith
+times-append h (x ∷ xs) ys = omega (arith, times-append h xs ys)
+
+pub places-snoc : (stored : List Stored) (d : Stored) → places_of (stored ++ d ∷ []) ≡ places_of stored ++ d.place ∷ []
+places-snoc [] d = refl
+places-snoc (e ∷ more) d = ap (λ (xs : List ℕ). e.place ∷ xs) (places-snoc more d)
+
+pub stored-snoc : (ws : List ℕ) (stored : List Stored) (d : Stored) → StandStored ws stored → StandStored ws (d ∷ []) → StandStored ws (stored ++ d ∷ [])
+stored-snoc ws [] d stand here = here
+stored-snoc ws (e ∷ more) d stand here = (stand.0, stand.1, stored-snoc ws more d stand.2 here)
+
+pub uses-append : (h : ℕ) (es fs : List Entry) → uses h (es ++ fs) ≡ uses h es + uses h fs
+uses-append h [] fs = omega arith
+uses-append h (e ∷ es) fs = omega (arith, uses-append h es fs)
+
+pub heads-append : (h : ℕ) (es fs : List Entry) → heads h (es ++ fs) ≡ heads h es + heads h fs
+heads-append h [] fs = omega arith
+heads-append h (e ∷ es) fs = omega (arith, heads-append h es fs)
+
+pub spread-append : (es fs : List Entry) → spread (es ++ fs) ≡ spread es + spread fs
+spread-append [] fs = omega arith
+spread-append (e ∷ es) fs = omega (arith, spread-append es fs)
+
+pub entries-append : (xs ys : List Answer) → entries (xs ++ ys) ≡ entries xs ++ entries ys
+entries-append [] ys = refl
+entries-append (x ∷ xs) ys = ap (λ (zs : List Entry). x.entry ∷ zs) (entries-append xs ys)
+
+pub have-append : (es fs : List Entry) → HaveHeads es → HaveHeads fs → HaveHeads (es ++ fs)
+have-append [] fs some more = more
+have-append (e ∷ es) fs some more = (some.0, have-append es fs some.1 more)
+
+-- an entry's head is one of its places
+head_times : (h : ℕ) (places : List ℕ) → 0 < length places → cond (eqb (get_or places 0 0) h) 1 0 ≤ times h places
+head_times h [] some = absurd (omega arith)
+head_times h (p ∷ places) some = omega arith
+
+pub heads_uses : (h : ℕ) (es : List Entry) → HaveHeads es → heads h es ≤ uses h es
+heads_uses h [] some = omega arith
+heads_uses h (e ∷ es) some = (let here = head_times h e.places some.0 in let rest = heads_uses h es some.1 in omega (arith, here, rest))
+
+pub length_spread : (es : List Entry) → HaveHeads es → length es ≤ spread es
+length_spread [] some = omega arith
+length_spread (e ∷ es) some = (let rest = length_spread es some.1 in let here = some.0 in omega (arith, here, rest))
+
+pub in_order-snoc : (before es : List Entry) (e : Entry) → InOrder before es → e.ordinal ≡ lane_count e.lane (before ++ es) + 1 → InOrder before (es ++ e ∷ [])
+in_order-snoc before [] e order next = (next ∙ ap (λ (xs : List Entry). lane_count e.lane xs + 1) (append-nil before), tt)
+in_order-snoc before (f ∷ es) e order next =
+    (order.0, in_order-snoc (before ++ f ∷ []) es e order.1 (next ∙ ap (λ (xs : List Entry). lane_count e.lane xs + 1) (sym (append_assoc before (f ∷ []) es))))
+
+pub in_order-front : (before es fs : List Entry) → InOrder before (es ++ fs) → InOrder before es
+in_order-front before [] fs order = tt
+in_order-front before (e ∷ es) fs order = (order.0, in_order-front (before ++ e ∷ []) es fs order.1)
