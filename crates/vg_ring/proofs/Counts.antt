@@ -5,7 +5,7 @@ use Rattle.std.proofs.lemmas.Bool.Decides.{eqb_tells}
 use Rattle.vg_ring.specs.declared.views.Entry.{Entry}
 use Rattle.vg_ring.specs.declared.views.Answer.{Answer}
 use Rattle.vg_ring.specs.declared.views.Stored.{Stored}
-use Rattle.vg_ring.specs.Entries.{head_of, entry_of, entries, times, uses, spread, heads, lane_count, InOrder}
+use Rattle.vg_ring.specs.Entries.{head_of, entry_of, entries, times, weigh, uses, spread, heads, lane_count, InOrder}
 use Rattle.vg_ring.specs.Rule.{place_of, places_of, StandStored, HaveHeads}
 
 pub times-append : (h : ℕ) (xs ys : List ℕ) → times h (xs ++ ys) ≡ times h xs + times h ys
@@ -20,17 +20,9 @@ pub stored-snoc : (ws : List ℕ) (stored : List Stored) (d : Stored) → StandS
 stored-snoc ws [] d stand here = here
 stored-snoc ws (e ∷ more) d stand here = (stand.0, stand.1, stored-snoc ws more d stand.2 here)
 
-pub uses-append : (h : ℕ) (es fs : List Entry) → uses h (es ++ fs) ≡ uses h es + uses h fs
-uses-append h [] fs = omega arith
-uses-append h (e ∷ es) fs = omega (arith, uses-append h es fs)
-
-pub heads-append : (h : ℕ) (es fs : List Entry) → heads h (es ++ fs) ≡ heads h es + heads h fs
-heads-append h [] fs = omega arith
-heads-append h (e ∷ es) fs = omega (arith, heads-append h es fs)
-
-pub spread-append : (es fs : List Entry) → spread (es ++ fs) ≡ spread es + spread fs
-spread-append [] fs = omega arith
-spread-append (e ∷ es) fs = omega (arith, spread-append es fs)
+pub weigh-append : (f : Entry → ℕ) (es fs : List Entry) → weigh f (es ++ fs) ≡ weigh f es + weigh f fs
+weigh-append f [] fs = omega arith
+weigh-append f (e ∷ es) fs = omega (arith, weigh-append f es fs)
 
 pub entries-append : (xs ys : List Answer) → entries (xs ++ ys) ≡ entries xs ++ entries ys
 entries-append [] ys = refl

@@ -1,9 +1,9 @@
-use Rattle.std.proofs.Common.{◌≡◌, ◌≢◌, ℕ, zero, suc, ◌+◌, ◌*◌, ◌%◌, ◌<◌, ◌≤◌, Bool, true, false, Option, Some, None, ◌⊎◌, List, [], ◌∷◌, ◌++◌, length, map, get_or, set, refl, sym, ap, subst, inl, inr, ◌∙◌, arith, length-append}
+use Rattle.std.proofs.Common.{◌≡◌, ◌≢◌, ℕ, zero, suc, ◌+◌, ◌*◌, ◌%◌, ◌<◌, ◌≤◌, Bool, true, false, Option, Some, None, ◌⊎◌, List, [], ◌∷◌, ◌++◌, length, map, get_or, set, refl, sym, ap, subst, inl, inr, ◌∙◌, arith, length-append, append_assoc}
 use mathlib.Core.Option.{some, none}
 use lib.ListN.{get_elem?}
 use Rattle.std.proofs.lemmas.List.{get_or-set_same, length-set}
 use Rattle.std.proofs.Math.Nat.{mod-lt}
-use Rattle.atomic_table.proofs.Lists.{set_else}
+use Rattle.atomic_table.proofs.Lists.{set_else, set_here}
 use Rattle.std.proofs.lemmas.Bool.{cases_lt, eq-eqb}
 use Rattle.std.proofs.lemmas.Bool.Decides.{eqb_tells}
 use Rattle.atomic_table.specs.Table.{State, Act, Allows, Me}
@@ -22,11 +22,11 @@ use Rattle.vg_ring.specs.declared.views.View.{View}
 use Rattle.vg_ring.specs.declared.views.View.TheVariants.{Start, Driver, Device, Right, Spent}
 use Rattle.vg_ring.specs.Cargo.{CargoData}
 use Rattle.vg_ring.specs.Words.{addr_place, rest_place, available_place, used_place}
-use Rattle.vg_ring.specs.Entries.{head_of, times, uses, heads, spread, entries}
-use Rattle.vg_ring.specs.Rule.{word_at, places_of, StandStored, AreFree, DriverKnows, DeviceKnows, driver_hand, device_hand, Vacant, IsRing, Ring, staged}
-use Rattle.vg_ring.proofs.Frames.{word_else, stored_kept, stored_high, stand_kept, stand_high, offers_kept, offers_apart, returns_kept, IsWordOf}
-use Rattle.vg_ring.proofs.Counts.{times-append, places-snoc, stored-snoc, heads_uses, length_spread}
-use Rattle.vg_ring.proofs.Slots.{wait_kept, lie_kept}
+use Rattle.vg_ring.specs.Entries.{head_of, times, uses_in, places_in, head_in, uses, heads, spread, entries, lane_count, stored_of, IsFresh}
+use Rattle.vg_ring.specs.Rule.{word_at, places_of, StandStored, AreFree, DriverKnows, DeviceKnows, driver_hand, device_hand, Vacant, IsRing, Ring, staged, published_after}
+use Rattle.vg_ring.proofs.Frames.{word_else, stored_kept, stored_high, stand_kept, stand_high, stored_low, stand_low, stand_snoc, offers_kept, offers_apart, offers_snoc, returns_kept, IsWordOf}
+use Rattle.vg_ring.proofs.Counts.{times-append, places-snoc, stored-snoc, heads_uses, length_spread, weigh-append, have-append, in_order-snoc}
+use Rattle.vg_ring.proofs.Slots.{heads_here, wait_kept, wait_snoc, lie_kept}
 use Rattle.vg_ring.proofs.Seats.{IsAtDriver, at_driver, seated_driver}
 
 module _ {P : Type 0} (wanted : P → Bool) (queue : Queue) (n : ℕ) where
@@ -39,6 +39,15 @@ module _ {P : Type 0} (wanted : P → Bool) (queue : Queue) (n : ℕ) where
   device_kept ws i x coming completed held lent (device.Answering e len) low knows = (knows.0, word_else ws i (used_place n (length completed % n)) x (λ same. omega arith) ∙ knows.1)
   device_kept ws i x coming completed held lent (device.Naming e) low knows = knows
 
+  -- one entry more comes
+  came : (ws : List ℕ) (coming : List Entry) (e : Entry) (completed : List Answer) (held lent : List Entry) (stage : DeviceStage)
+      → DeviceKnows wanted queue n ws coming completed held lent stage → DeviceKnows wanted queue n ws (coming ++ e ∷ []) completed held lent stage
+  came ws coming e completed held lent device.Resting knows = knows
+  came ws coming e completed held lent device.Newer knows = (let long = length-append coming (e ∷ []) in omega (arith, long))
+  came ws coming e completed held lent (device.Taken f) knows = knows
+  came ws coming e completed held lent (device.Answering f len) knows = knows
+  came ws coming e completed held lent (device.Naming f) knows = knows
+
   -- a word of a place that no entry has is stored, and the driver's stage changes from one that holds no slot to another
   stores : (s : State (Option (CargoData P)) View) (d : DriverView) (stage : DriverStage) (v : DeviceView) (coming : List Entry) (going : List Answer) (p i x : ℕ)
       → IsRing wanted queue n s d v coming going → p < n → IsWordOf p i → uses p d.outs ≡ 0
@@ -48,7 +57,7 @@ module _ {P : Type 0} (wanted : P → Bool) (queue : Queue) (n : ℕ) where
   stores s d stage v coming going p i x ring small is free unused knows =
       let low : i < 2 + 2 * n = elim is [ inl w ↦ omega arith | inr w ↦ omega arith ] in
       let high : 1 < i = elim is [ inl w ↦ omega arith | inr w ↦ omega arith ] in
-      let shared = ring.shared p in
+      let shared = ring.shared (uses_in p) in
       record {
         words = length-set s.words i x ∙ ring.words;
         homes = ring.homes;
@@ -58,7 +67,6 @@ module _ {P : Type 0} (wanted : P → Bool) (queue : Queue) (n : ℕ) where
         shared = ring.shared;
         once = ring.once;
         below = ring.below;
-        spread_is = ring.spread_is;
         room = ring.room;
         come_heads = ring.come_heads;
         held_heads = ring.held_heads;
@@ -152,14 +160,14 @@ module _ {P : Type 0} (wanted : P → Bool) (queue : Queue) (n : ℕ) where
       let one : times h (places_of (first ∷ stored)) ≡ 1 + times h (places_of stored) = rw (eq-eqb h h refl) refl in
       let below : h < n = knows.0.below h (omega (arith, one)) in
       let free : uses h d.outs ≡ 0 = (let once = knows.0.once h in omega (arith, one, once)) in
-      let shared = r.shared h in
+      let shared = r.shared (uses_in h) in
       let no_come : heads h w.coming ≡ 0 = (let few = heads_uses h w.coming r.come_heads in omega (arith, few, shared)) in
       let no_held : heads h w.device.held ≡ 0 = (let few = heads_uses h w.device.held r.held_heads in omega (arith, few, shared)) in
       let no_go : heads h (entries w.going) ≡ 0 = (let few = heads_uses h (entries w.going) r.go_heads in omega (arith, few, shared)) in
       let empty : get_elem? s.homes h ≡ some (some None) = r.vacant h below (omega (arith, no_come, no_go)) (λ no. no) (device_apart s.words w.coming w.device.completed w.device.held w.device.lent w.device.stage h no_held r.device_knows) in
       let count : length d.published ≡ length w.device.fetched + length w.coming = ap length r.sent ∙ length-append w.device.fetched w.coming in
       let few : length w.coming ≤ spread w.coming = length_spread w.coming r.come_heads in
-      let spread_is = r.spread_is in
+      let spread_is = r.shared places_in in
       let next : IsRing wanted queue n (record { words = set s.words i h; homes = set s.homes h none; views = set s.views 0 (Driver (staged d (driver.Offered (first ∷ stored)))) }) (staged d (driver.Offered (first ∷ stored))) w.device w.coming w.going = record {
         words = length-set s.words i h ∙ r.words;
         homes = length-set s.homes h none ∙ r.homes;
@@ -169,7 +177,6 @@ module _ {P : Type 0} (wanted : P → Bool) (queue : Queue) (n : ℕ) where
         shared = r.shared;
         once = r.once;
         below = r.below;
-        spread_is = r.spread_is;
         room = r.room;
         come_heads = r.come_heads;
         held_heads = r.held_heads;
@@ -178,9 +185,9 @@ module _ {P : Type 0} (wanted : P → Bool) (queue : Queue) (n : ℕ) where
         used = word_else s.words i 1 h (λ e. omega arith) ∙ r.used;
         offers = offers_apart n s.words (length w.device.fetched) (length d.published) h w.coming (omega (arith, count)) (omega (arith, count, few, spread_is)) r.offers;
         returns = returns_kept n s.words (length d.reaped) i h w.going (omega arith) r.returns;
-        come_stand = stand_high queue n s.words i h w.coming (omega arith) (λ k is_there. r.below k (let all = r.shared k in omega (arith, all))) r.come_stand;
-        held_stand = stand_high queue n s.words i h w.device.held (omega arith) (λ k is_there. r.below k (let all = r.shared k in omega (arith, all))) r.held_stand;
-        go_stand = stand_high queue n s.words i h (entries w.going) (omega arith) (λ k is_there. r.below k (let all = r.shared k in omega (arith, all))) r.go_stand;
+        come_stand = stand_high queue n s.words i h w.coming (omega arith) (λ k is_there. r.below k (let all = r.shared (uses_in k) in omega (arith, all))) r.come_stand;
+        held_stand = stand_high queue n s.words i h w.device.held (omega arith) (λ k is_there. r.below k (let all = r.shared (uses_in k) in omega (arith, all))) r.held_stand;
+        go_stand = stand_high queue n s.words i h (entries w.going) (omega arith) (λ k is_there. r.below k (let all = r.shared (uses_in k) in omega (arith, all))) r.go_stand;
         wait = wait_kept wanted queue n s.homes h none w.coming no_come r.wait;
         lie = lie_kept wanted queue n s.homes h none w.going no_go r.lie;
         vacant = λ k below' unused mine other. set_else s.homes h k none (λ e. mine (sym e)) ∙ r.vacant k below' unused (λ no. no) other;
@@ -189,3 +196,64 @@ module _ {P : Type 0} (wanted : P → Bool) (queue : Queue) (n : ℕ) where
         seated = seated_driver wanted queue n s.views (staged d (driver.Writing (first ∷ stored))) (staged d (driver.Offered (first ∷ stored))) w.device r.seated;
       } in
       (Driver (staged d (driver.Offered (first ∷ stored))), takes h None, empty, rw w.id_is (inr (staged d (driver.Offered (first ∷ stored)), w.device, w.coming, w.going, next)), refl)
+
+  -- The available index, and the slot goes home with the cargo.
+  pub publishes : (slots id : ℕ) (d : DriverView) (first : Stored) (stored : List Stored) (e : Entry) (cargo : CargoData P)
+      → first ∷ stored ≡ stored_of queue n e → places_of (first ∷ stored) ≡ e.places → spread d.outs + length e.places ≤ n
+      → IsFresh wanted queue e cargo → e.ordinal ≡ lane_count e.lane d.published + 1
+      → Allows (Ring wanted queue n) slots id (Driver (staged d (driver.Offered (first ∷ stored))), (first.place, Some cargo) ∷ []) 0 (λ _. (length d.published + 1) % 65536)
+        (λ _ me. me ≡ (Driver (published_after d e), []))
+  publishes slots id d first stored e cargo made_is places_are room fresh ordinal = λ s ring many at bound.
+      let w = at_driver wanted queue n s id (staged d (driver.Offered (first ∷ stored))) ring at in
+      let r = w.ring in
+      let knows = r.driver_knows in
+      let h = first.place in
+      let x = (length d.published + 1) % 65536 in
+      let head : head_of e ≡ h = ap (λ (ps : List ℕ). get_or ps 0 0) (sym places_are) in
+      let some_place : 0 < length e.places = subst (λ (ps : List ℕ). 0 < length ps) places_are (omega arith) in
+      let free : (k : ℕ) → times k e.places + uses k d.outs ≤ 1 = subst (λ (ps : List ℕ). (k : ℕ) → times k ps + uses k d.outs ≤ 1) places_are knows.0.once in
+      let small : (k : ℕ) → 0 < times k e.places → k < n = subst (λ (ps : List ℕ). (k : ℕ) → 0 < times k ps → k < n) places_are knows.0.below in
+      let one : times h (places_of (first ∷ stored)) ≡ 1 + times h (places_of stored) = rw (eq-eqb h h refl) refl in
+      let below : h < n = knows.0.below h (omega (arith, one)) in
+      let unused : uses h d.outs ≡ 0 = (let once = knows.0.once h in omega (arith, one, once)) in
+      let shared = r.shared (uses_in h) in
+      let no_come : heads h w.coming ≡ 0 = (let few = heads_uses h w.coming r.come_heads in omega (arith, few, shared)) in
+      let no_go : heads h (entries w.going) ≡ 0 = (let few = heads_uses h (entries w.going) r.go_heads in omega (arith, few, shared)) in
+      let count : length d.published ≡ length w.device.fetched + length w.coming = ap length r.sent ∙ length-append w.device.fetched w.coming in
+      let long : length (d.published ++ e ∷ []) ≡ length d.published + 1 = length-append d.published (e ∷ []) in
+      let element : word_at (set s.words 0 x) (available_place n ((length w.device.fetched + length w.coming) % n)) ≡ head_of e =
+          word_else s.words 0 (available_place n ((length w.device.fetched + length w.coming) % n)) x (λ same. omega arith) ∙ subst (λ (k : ℕ). word_at s.words (available_place n (k % n)) ≡ h) count knows.3 ∙ sym head in
+      let stands : StandStored (set s.words 0 x) (stored_of queue n e) = subst (λ (ds : List Stored). StandStored (set s.words 0 x) ds) made_is (stored_low s.words 0 x (first ∷ stored) (omega arith) knows.1) in
+      let home : get_elem? (set s.homes h (some (Some cargo))) (head_of e) ≡ some (some (Some cargo)) = rw head (set_here s.homes h (some (Some cargo)) (let all = r.homes in omega (arith, all))) in
+      let next : IsRing wanted queue n (record { words = set s.words 0 x; homes = set s.homes h (some (Some cargo)); views = set s.views 0 (Driver (published_after d e)) }) (published_after d e) w.device (w.coming ++ e ∷ []) w.going = record {
+        words = length-set s.words 0 x ∙ r.words;
+        homes = length-set s.homes h (some (Some cargo)) ∙ r.homes;
+        sent = ap (λ (es : List Entry). es ++ e ∷ []) r.sent ∙ append_assoc w.device.fetched w.coming (e ∷ []);
+        back = r.back;
+        ordered = in_order-snoc [] d.published e r.ordered ordinal;
+        shared = λ f. (let old = r.shared f in let more = weigh-append f w.coming (e ∷ []) in omega (arith, old, more));
+        once = λ k. (let old = free k in omega (arith, old));
+        below = λ k is_there. elim (cases_lt 0 (times k e.places)) [ inl here ↦ small k here | inr gone ↦ r.below k (omega arith) ];
+        room = omega (arith, room);
+        come_heads = have-append w.coming (e ∷ []) r.come_heads (some_place, tt);
+        held_heads = r.held_heads;
+        go_heads = r.go_heads;
+        available = get_or-set_same s.words 0 x 0 (let all = r.words in omega (arith, all)) ∙ ap (λ (k : ℕ). k % 65536) (sym long);
+        used = word_else s.words 0 1 x (λ same. omega arith) ∙ r.used;
+        offers = offers_snoc n (set s.words 0 x) (length w.device.fetched) w.coming e (offers_kept n s.words (length w.device.fetched) 0 x w.coming (omega arith) r.offers) element;
+        returns = returns_kept n s.words (length d.reaped) 0 x w.going (omega arith) r.returns;
+        come_stand = stand_snoc queue n (set s.words 0 x) w.coming e (stand_low queue n s.words 0 x w.coming (omega arith) r.come_stand) stands;
+        held_stand = stand_low queue n s.words 0 x w.device.held (omega arith) r.held_stand;
+        go_stand = stand_low queue n s.words 0 x (entries w.going) (omega arith) r.go_stand;
+        wait = wait_snoc wanted queue n (set s.homes h (some (Some cargo))) w.coming e cargo (wait_kept wanted queue n s.homes h (some (Some cargo)) w.coming no_come r.wait) home fresh;
+        lie = lie_kept wanted queue n s.homes h (some (Some cargo)) w.going no_go r.lie;
+        vacant = λ k below' empty mine other.
+            (let more = weigh-append (head_in k) w.coming (e ∷ []) in
+            let apart = heads_here k e [] (omega (arith, more)) in
+            let away : k ≢ h = λ same. apart.0 (head ∙ sym same) in
+            set_else s.homes h k (some (Some cargo)) away ∙ r.vacant k below' (omega (arith, more)) (λ same. away (sym same)) other);
+        driver_knows = tt;
+        device_knows = came (set s.words 0 x) w.coming e w.device.completed w.device.held w.device.lent w.device.stage (device_kept s.words 0 x w.coming w.device.completed w.device.held w.device.lent w.device.stage (omega arith) r.device_knows);
+        seated = seated_driver wanted queue n s.views (staged d (driver.Offered (first ∷ stored))) (published_after d e) w.device r.seated;
+      } in
+      (Driver (published_after d e), gives, tt, rw w.id_is (inr (published_after d e, w.device, w.coming ++ e ∷ [], w.going, next)), refl)

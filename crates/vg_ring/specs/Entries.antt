@@ -18,24 +18,34 @@ entry_of a = a.entry
 abbrev pub entries : List Answer → List Entry
 entries answers = map entry_of answers
 
--- How often a place stands in a list, and among the places of entries.
+-- How often a place stands in a list.
 abbrev pub times : ℕ → List ℕ → ℕ
 times place [] = 0
 times place (other ∷ more) = (if other == place then 1 else 0) + times place more
 
+-- Entries weighed: a function of each, added up.
+abbrev pub weigh : (Entry → ℕ) → List Entry → ℕ
+weigh f [] = 0
+weigh f (e ∷ more) = f e + weigh f more
+
+-- How often a place stands among the places of entries, how many places they have, and how many have their head there.
+abbrev pub uses_in : ℕ → Entry → ℕ
+uses_in place e = times place e.places
+
+abbrev pub places_in : Entry → ℕ
+places_in e = length e.places
+
+abbrev pub head_in : ℕ → Entry → ℕ
+head_in place e = if head_of e == place then 1 else 0
+
 abbrev pub uses : ℕ → List Entry → ℕ
-uses place [] = 0
-uses place (e ∷ more) = times place e.places + uses place more
+uses place es = weigh (uses_in place) es
 
--- How many places entries have.
 abbrev pub spread : List Entry → ℕ
-spread [] = 0
-spread (e ∷ more) = length e.places + spread more
+spread es = weigh places_in es
 
--- How many entries have their head there.
 abbrev pub heads : ℕ → List Entry → ℕ
-heads place [] = 0
-heads place (e ∷ more) = (if head_of e == place then 1 else 0) + heads place more
+heads place es = weigh (head_in place) es
 
 -- What a publication stores for these descriptors at these places.
 abbrev pub stored_at : List ℕ → List Descriptor → List Stored

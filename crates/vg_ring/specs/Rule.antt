@@ -1,4 +1,4 @@
-use Rattle.std.specs.Prelude.{◌≡◌, ℕ, zero, suc, ◌+◌, ◌*◌, ◌%◌, ◌<◌, ◌≤◌, ◌≢◌, ◌⊎◌, Bool, Option, Some, None, List, [], ◌∷◌, ◌++◌, length, map, slice_index, replicate}
+use Rattle.std.specs.Prelude.{◌≡◌, ℕ, zero, suc, ◌+◌, ◌*◌, ◌%◌, ◌<◌, ◌≤◌, ◌≢◌, ◌⊎◌, Bool, Option, Some, None, List, [], ◌∷◌, ◌++◌, length, map, slice_index, replicate, ◌==◌, if◌then◌else◌}
 use mathlib.Core.Option.{some, none}
 use lib.ListN.{get_elem?}
 use Rattle.atomic_table.specs.Table.{State}
@@ -16,7 +16,7 @@ use Rattle.vg_ring.specs.declared.views.View.{View}
 use Rattle.vg_ring.specs.declared.views.View.TheVariants.{Start, Driver, Device, Right, Spent}
 use Rattle.vg_ring.specs.Cargo.{CargoData}
 use Rattle.vg_ring.specs.Words.{addr_place, rest_place, available_place, used_place, used_word}
-use Rattle.vg_ring.specs.Entries.{head_of, entry_of, entries, uses, spread, heads, times, stored_of, IsFresh, IsDone, InOrder}
+use Rattle.vg_ring.specs.Entries.{head_of, entry_of, entries, weigh, uses, spread, heads, times, stored_of, IsFresh, IsDone, InOrder}
 
 -- A word of the ring.
 abbrev pub word_at : List ℕ → ℕ → ℕ
@@ -129,10 +129,9 @@ module _ {P : Type 0} (wanted : P → Bool) (queue : Queue) (n : ℕ) where
     pub sent : d.published ≡ v.fetched ++ coming
     pub back : v.completed ≡ d.reaped ++ going
     pub ordered : InOrder [] d.published
-    pub shared : (h : ℕ) → uses h d.outs ≡ uses h coming + uses h v.held + uses h (entries going)
+    pub shared : (f : Entry → ℕ) → weigh f d.outs ≡ weigh f coming + weigh f v.held + weigh f (entries going)
     pub once : (h : ℕ) → uses h d.outs ≤ 1
     pub below : (h : ℕ) → 0 < uses h d.outs → h < n
-    pub spread_is : spread d.outs ≡ spread coming + spread v.held + spread (entries going)
     pub room : spread d.outs ≤ n
     pub come_heads : HaveHeads coming
     pub held_heads : HaveHeads v.held
@@ -165,3 +164,19 @@ staged d stage = record d { stage = stage }
 
 abbrev pub set_stage : DeviceView → DeviceStage → DeviceView
 set_stage v stage = record v { stage = stage }
+
+-- What the ends know after a publication, a fetch, a completion and a reap. What an end has is in any order.
+abbrev pub published_after : DriverView → Entry → DriverView
+published_after d e = record d { published = d.published ++ e ∷ []; outs = e ∷ d.outs; stage = driver.Resting }
+
+abbrev pub fetched_after : DeviceView → Entry → DeviceView
+fetched_after v e = record v { fetched = v.fetched ++ e ∷ []; held = e ∷ v.held; stage = device.Taken e }
+
+abbrev pub completed_after : DeviceView → Answer → List Entry → DeviceView
+completed_after v a held = record v { completed = v.completed ++ a ∷ []; held = held; stage = device.Resting }
+
+abbrev pub looked_by_device : DeviceView → ℕ → DeviceView
+looked_by_device v found = record v { looks = v.looks + 1; seen = found; stage = if found == length v.fetched % 65536 then device.Resting else device.Newer }
+
+abbrev pub looked_by_driver : DriverView → ℕ → DriverView
+looked_by_driver d found = record d { looks = d.looks + 1; seen = found; stage = if found == length d.reaped % 65536 then driver.Resting else driver.Newer }
