@@ -5,7 +5,7 @@ use Rattle.std.proofs.lemmas.Bool.Decides.{eqb_tells}
 use Rattle.vg_ring.specs.declared.views.Entry.{Entry}
 use Rattle.vg_ring.specs.declared.views.Answer.{Answer}
 use Rattle.vg_ring.specs.declared.views.Stored.{Stored}
-use Rattle.vg_ring.specs.Entries.{head_of, entry_of, entries, times, weigh, uses, spread, heads, lane_count, InOrder}
+use Rattle.vg_ring.specs.Entries.{head_of, entry_of, entries, times, weigh, head_in, uses, spread, heads, lane_count, InOrder}
 use Rattle.vg_ring.specs.Rule.{place_of, places_of, StandStored, HaveHeads}
 
 pub times-append : (h : ℕ) (xs ys : List ℕ) → times h (xs ++ ys) ≡ times h xs + times h ys
@@ -53,3 +53,10 @@ in_order-snoc before (f ∷ es) e order next =
 pub in_order-front : (before es fs : List Entry) → InOrder before (es ++ fs) → InOrder before es
 in_order-front before [] fs order = tt
 in_order-front before (e ∷ es) fs order = (order.0, in_order-front (before ++ e ∷ []) es fs order.1)
+
+pub head_in_places : (h : ℕ) (e : Entry) → 0 < length e.places → head_of e ≡ h → 1 ≤ times h e.places
+head_in_places h e some is = (let here = head_times h e.places some in let one : head_in h e ≡ 1 = rw (eq-eqb (head_of e) h is) refl in omega (arith, here, one))
+
+-- an entry whose head is elsewhere doesn't count
+pub heads_less : (h : ℕ) (e : Entry) (es fs : List Entry) → (head_of e ≡ h → ⊥) → heads h es + heads h fs ≡ 0 → heads h (e ∷ es) + heads h fs ≡ 0
+heads_less h e es fs other zero_there = let none_here : head_in h e ≡ 0 = rw (ne_eqb (head_of e) h other) refl in omega (arith, none_here)

@@ -4,3 +4,4 @@ pub mod Counts
 pub mod Slots
 pub mod Seats
 pub mod DriverSteps
+pub mod DeviceSteps

@@ -56,3 +56,32 @@ module _ {P : Type 0} (wanted : P → Bool) (queue : Queue) (n : ℕ) where
     where
       moved : (i : ℕ) (e : Entry) → get_elem? (set views 0 (Driver d')) i ≡ some (Right e) → get_elem? views i ≡ some (Right e)
       moved i e at = elim (at_set views 0 i (Driver d') (Right e) at) [ inl w ↦ absurd (cc) | inr w ↦ w.1 ]
+
+  -- a seat with a device's view is the device's
+  pub record IsAtDevice (s : State (Option (CargoData P)) View) (id : ℕ) (v : DeviceView) : Type 0 where
+    pub id_is : id ≡ 1
+    pub driver : DriverView
+    pub coming : List Entry
+    pub going : List Answer
+    pub ring : IsRing wanted queue n s driver v coming going
+
+  pub at_device : (s : State (Option (CargoData P)) View) (id : ℕ) (v : DeviceView) → Ring wanted queue n s → get_elem? s.views id ≡ some (Device v) → IsAtDevice s id v
+  at_device s id v (inl fresh) at = (let same = new_start s.views id (Device v) fresh.views at in absurd (cc))
+  at_device s zero v (inr r) at = (let both : some (Driver r.0) ≡ some (Device v) = sym r.4.seated.driver_at ∙ at in absurd (cc))
+  at_device s (suc zero) v (inr r) at =
+      let both : some (Device r.1) ≡ some (Device v) = sym r.4.seated.device_at ∙ at in
+      let same : r.1 ≡ v = cc in
+      record { id_is = refl; driver = r.0; coming = r.2; going = r.3; ring = subst (λ (z : DeviceView). IsRing wanted queue n s r.0 z r.2 r.3) same r.4 }
+  at_device s (suc (suc i)) v (inr r) at = absurd (r.4.seated.guests (suc (suc i)) (Device v) (omega arith) at)
+
+  -- the device's seat has another view, with the same rights outside
+  pub seated_device : (views : List View) (d : DriverView) (v v' : DeviceView) → v'.lent ≡ v.lent → AreSeated wanted queue n views d v → AreSeated wanted queue n (set views 1 (Device v')) d v'
+  seated_device views d v v' lent seated = record {
+    driver_at = set_else views 1 0 (Device v') (λ e. omega arith) ∙ seated.driver_at;
+    device_at = set_here views 1 (Device v') (within views 1 (Device v) seated.device_at);
+    guests = λ i w late at. subst (λ (es : List Entry). IsGuest wanted queue n es w) (sym lent) (seated.guests i w late (sym (set_else views 1 i (Device v') (λ e. omega arith)) ∙ at));
+    apart = λ i j e f at at' same. seated.apart i j e f (moved i e at) (moved j f at') same;
+  }
+    where
+      moved : (i : ℕ) (e : Entry) → get_elem? (set views 1 (Device v')) i ≡ some (Right e) → get_elem? views i ≡ some (Right e)
+      moved i e at = elim (at_set views 1 i (Device v') (Right e) at) [ inl w ↦ absurd (cc) | inr w ↦ w.1 ]

@@ -1,0 +1,237 @@
+use Rattle.std.proofs.Common.{◌≡◌, ◌≢◌, ℕ, zero, suc, ◌+◌, ◌*◌, ◌%◌, ◌<◌, ◌≤◌, Bool, true, false, Option, Some, None, ◌⊎◌, List, [], ◌∷◌, ◌++◌, length, map, get_or, set, refl, sym, ap, subst, inl, inr, ◌∙◌, arith, add-one, cond, eqb, length-append, append_assoc}
+use mathlib.Core.Option.{some, none}
+use lib.ListN.{get_elem?}
+use Rattle.std.proofs.lemmas.List.{get_or-set_same, length-set, set-get_or, append-nil}
+use Rattle.std.proofs.Math.Nat.{mod-lt}
+use Rattle.atomic_table.proofs.Lists.{set_else, set_here}
+use Rattle.std.proofs.lemmas.Bool.{cases_lt, cases_eq, eq-eqb}
+use Rattle.std.proofs.lemmas.Bool.Decides.{eqb_tells}
+use Rattle.atomic_table.specs.Table.{State, Act, Allows, Me, Valid, stepped, carried_after}
+use Rattle.atomic_table.specs.Table.Act.{keeps, takes, gives}
+use Rattle.vg_wire.specs.declared.request.Queue.{Queue}
+use Rattle.vg_ring.specs.declared.views.Entry.{Entry}
+use Rattle.vg_ring.specs.declared.views.Answer.{Answer}
+use Rattle.vg_ring.specs.declared.views.Stored.{Stored}
+use Rattle.vg_ring.specs.declared.views.DriverStage.{DriverStage}
+use Rattle.vg_ring.specs.declared.views.DriverStage.TheVariants as driver
+use Rattle.vg_ring.specs.declared.views.DeviceStage.{DeviceStage}
+use Rattle.vg_ring.specs.declared.views.DeviceStage.TheVariants as device
+use Rattle.vg_ring.specs.declared.views.DriverView.{DriverView}
+use Rattle.vg_ring.specs.declared.views.DeviceView.{DeviceView}
+use Rattle.vg_ring.specs.declared.views.View.{View}
+use Rattle.vg_ring.specs.declared.views.View.TheVariants.{Start, Driver, Device, Right, Spent}
+use Rattle.vg_ring.specs.Cargo.{CargoData}
+use Rattle.vg_ring.specs.Words.{addr_place, rest_place, available_place, used_place}
+use Rattle.vg_ring.specs.Entries.{head_of, times, uses_in, places_in, head_in, uses, heads, spread, entries, lane_count, stored_of, IsFresh, IsDone, InOrder}
+use Rattle.vg_ring.specs.Rule.{word_at, Offers, Returns, places_of, StandStored, AreFree, DriverKnows, DeviceKnows, driver_hand, device_hand, Vacant, IsRing, Ring, set_stage, fetched_after, completed_after, looked_by_device}
+use Rattle.vg_ring.proofs.Frames.{word_else, stored_kept, stored_high, stand_kept, stand_high, stored_low, stand_low, stand_snoc, offers_kept, offers_apart, offers_snoc, returns_kept, IsWordOf}
+use Rattle.vg_ring.proofs.Counts.{times-append, places-snoc, stored-snoc, heads_uses, length_spread, weigh-append, have-append, in_order-snoc, in_order-front, head_in_places, heads_less}
+use Rattle.vg_ring.proofs.Slots.{heads_here, wait_kept, wait_snoc, lie_kept}
+use Rattle.vg_ring.proofs.Seats.{IsAtDevice, at_device, seated_device}
+use Rattle.vg_ring.proofs.DriverSteps.{device_kept}
+
+module _ {P : Type 0} (wanted : P → Bool) (queue : Queue) (n : ℕ) where
+  -- the device's end comes to another stage, with the same lists
+  moves : (s : State (Option (CargoData P)) View) (d : DriverView) (v : DeviceView) (looks seen : ℕ) (stage : DeviceStage) (coming : List Entry) (going : List Answer) (i : ℕ)
+      → IsRing wanted queue n s d v coming going → ((h : ℕ) → device_hand wanted queue n v.stage h → device_hand wanted queue n stage h)
+      → DeviceKnows wanted queue n s.words coming v.completed v.held v.lent stage
+      → IsRing wanted queue n (record { words = set s.words i (get_or s.words i 0); homes = s.homes; views = set s.views 1 (Device (record v { looks = looks; seen = seen; stage = stage })) }) d (record v { looks = looks; seen = seen; stage = stage }) coming going
+  moves s d v looks seen stage coming going i r hands knows =
+      subst (λ (ws : List ℕ). IsRing wanted queue n (record { words = ws; homes = s.homes; views = set s.views 1 (Device (record v { looks = looks; seen = seen; stage = stage })) }) d (record v { looks = looks; seen = seen; stage = stage }) coming going)
+      (sym (set-get_or s.words i 0)) (record {
+        words = r.words;
+        homes = r.homes;
+        sent = r.sent;
+        back = r.back;
+        ordered = r.ordered;
+        shared = r.shared;
+        once = r.once;
+        below = r.below;
+        room = r.room;
+        come_heads = r.come_heads;
+        held_heads = r.held_heads;
+        go_heads = r.go_heads;
+        available = r.available;
+        used = r.used;
+        offers = r.offers;
+        returns = r.returns;
+        come_stand = r.come_stand;
+        held_stand = r.held_stand;
+        go_stand = r.go_stand;
+        wait = r.wait;
+        lie = r.lie;
+        vacant = λ h below unused mine other. r.vacant h below unused mine (λ old. other (hands h old));
+        driver_knows = r.driver_knows;
+        device_knows = knows;
+        seated = seated_device wanted queue n s.views d v (record v { looks = looks; seen = seen; stage = stage }) refl r.seated;
+      })
+
+  newer : (ws : List ℕ) (d : DriverView) (v : DeviceView) (coming : List Entry) (found : ℕ) → d.published ≡ v.fetched ++ coming → found ≡ length d.published % 65536
+      → DeviceKnows wanted queue n ws coming v.completed v.held v.lent (cond (eqb found (length v.fetched % 65536)) device.Resting device.Newer)
+  newer ws d v [] found sent is = (let all : d.published ≡ v.fetched = sent ∙ append-nil v.fetched in let same : found ≡ length v.fetched % 65536 = is ∙ ap (λ (es : List Entry). length es % 65536) all in rw (eq-eqb found (length v.fetched % 65536) same) tt)
+  newer ws d v (e ∷ coming) found sent is = go (eqb found (length v.fetched % 65536))
+    where
+      go : (b : Bool) → DeviceKnows wanted queue n ws (e ∷ coming) v.completed v.held v.lent (cond b device.Resting device.Newer)
+      go true = tt
+      go false = omega arith
+
+  -- The available index is loaded.
+  pub looks_at_available : (slots id : ℕ) (v : DeviceView)
+      → Allows (Ring wanted queue n) slots id (Device (set_stage v device.Resting), []) 0 (λ k. k) (λ found me. me ≡ (Device (looked_by_device v found), []))
+  looks_at_available slots id v = λ s ring many at bound.
+      let w = at_device wanted queue n s id (set_stage v device.Resting) ring at in
+      let found = get_or s.words 0 0 in
+      let stage = cond (eqb found (length v.fetched % 65536)) device.Resting device.Newer in
+      let next = moves s w.driver (set_stage v device.Resting) (v.looks + 1) found stage w.coming w.going 0 w.ring (λ h no. absurd no) (newer s.words w.driver v w.coming found w.ring.sent w.ring.available) in
+      (Device (looked_by_device v found), keeps, tt, rw w.id_is (inr (w.driver, looked_by_device v found, w.coming, w.going, next)), refl)
+
+  -- What a fetch tells.
+  pub record IsTaken (v : DeviceView) (found : ℕ) (me : Me (Option (CargoData P)) View) : Type 0 where
+    pub entry : Entry
+    pub cargo : CargoData P
+    pub after : me ≡ (Device (fetched_after v entry), (head_of entry, Some cargo) ∷ [])
+    pub head : found ≡ head_of entry
+    pub small : found < n
+    pub fresh : IsFresh wanted queue entry cargo
+    pub ordered : InOrder [] (v.fetched ++ entry ∷ [])
+    pub few : spread (entry ∷ v.held) ≤ n
+    pub heads : heads (head_of entry) (entry ∷ v.held) ≡ 1
+
+  takes_first : (s : State (Option (CargoData P)) View) (id : ℕ) (d : DriverView) (v : DeviceView) (coming : List Entry) (going : List Answer)
+      → id ≡ 1 → IsRing wanted queue n s d (set_stage v device.Newer) coming going
+      → (w : View) × (a : Act (Option (CargoData P))) × Valid s.homes [] a × Ring wanted queue n (stepped s (available_place n (length v.fetched % n)) (get_or s.words (available_place n (length v.fetched % n)) 0) id [] w a)
+      × IsTaken v (get_or s.words (available_place n (length v.fetched % n)) 0) (w, carried_after [] a)
+  takes_first s id d v [] going id_is r = absurd (omega (arith, r.device_knows))
+  takes_first s id d v (e ∷ coming) going id_is r =
+      let h = head_of e in
+      let i = available_place n (length v.fetched % n) in
+      let cargo = r.wait.0.0 in
+      let shared = r.shared (uses_in h) in
+      let once = r.once h in
+      let here : 1 ≤ times h e.places = head_in_places h e r.come_heads.0 refl in
+      let no_come : heads h coming ≡ 0 = (let few = heads_uses h coming r.come_heads.1 in omega (arith, few, shared, once, here)) in
+      let no_held : heads h v.held ≡ 0 = (let few = heads_uses h v.held r.held_heads in omega (arith, few, shared, once, here)) in
+      let no_go : heads h (entries going) ≡ 0 = (let few = heads_uses h (entries going) r.go_heads in omega (arith, few, shared, once, here)) in
+      let small : h < n = r.below h (omega (arith, shared, here)) in
+      let mine : heads h (e ∷ v.held) ≡ 1 = rw (eq-eqb h h refl, no_held) refl in
+      let all : d.published ≡ (v.fetched ++ e ∷ []) ++ coming = r.sent ∙ sym (append_assoc v.fetched (e ∷ []) coming) in
+      let next : IsRing wanted queue n (record { words = s.words; homes = set s.homes h none; views = set s.views 1 (Device (fetched_after v e)) }) d (fetched_after v e) coming going = record {
+        words = r.words;
+        homes = length-set s.homes h none ∙ r.homes;
+        sent = all;
+        back = r.back;
+        ordered = r.ordered;
+        shared = λ f. (let old = r.shared f in omega (arith, old));
+        once = r.once;
+        below = r.below;
+        room = r.room;
+        come_heads = r.come_heads.1;
+        held_heads = (r.come_heads.0, r.held_heads);
+        go_heads = r.go_heads;
+        available = r.available;
+        used = r.used;
+        offers = subst (λ (k : ℕ). Offers n s.words k coming) (let moved : suc (length v.fetched) ≡ length (v.fetched ++ e ∷ []) = omega (arith, length-append v.fetched (e ∷ [])) in moved) r.offers.1;
+        returns = r.returns;
+        come_stand = r.come_stand.1;
+        held_stand = (r.come_stand.0, r.held_stand);
+        go_stand = r.go_stand;
+        wait = wait_kept wanted queue n s.homes h none coming no_come r.wait.1;
+        lie = lie_kept wanted queue n s.homes h none going no_go r.lie;
+        vacant = λ k below unused driver_apart apart. set_else s.homes h k none (λ same. apart (sym same)) ∙ r.vacant k below (heads_less k e coming (entries going) (λ same. apart same) unused) driver_apart (λ no. no);
+        driver_knows = r.driver_knows;
+        device_knows = mine;
+        seated = seated_device wanted queue n s.views d (set_stage v device.Newer) (fetched_after v e) refl r.seated;
+      } in
+      let back : IsRing wanted queue n (record { words = set s.words i (get_or s.words i 0); homes = set s.homes h none; views = set s.views 1 (Device (fetched_after v e)) }) d (fetched_after v e) coming going =
+          subst (λ (ws : List ℕ). IsRing wanted queue n (record { words = ws; homes = set s.homes h none; views = set s.views 1 (Device (fetched_after v e)) }) d (fetched_after v e) coming going) (sym (set-get_or s.words i 0)) next in
+      let few : spread (e ∷ v.held) ≤ n = (let total = r.shared places_in in let room = r.room in omega (arith, total, room)) in
+      (Device (fetched_after v e), takes h (Some cargo), r.wait.0.1, rw id_is (inr (d, fetched_after v e, coming, going, back)), record {
+        entry = e;
+        cargo = cargo;
+        after = refl;
+        head = r.offers.0;
+        small = rw r.offers.0 small;
+        fresh = r.wait.0.2;
+        ordered = in_order-front [] (v.fetched ++ e ∷ []) coming (subst (λ (es : List Entry). InOrder [] es) all r.ordered);
+        few = few;
+        heads = mine;
+      })
+
+  -- The available element is loaded, and the slot of its head is taken.
+  pub takes_entry : (slots id : ℕ) (v : DeviceView)
+      → Allows (Ring wanted queue n) slots id (Device (set_stage v device.Newer), []) (available_place n (length v.fetched % n)) (λ k. k) (IsTaken v)
+  takes_entry slots id v = λ s ring many at bound.
+      let w = at_device wanted queue n s id (set_stage v device.Newer) ring at in
+      takes_first s id w.driver v w.coming w.going w.id_is w.ring
+
+  -- Another load, at which the empty slot goes home.
+  pub settles : (slots id i : ℕ) (v : DeviceView) (e : Entry)
+      → Allows (Ring wanted queue n) slots id (Device (set_stage v (device.Taken e)), (head_of e, None) ∷ []) i (λ k. k) (λ found me. me ≡ (Device (set_stage v device.Resting), []))
+  settles slots id i v e = λ s ring many at bound.
+      let w = at_device wanted queue n s id (set_stage v (device.Taken e)) ring at in
+      let r = w.ring in
+      let h = head_of e in
+      let shared = r.shared (uses_in h) in
+      let once = r.once h in
+      let held = heads_uses h v.held r.held_heads in
+      let mine : heads h v.held ≡ 1 = r.device_knows in
+      let no_come : heads h w.coming ≡ 0 = (let few = heads_uses h w.coming r.come_heads in omega (arith, few, shared, once, held, mine)) in
+      let no_go : heads h (entries w.going) ≡ 0 = (let few = heads_uses h (entries w.going) r.go_heads in omega (arith, few, shared, once, held, mine)) in
+      let small : h < n = r.below h (omega (arith, shared, held, mine)) in
+      let next : IsRing wanted queue n (record { words = s.words; homes = set s.homes h (some None); views = set s.views 1 (Device (set_stage v device.Resting)) }) w.driver (set_stage v device.Resting) w.coming w.going = record {
+        words = r.words;
+        homes = length-set s.homes h (some None) ∙ r.homes;
+        sent = r.sent;
+        back = r.back;
+        ordered = r.ordered;
+        shared = r.shared;
+        once = r.once;
+        below = r.below;
+        room = r.room;
+        come_heads = r.come_heads;
+        held_heads = r.held_heads;
+        go_heads = r.go_heads;
+        available = r.available;
+        used = r.used;
+        offers = r.offers;
+        returns = r.returns;
+        come_stand = r.come_stand;
+        held_stand = r.held_stand;
+        go_stand = r.go_stand;
+        wait = wait_kept wanted queue n s.homes h (some None) w.coming no_come r.wait;
+        lie = lie_kept wanted queue n s.homes h (some None) w.going no_go r.lie;
+        vacant = λ k below unused driver_apart apart. elim (cases_eq k h) [
+          inl same ↦ rw same (set_here s.homes h (some None) (let all = r.homes in omega (arith, all)))
+          | inr other ↦ set_else s.homes h k (some None) other ∙ r.vacant k below unused driver_apart (λ same. other (sym same))
+        ];
+        driver_knows = r.driver_knows;
+        device_knows = tt;
+        seated = seated_device wanted queue n s.views w.driver (set_stage v (device.Taken e)) (set_stage v device.Resting) refl r.seated;
+      } in
+      let back = subst (λ (ws : List ℕ). IsRing wanted queue n (record { words = ws; homes = set s.homes h (some None); views = set s.views 1 (Device (set_stage v device.Resting)) }) w.driver (set_stage v device.Resting) w.coming w.going) (sym (set-get_or s.words i 0)) next in
+      (Device (set_stage v device.Resting), gives, tt, rw w.id_is (inr (w.driver, set_stage v device.Resting, w.coming, w.going, back)), refl)
+
+  -- the driver has no slot of an entry that is out, and what it knows stays where a used element is stored
+  driver_apart : (ws : List ℕ) (published outs : List Entry) (going : List Answer) (stage : DriverStage) (h : ℕ) → 1 ≤ uses h outs → DriverKnows wanted queue n ws published outs going stage → driver_hand wanted queue n stage h → ⊥
+  driver_apart ws published outs going driver.Resting h out knows hand = hand
+  driver_apart ws published outs going (driver.Writing stored) h out knows hand = hand
+  driver_apart ws published outs going (driver.Half stored p a) h out knows hand = hand
+  driver_apart ws published outs going (driver.Offered []) h out knows hand = hand
+  driver_apart ws published outs going (driver.Offered (first ∷ stored)) h out knows hand =
+      let once = knows.0.once first.place in
+      let one : times first.place (places_of (first ∷ stored)) ≡ 1 + times first.place (places_of stored) = rw (eq-eqb first.place first.place refl) refl in
+      let same : uses first.place outs ≡ uses h outs = ap (λ (k : ℕ). uses k outs) hand in
+      omega (arith, once, one, same)
+  driver_apart ws published outs going driver.Newer h out knows hand = hand
+  driver_apart ws published outs going (driver.Taken a) h out knows hand = (let same : uses (head_of a.entry) outs ≡ uses h outs = ap (λ (k : ℕ). uses k outs) hand in omega (arith, knows, same))
+
+  driver_high : (ws : List ℕ) (i x : ℕ) (published outs : List Entry) (going : List Answer) (stage : DriverStage) → 0 < n → 2 + 3 * n ≤ i
+      → DriverKnows wanted queue n ws published outs going stage → DriverKnows wanted queue n (set ws i x) published outs going stage
+  driver_high ws i x published outs going driver.Resting large high knows = knows
+  driver_high ws i x published outs going (driver.Writing stored) large high knows = (knows.0, stored_high ws n i x stored (omega arith) knows.0.below knows.1)
+  driver_high ws i x published outs going (driver.Half stored p a) large high knows = ?
+  driver_high ws i x published outs going (driver.Offered stored) large high knows =
+      let small = mod-lt (length published) large in
+      (knows.0, stored_high ws n i x stored (omega arith) knows.0.below knows.1, knows.2, word_else ws i (available_place n (length published % n)) x (λ same. omega (arith, small)) ∙ knows.3)
+  driver_high ws i x published outs going driver.Newer large high knows = knows
+  driver_high ws i x published outs going (driver.Taken a) large high knows = knows
