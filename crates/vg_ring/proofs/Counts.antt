@@ -60,3 +60,15 @@ head_in_places h e some is = (let here = head_times h e.places some in let one :
 -- an entry whose head is elsewhere doesn't count
 pub heads_less : (h : ℕ) (e : Entry) (es fs : List Entry) → (head_of e ≡ h → ⊥) → heads h es + heads h fs ≡ 0 → heads h (e ∷ es) + heads h fs ≡ 0
 heads_less h e es fs other zero_there = let none_here : head_in h e ≡ 0 = rw (ne_eqb (head_of e) h other) refl in omega (arith, none_here)
+
+pub have-front : (es fs : List Entry) → HaveHeads (es ++ fs) → HaveHeads es × HaveHeads fs
+have-front [] fs some = (tt, some)
+have-front (e ∷ es) fs some = (let rest = have-front es fs some.1 in ((some.0, rest.0), rest.1))
+
+pub length-entries : (answers : List Answer) → length (entries answers) ≡ length answers
+length-entries [] = refl
+length-entries (a ∷ more) = ap suc (length-entries more)
+
+pub heads_length : (h : ℕ) (es : List Entry) → 1 ≤ heads h es → 1 ≤ length es
+heads_length h [] is_there = absurd (omega arith)
+heads_length h (e ∷ es) is_there = omega arith

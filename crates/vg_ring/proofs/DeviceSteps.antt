@@ -21,12 +21,12 @@ use Rattle.vg_ring.specs.declared.views.DeviceView.{DeviceView}
 use Rattle.vg_ring.specs.declared.views.View.{View}
 use Rattle.vg_ring.specs.declared.views.View.TheVariants.{Start, Driver, Device, Right, Spent}
 use Rattle.vg_ring.specs.Cargo.{CargoData}
-use Rattle.vg_ring.specs.Words.{addr_place, rest_place, available_place, used_place}
-use Rattle.vg_ring.specs.Entries.{head_of, times, uses_in, places_in, head_in, uses, heads, spread, entries, lane_count, stored_of, IsFresh, IsDone, InOrder}
-use Rattle.vg_ring.specs.Rule.{word_at, Offers, Returns, places_of, StandStored, AreFree, DriverKnows, DeviceKnows, driver_hand, device_hand, Vacant, IsRing, Ring, set_stage, fetched_after, completed_after, looked_by_device}
-use Rattle.vg_ring.proofs.Frames.{word_else, stored_kept, stored_high, stand_kept, stand_high, stored_low, stand_low, stand_snoc, offers_kept, offers_apart, offers_snoc, returns_kept, IsWordOf}
-use Rattle.vg_ring.proofs.Counts.{times-append, places-snoc, stored-snoc, heads_uses, length_spread, weigh-append, have-append, in_order-snoc, in_order-front, head_in_places, heads_less}
-use Rattle.vg_ring.proofs.Slots.{heads_here, wait_kept, wait_snoc, lie_kept}
+use Rattle.vg_ring.specs.Words.{addr_place, rest_place, available_place, used_place, used_word}
+use Rattle.vg_ring.specs.Entries.{head_of, times, uses_in, places_in, head_in, uses, heads, spread, entries, lane_count, weigh, stored_of, IsFresh, IsDone, InOrder}
+use Rattle.vg_ring.specs.Rule.{word_at, Offers, Returns, Stand, HaveHeads, places_of, StandStored, AreFree, DriverKnows, DeviceKnows, driver_hand, device_hand, Vacant, IsRing, Ring, set_stage, fetched_after, completed_after, looked_by_device}
+use Rattle.vg_ring.proofs.Frames.{word_else, stored_kept, stored_high, stand_kept, stand_high, stored_low, stand_low, stand_snoc, stand_append, stand_front, offers_high, returns_apart, returns_snoc, offers_kept, offers_apart, offers_snoc, returns_kept, IsWordOf}
+use Rattle.vg_ring.proofs.Counts.{times-append, places-snoc, stored-snoc, heads_uses, length_spread, weigh-append, have-append, in_order-snoc, in_order-front, head_in_places, heads_less, heads_length, length-entries, entries-append, have-front}
+use Rattle.vg_ring.proofs.Slots.{heads_here, wait_kept, wait_snoc, lie_kept, lie_snoc}
 use Rattle.vg_ring.proofs.Seats.{IsAtDevice, at_device, seated_device}
 use Rattle.vg_ring.proofs.DriverSteps.{device_kept}
 
@@ -229,9 +229,136 @@ module _ {P : Type 0} (wanted : P → Bool) (queue : Queue) (n : ℕ) where
       → DriverKnows wanted queue n ws published outs going stage → DriverKnows wanted queue n (set ws i x) published outs going stage
   driver_high ws i x published outs going driver.Resting large high knows = knows
   driver_high ws i x published outs going (driver.Writing stored) large high knows = (knows.0, stored_high ws n i x stored (omega arith) knows.0.below knows.1)
-  driver_high ws i x published outs going (driver.Half stored p a) large high knows = ?
+  driver_high ws i x published outs going (driver.Half stored p a) large high knows =
+      (knows.0, stored_high ws n i x stored (omega arith) knows.0.below knows.1, (let small = knows.3 in word_else ws i (addr_place p) x (λ same. omega (arith, small)) ∙ knows.2), knows.3)
   driver_high ws i x published outs going (driver.Offered stored) large high knows =
       let small = mod-lt (length published) large in
       (knows.0, stored_high ws n i x stored (omega arith) knows.0.below knows.1, knows.2, word_else ws i (available_place n (length published % n)) x (λ same. omega (arith, small)) ∙ knows.3)
   driver_high ws i x published outs going driver.Newer large high knows = knows
   driver_high ws i x published outs going (driver.Taken a) large high knows = knows
+
+  -- The used element is stored, and the empty slot of the head is taken.
+  pub answers_element : (slots id : ℕ) (v : DeviceView) (e : Entry) (len : ℕ) → heads (head_of e) v.held ≡ 1
+      → Allows (Ring wanted queue n) slots id (Device (set_stage v device.Resting), []) (used_place n (length v.completed % n)) (λ _. used_word (head_of e) len)
+        (λ _ me. me ≡ (Device (set_stage v (device.Answering e len)), (head_of e, None) ∷ []))
+  answers_element slots id v e len mine = λ s ring many at bound.
+      let w = at_device wanted queue n s id (set_stage v device.Resting) ring at in
+      let r = w.ring in
+      let h = head_of e in
+      let x = used_word h len in
+      let i = used_place n (length v.completed % n) in
+      let shared = r.shared (uses_in h) in
+      let once = r.once h in
+      let held = heads_uses h v.held r.held_heads in
+      let no_come : heads h w.coming ≡ 0 = (let few = heads_uses h w.coming r.come_heads in omega (arith, few, shared, once, held, mine)) in
+      let no_go : heads h (entries w.going) ≡ 0 = (let few = heads_uses h (entries w.going) r.go_heads in omega (arith, few, shared, once, held, mine)) in
+      let out : 1 ≤ uses h w.driver.outs = omega (arith, shared, held, mine) in
+      let below : h < n = r.below h (omega (arith, out)) in
+      let large : 0 < n = omega (arith, below) in
+      let small : length v.completed % n < n = mod-lt (length v.completed) large in
+      let empty : get_elem? s.homes h ≡ some (some None) = r.vacant h below (omega (arith, no_come, no_go)) (driver_apart s.words w.driver.published w.driver.outs w.going w.driver.stage h out r.driver_knows) (λ no. no) in
+      let count : length v.completed ≡ length w.driver.reaped + length w.going = ap length r.back ∙ length-append w.driver.reaped w.going in
+      let few : length (entries w.going) ≤ spread (entries w.going) = length_spread (entries w.going) r.go_heads in
+      let some_held : length v.held ≤ spread v.held = length_spread v.held r.held_heads in
+      let one_held : 1 ≤ length v.held = heads_length h v.held (omega (arith, mine)) in
+      let total = r.shared places_in in
+      let room = r.room in
+      let as_many = length-entries w.going in
+      let next : IsRing wanted queue n (record { words = set s.words i x; homes = set s.homes h none; views = set s.views 1 (Device (set_stage v (device.Answering e len))) }) w.driver (set_stage v (device.Answering e len)) w.coming w.going = record {
+        words = length-set s.words i x ∙ r.words;
+        homes = length-set s.homes h none ∙ r.homes;
+        sent = r.sent;
+        back = r.back;
+        ordered = r.ordered;
+        shared = r.shared;
+        once = r.once;
+        below = r.below;
+        room = r.room;
+        come_heads = r.come_heads;
+        held_heads = r.held_heads;
+        go_heads = r.go_heads;
+        available = word_else s.words i 0 x (λ same. omega arith) ∙ r.available;
+        used = word_else s.words i 1 x (λ same. omega arith) ∙ r.used;
+        offers = offers_high n s.words (length v.fetched) i x w.coming large (omega arith) r.offers;
+        returns = returns_apart n s.words (length w.driver.reaped) (length v.completed) x w.going (omega (arith, count)) (omega (arith, count, few, some_held, one_held, total, room, as_many)) r.returns;
+        come_stand = stand_high queue n s.words i x w.coming (omega arith) (λ k is_there. r.below k (let all = r.shared (uses_in k) in omega (arith, all))) r.come_stand;
+        held_stand = stand_high queue n s.words i x v.held (omega arith) (λ k is_there. r.below k (let all = r.shared (uses_in k) in omega (arith, all))) r.held_stand;
+        go_stand = stand_high queue n s.words i x (entries w.going) (omega arith) (λ k is_there. r.below k (let all = r.shared (uses_in k) in omega (arith, all))) r.go_stand;
+        wait = wait_kept wanted queue n s.homes h none w.coming no_come r.wait;
+        lie = lie_kept wanted queue n s.homes h none w.going no_go r.lie;
+        vacant = λ k below' unused theirs apart. set_else s.homes h k none (λ same. apart (sym same)) ∙ r.vacant k below' unused theirs (λ no. no);
+        driver_knows = driver_high s.words i x w.driver.published w.driver.outs w.going w.driver.stage large (omega arith) r.driver_knows;
+        device_knows = (mine, get_or-set_same s.words i x 0 (let all = r.words in omega (arith, all, small)));
+        seated = seated_device wanted queue n s.views w.driver (set_stage v device.Resting) (set_stage v (device.Answering e len)) refl r.seated;
+      } in
+      (Device (set_stage v (device.Answering e len)), takes h None, empty, rw w.id_is (inr (w.driver, set_stage v (device.Answering e len), w.coming, w.going, next)), refl)
+
+  -- what the driver knows stays where words 0 and 1 are stored and more goes back
+  driver_low : (ws : List ℕ) (i x : ℕ) (published outs : List Entry) (going : List Answer) (a : Answer) (stage : DriverStage) → i < 2
+      → DriverKnows wanted queue n ws published outs going stage → DriverKnows wanted queue n (set ws i x) published outs (going ++ a ∷ []) stage
+  driver_low ws i x published outs going a driver.Resting low knows = knows
+  driver_low ws i x published outs going a (driver.Writing stored) low knows = (knows.0, stored_low ws i x stored low knows.1)
+  driver_low ws i x published outs going a (driver.Half stored p b) low knows = (knows.0, stored_low ws i x stored low knows.1, word_else ws i (addr_place p) x (λ same. omega arith) ∙ knows.2, knows.3)
+  driver_low ws i x published outs going a (driver.Offered stored) low knows = (knows.0, stored_low ws i x stored low knows.1, knows.2, word_else ws i (available_place n (length published % n)) x (λ same. omega arith) ∙ knows.3)
+  driver_low ws i x published outs going a driver.Newer low knows = (let long = length-append going (a ∷ []) in omega (arith, long))
+  driver_low ws i x published outs going a (driver.Taken b) low knows = knows
+
+  -- The used index, and the slot goes home with the cargo.
+  pub returns_cargo : (slots id : ℕ) (v : DeviceView) (xs ys : List Entry) (a : Answer) (cargo : CargoData P) → v.held ≡ xs ++ a.entry ∷ ys → IsDone wanted queue a cargo
+      → Allows (Ring wanted queue n) slots id (Device (set_stage v (device.Answering a.entry a.len)), (head_of a.entry, Some cargo) ∷ []) 1 (λ _. (length v.completed + 1) % 65536)
+        (λ _ me. me ≡ (Device (completed_after v a (xs ++ ys)), []))
+  returns_cargo slots id v xs ys a cargo held_is done = λ s ring many at bound.
+      let e = a.entry in
+      let w = at_device wanted queue n s id (set_stage v (device.Answering e a.len)) ring at in
+      let r = w.ring in
+      let knows = r.device_knows in
+      let h = head_of e in
+      let x = (length v.completed + 1) % 65536 in
+      let shared = r.shared (uses_in h) in
+      let once = r.once h in
+      let held = heads_uses h v.held r.held_heads in
+      let mine : heads h v.held ≡ 1 = knows.0 in
+      let no_come : heads h w.coming ≡ 0 = (let few = heads_uses h w.coming r.come_heads in omega (arith, few, shared, once, held, mine)) in
+      let no_go : heads h (entries w.going) ≡ 0 = (let few = heads_uses h (entries w.going) r.go_heads in omega (arith, few, shared, once, held, mine)) in
+      let below : h < n = r.below h (omega (arith, shared, held, mine)) in
+      let cut : (f : Entry → ℕ) → weigh f v.held ≡ weigh f (xs ++ ys) + f e = λ f. (let all : weigh f v.held ≡ weigh f (xs ++ e ∷ ys) = ap (weigh f) held_is in let one = weigh-append f xs (e ∷ ys) in let two = weigh-append f xs ys in omega (arith, all, one, two)) in
+      let more : (f : Entry → ℕ) → weigh f (entries (w.going ++ a ∷ [])) ≡ weigh f (entries w.going) + f e = λ f. (let all : weigh f (entries (w.going ++ a ∷ [])) ≡ weigh f (entries w.going ++ e ∷ []) = ap (weigh f) (entries-append w.going (a ∷ [])) in let one = weigh-append f (entries w.going) (e ∷ []) in omega (arith, all, one)) in
+      let heads_are = have-front xs (e ∷ ys) (subst HaveHeads held_is r.held_heads) in
+      let stands = stand_front queue n (set s.words 1 x) xs (e ∷ ys) (subst (λ (es : List Entry). Stand queue n (set s.words 1 x) es) held_is (stand_low queue n s.words 1 x v.held (omega arith) r.held_stand)) in
+      let count : length v.completed ≡ length w.driver.reaped + length w.going = ap length r.back ∙ length-append w.driver.reaped w.going in
+      let long : length (v.completed ++ a ∷ []) ≡ length v.completed + 1 = length-append v.completed (a ∷ []) in
+      let element : word_at (set s.words 1 x) (used_place n ((length w.driver.reaped + length w.going) % n)) ≡ used_word h a.len =
+          word_else s.words 1 (used_place n ((length w.driver.reaped + length w.going) % n)) x (λ same. omega arith) ∙ subst (λ (k : ℕ). word_at s.words (used_place n (k % n)) ≡ used_word h a.len) count knows.1 in
+      let home : get_elem? (set s.homes h (some (Some cargo))) h ≡ some (some (Some cargo)) = set_here s.homes h (some (Some cargo)) (let all = r.homes in omega (arith, all, below)) in
+      let v' = completed_after v a (xs ++ ys) in
+      let next : IsRing wanted queue n (record { words = set s.words 1 x; homes = set s.homes h (some (Some cargo)); views = set s.views 1 (Device v') }) w.driver v' w.coming (w.going ++ a ∷ []) = record {
+        words = length-set s.words 1 x ∙ r.words;
+        homes = length-set s.homes h (some (Some cargo)) ∙ r.homes;
+        sent = r.sent;
+        back = ap (λ (as' : List Answer). as' ++ a ∷ []) r.back ∙ append_assoc w.driver.reaped w.going (a ∷ []);
+        ordered = r.ordered;
+        shared = λ f. (let old = r.shared f in let one = cut f in let two = more f in omega (arith, old, one, two));
+        once = r.once;
+        below = r.below;
+        room = r.room;
+        come_heads = r.come_heads;
+        held_heads = have-append xs ys heads_are.0 heads_are.1.1;
+        go_heads = subst HaveHeads (sym (entries-append w.going (a ∷ []))) (have-append (entries w.going) (e ∷ []) r.go_heads (heads_are.1.0, tt));
+        available = word_else s.words 1 0 x (λ same. omega arith) ∙ r.available;
+        used = get_or-set_same s.words 1 x 0 (let all = r.words in omega (arith, all)) ∙ ap (λ (k : ℕ). k % 65536) (sym long);
+        offers = offers_kept n s.words (length v.fetched) 1 x w.coming (omega arith) r.offers;
+        returns = returns_snoc n (set s.words 1 x) (length w.driver.reaped) w.going a (returns_kept n s.words (length w.driver.reaped) 1 x w.going (omega arith) r.returns) element;
+        come_stand = stand_low queue n s.words 1 x w.coming (omega arith) r.come_stand;
+        held_stand = stand_append queue n (set s.words 1 x) xs ys stands.0 stands.1.1;
+        go_stand = subst (λ (es : List Entry). Stand queue n (set s.words 1 x) es) (sym (entries-append w.going (a ∷ []))) (stand_snoc queue n (set s.words 1 x) (entries w.going) e (stand_low queue n s.words 1 x (entries w.going) (omega arith) r.go_stand) stands.1.0);
+        wait = wait_kept wanted queue n s.homes h (some (Some cargo)) w.coming no_come r.wait;
+        lie = lie_snoc wanted queue n (set s.homes h (some (Some cargo))) w.going a cargo (lie_kept wanted queue n s.homes h (some (Some cargo)) w.going no_go r.lie) home done;
+        vacant = λ k below' unused theirs apart.
+            (let one = more (head_in k) in
+            let away : k ≢ h = λ same. (let self : head_in k e ≡ 1 = rw (eq-eqb (head_of e) k (sym same)) refl in omega (arith, one, self, unused)) in
+            set_else s.homes h k (some (Some cargo)) away ∙ r.vacant k below' (omega (arith, one, unused)) theirs (λ same. away (sym same)));
+        driver_knows = driver_low s.words 1 x w.driver.published w.driver.outs w.going a w.driver.stage (omega arith) r.driver_knows;
+        device_knows = tt;
+        seated = seated_device wanted queue n s.views w.driver (set_stage v (device.Answering e a.len)) v' refl r.seated;
+      } in
+      (Device v', gives, tt, rw w.id_is (inr (w.driver, v', w.coming, w.going ++ a ∷ [], next)), refl)

@@ -95,7 +95,7 @@ module _ {P : Type 0} (wanted : P → Bool) (queue : Queue) (n : ℕ) where
       let long = w.ring.words in
       let here : word_at (set s.words (addr_place p) a) (addr_place p) ≡ a = get_or-set_same s.words (addr_place p) a 0 (omega arith) in
       let next = stores s (staged d (driver.Writing stored)) (driver.Half stored p a) w.device w.coming w.going p (addr_place p) a w.ring small (inl refl) free (λ h no. no)
-          (knows.0, stored_kept s.words p (addr_place p) a stored (inl refl) apart knows.1, here) in
+          (knows.0, stored_kept s.words p (addr_place p) a stored (inl refl) apart knows.1, here, small) in
       (Driver (staged d (driver.Half stored p a)), keeps, tt, rw w.id_is (inr (staged d (driver.Half stored p a), w.device, w.coming, w.going, next)), refl)
 
   twice : (h : ℕ) (stored : List Stored) (p a r : ℕ) → times h (places_of (stored ++ record { place = p; addr = a; rest = r } ∷ [])) ≡ times h (places_of stored) + times h (p ∷ [])

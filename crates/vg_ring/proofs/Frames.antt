@@ -2,6 +2,7 @@ use Rattle.std.proofs.Common.{◌≡◌, ◌≢◌, ℕ, zero, suc, ◌+◌, ◌
 use mathlib.Core.Option.{some, none, some-injective, some-ne-none}
 use lib.ListN.{get_elem?}
 use Rattle.std.proofs.lemmas.List.{get_or-set_other, get_or-set_same, length-set}
+use Rattle.std.proofs.Math.Nat.{mod-lt}
 use Rattle.std.proofs.lemmas.Bool.{eq-eqb}
 use Rattle.std.proofs.lemmas.Bool.Decides.{eqb_tells}
 use Rattle.atomic_table.specs.Table.{State}
@@ -15,7 +16,7 @@ use Rattle.vg_ring.specs.declared.views.DriverView.{DriverView}
 use Rattle.vg_ring.specs.declared.views.DeviceView.{DeviceView}
 use Rattle.vg_ring.specs.declared.views.View.{View}
 use Rattle.vg_ring.specs.declared.views.View.TheVariants.{Start, Driver, Device, Right, Spent}
-use Rattle.vg_ring.specs.Words.{addr_place, rest_place, available_place, used_place}
+use Rattle.vg_ring.specs.Words.{addr_place, rest_place, available_place, used_place, used_word}
 use Rattle.vg_ring.specs.Cargo.{CargoData}
 use Rattle.vg_ring.specs.Entries.{head_of, times, uses, stored_at, stored_of, entries}
 use Rattle.vg_ring.specs.Rule.{word_at, place_of, places_of, StandStored, Stand, Offers, Returns, IsGuest, AreSeated, IsNew, IsRing, Ring}
@@ -119,3 +120,29 @@ stored_low ws i x (d ∷ more) low stand =
 pub stand_low : (queue : Queue) (n : ℕ) (ws : List ℕ) (i x : ℕ) (es : List Entry) → i < 2 → Stand queue n ws es → Stand queue n (set ws i x) es
 stand_low queue n ws i x [] low stand = tt
 stand_low queue n ws i x (e ∷ es) low stand = (stored_low ws i x (stored_of queue n e) low stand.0, stand_low queue n ws i x es low stand.1)
+
+pub offers_high : (n : ℕ) (ws : List ℕ) (k i x : ℕ) (es : List Entry) → 0 < n → 2 + 3 * n ≤ i → Offers n ws k es → Offers n (set ws i x) k es
+offers_high n ws k i x [] large high offers = tt
+offers_high n ws k i x (e ∷ es) large high offers =
+    let small = mod-lt k large in
+    (word_else ws i (available_place n (k % n)) x (λ same. omega (arith, small)) ∙ offers.0, offers_high n ws (suc k) i x es large high offers.1)
+
+-- a used element past those that stand
+pub returns_apart : (n : ℕ) (ws : List ℕ) (k m x : ℕ) (answers : List Answer) → k + length answers ≤ m → m < k + n → Returns n ws k answers → Returns n (set ws (used_place n (m % n)) x) k answers
+returns_apart n ws k m x [] past near returns = tt
+returns_apart n ws k m x (a ∷ more) past near returns =
+    let other : used_place n (k % n) ≢ used_place n (m % n) = λ same. (let turn : k ≡ m = one_turn k m n (omega arith) near (omega arith) in omega arith) in
+    (word_else ws (used_place n (m % n)) (used_place n (k % n)) x other ∙ returns.0, returns_apart n ws (suc k) m x more (omega arith) (omega arith) returns.1)
+
+pub returns_snoc : (n : ℕ) (ws : List ℕ) (k : ℕ) (answers : List Answer) (a : Answer) → Returns n ws k answers → word_at ws (used_place n ((k + length answers) % n)) ≡ used_word (head_of a.entry) a.len → Returns n ws k (answers ++ a ∷ [])
+returns_snoc n ws k [] a returns here = (subst (λ (j : ℕ). word_at ws (used_place n (j % n)) ≡ used_word (head_of a.entry) a.len) (omega arith) here, tt)
+returns_snoc n ws k (b ∷ more) a returns here =
+    (returns.0, returns_snoc n ws (suc k) more a returns.1 (subst (λ (j : ℕ). word_at ws (used_place n (j % n)) ≡ used_word (head_of a.entry) a.len) (omega arith) here))
+
+pub stand_append : (queue : Queue) (n : ℕ) (ws : List ℕ) (es fs : List Entry) → Stand queue n ws es → Stand queue n ws fs → Stand queue n ws (es ++ fs)
+stand_append queue n ws [] fs stand more = more
+stand_append queue n ws (e ∷ es) fs stand more = (stand.0, stand_append queue n ws es fs stand.1 more)
+
+pub stand_front : (queue : Queue) (n : ℕ) (ws : List ℕ) (es fs : List Entry) → Stand queue n ws (es ++ fs) → Stand queue n ws es × Stand queue n ws fs
+stand_front queue n ws [] fs stand = (tt, stand)
+stand_front queue n ws (e ∷ es) fs stand = (let rest = stand_front queue n ws es fs stand.1 in ((stand.0, rest.0), rest.1))

@@ -35,3 +35,8 @@ module _ {P : Type 0} (wanted : P → Bool) (queue : Queue) (n : ℕ) where
       → Wait wanted queue n homes (es ++ e ∷ [])
   wait_snoc homes [] e cargo wait here fresh = ((cargo, here, fresh), tt)
   wait_snoc homes (f ∷ es) e cargo wait here fresh = (wait.0, wait_snoc homes es e cargo wait.1 here fresh)
+
+  pub lie_snoc : (homes : Homes wanted queue n) (answers : List Answer) (a : Answer) (cargo : CargoData P) → Lie wanted queue n homes answers → get_elem? homes (head_of a.entry) ≡ some (some (Some cargo)) → IsDone wanted queue a cargo
+      → Lie wanted queue n homes (answers ++ a ∷ [])
+  lie_snoc homes [] a cargo lie here done = ((cargo, here, done), tt)
+  lie_snoc homes (b ∷ more) a cargo lie here done = (lie.0, lie_snoc homes more a cargo lie.1 here done)

@@ -95,7 +95,7 @@ module _ {P : Type 0} (wanted : P → Bool) (queue : Queue) (n : ℕ) where
   abbrev pub DriverKnows : List ℕ → List Entry → List Entry → List Answer → DriverStage → Type 0
   DriverKnows words published outs going driver.Resting = Unit {0}
   DriverKnows words published outs going (driver.Writing stored) = AreFree stored outs × StandStored words stored
-  DriverKnows words published outs going (driver.Half stored place addr) = AreFree stored outs × StandStored words stored × (word_at words (addr_place place) ≡ addr)
+  DriverKnows words published outs going (driver.Half stored place addr) = AreFree stored outs × StandStored words stored × (word_at words (addr_place place) ≡ addr) × (place < n)
   DriverKnows words published outs going (driver.Offered stored) =
       AreFree stored outs × StandStored words stored × (0 < length stored) × (word_at words (available_place n (length published % n)) ≡ slice_index (places_of stored) 0)
   DriverKnows words published outs going driver.Newer = 0 < length going
