@@ -1,11 +1,11 @@
-use Rattle.std.proofs.Common.{◌≡◌, ◌≢◌, ℕ, zero, suc, ◌+◌, ◌<◌, ◌≤◌, Bool, true, false, cond, eqb, ◌⊎◌, List, [], ◌∷◌, ◌++◌, length, map, get_or, refl, sym, ap, subst, inl, inr, ◌∙◌, arith, append_assoc}
+use Rattle.std.proofs.Common.{◌≡◌, ◌≢◌, ℕ, zero, suc, ◌+◌, ◌*◌, ◌<◌, ◌≤◌, Bool, true, false, cond, eqb, ◌⊎◌, List, [], ◌∷◌, ◌++◌, length, map, get_or, refl, sym, ap, subst, inl, inr, ◌∙◌, arith, append_assoc}
 use Rattle.std.proofs.lemmas.List.{append-nil}
 use Rattle.std.proofs.lemmas.Bool.{eq-eqb, ne_eqb}
 use Rattle.std.proofs.lemmas.Bool.Decides.{eqb_tells}
 use Rattle.vg_ring.specs.declared.views.Entry.{Entry}
 use Rattle.vg_ring.specs.declared.views.Answer.{Answer}
 use Rattle.vg_ring.specs.declared.views.Stored.{Stored}
-use Rattle.vg_ring.specs.Entries.{head_of, entry_of, entries, times, weigh, head_in, uses, spread, heads, lane_count, InOrder}
+use Rattle.vg_ring.specs.Entries.{head_of, entry_of, entries, times, weigh, without, head_in, uses, spread, heads, lane_count, InOrder}
 use Rattle.vg_ring.specs.Rule.{place_of, places_of, StandStored, HaveHeads}
 
 pub times-append : (h : ℕ) (xs ys : List ℕ) → times h (xs ++ ys) ≡ times h xs + times h ys
@@ -72,3 +72,35 @@ length-entries (a ∷ more) = ap suc (length-entries more)
 pub heads_length : (h : ℕ) (es : List Entry) → 1 ≤ heads h es → 1 ≤ length es
 heads_length h [] is_there = absurd (omega arith)
 heads_length h (e ∷ es) is_there = omega arith
+
+pub weigh-ones : (es : List Entry) → weigh (λ _. 1) es ≡ length es
+weigh-ones [] = refl
+weigh-ones (e ∷ es) = omega (arith, weigh-ones es)
+
+-- only entries with their head there count
+pub weigh_away : (f : Entry → ℕ) (h : ℕ) (es : List Entry) → heads h es ≡ 0 → weigh (λ e. f e * head_in h e) es ≡ 0
+weigh_away f h [] zero_there = refl
+weigh_away f h (e ∷ es) zero_there =
+    let rest = weigh_away f h es (omega arith) in
+    let here : head_in h e ≡ 0 = omega arith in
+    let product : f e * head_in h e ≡ 0 = rw here (omega arith) in
+    omega (arith, product, rest)
+
+pub weigh_without : (f : Entry → ℕ) (h : ℕ) (es : List Entry) → heads h es ≡ 1 → weigh f es ≡ weigh f (without h es) + weigh (λ e. f e * head_in h e) es
+weigh_without f h [] one = absurd (omega arith)
+weigh_without f h (e ∷ es) one = elim (eqb_tells (head_of e) h) [
+  | inl w ↦ (
+      let here : head_in h e ≡ 1 = rw w.0 refl in
+      let rest = weigh_away f h es (omega (arith, here)) in
+      let product : f e * head_in h e ≡ f e = rw here (omega arith) in
+      let gone : weigh f (without h (e ∷ es)) ≡ weigh f es = rw w.0 refl in
+      omega (arith, rest, product, gone)
+      )
+  | inr w ↦ (
+      let here : head_in h e ≡ 0 = rw (ne_eqb (head_of e) h w.1) refl in
+      let rest = weigh_without f h es (omega (arith, here)) in
+      let product : f e * head_in h e ≡ 0 = rw here (omega arith) in
+      let kept : weigh f (without h (e ∷ es)) ≡ f e + weigh f (without h es) = rw w.0 refl in
+      omega (arith, rest, product, kept)
+      )
+]

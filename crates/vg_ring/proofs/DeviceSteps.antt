@@ -63,6 +63,8 @@ module _ {P : Type 0} (wanted : P → Bool) (queue : Queue) (n : ℕ) where
         vacant = λ h below unused mine other. r.vacant h below unused mine (λ old. other (hands h old));
         driver_knows = r.driver_knows;
         device_knows = knows;
+        matched = r.matched;
+        lent_once = r.lent_once;
         seated = seated_device wanted queue n s.views d v (record v { looks = looks; seen = seen; stage = stage }) refl r.seated;
       })
 
@@ -140,22 +142,29 @@ module _ {P : Type 0} (wanted : P → Bool) (queue : Queue) (n : ℕ) where
         vacant = λ k below unused driver_apart apart. set_else s.homes h k none (λ same. apart (sym same)) ∙ r.vacant k below (heads_less k e coming (entries going) (λ same. apart same) unused) driver_apart (λ no. no);
         driver_knows = r.driver_knows;
         device_knows = mine;
+        matched = λ f. (let old = r.matched f in let more = weigh-append f v.fetched (e ∷ []) in omega (arith, old, more));
+        lent_once = r.lent_once;
         seated = seated_device wanted queue n s.views d (set_stage v device.Newer) (fetched_after v e) refl r.seated;
       } in
       let back : IsRing wanted queue n (record { words = set s.words i (get_or s.words i 0); homes = set s.homes h none; views = set s.views 1 (Device (fetched_after v e)) }) d (fetched_after v e) coming going =
-          subst (λ (ws : List ℕ). IsRing wanted queue n (record { words = ws; homes = set s.homes h none; views = set s.views 1 (Device (fetched_after v e)) }) d (fetched_after v e) coming going) (sym (set-get_or s.words i 0)) next in
-      let few : spread (e ∷ v.held) ≤ n = (let total = r.shared places_in in let room = r.room in omega (arith, total, room)) in
-      (Device (fetched_after v e), takes h (Some cargo), r.wait.0.1, rw id_is (inr (d, fetched_after v e, coming, going, back)), record {
-        entry = e;
-        cargo = cargo;
-        after = refl;
-        head = r.offers.0;
-        small = rw r.offers.0 small;
-        fresh = r.wait.0.2;
-        ordered = in_order-front [] (v.fetched ++ e ∷ []) coming (subst (λ (es : List Entry). InOrder [] es) all r.ordered);
-        few = few;
-        heads = mine;
-      })
+      subst (λ (ws : List ℕ). IsRing wanted queue n (record { words = ws; homes = set s.homes h none; views = set s.views 1 (Device (fetched_after v e)) }) d (fetched_after v e) coming going) (sym (set-get_or s.words i 0)) next in
+      let few : spread (e ∷ v.held) ≤ n = (let total = r.shared places_in in let room = r.room in omega (arith, total, room)) in (
+        Device (fetched_after v e),
+        takes h (Some cargo),
+        r.wait.0.1,
+        rw id_is (inr (d, fetched_after v e, coming, going, back)),
+        record {
+          entry = e;
+          cargo = cargo;
+          after = refl;
+          head = r.offers.0;
+          small = rw r.offers.0 small;
+          fresh = r.wait.0.2;
+          ordered = in_order-front [] (v.fetched ++ e ∷ []) coming (subst (λ (es : List Entry). InOrder [] es) all r.ordered);
+          few = few;
+          heads = mine;
+        },
+      )
 
   -- The available element is loaded, and the slot of its head is taken.
   pub takes_entry : (slots id : ℕ) (v : DeviceView)
@@ -201,11 +210,13 @@ module _ {P : Type 0} (wanted : P → Bool) (queue : Queue) (n : ℕ) where
         wait = wait_kept wanted queue n s.homes h (some None) w.coming no_come r.wait;
         lie = lie_kept wanted queue n s.homes h (some None) w.going no_go r.lie;
         vacant = λ k below unused driver_apart apart. elim (cases_eq k h) [
-          inl same ↦ rw same (set_here s.homes h (some None) (let all = r.homes in omega (arith, all)))
+          | inl same ↦ rw same (set_here s.homes h (some None) (let all = r.homes in omega (arith, all)))
           | inr other ↦ set_else s.homes h k (some None) other ∙ r.vacant k below unused driver_apart (λ same. other (sym same))
         ];
         driver_knows = r.driver_knows;
         device_knows = tt;
+        matched = r.matched;
+        lent_once = r.lent_once;
         seated = seated_device wanted queue n s.views w.driver (set_stage v (device.Taken e)) (set_stage v device.Resting) refl r.seated;
       } in
       let back = subst (λ (ws : List ℕ). IsRing wanted queue n (record { words = ws; homes = set s.homes h (some None); views = set s.views 1 (Device (set_stage v device.Resting)) }) w.driver (set_stage v device.Resting) w.coming w.going) (sym (set-get_or s.words i 0)) next in
@@ -240,7 +251,7 @@ module _ {P : Type 0} (wanted : P → Bool) (queue : Queue) (n : ℕ) where
   -- The used element is stored, and the empty slot of the head is taken.
   pub answers_element : (slots id : ℕ) (v : DeviceView) (e : Entry) (len : ℕ) → heads (head_of e) v.held ≡ 1
       → Allows (Ring wanted queue n) slots id (Device (set_stage v device.Resting), []) (used_place n (length v.completed % n)) (λ _. used_word (head_of e) len)
-        (λ _ me. me ≡ (Device (set_stage v (device.Answering e len)), (head_of e, None) ∷ []))
+      (λ _ me. me ≡ (Device (set_stage v (device.Answering e len)), (head_of e, None) ∷ []))
   answers_element slots id v e len mine = λ s ring many at bound.
       let w = at_device wanted queue n s id (set_stage v device.Resting) ring at in
       let r = w.ring in
@@ -289,6 +300,8 @@ module _ {P : Type 0} (wanted : P → Bool) (queue : Queue) (n : ℕ) where
         vacant = λ k below' unused theirs apart. set_else s.homes h k none (λ same. apart (sym same)) ∙ r.vacant k below' unused theirs (λ no. no);
         driver_knows = driver_high s.words i x w.driver.published w.driver.outs w.going w.driver.stage large (omega arith) r.driver_knows;
         device_knows = (mine, get_or-set_same s.words i x 0 (let all = r.words in omega (arith, all, small)));
+        matched = r.matched;
+        lent_once = r.lent_once;
         seated = seated_device wanted queue n s.views w.driver (set_stage v device.Resting) (set_stage v (device.Answering e len)) refl r.seated;
       } in
       (Device (set_stage v (device.Answering e len)), takes h None, empty, rw w.id_is (inr (w.driver, set_stage v (device.Answering e len), w.coming, w.going, next)), refl)
@@ -306,7 +319,7 @@ module _ {P : Type 0} (wanted : P → Bool) (queue : Queue) (n : ℕ) where
   -- The used index, and the slot goes home with the cargo.
   pub returns_cargo : (slots id : ℕ) (v : DeviceView) (xs ys : List Entry) (a : Answer) (cargo : CargoData P) → v.held ≡ xs ++ a.entry ∷ ys → IsDone wanted queue a cargo
       → Allows (Ring wanted queue n) slots id (Device (set_stage v (device.Answering a.entry a.len)), (head_of a.entry, Some cargo) ∷ []) 1 (λ _. (length v.completed + 1) % 65536)
-        (λ _ me. me ≡ (Device (completed_after v a (xs ++ ys)), []))
+      (λ _ me. me ≡ (Device (completed_after v a (xs ++ ys)), []))
   returns_cargo slots id v xs ys a cargo held_is done = λ s ring many at bound.
       let e = a.entry in
       let w = at_device wanted queue n s id (set_stage v (device.Answering e a.len)) ring at in
@@ -328,7 +341,7 @@ module _ {P : Type 0} (wanted : P → Bool) (queue : Queue) (n : ℕ) where
       let count : length v.completed ≡ length w.driver.reaped + length w.going = ap length r.back ∙ length-append w.driver.reaped w.going in
       let long : length (v.completed ++ a ∷ []) ≡ length v.completed + 1 = length-append v.completed (a ∷ []) in
       let element : word_at (set s.words 1 x) (used_place n ((length w.driver.reaped + length w.going) % n)) ≡ used_word h a.len =
-          word_else s.words 1 (used_place n ((length w.driver.reaped + length w.going) % n)) x (λ same. omega arith) ∙ subst (λ (k : ℕ). word_at s.words (used_place n (k % n)) ≡ used_word h a.len) count knows.1 in
+      word_else s.words 1 (used_place n ((length w.driver.reaped + length w.going) % n)) x (λ same. omega arith) ∙ subst (λ (k : ℕ). word_at s.words (used_place n (k % n)) ≡ used_word h a.len) count knows.1 in
       let home : get_elem? (set s.homes h (some (Some cargo))) h ≡ some (some (Some cargo)) = set_here s.homes h (some (Some cargo)) (let all = r.homes in omega (arith, all, below)) in
       let v' = completed_after v a (xs ++ ys) in
       let next : IsRing wanted queue n (record { words = set s.words 1 x; homes = set s.homes h (some (Some cargo)); views = set s.views 1 (Device v') }) w.driver v' w.coming (w.going ++ a ∷ []) = record {
@@ -359,6 +372,8 @@ module _ {P : Type 0} (wanted : P → Bool) (queue : Queue) (n : ℕ) where
             set_else s.homes h k (some (Some cargo)) away ∙ r.vacant k below' (omega (arith, one, unused)) theirs (λ same. away (sym same)));
         driver_knows = driver_low s.words 1 x w.driver.published w.driver.outs w.going a w.driver.stage (omega arith) r.driver_knows;
         device_knows = tt;
+        matched = λ f. (let old = r.matched f in let one = cut f in let all : weigh f (entries (v.completed ++ a ∷ [])) ≡ weigh f (entries v.completed ++ e ∷ []) = ap (weigh f) (entries-append v.completed (a ∷ [])) in let two = weigh-append f (entries v.completed) (e ∷ []) in omega (arith, old, one, all, two));
+        lent_once = r.lent_once;
         seated = seated_device wanted queue n s.views w.driver (set_stage v (device.Answering e a.len)) v' refl r.seated;
       } in
       (Device v', gives, tt, rw w.id_is (inr (w.driver, v', w.coming, w.going ++ a ∷ [], next)), refl)

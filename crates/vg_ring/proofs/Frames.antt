@@ -23,8 +23,8 @@ use Rattle.vg_ring.specs.Rule.{word_at, place_of, places_of, StandStored, Stand,
 
 times_here : (p q : ℕ) (more : List ℕ) → times p (q ∷ more) ≡ 0 → (q ≢ p) × (times p more ≡ 0)
 times_here p q more unused = elim (eqb_tells q p) [
-    inl w ↦ (let one : times p (q ∷ more) ≡ 1 + times p more = rw w.0 refl in absurd (omega arith))
-    | inr w ↦ (let same : times p (q ∷ more) ≡ 0 + times p more = rw w.0 refl in (w.1, omega arith))
+  | inl w ↦ (let one : times p (q ∷ more) ≡ 1 + times p more = rw w.0 refl in absurd (omega arith))
+  | inr w ↦ (let same : times p (q ∷ more) ≡ 0 + times p more = rw w.0 refl in (w.1, omega arith))
 ]
 
 -- a word that is stored elsewhere
@@ -44,10 +44,11 @@ apart_rest p q i is other = λ e. elim is [ inl w ↦ omega arith | inr w ↦ ot
 pub stored_kept : (ws : List ℕ) (p i x : ℕ) (stored : List Stored) → IsWordOf p i → times p (places_of stored) ≡ 0 → StandStored ws stored → StandStored (set ws i x) stored
 stored_kept ws p i x [] is unused stand = tt
 stored_kept ws p i x (d ∷ more) is unused stand =
-    let apart = times_here p d.place (places_of more) unused in
-    (word_else ws i (addr_place d.place) x (apart_addr p d.place i is apart.0) ∙ stand.0,
-     word_else ws i (rest_place d.place) x (apart_rest p d.place i is apart.0) ∙ stand.1,
-     stored_kept ws p i x more is apart.1 stand.2)
+    let apart = times_here p d.place (places_of more) unused in (
+      word_else ws i (addr_place d.place) x (apart_addr p d.place i is apart.0) ∙ stand.0,
+      word_else ws i (rest_place d.place) x (apart_rest p d.place i is apart.0) ∙ stand.1,
+      stored_kept ws p i x more is apart.1 stand.2,
+    )
 
 stored_at_times : (p : ℕ) (places : List ℕ) (ds : List Descriptor) → times p places ≡ 0 → times p (places_of (stored_at places ds)) ≡ 0
 stored_at_times p [] [] unused = refl
@@ -103,9 +104,10 @@ stored_of_few queue n h e = stored_at_few h e.places _
 
 pub stand_high : (queue : Queue) (n : ℕ) (ws : List ℕ) (i x : ℕ) (es : List Entry) → 2 + 2 * n ≤ i → ((h : ℕ) → 0 < uses h es → h < n) → Stand queue n ws es → Stand queue n (set ws i x) es
 stand_high queue n ws i x [] high small stand = tt
-stand_high queue n ws i x (e ∷ es) high small stand =
-    (stored_high ws n i x (stored_of queue n e) high (λ h is_there. small h (let few = stored_of_few queue n h e in omega (arith, few))) stand.0,
-     stand_high queue n ws i x es high (λ h some. small h (omega arith)) stand.1)
+stand_high queue n ws i x (e ∷ es) high small stand = (
+  stored_high ws n i x (stored_of queue n e) high (λ h is_there. small h (let few = stored_of_few queue n h e in omega (arith, few))) stand.0,
+  stand_high queue n ws i x es high (λ h some. small h (omega arith)) stand.1,
+)
 
 pub stand_snoc : (queue : Queue) (n : ℕ) (ws : List ℕ) (es : List Entry) (e : Entry) → Stand queue n ws es → StandStored ws (stored_of queue n e) → Stand queue n ws (es ++ e ∷ [])
 stand_snoc queue n ws [] e stand here = (here, tt)

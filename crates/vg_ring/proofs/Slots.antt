@@ -13,8 +13,8 @@ use Rattle.vg_ring.specs.Rule.{Homes, Wait, Lie}
 
 pub heads_here : (h : ℕ) (e : Entry) (es : List Entry) → heads h (e ∷ es) ≡ 0 → (head_of e ≢ h) × (heads h es ≡ 0)
 heads_here h e es zero_there = elim (eqb_tells (head_of e) h) [
-    inl w ↦ (let one : heads h (e ∷ es) ≡ 1 + heads h es = rw w.0 refl in absurd (omega arith))
-    | inr w ↦ (let same : heads h (e ∷ es) ≡ 0 + heads h es = rw w.0 refl in (w.1, omega arith))
+  | inl w ↦ (let one : heads h (e ∷ es) ≡ 1 + heads h es = rw w.0 refl in absurd (omega arith))
+  | inr w ↦ (let same : heads h (e ∷ es) ≡ 0 + heads h es = rw w.0 refl in (w.1, omega arith))
 ]
 
 module _ {P : Type 0} (wanted : P → Bool) (queue : Queue) (n : ℕ) where

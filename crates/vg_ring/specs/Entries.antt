@@ -1,4 +1,4 @@
-use Rattle.std.specs.Prelude.{◌≡◌, ℕ, ◌+◌, ◌<◌, ◌≤◌, ◌==◌, Bool, true, false, List, [], ◌∷◌, ◌++◌, map, length, slice_index, if◌then◌else◌}
+use Rattle.std.specs.Prelude.{◌≡◌, ℕ, ◌+◌, ◌<◌, ◌≤◌, ◌==◌, ◌⊎◌, Bool, true, false, List, [], ◌∷◌, ◌++◌, map, length, slice_index, if◌then◌else◌}
 use Rattle.vg_chain.specs.declared.descriptor.Descriptor.{Descriptor}
 use Rattle.vg_chain.specs.Made.{made}
 use Rattle.vg_wire.specs.declared.request.Queue.{Queue}
@@ -91,3 +91,13 @@ lane_count lane (e ∷ more) = (if e.lane == lane then 1 else 0) + lane_count la
 abbrev pub InOrder : List Entry → List Entry → Type 0
 InOrder before [] = Unit {0}
 InOrder before (e ∷ more) = (e.ordinal ≡ lane_count e.lane before + 1) × InOrder (before ++ e ∷ []) more
+
+-- The entries without the first one whose head is there.
+abbrev pub without : ℕ → List Entry → List Entry
+without place [] = []
+without place (e ∷ more) = if head_of e == place then more else (e ∷ without place more)
+
+-- An entry is among these.
+abbrev pub Has : Entry → List Entry → Type 0
+Has e [] = ⊥
+Has e (f ∷ more) = (f ≡ e) ⊎ Has e more

@@ -16,7 +16,7 @@ use Rattle.vg_ring.specs.declared.views.View.{View}
 use Rattle.vg_ring.specs.declared.views.View.TheVariants.{Start, Driver, Device, Right, Spent}
 use Rattle.vg_ring.specs.Cargo.{CargoData}
 use Rattle.vg_ring.specs.Words.{addr_place, rest_place, available_place, used_place, used_word}
-use Rattle.vg_ring.specs.Entries.{head_of, entry_of, entries, weigh, uses, spread, heads, times, stored_of, IsFresh, IsDone, InOrder}
+use Rattle.vg_ring.specs.Entries.{head_of, entry_of, entries, without, Has, weigh, uses, spread, heads, times, stored_of, IsFresh, IsDone, InOrder}
 
 -- A word of the ring.
 abbrev pub word_at : List ℕ → ℕ → ℕ
@@ -80,6 +80,7 @@ module _ {P : Type 0} (wanted : P → Bool) (queue : Queue) (n : ℕ) where
   device_hand (device.Taken e) h = head_of e ≡ h
   device_hand (device.Answering e len) h = head_of e ≡ h
   device_hand (device.Naming e) h = ⊥
+  device_hand (device.Returned e old) h = ⊥
 
   -- Every slot that has no waiting or lying cargo, and that no end has taken, is at home and empty.
   abbrev pub Vacant : Homes → DriverStage → DeviceStage → List Entry → List Answer → Type 0
@@ -106,14 +107,15 @@ module _ {P : Type 0} (wanted : P → Bool) (queue : Queue) (n : ℕ) where
   DeviceKnows words coming completed held lent device.Newer = 0 < length coming
   DeviceKnows words coming completed held lent (device.Taken e) = heads (head_of e) held ≡ 1
   DeviceKnows words coming completed held lent (device.Answering e len) = (heads (head_of e) held ≡ 1) × (word_at words (used_place n (length completed % n)) ≡ used_word (head_of e) len)
-  DeviceKnows words coming completed held lent (device.Naming e) = heads (head_of e) held ≡ 1
+  DeviceKnows words coming completed held lent (device.Naming e) = (heads (head_of e) held ≡ 1) × (heads (head_of e) lent ≡ 0)
+  DeviceKnows words coming completed held lent (device.Returned e old) = Has e old
 
   -- What the seats from the third on know.
   abbrev pub IsGuest : List Entry → View → Type 0
   IsGuest lent Start = ⊥
   IsGuest lent (Driver d) = ⊥
   IsGuest lent (Device v) = ⊥
-  IsGuest lent (Right e) = 0 < heads (head_of e) lent
+  IsGuest lent (Right e) = Has e lent
   IsGuest lent Spent = Unit {0}
 
   pub record AreSeated (views : List View) (d : DriverView) (v : DeviceView) : Type 0 where
@@ -148,6 +150,8 @@ module _ {P : Type 0} (wanted : P → Bool) (queue : Queue) (n : ℕ) where
     pub vacant : Vacant s.homes d.stage v.stage coming going
     pub driver_knows : DriverKnows s.words d.published d.outs going d.stage
     pub device_knows : DeviceKnows s.words coming v.completed v.held v.lent v.stage
+    pub matched : (f : Entry → ℕ) → weigh f v.fetched ≡ weigh f (entries v.completed) + weigh f v.held
+    pub lent_once : (h : ℕ) → heads h v.lent ≤ 1
     pub seated : AreSeated s.views d v
 
   -- The table as it was made: all words are 0, all slots are empty and at home, and there is one seat.
@@ -180,3 +184,12 @@ looked_by_device v found = record v { looks = v.looks + 1; seen = found; stage =
 
 abbrev pub looked_by_driver : DriverView → ℕ → DriverView
 looked_by_driver d found = record d { looks = d.looks + 1; seen = found; stage = if found == length d.reaped % 65536 then driver.Resting else driver.Newer }
+
+abbrev pub reaped_after : DriverView → Answer → DriverView
+reaped_after d a = record d { reaped = d.reaped ++ a ∷ []; outs = without (head_of a.entry) d.outs; stage = driver.Taken a }
+
+abbrev pub lent_after : DeviceView → Entry → DeviceView
+lent_after v e = record v { lent = e ∷ v.lent; stage = device.Resting }
+
+abbrev pub returned_after : DeviceView → Entry → DeviceView
+returned_after v e = record v { lent = without (head_of e) v.lent; stage = device.Returned e v.lent }

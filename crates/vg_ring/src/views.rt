@@ -72,11 +72,23 @@ pub enum DeviceStage {
     /// The available index that was loaded isn't the count.
     Newer,
     /// The slot of the entry that was fetched last is taken.
-    Taken { entry: Entry },
+    Taken {
+        entry: Entry,
+    },
     /// The used element of this entry is stored, and its slot is taken.
-    Answering { entry: Entry, len: u32 },
+    Answering {
+        entry: Entry,
+        len: u32,
+    },
+    /// The right to this entry was taken in, and these were lent before.
+    Returned {
+        entry: Entry,
+        lent: LinkedList<Entry>,
+    },
     /// A right to this entry is about to be split off.
-    Naming { entry: Entry },
+    Naming {
+        entry: Entry,
+    },
 }
 
 /// What the device's end knows.
