@@ -32,7 +32,7 @@ use Rattle.vg_ring.proofs.DriverSteps.{device_kept}
 
 module _ {P : Type 0} (wanted : P → Bool) (queue : Queue) (n : ℕ) where
   -- the device's end comes to another stage, with the same lists
-  moves : (s : State (Option (CargoData P)) View) (d : DriverView) (v : DeviceView) (looks seen : ℕ) (stage : DeviceStage) (coming : List Entry) (going : List Answer) (i : ℕ)
+  pub moves : (s : State (Option (CargoData P)) View) (d : DriverView) (v : DeviceView) (looks seen : ℕ) (stage : DeviceStage) (coming : List Entry) (going : List Answer) (i : ℕ)
       → IsRing wanted queue n s d v coming going → ((h : ℕ) → device_hand wanted queue n v.stage h → device_hand wanted queue n stage h)
       → DeviceKnows wanted queue n s.words coming v.completed v.held v.lent stage
       → IsRing wanted queue n (record { words = set s.words i (get_or s.words i 0); homes = s.homes; views = set s.views 1 (Device (record v { looks = looks; seen = seen; stage = stage })) }) d (record v { looks = looks; seen = seen; stage = stage }) coming going

@@ -5,3 +5,4 @@ pub mod Slots
 pub mod Seats
 pub mod DriverSteps
 pub mod DeviceSteps
+pub mod RightSteps

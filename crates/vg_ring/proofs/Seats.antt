@@ -15,7 +15,7 @@ use Rattle.vg_ring.specs.Entries.{head_of}
 use Rattle.vg_ring.specs.Rule.{IsGuest, AreSeated, IsNew, IsRing, Ring}
 
 -- some seat is there
-within : {A : Type 0} (xs : List A) (i : ℕ) (a : A) → get_elem? xs i ≡ some a → i < length xs
+pub within : {A : Type 0} (xs : List A) (i : ℕ) (a : A) → get_elem? xs i ≡ some a → i < length xs
 within [] i a e = absurd (some-ne-none a (sym e))
 within (x ∷ xs) zero a e = omega arith
 within (x ∷ xs) (suc i) a e = let rest = within xs i a e in omega (arith, rest)

@@ -193,3 +193,10 @@ lent_after v e = record v { lent = e ∷ v.lent; stage = device.Resting }
 
 abbrev pub returned_after : DeviceView → Entry → DeviceView
 returned_after v e = record v { lent = without (head_of e) v.lent; stage = device.Returned e v.lent }
+
+-- What the two ends know at first.
+abbrev pub new_driver : DriverView
+new_driver = record { published = []; reaped = []; outs = []; looks = 0; seen = 0; stage = driver.Resting }
+
+abbrev pub new_device : DeviceView
+new_device = record { fetched = []; completed = []; held = []; lent = []; looks = 0; seen = 0; stage = device.Resting }
