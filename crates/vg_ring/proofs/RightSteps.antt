@@ -235,3 +235,65 @@ module _ {P : Type 0} (wanted : P → Bool) (queue : Queue) (n : ℕ) where
       let w = at_device wanted queue n s id (set_stage v (device.Returned e old)) ring at in
       let next = moves wanted queue n s w.driver (set_stage v (device.Returned e old)) v.looks v.seen device.Resting w.coming w.going i w.ring (λ h no. no) tt in
       (Device (set_stage v device.Resting), keeps, tt, rw w.id_is (inr (w.driver, set_stage v device.Resting, w.coming, w.going, next)), (refl, w.ring.device_knows))
+
+  seated_back : (views : List View) (d : DriverView) (v : DeviceView) (other : ℕ) (e : Entry) → AreSeated wanted queue n views d (set_stage v device.Resting) → get_elem? views other ≡ some (Right e)
+      → AreSeated wanted queue n (set (set views 1 (Device (returned_after v e))) other Spent) d (returned_after v e)
+  seated_back views d v other e seated at_other =
+      let front : List View = set views 1 (Device (returned_after v e)) in
+      let late : 1 < other = (right_at views d (set_stage v device.Resting) other e seated at_other).0 in
+      record {
+        driver_at = set_else front other 0 Spent (λ same. omega arith) ∙ set_else views 1 0 (Device (returned_after v e)) (λ same. omega arith) ∙ seated.driver_at;
+        device_at = set_else front other 1 Spent (λ same. omega arith) ∙ set_here views 1 (Device (returned_after v e)) (within views 1 (Device (set_stage v device.Resting)) seated.device_at);
+        guests = λ i w past at. elim (at_set front other i Spent w at) [
+          inl same ↦ subst (λ (z : View). IsGuest wanted queue n (without (head_of e) v.lent) z) same.1 tt
+          | inr else_there ↦ guest_less i w past else_there.0 (sym (set_else views 1 i (Device (returned_after v e)) (λ same. omega arith)) ∙ else_there.1)
+        ];
+        apart = λ i j f g at at' same. seated.apart i j f g (still i f at) (still j g at') same;
+      }
+    where
+      still : (i : ℕ) (f : Entry) → get_elem? (set (set views 1 (Device (returned_after v e))) other Spent) i ≡ some (Right f) → get_elem? views i ≡ some (Right f)
+      still i f at = elim (at_set (set views 1 (Device (returned_after v e))) other i Spent (Right f) at) [ inl same ↦ absurd (cc) | inr else_there ↦ moved views (returned_after v e) i f else_there.1 ]
+      guest_less : (i : ℕ) (w : View) → 1 < i → i ≢ other → get_elem? views i ≡ some w → IsGuest wanted queue n (without (head_of e) v.lent) w
+      guest_less i Start past apart at = seated.guests i Start past at
+      guest_less i (Driver x) past apart at = seated.guests i (Driver x) past at
+      guest_less i (Device x) past apart at = seated.guests i (Device x) past at
+      guest_less i (Right f) past apart at = has_without f (head_of e) v.lent (λ same. apart (seated.apart i other f e at at_other same)) (seated.guests i (Right f) past at)
+      guest_less i Spent past apart at = tt
+
+  -- A right is taken in.
+  pub joins_right : (id other : ℕ) (v : DeviceView) (e : Entry) → Joins (Ring wanted queue n) id (Device (set_stage v device.Resting)) other (Right e) (Device (returned_after v e)) Spent
+  joins_right id other v e = λ s ring at apart at'.
+      let w = at_device wanted queue n s id (set_stage v device.Resting) ring at in
+      let r = w.ring in
+      let back : get_elem? (set s.views 1 (Device (returned_after v e))) other ≡ some (Right e) = subst (λ (k : ℕ). get_elem? (set s.views k (Device (returned_after v e))) other ≡ some (Right e)) w.id_is at' in
+      let there = moved s.views (returned_after v e) other e back in
+      let next : IsRing wanted queue n (record { words = s.words; homes = s.homes; views = set (set s.views 1 (Device (returned_after v e))) other Spent }) w.driver (returned_after v e) w.coming w.going = record {
+        words = r.words;
+        homes = r.homes;
+        sent = r.sent;
+        back = r.back;
+        ordered = r.ordered;
+        shared = r.shared;
+        once = r.once;
+        below = r.below;
+        room = r.room;
+        come_heads = r.come_heads;
+        held_heads = r.held_heads;
+        go_heads = r.go_heads;
+        available = r.available;
+        used = r.used;
+        offers = r.offers;
+        returns = r.returns;
+        come_stand = r.come_stand;
+        held_stand = r.held_stand;
+        go_stand = r.go_stand;
+        wait = r.wait;
+        lie = r.lie;
+        vacant = r.vacant;
+        driver_knows = r.driver_knows;
+        device_knows = (right_at s.views w.driver (set_stage v device.Resting) other e r.seated there).1;
+        matched = r.matched;
+        lent_once = λ h. (let fewer = heads_without h (head_of e) v.lent in let old = r.lent_once h in omega (arith, fewer, old));
+        seated = seated_back s.views w.driver v other e r.seated there;
+      } in
+      rw w.id_is (inr (w.driver, returned_after v e, w.coming, w.going, next))
