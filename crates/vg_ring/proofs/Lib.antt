@@ -6,3 +6,4 @@ pub mod Seats
 pub mod DriverSteps
 pub mod DeviceSteps
 pub mod RightSteps
+pub mod Told

@@ -107,16 +107,16 @@ module _ {P : Type 0} (wanted : P → Bool) (queue : Queue) (n : ℕ) where
         driver_at = at_longer front (Right e ∷ []) 0 (Driver d) (set_else views 1 0 (Device (lent_after v e)) (λ same. omega arith) ∙ seated.driver_at);
         device_at = at_longer front (Right e ∷ []) 1 (Device (lent_after v e)) (set_here views 1 (Device (lent_after v e)) (within views 1 (Device (set_stage v stage)) seated.device_at));
         guests = λ i w late at. elim (snoc_cases front (Right e) i w at) [
-          inl old ↦ guest_more e v.lent w (seated.guests i w late (sym (set_else views 1 i (Device (lent_after v e)) (λ same. omega arith)) ∙ old))
+          | inl old ↦ guest_more e v.lent w (seated.guests i w late (sym (set_else views 1 i (Device (lent_after v e)) (λ same. omega arith)) ∙ old))
           | inr new ↦ subst (λ (z : View). IsGuest wanted queue n (e ∷ v.lent) z) new.1 (inl refl)
         ];
         apart = λ i j f g at at' same. elim (snoc_cases front (Right e) i (Right f) at) [
-          inl old ↦ elim (snoc_cases front (Right e) j (Right g) at') [
-            inl old' ↦ seated.apart i j f g (moved views (lent_after v e) i f old) (moved views (lent_after v e) j g old') same
+          | inl old ↦ elim (snoc_cases front (Right e) j (Right g) at') [
+            | inl old' ↦ seated.apart i j f g (moved views (lent_after v e) i f old) (moved views (lent_after v e) j g old') same
             | inr new' ↦ (let is : e ≡ g = cc in absurd (clash f g is (right_at views d (set_stage v stage) i f seated (moved views (lent_after v e) i f old)).1 same))
           ]
           | inr new ↦ elim (snoc_cases front (Right e) j (Right g) at') [
-            inl old' ↦ (let is : e ≡ f = cc in absurd (clash g f is (right_at views d (set_stage v stage) j g seated (moved views (lent_after v e) j g old')).1 (sym same)))
+            | inl old' ↦ (let is : e ≡ f = cc in absurd (clash g f is (right_at views d (set_stage v stage) j g seated (moved views (lent_after v e) j g old')).1 (sym same)))
             | inr new' ↦ new.0 ∙ sym new'.0
           ]
         ];
@@ -160,7 +160,7 @@ module _ {P : Type 0} (wanted : P → Bool) (queue : Queue) (n : ℕ) where
         device_knows = tt;
         matched = r.matched;
         lent_once = λ h. elim (cases_eq (head_of e) h) [
-          inl same ↦ (let here : head_in h e ≡ 1 = rw (eq-eqb (head_of e) h same) refl in let none_there : heads h v.lent ≡ 0 = subst (λ (k : ℕ). heads k v.lent ≡ 0) same r.device_knows.1 in omega (arith, here, none_there))
+          | inl same ↦ (let here : head_in h e ≡ 1 = rw (eq-eqb (head_of e) h same) refl in let none_there : heads h v.lent ≡ 0 = subst (λ (k : ℕ). heads k v.lent ≡ 0) same r.device_knows.1 in omega (arith, here, none_there))
           | inr other ↦ (let here : head_in h e ≡ 0 = rw (ne_eqb (head_of e) h other) refl in let old = r.lent_once h in omega (arith, here, old))
         ];
         seated = seated_more s.views w.driver v (device.Naming e) e r.device_knows.1 r.seated;
@@ -210,6 +210,7 @@ module _ {P : Type 0} (wanted : P → Bool) (queue : Queue) (n : ℕ) where
       no_right zero w late at = omega arith
       no_right (suc zero) w late at = omega arith
       no_right (suc (suc i)) w late at = some-ne-none w (sym at)
+
       two_seats : AreSeated wanted queue n (Driver new_driver ∷ Device new_device ∷ []) new_driver new_device
       two_seats = record { driver_at = refl; device_at = refl; guests = λ i w late at. absurd (no_right i w late at); apart = λ i j e f at at' same. apart_there i j e f at at' }
         where
@@ -245,7 +246,7 @@ module _ {P : Type 0} (wanted : P → Bool) (queue : Queue) (n : ℕ) where
         driver_at = set_else front other 0 Spent (λ same. omega arith) ∙ set_else views 1 0 (Device (returned_after v e)) (λ same. omega arith) ∙ seated.driver_at;
         device_at = set_else front other 1 Spent (λ same. omega arith) ∙ set_here views 1 (Device (returned_after v e)) (within views 1 (Device (set_stage v device.Resting)) seated.device_at);
         guests = λ i w past at. elim (at_set front other i Spent w at) [
-          inl same ↦ subst (λ (z : View). IsGuest wanted queue n (without (head_of e) v.lent) z) same.1 tt
+          | inl same ↦ subst (λ (z : View). IsGuest wanted queue n (without (head_of e) v.lent) z) same.1 tt
           | inr else_there ↦ guest_less i w past else_there.0 (sym (set_else views 1 i (Device (returned_after v e)) (λ same. omega arith)) ∙ else_there.1)
         ];
         apart = λ i j f g at at' same. seated.apart i j f g (still i f at) (still j g at') same;
@@ -253,6 +254,7 @@ module _ {P : Type 0} (wanted : P → Bool) (queue : Queue) (n : ℕ) where
     where
       still : (i : ℕ) (f : Entry) → get_elem? (set (set views 1 (Device (returned_after v e))) other Spent) i ≡ some (Right f) → get_elem? views i ≡ some (Right f)
       still i f at = elim (at_set (set views 1 (Device (returned_after v e))) other i Spent (Right f) at) [ inl same ↦ absurd (cc) | inr else_there ↦ moved views (returned_after v e) i f else_there.1 ]
+
       guest_less : (i : ℕ) (w : View) → 1 < i → i ≢ other → get_elem? views i ≡ some w → IsGuest wanted queue n (without (head_of e) v.lent) w
       guest_less i Start past apart at = seated.guests i Start past at
       guest_less i (Driver x) past apart at = seated.guests i (Driver x) past at

@@ -2,3 +2,4 @@ pub mod Cargo
 pub mod Words
 pub mod Entries
 pub mod Rule
+pub mod Plays

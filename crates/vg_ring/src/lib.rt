@@ -2,6 +2,8 @@
 #![tactic(auto)]
 
 mod cargo;
+mod driver;
+mod law;
 mod parcel;
 mod probe;
 mod tagged;
