@@ -20,7 +20,7 @@ pub allows_as : {S V : Type 0} (holds : State S V → Type 0) (slots id : ℕ) (
 allows_as holds slots id me me' i i' f then then' e e' allows tells =
     subst (λ (j : ℕ). Allows holds slots id me j f then') (sym e')
     (subst (λ (m : Me _ _). Allows holds slots id m i' f then') (sym e)
-      (λ s ring many at bound. (let step = allows s ring many at bound in (step.0, step.1, step.2, step.3, tells _ _ step.4))))
+    (λ s ring many at bound. (let step = allows s ring many at bound in (step.0, step.1, step.2, step.3, tells _ _ step.4))))
 
 module _ {P : Type 0} (wanted : P → Bool) (queue : Queue) (n : ℕ) where
   told_half : (me : Me (Option (CargoData P)) View) (d : DriverView) (stored : List Stored) (p a : ℕ) → me ≡ (Driver (staged d (driver.Writing stored)), []) → ◌≡◌ {A = Me (Option (CargoData P)) View} (with_half me.0 (2 + 2 * p) a, me.1) (Driver (staged d (driver.Half stored p a)), [])

@@ -1,14 +1,14 @@
 //! The rule of a ring's table, and what its steps tell.
 
 ghost use Rattle.std.specs.Prelude.{◌≡◌};
-ghost use Rattle.vg_ring.specs.declared.views.View.TheVariants.{Start};
-ghost use Rattle.vg_ring.specs.Rule.{Ring};
+ghost use Rattle.vg_ring.specs.declared.views.View.TheVariants.{Start, Driver, Device};
+ghost use Rattle.vg_ring.specs.Rule.{Ring, new_driver, new_device};
 ghost use Rattle.vg_ring.specs.Plays.{with_half, with_rest};
 
 use crate::cargo::Cargo;
 use crate::tagged::Tagged;
 use crate::views::View;
-use atomic_table::{Play, Seat, Table, TableRule};
+use atomic_table::{Play, Seat, Split, Table, TableRule};
 use std::alloc::Global;
 use vg_wire::Queue;
 
@@ -41,4 +41,12 @@ pub(crate) enum StoresRest {}
 
 impl<P: Tagged> Play<Option<Cargo<P>>, View> for StoresRest {
     ghost then = { λ st me found after. after ≡ (with_rest me.0 found, me.1) };
+}
+
+pub(crate) enum CutsEnds {}
+
+impl Split<View> for CutsEnds {
+    ghost left = { λ _. Driver new_driver };
+
+    ghost right = { λ _. Device new_device };
 }

@@ -4,6 +4,7 @@
 mod cargo;
 mod driver;
 mod law;
+mod made;
 mod parcel;
 mod probe;
 mod tagged;
