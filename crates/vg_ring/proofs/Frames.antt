@@ -59,10 +59,10 @@ stored_at_times p (q ∷ places) (d ∷ ds) unused =
     let rest = stored_at_times p places ds apart.1 in
     elim (eqb_tells q p) [ inl w ↦ absurd (apart.0 w.1) | inr w ↦ rw (w.0, rest) refl ]
 
-pub stand_kept : (queue : Queue) (n : ℕ) (ws : List ℕ) (p i x : ℕ) (es : List Entry) → IsWordOf p i → uses p es ≡ 0 → Stand queue n ws es → Stand queue n (set ws i x) es
-stand_kept queue n ws p i x [] is unused stand = tt
-stand_kept queue n ws p i x (e ∷ es) is unused stand =
-    (stored_kept ws p i x (stored_of queue n e) is (stored_at_times p e.places _ (omega arith)) stand.0, stand_kept queue n ws p i x es is (omega arith) stand.1)
+pub stand_kept : (n : ℕ) (ws : List ℕ) (p i x : ℕ) (es : List Entry) → IsWordOf p i → uses p es ≡ 0 → Stand n ws es → Stand n (set ws i x) es
+stand_kept n ws p i x [] is unused stand = tt
+stand_kept n ws p i x (e ∷ es) is unused stand =
+    (stored_kept ws p i x (stored_of n e) is (stored_at_times p e.places _ (omega arith)) stand.0, stand_kept n ws p i x es is (omega arith) stand.1)
 
 pub offers_kept : (n : ℕ) (ws : List ℕ) (k i x : ℕ) (es : List Entry) → i < 2 + 2 * n → Offers n ws k es → Offers n (set ws i x) k es
 offers_kept n ws k i x [] low offers = tt
@@ -99,19 +99,19 @@ stored_at_few h [] (d ∷ ds) = omega arith
 stored_at_few h (q ∷ places) [] = omega arith
 stored_at_few h (q ∷ places) (d ∷ ds) = let rest = stored_at_few h places ds in omega (arith, rest)
 
-pub stored_of_few : (queue : Queue) (n h : ℕ) (e : Entry) → times h (places_of (stored_of queue n e)) ≤ times h e.places
-stored_of_few queue n h e = stored_at_few h e.places _
+pub stored_of_few : (n h : ℕ) (e : Entry) → times h (places_of (stored_of n e)) ≤ times h e.places
+stored_of_few n h e = stored_at_few h e.places _
 
-pub stand_high : (queue : Queue) (n : ℕ) (ws : List ℕ) (i x : ℕ) (es : List Entry) → 2 + 2 * n ≤ i → ((h : ℕ) → 0 < uses h es → h < n) → Stand queue n ws es → Stand queue n (set ws i x) es
-stand_high queue n ws i x [] high small stand = tt
-stand_high queue n ws i x (e ∷ es) high small stand = (
-  stored_high ws n i x (stored_of queue n e) high (λ h is_there. small h (let few = stored_of_few queue n h e in omega (arith, few))) stand.0,
-  stand_high queue n ws i x es high (λ h some. small h (omega arith)) stand.1,
+pub stand_high : (n : ℕ) (ws : List ℕ) (i x : ℕ) (es : List Entry) → 2 + 2 * n ≤ i → ((h : ℕ) → 0 < uses h es → h < n) → Stand n ws es → Stand n (set ws i x) es
+stand_high n ws i x [] high small stand = tt
+stand_high n ws i x (e ∷ es) high small stand = (
+  stored_high ws n i x (stored_of n e) high (λ h is_there. small h (let few = stored_of_few n h e in omega (arith, few))) stand.0,
+  stand_high n ws i x es high (λ h some. small h (omega arith)) stand.1,
 )
 
-pub stand_snoc : (queue : Queue) (n : ℕ) (ws : List ℕ) (es : List Entry) (e : Entry) → Stand queue n ws es → StandStored ws (stored_of queue n e) → Stand queue n ws (es ++ e ∷ [])
-stand_snoc queue n ws [] e stand here = (here, tt)
-stand_snoc queue n ws (f ∷ es) e stand here = (stand.0, stand_snoc queue n ws es e stand.1 here)
+pub stand_snoc : (n : ℕ) (ws : List ℕ) (es : List Entry) (e : Entry) → Stand n ws es → StandStored ws (stored_of n e) → Stand n ws (es ++ e ∷ [])
+stand_snoc n ws [] e stand here = (here, tt)
+stand_snoc n ws (f ∷ es) e stand here = (stand.0, stand_snoc n ws es e stand.1 here)
 
 -- words 0 and 1
 pub stored_low : (ws : List ℕ) (i x : ℕ) (stored : List Stored) → i < 2 → StandStored ws stored → StandStored (set ws i x) stored
@@ -119,9 +119,9 @@ stored_low ws i x [] low stand = tt
 stored_low ws i x (d ∷ more) low stand =
     (word_else ws i (addr_place d.place) x (λ e. omega arith) ∙ stand.0, word_else ws i (rest_place d.place) x (λ e. omega arith) ∙ stand.1, stored_low ws i x more low stand.2)
 
-pub stand_low : (queue : Queue) (n : ℕ) (ws : List ℕ) (i x : ℕ) (es : List Entry) → i < 2 → Stand queue n ws es → Stand queue n (set ws i x) es
-stand_low queue n ws i x [] low stand = tt
-stand_low queue n ws i x (e ∷ es) low stand = (stored_low ws i x (stored_of queue n e) low stand.0, stand_low queue n ws i x es low stand.1)
+pub stand_low : (n : ℕ) (ws : List ℕ) (i x : ℕ) (es : List Entry) → i < 2 → Stand n ws es → Stand n (set ws i x) es
+stand_low n ws i x [] low stand = tt
+stand_low n ws i x (e ∷ es) low stand = (stored_low ws i x (stored_of n e) low stand.0, stand_low n ws i x es low stand.1)
 
 pub offers_high : (n : ℕ) (ws : List ℕ) (k i x : ℕ) (es : List Entry) → 0 < n → 2 + 3 * n ≤ i → Offers n ws k es → Offers n (set ws i x) k es
 offers_high n ws k i x [] large high offers = tt
@@ -141,10 +141,10 @@ returns_snoc n ws k [] a returns here = (subst (λ (j : ℕ). word_at ws (used_p
 returns_snoc n ws k (b ∷ more) a returns here =
     (returns.0, returns_snoc n ws (suc k) more a returns.1 (subst (λ (j : ℕ). word_at ws (used_place n (j % n)) ≡ used_word (head_of a.entry) a.len) (omega arith) here))
 
-pub stand_append : (queue : Queue) (n : ℕ) (ws : List ℕ) (es fs : List Entry) → Stand queue n ws es → Stand queue n ws fs → Stand queue n ws (es ++ fs)
-stand_append queue n ws [] fs stand more = more
-stand_append queue n ws (e ∷ es) fs stand more = (stand.0, stand_append queue n ws es fs stand.1 more)
+pub stand_append : (n : ℕ) (ws : List ℕ) (es fs : List Entry) → Stand n ws es → Stand n ws fs → Stand n ws (es ++ fs)
+stand_append n ws [] fs stand more = more
+stand_append n ws (e ∷ es) fs stand more = (stand.0, stand_append n ws es fs stand.1 more)
 
-pub stand_front : (queue : Queue) (n : ℕ) (ws : List ℕ) (es fs : List Entry) → Stand queue n ws (es ++ fs) → Stand queue n ws es × Stand queue n ws fs
-stand_front queue n ws [] fs stand = (tt, stand)
-stand_front queue n ws (e ∷ es) fs stand = (let rest = stand_front queue n ws es fs stand.1 in ((stand.0, rest.0), rest.1))
+pub stand_front : (n : ℕ) (ws : List ℕ) (es fs : List Entry) → Stand n ws (es ++ fs) → Stand n ws es × Stand n ws fs
+stand_front n ws [] fs stand = (tt, stand)
+stand_front n ws (e ∷ es) fs stand = (let rest = stand_front n ws es fs stand.1 in ((stand.0, rest.0), rest.1))

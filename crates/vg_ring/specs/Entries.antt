@@ -54,13 +54,14 @@ stored_at [] (d ∷ more) = []
 stored_at (place ∷ places) (d ∷ more) = record { place = place; addr = d.addr; rest = rest_word d } ∷ stored_at places more
 
 -- The descriptors of an entry, in a queue of size n.
-abbrev pub stored_of : Queue → ℕ → Entry → List Stored
-stored_of queue n e = stored_at e.places (made e.shape (length e.request) e.room (base_of queue (head_of e)) n e.places).ring
+abbrev pub stored_of : ℕ → Entry → List Stored
+stored_of n e = stored_at e.places (made e.shape (length e.request) e.room (base_of e.queue (head_of e)) n e.places).ring
 
 -- The entry of a cargo that is published at these places.
 abbrev pub published_as : {P : Type 0} → List ℕ → CargoData P → Entry
 published_as places cargo = record {
   places = places;
+  queue = cargo.parcel.queue;
   lane = cargo.parcel.lane;
   ordinal = cargo.parcel.ordinal;
   shape = cargo.parcel.shape;
@@ -69,15 +70,13 @@ published_as places cargo = record {
 }
 
 -- A cargo that is an entry's, as it is fetched, and as it is completed with an answer.
-pub record IsFresh {P : Type 0} (wanted : P → Bool) (queue : Queue) (e : Entry) (cargo : CargoData P) : Type 0 where
+pub record IsFresh {P : Type 0} (wanted : P → Bool) (e : Entry) (cargo : CargoData P) : Type 0 where
   pub entry : published_as e.places cargo ≡ e
-  pub queue_is : cargo.parcel.queue ≡ queue
   pub head_is : cargo.parcel.head ≡ head_of e
   pub wanted_is : wanted cargo.pass ≡ true
 
-pub record IsDone {P : Type 0} (wanted : P → Bool) (queue : Queue) (a : Answer) (cargo : CargoData P) : Type 0 where
+pub record IsDone {P : Type 0} (wanted : P → Bool) (a : Answer) (cargo : CargoData P) : Type 0 where
   pub entry : published_as a.entry.places cargo ≡ a.entry
-  pub queue_is : cargo.parcel.queue ≡ queue
   pub head_is : cargo.parcel.head ≡ head_of a.entry
   pub response : cargo.parcel.response ≡ a.response
   pub len : length a.response ≡ a.len

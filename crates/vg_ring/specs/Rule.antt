@@ -33,9 +33,9 @@ abbrev pub StandStored : List ℕ → List Stored → Type 0
 StandStored words [] = Unit {0}
 StandStored words (d ∷ more) = (word_at words (addr_place d.place) ≡ d.addr) × (word_at words (rest_place d.place) ≡ d.rest) × StandStored words more
 
-abbrev pub Stand : Queue → ℕ → List ℕ → List Entry → Type 0
-Stand queue n words [] = Unit {0}
-Stand queue n words (e ∷ more) = StandStored words (stored_of queue n e) × Stand queue n words more
+abbrev pub Stand : ℕ → List ℕ → List Entry → Type 0
+Stand n words [] = Unit {0}
+Stand n words (e ∷ more) = StandStored words (stored_of n e) × Stand n words more
 
 -- The available elements of entries from the k-th published on, and the used elements of answers.
 abbrev pub Offers : ℕ → List ℕ → ℕ → List Entry → Type 0
@@ -51,18 +51,18 @@ abbrev pub HaveHeads : List Entry → Type 0
 HaveHeads [] = Unit {0}
 HaveHeads (e ∷ more) = (0 < length e.places) × HaveHeads more
 
-module _ {P : Type 0} (wanted : P → Bool) (queue : Queue) (n : ℕ) where
+module _ {P : Type 0} (wanted : P → Bool) (n : ℕ) where
   abbrev pub Homes : Type 0
   Homes = List (mathlib.Core.Option.Option (Option (CargoData P)))
 
   -- The cargo of each entry is at home in the slot of its head.
   abbrev pub Wait : Homes → List Entry → Type 0
   Wait homes [] = Unit {0}
-  Wait homes (e ∷ more) = ((cargo : CargoData P) × (get_elem? homes (head_of e) ≡ some (some (Some cargo))) × IsFresh wanted queue e cargo) × Wait homes more
+  Wait homes (e ∷ more) = ((cargo : CargoData P) × (get_elem? homes (head_of e) ≡ some (some (Some cargo))) × IsFresh wanted e cargo) × Wait homes more
 
   abbrev pub Lie : Homes → List Answer → Type 0
   Lie homes [] = Unit {0}
-  Lie homes (a ∷ more) = ((cargo : CargoData P) × (get_elem? homes (head_of a.entry) ≡ some (some (Some cargo))) × IsDone wanted queue a cargo) × Lie homes more
+  Lie homes (a ∷ more) = ((cargo : CargoData P) × (get_elem? homes (head_of a.entry) ≡ some (some (Some cargo))) × IsDone wanted a cargo) × Lie homes more
 
   -- The slot that an end has taken.
   abbrev pub driver_hand : DriverStage → ℕ → Type 0
@@ -142,9 +142,9 @@ module _ {P : Type 0} (wanted : P → Bool) (queue : Queue) (n : ℕ) where
     pub used : word_at s.words 1 ≡ length v.completed % 65536
     pub offers : Offers n s.words (length v.fetched) coming
     pub returns : Returns n s.words (length d.reaped) going
-    pub come_stand : Stand queue n s.words coming
-    pub held_stand : Stand queue n s.words v.held
-    pub go_stand : Stand queue n s.words (entries going)
+    pub come_stand : Stand n s.words coming
+    pub held_stand : Stand n s.words v.held
+    pub go_stand : Stand n s.words (entries going)
     pub wait : Wait s.homes coming
     pub lie : Lie s.homes going
     pub vacant : Vacant s.homes d.stage v.stage coming going

@@ -2,10 +2,12 @@
 
 use std::collections::LinkedList;
 use vg_chain::Shape;
+use vg_wire::Queue;
 
 /// A cargo that was published: the places of its descriptors, the head first, and the cargo's parts.
 pub struct Entry {
     pub places: LinkedList<u16>,
+    pub queue: Queue,
     pub lane: u32,
     pub ordinal: u64,
     pub shape: Shape,

@@ -1,3 +1,4 @@
+use Rattle.std.proofs.Common.{refl}
 use Rattle.vg_ring.proofs.Frames.{stand_kept}
 use Rattle.vg_ring.proofs.Seats.{seated_driver, at_driver}
 use Rattle.vg_ring.proofs.DriverSteps.{stores_address, offers_element, publishes, takes_answer, settles_driver}
@@ -6,4 +7,4 @@ use Rattle.vg_ring.proofs.RightSteps.{names, joins_right}
 use Rattle.vg_ring.proofs.probe.probe.Goals as goal
 
 pub returns : goal.returns
-returns c = ?
+returns c = refl
