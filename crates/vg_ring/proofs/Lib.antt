@@ -1,1 +1,9 @@
 mod WordLemmas
+pub mod Frames
+pub mod Counts
+pub mod Slots
+pub mod Seats
+pub mod DriverSteps
+pub mod DeviceSteps
+pub mod RightSteps
+pub mod Told

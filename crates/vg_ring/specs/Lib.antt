@@ -1,2 +1,5 @@
 pub mod Cargo
 pub mod Words
+pub mod Entries
+pub mod Rule
+pub mod Plays

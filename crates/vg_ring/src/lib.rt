@@ -2,13 +2,19 @@
 #![tactic(auto)]
 
 mod cargo;
+mod driver;
+mod law;
+mod made;
 mod parcel;
+mod probe;
 mod tagged;
+mod views;
 mod words;
 
 pub use cargo::Cargo;
 pub use parcel::{Parcel, Tag};
 pub use tagged::Tagged;
+pub use views::{Answer, DeviceStage, DeviceView, DriverStage, DriverView, Entry, Stored, View};
 pub use words::words_are_bytes;
 
 #[cfg(test)]
