@@ -1,12 +1,12 @@
-use Rattle.std.proofs.Common.{◌≡◌, ◌≢◌, ℕ, zero, suc, ◌+◌, ◌*◌, ◌<◌, ◌≤◌, Bool, true, false, cond, eqb, ◌⊎◌, List, [], ◌∷◌, ◌++◌, length, map, get_or, refl, sym, ap, subst, inl, inr, ◌∙◌, arith, append_assoc}
+use Rattle.std.proofs.Common.{◌≡◌, ℕ, suc, ◌+◌, ◌*◌, ◌<◌, ◌≤◌, cond, eqb, List, [], ◌∷◌, ◌++◌, length, get_or, refl, sym, ap, inl, inr, ◌∙◌, arith, append_assoc}
 use Rattle.std.proofs.lemmas.List.{append-nil}
 use Rattle.std.proofs.lemmas.Bool.{eq-eqb, ne_eqb}
 use Rattle.std.proofs.lemmas.Bool.Decides.{eqb_tells}
 use Rattle.vg_ring.specs.declared.views.Entry.{Entry}
 use Rattle.vg_ring.specs.declared.views.Answer.{Answer}
 use Rattle.vg_ring.specs.declared.views.Stored.{Stored}
-use Rattle.vg_ring.specs.Entries.{head_of, entry_of, entries, times, weigh, without, head_in, uses, spread, heads, lane_count, InOrder}
-use Rattle.vg_ring.specs.Rule.{place_of, places_of, StandStored, HaveHeads}
+use Rattle.vg_ring.specs.Entries.{head_of, entries, times, weigh, without, head_in, uses, spread, heads, lane_count, InOrder}
+use Rattle.vg_ring.specs.Rule.{places_of, StandStored, HaveHeads}
 
 pub times-append : (h : ℕ) (xs ys : List ℕ) → times h (xs ++ ys) ≡ times h xs + times h ys
 times-append h [] ys = omega arith

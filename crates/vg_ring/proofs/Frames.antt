@@ -1,25 +1,16 @@
-use Rattle.std.proofs.Common.{◌≡◌, ◌≢◌, ℕ, zero, suc, ◌+◌, ◌*◌, ◌%◌, ◌<◌, ◌≤◌, Bool, true, false, cond, eqb, Option, Some, None, ◌⊎◌, List, [], ◌∷◌, ◌++◌, length, map, get_or, set, refl, sym, ap, subst, inl, inr, ◌∙◌, arith}
-use mathlib.Core.Option.{some, none, some-injective, some-ne-none}
-use lib.ListN.{get_elem?}
-use Rattle.std.proofs.lemmas.List.{get_or-set_other, get_or-set_same, length-set}
+use Rattle.std.proofs.Common.{◌≡◌, ◌≢◌, ℕ, suc, ◌+◌, ◌*◌, ◌%◌, ◌<◌, ◌≤◌, ◌⊎◌, List, [], ◌∷◌, ◌++◌, length, set, refl, subst, inl, inr, ◌∙◌, arith}
+use Rattle.std.proofs.lemmas.List.{get_or-set_other}
 use Rattle.std.proofs.Math.Nat.{mod-lt}
 use Rattle.std.proofs.lemmas.Bool.{eq-eqb}
 use Rattle.std.proofs.lemmas.Bool.Decides.{eqb_tells}
-use Rattle.atomic_table.specs.Table.{State}
-use Rattle.atomic_table.proofs.Lists.{at_set, set_here, set_else, one_turn}
+use Rattle.atomic_table.proofs.Lists.{one_turn}
 use Rattle.vg_chain.specs.declared.descriptor.Descriptor.{Descriptor}
-use Rattle.vg_wire.specs.declared.request.Queue.{Queue}
 use Rattle.vg_ring.specs.declared.views.Entry.{Entry}
 use Rattle.vg_ring.specs.declared.views.Answer.{Answer}
 use Rattle.vg_ring.specs.declared.views.Stored.{Stored}
-use Rattle.vg_ring.specs.declared.views.DriverView.{DriverView}
-use Rattle.vg_ring.specs.declared.views.DeviceView.{DeviceView}
-use Rattle.vg_ring.specs.declared.views.View.{View}
-use Rattle.vg_ring.specs.declared.views.View.TheVariants.{Start, Driver, Device, Right, Spent}
 use Rattle.vg_ring.specs.Words.{addr_place, rest_place, available_place, used_place, used_word}
-use Rattle.vg_ring.specs.Cargo.{CargoData}
-use Rattle.vg_ring.specs.Entries.{head_of, times, uses, stored_at, stored_of, entries}
-use Rattle.vg_ring.specs.Rule.{word_at, place_of, places_of, StandStored, Stand, Offers, Returns, IsGuest, AreSeated, IsNew, IsRing, Ring}
+use Rattle.vg_ring.specs.Entries.{head_of, times, uses, stored_at, stored_of}
+use Rattle.vg_ring.specs.Rule.{word_at, places_of, StandStored, Stand, Offers, Returns}
 
 times_here : (p q : ℕ) (more : List ℕ) → times p (q ∷ more) ≡ 0 → (q ≢ p) × (times p more ≡ 0)
 times_here p q more unused = elim (eqb_tells q p) [

@@ -1,20 +1,12 @@
-use Rattle.std.proofs.Common.{◌≡◌, ◌≢◌, ℕ, zero, suc, ◌+◌, ◌*◌, ◌%◌, ◌<◌, ◌≤◌, Bool, true, false, Option, Some, None, ◌⊎◌, List, [], ◌∷◌, ◌++◌, length, map, get_or, set, refl, sym, ap, subst, inl, inr, ◌∙◌, arith, replicate, add-one, cond, eqb, length-append, append_assoc}
-use mathlib.Core.Option.{some, none, some-injective, some-ne-none}
+use Rattle.std.proofs.Common.{◌≡◌, ◌≢◌, ℕ, zero, suc, ◌+◌, ◌*◌, ◌<◌, ◌≤◌, Bool, true, false, Option, None, ◌⊎◌, List, [], ◌∷◌, ◌++◌, length, map, get_or, set, refl, sym, ap, subst, inl, inr, ◌∙◌, arith, replicate, cond, eqb}
+use mathlib.Core.Option.{some, some-injective, some-ne-none}
 use lib.ListN.{get_elem?}
-use Rattle.std.proofs.lemmas.List.{get_or-set_same, length-set, set-get_or, append-nil}
-use Rattle.std.proofs.Math.Nat.{mod-lt}
 use Rattle.atomic_table.proofs.Lists.{at_set, at_longer, set_else, set_here}
 use Rattle.std.proofs.lemmas.List.{length-replicate}
-use Rattle.std.proofs.lemmas.Bool.{cases_lt, cases_eq, eq-eqb, ne_eqb}
-use Rattle.std.proofs.lemmas.Bool.Decides.{eqb_tells}
-use Rattle.atomic_table.specs.Table.{State, Act, Allows, Splits, Joins, opening, Me, Valid, stepped, carried_after}
-use Rattle.atomic_table.specs.Table.Act.{keeps, takes, gives}
-use Rattle.vg_wire.specs.declared.request.Queue.{Queue}
+use Rattle.std.proofs.lemmas.Bool.{cases_eq, eq-eqb, ne_eqb}
+use Rattle.atomic_table.specs.Table.{State, Allows, Splits, Joins, opening}
+use Rattle.atomic_table.specs.Table.Act.{keeps}
 use Rattle.vg_ring.specs.declared.views.Entry.{Entry}
-use Rattle.vg_ring.specs.declared.views.Answer.{Answer}
-use Rattle.vg_ring.specs.declared.views.Stored.{Stored}
-use Rattle.vg_ring.specs.declared.views.DriverStage.{DriverStage}
-use Rattle.vg_ring.specs.declared.views.DriverStage.TheVariants as driver
 use Rattle.vg_ring.specs.declared.views.DeviceStage.{DeviceStage}
 use Rattle.vg_ring.specs.declared.views.DeviceStage.TheVariants as device
 use Rattle.vg_ring.specs.declared.views.DriverView.{DriverView}
@@ -22,14 +14,9 @@ use Rattle.vg_ring.specs.declared.views.DeviceView.{DeviceView}
 use Rattle.vg_ring.specs.declared.views.View.{View}
 use Rattle.vg_ring.specs.declared.views.View.TheVariants.{Start, Driver, Device, Right, Spent}
 use Rattle.vg_ring.specs.Cargo.{CargoData}
-use Rattle.vg_ring.specs.Words.{addr_place, rest_place, available_place, used_place, used_word}
-use Rattle.vg_ring.specs.Entries.{head_of, times, uses_in, places_in, head_in, uses, heads, spread, entries, lane_count, weigh, without, Has, stored_of, IsFresh, IsDone, InOrder}
-use Rattle.vg_ring.specs.Rule.{word_at, Offers, Returns, Stand, HaveHeads, places_of, StandStored, AreFree, DriverKnows, DeviceKnows, driver_hand, device_hand, Vacant, IsRing, IsNew, IsGuest, AreSeated, Ring, set_stage, lent_after, returned_after, new_driver, new_device, fetched_after, completed_after, looked_by_device}
-use Rattle.vg_ring.proofs.Frames.{word_else, stored_kept, stored_high, stand_kept, stand_high, stored_low, stand_low, stand_snoc, stand_append, stand_front, offers_high, returns_apart, returns_snoc, offers_kept, offers_apart, offers_snoc, returns_kept, IsWordOf}
-use Rattle.vg_ring.proofs.Counts.{times-append, places-snoc, stored-snoc, heads_uses, length_spread, weigh-append, have-append, in_order-snoc, in_order-front, head_in_places, heads_less, heads_length, length-entries, entries-append, have-front}
-use Rattle.vg_ring.proofs.Slots.{heads_here, wait_kept, wait_snoc, lie_kept, lie_snoc}
-use Rattle.vg_ring.proofs.Seats.{within, IsAtDevice, at_device, seated_device}
-use Rattle.vg_ring.proofs.DriverSteps.{device_kept}
+use Rattle.vg_ring.specs.Entries.{head_of, head_in, heads, without, Has}
+use Rattle.vg_ring.specs.Rule.{word_at, IsRing, IsNew, IsGuest, AreSeated, Ring, set_stage, lent_after, returned_after, new_driver, new_device}
+use Rattle.vg_ring.proofs.Seats.{within, at_device}
 use Rattle.vg_ring.proofs.DeviceSteps.{moves}
 
 has_heads : (e : Entry) (es : List Entry) → Has e es → 1 ≤ heads (head_of e) es

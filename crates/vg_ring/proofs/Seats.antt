@@ -1,18 +1,16 @@
-use Rattle.std.proofs.Common.{◌≡◌, ◌≢◌, ℕ, zero, suc, ◌+◌, ◌<◌, ◌≤◌, Bool, Option, Some, None, ◌⊎◌, List, [], ◌∷◌, ◌++◌, length, set, refl, sym, ap, subst, inl, inr, ◌∙◌, arith}
-use mathlib.Core.Option.{some, none, some-injective, some-ne-none}
+use Rattle.std.proofs.Common.{◌≡◌, ℕ, zero, suc, ◌<◌, Bool, Option, List, [], ◌∷◌, length, set, refl, sym, subst, inl, inr, ◌∙◌, arith}
+use mathlib.Core.Option.{some, some-injective, some-ne-none}
 use lib.ListN.{get_elem?}
 use Rattle.atomic_table.specs.Table.{State}
 use Rattle.atomic_table.proofs.Lists.{at_set, set_here, set_else}
-use Rattle.vg_wire.specs.declared.request.Queue.{Queue}
 use Rattle.vg_ring.specs.declared.views.Entry.{Entry}
 use Rattle.vg_ring.specs.declared.views.Answer.{Answer}
 use Rattle.vg_ring.specs.declared.views.DriverView.{DriverView}
 use Rattle.vg_ring.specs.declared.views.DeviceView.{DeviceView}
 use Rattle.vg_ring.specs.declared.views.View.{View}
-use Rattle.vg_ring.specs.declared.views.View.TheVariants.{Start, Driver, Device, Right, Spent}
+use Rattle.vg_ring.specs.declared.views.View.TheVariants.{Start, Driver, Device, Right}
 use Rattle.vg_ring.specs.Cargo.{CargoData}
-use Rattle.vg_ring.specs.Entries.{head_of}
-use Rattle.vg_ring.specs.Rule.{IsGuest, AreSeated, IsNew, IsRing, Ring}
+use Rattle.vg_ring.specs.Rule.{IsGuest, AreSeated, IsRing, Ring}
 
 -- some seat is there
 pub within : {A : Type 0} (xs : List A) (i : ℕ) (a : A) → get_elem? xs i ≡ some a → i < length xs

@@ -1,7 +1,6 @@
-use Rattle.std.proofs.Common.{◌≡◌, ℕ, ◌+◌, ◌-◌, ◌*◌, ◌/◌, ◌<◌, Bool, List, [], ◌∷◌, ◌++◌, refl, sym, ap, subst, ◌∙◌, arith}
+use Rattle.std.proofs.Common.{◌≡◌, ℕ, ◌+◌, ◌*◌, ◌<◌, Bool, List, [], ◌∷◌, ◌++◌, refl, sym, ap, subst, ◌∙◌, arith}
 use Rattle.std.specs.Prelude.{Option}
-use Rattle.atomic_table.specs.Table.{State, Act, Allows, Me}
-use Rattle.vg_wire.specs.declared.request.Queue.{Queue}
+use Rattle.atomic_table.specs.Table.{State, Allows, Me}
 use Rattle.vg_ring.specs.declared.views.Stored.{Stored}
 use Rattle.vg_ring.specs.declared.views.DriverStage.TheVariants as driver
 use Rattle.vg_ring.specs.declared.views.DriverView.{DriverView}
@@ -11,7 +10,7 @@ use Rattle.vg_ring.specs.Cargo.{CargoData}
 use Rattle.vg_ring.specs.Words.{addr_place, rest_place}
 use Rattle.vg_ring.specs.Entries.{times, uses}
 use Rattle.vg_ring.specs.Rule.{Ring, staged, places_of}
-use Rattle.vg_ring.specs.Plays.{driver_of, place_at, with_half, with_rest, writing, written_by}
+use Rattle.vg_ring.specs.Plays.{place_at, with_half, with_rest}
 use Rattle.vg_ring.proofs.DriverSteps.{stores_address, stores_rest}
 
 -- a step at a seat that is known by an equation, and which tells something else

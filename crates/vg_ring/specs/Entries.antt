@@ -1,11 +1,10 @@
-use Rattle.std.specs.Prelude.{◌≡◌, ℕ, ◌+◌, ◌<◌, ◌≤◌, ◌==◌, ◌⊎◌, Bool, true, false, List, [], ◌∷◌, ◌++◌, map, length, slice_index, if◌then◌else◌}
+use Rattle.std.specs.Prelude.{◌≡◌, ℕ, ◌+◌, ◌==◌, ◌⊎◌, Bool, true, false, List, [], ◌∷◌, ◌++◌, map, length, slice_index, if◌then◌else◌}
 use Rattle.vg_chain.specs.declared.descriptor.Descriptor.{Descriptor}
 use Rattle.vg_chain.specs.Made.{made}
-use Rattle.vg_wire.specs.declared.request.Queue.{Queue}
 use Rattle.vg_ring.specs.declared.views.Entry.{Entry}
 use Rattle.vg_ring.specs.declared.views.Answer.{Answer}
 use Rattle.vg_ring.specs.declared.views.Stored.{Stored}
-use Rattle.vg_ring.specs.Cargo.{ParcelData, CargoData, base_of}
+use Rattle.vg_ring.specs.Cargo.{CargoData, base_of}
 use Rattle.vg_ring.specs.Words.{rest_word}
 
 -- The head's place is the first one.

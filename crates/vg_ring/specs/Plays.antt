@@ -1,4 +1,4 @@
-use Rattle.std.specs.Prelude.{◌≡◌, ℕ, ◌-◌, ◌/◌, ◌++◌, List, [], ◌∷◌}
+use Rattle.std.specs.Prelude.{ℕ, ◌-◌, ◌/◌, ◌++◌, List, [], ◌∷◌}
 use Rattle.vg_ring.specs.declared.views.Stored.{Stored}
 use Rattle.vg_ring.specs.declared.views.DriverStage.{DriverStage}
 use Rattle.vg_ring.specs.declared.views.DriverStage.TheVariants as driver

@@ -1,12 +1,12 @@
 //! The two ends of a split virtqueue that threads share (VIRTIO 1.2, 2.7).
 #![tactic(auto)]
 
+mod awaited;
 mod cargo;
 mod driver;
 mod law;
 mod made;
 mod parcel;
-mod probe;
 mod tagged;
 mod views;
 mod words;
