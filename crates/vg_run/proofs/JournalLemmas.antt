@@ -1,4 +1,4 @@
-use Rattle.std.proofs.Common.{ℕ, codes, ◌≡◌, ◌<◌, List, [], ◌++◌, length, Option, ap, ◌∙◌, refl, subst, arith, sym, append_assoc, length-append}
+use Rattle.std.proofs.Common.{ℕ, codes, ◌≡◌, List, [], ◌++◌, length, Option, ap, ◌∙◌, refl, subst, arith, sym, append_assoc, length-append}
 use Rattle.vg_io.specs.Streams.{TakesPart, TakesSome}
 use Rattle.vg_machine.specs.declared.scanout.Frame.{Frame}
 use Rattle.vg_machine.specs.declared.history.Entry.{Entry}

@@ -18,14 +18,16 @@ use Rattle.vg_machine.specs.State.{State, start}
 use Rattle.vg_machine.specs.Replay.{AgreesFrom, HasReply, after, request_step}
 use Rattle.vg_machine.specs.Order.{AreInOrder, LaneOrder, Sound, by_call, call_of, client_of, of_client}
 use Rattle.vg_script.specs.declared.types.Line.{Line}
-use Rattle.vg_run.specs.declared.task.Move.{Move}
-use Rattle.vg_run.specs.declared.task.Move.TheVariants as moves
+use Rattle.vg_run.specs.declared.task.Deed.{Deed}
+use Rattle.vg_run.specs.declared.task.Deed.TheVariants as deeds
 use Rattle.vg_run.specs.declared.task.Task.{Task}
-use Rattle.vg_run.specs.Calls.{AreInPlace, Follows, GivesAll, GivesCalls, GivesTasks, IsAsked, IsMade, Plays, call_of_step, learned, newest, no_refs, refs_after}
+use Rattle.vg_run.specs.declared.task.Way.{Way}
+use Rattle.vg_run.specs.Calls.{AreInPlace, Follows, GivesAll, GivesCalls, GivesTasks, IsAsked, IsDone, Plays, call_of_step, learned, newest, no_refs, refs_after}
 use Rattle.vg_run.specs.Known.{Known, first_known}
 use Rattle.vg_run.specs.Legal.{FollowAll}
-use Rattle.vg_run.specs.Moves.{control_request, move_of}
-use Rattle.vg_run.specs.Tasks.{end_tasks, left_after, tasks_of}
+use Rattle.vg_run.specs.Given.{given_of, left_after}
+use Rattle.vg_run.specs.Requests.{request_by}
+use Rattle.vg_run.specs.Tasks.{end_tasks, tasks_of}
 use Rattle.vg_run.proofs.OrderLemmas.{by_call-in_place, of_client-all}
 
 -- what is left of a client's history from its k-th number on
@@ -68,16 +70,16 @@ same_act state before k client act call call' reply reply' one other =
     let answer : reply ≡ reply' = one.reply ∙ sym other.reply in
     ap (λ (n : ℕ). entries.Act client n act reply) number ∙ ap (λ (r : ActReply). entries.Act client call' act r) answer
 
-same_command : (state : State) (before : List Entry) (k client : ℕ) (command : Command2d) (call call' ordinal ordinal' : ℕ) (reply reply' : Reply)
-    → Stood state before k (entries.Command client call (control_request ordinal command) reply) → Stood state before k (entries.Command client call' (control_request ordinal' command) reply')
-    → entries.Command client call (control_request ordinal command) reply ≡ entries.Command client call' (control_request ordinal' command) reply'
-same_command state before k client command call call' ordinal ordinal' reply reply' one other =
+same_command : (state : State) (before : List Entry) (k client : ℕ) (way : Way) (command : Command2d) (call call' ordinal ordinal' : ℕ) (reply reply' : Reply)
+    → Stood state before k (entries.Command client call (request_by way ordinal command) reply) → Stood state before k (entries.Command client call' (request_by way ordinal' command) reply')
+    → entries.Command client call (request_by way ordinal command) reply ≡ entries.Command client call' (request_by way ordinal' command) reply'
+same_command state before k client way command call call' ordinal ordinal' reply reply' one other =
     let number : call ≡ call' = one.number ∙ sym other.number in
     let place : ordinal ≡ ordinal' = one.lane.1 ∙ sym other.lane.1 in
-    let answer : reply ≡ reply' = one.reply ∙ ap (λ (n : ℕ). (request_step state (control_request n command)).1) place ∙ sym other.reply in
-    ap (λ (n : ℕ). entries.Command client n (control_request ordinal command) reply) number
-    ∙ ap (λ (n : ℕ). entries.Command client call' (control_request n command) reply) place
-    ∙ ap (λ (r : Reply). entries.Command client call' (control_request ordinal' command) r) answer
+    let answer : reply ≡ reply' = one.reply ∙ ap (λ (n : ℕ). (request_step state (request_by way n command)).1) place ∙ sym other.reply in
+    ap (λ (n : ℕ). entries.Command client n (request_by way ordinal command) reply) number
+    ∙ ap (λ (n : ℕ). entries.Command client call' (request_by way n command) reply) place
+    ∙ ap (λ (r : Reply). entries.Command client call' (request_by way ordinal' command) r) answer
 
 acts_same : (state : State) (before : List Entry) (k client : ℕ) (act : Act) (call call' : ℕ) (reply reply' : ActReply) (e e' : Entry) → e ≡ entries.Act client call act reply → e' ≡ entries.Act client call' act reply'
     → Stood state before k e → Stood state before k e' → e ≡ e'
@@ -85,23 +87,23 @@ acts_same state before k client act call call' reply reply' e e' is is' one othe
     let At : Entry → Type 0 = λ x. Stood state before k x in
     is ∙ same_act state before k client act call call' reply reply' (subst At is one) (subst At is' other) ∙ sym is'
 
-commands_same : (state : State) (before : List Entry) (k client : ℕ) (command : Command2d) (call call' ordinal ordinal' : ℕ) (reply reply' : Reply) (e e' : Entry)
-    → e ≡ entries.Command client call (control_request ordinal command) reply → e' ≡ entries.Command client call' (control_request ordinal' command) reply'
+commands_same : (state : State) (before : List Entry) (k client : ℕ) (way : Way) (command : Command2d) (call call' ordinal ordinal' : ℕ) (reply reply' : Reply) (e e' : Entry)
+    → e ≡ entries.Command client call (request_by way ordinal command) reply → e' ≡ entries.Command client call' (request_by way ordinal' command) reply'
     → Stood state before k e → Stood state before k e' → e ≡ e'
-commands_same state before k client command call call' ordinal ordinal' reply reply' e e' is is' one other =
+commands_same state before k client way command call call' ordinal ordinal' reply reply' e e' is is' one other =
     let At : Entry → Type 0 = λ x. Stood state before k x in
-    is ∙ same_command state before k client command call call' ordinal ordinal' reply reply' (subst At is one) (subst At is' other) ∙ sym is'
+    is ∙ same_command state before k client way command call call' ordinal ordinal' reply reply' (subst At is one) (subst At is' other) ∙ sym is'
 
 -- the entry of a task is determined
-same_asked : (state : State) (before : List Entry) (k client : ℕ) (denied : Option What) (command : Command2d) (e e' : Entry) → IsAsked client denied command e → IsAsked client denied command e'
+same_asked : (state : State) (before : List Entry) (k client : ℕ) (denied : Option What) (way : Way) (command : Command2d) (e e' : Entry) → IsAsked client denied way command e → IsAsked client denied way command e'
     → Stood state before k e → Stood state before k e' → e ≡ e'
-same_asked state before k client (Some what) command e e' is is' one other = acts_same state before k client (Denied what) is.0 is'.0 is.1 is'.1 e e' is.2 is'.2 one other
-same_asked state before k client None command e e' is is' one other = commands_same state before k client command is.0 is'.0 is.1 is'.1 is.2 is'.2 e e' is.3 is'.3 one other
+same_asked state before k client (Some what) way command e e' is is' one other = acts_same state before k client (Denied what) is.0 is'.0 is.1 is'.1 e e' is.2 is'.2 one other
+same_asked state before k client None way command e e' is is' one other = commands_same state before k client way command is.0 is'.0 is.1 is'.1 is.2 is'.2 e e' is.3 is'.3 one other
 
-same_made : (state : State) (before : List Entry) (k client : ℕ) (holds : Holds) (move : Move) (e e' : Entry) → IsMade client holds move e → IsMade client holds move e'
+same_done : (state : State) (before : List Entry) (k client : ℕ) (holds : Holds) (deed : Deed) (e e' : Entry) → IsDone client holds deed e → IsDone client holds deed e'
     → Stood state before k e → Stood state before k e' → e ≡ e'
-same_made state before k client holds (moves.Act act) e e' is is' one other = acts_same state before k client act is.0 is'.0 is.1 is'.1 e e' is.2 is'.2 one other
-same_made state before k client holds (moves.Command command) e e' is is' one other = same_asked state before k client (denied_command holds (TwoD command)) command e e' is is' one other
+same_done state before k client holds (deeds.Act act) e e' is is' one other = acts_same state before k client act is.0 is'.0 is.1 is'.1 e e' is.2 is'.2 one other
+same_done state before k client holds (deeds.Command way command) e e' is is' one other = same_asked state before k client (denied_command holds (TwoD command)) way command e e' is is' one other
 
 -- two fronts are one, what is known after them is one, and what is left behind them stands behind the same
 record Same (f f' : List Entry) (K K' : Known) (r r' : List Entry) : Type 0 where
@@ -115,22 +117,21 @@ record Same (f f' : List Entry) (K K' : Known) (r r' : List Entry) : Type 0 wher
 
 -- what tasks give is determined
 same_plays : (client : ℕ) (stops : Bool) (f f' r r' : List Entry) (tasks : List Task) (known K K' : Known) (state : State) (before : List Entry) (k : ℕ)
-    → Plays client stops known tasks f K → Plays client stops known tasks f' K' → Left state before k (f ++ r) → Left state before k (f' ++ r') → Same f f' K K' r r'
-same_plays client stops [] [] r r' [] known K K' state before k plays plays' left left' =
-    record { front = refl; known = plays ∙ sym plays'; state = state; before = before; k = k; left = left; right = left' }
-same_plays client stops [] [] r r' (task ∷ tasks) known K K' state before k plays plays' left left' = absurd plays
+    → Plays client stops known tasks f K [] → Plays client stops known tasks f' K' [] → Left state before k (f ++ r) → Left state before k (f' ++ r') → Same f f' K K' r r'
+same_plays client stops [] [] r r' tasks known K K' state before k plays plays' left left' =
+    record { front = refl; known = plays.0 ∙ sym plays'.0; state = state; before = before; k = k; left = left; right = left' }
 same_plays client stops [] (e' ∷ f') r r' [] known K K' state before k plays plays' left left' = absurd plays'
-same_plays client stops [] (e' ∷ f') r r' (task ∷ tasks) known K K' state before k plays plays' left left' = absurd plays
+same_plays client stops [] (e' ∷ f') r r' (task ∷ tasks) known K K' state before k plays plays' left left' = let none : [] ≡ task ∷ tasks = plays.1 in absurd (cc none)
 same_plays client stops (e ∷ f) [] r r' [] known K K' state before k plays plays' left left' = absurd plays
-same_plays client stops (e ∷ f) [] r r' (task ∷ tasks) known K K' state before k plays plays' left left' = absurd plays'
+same_plays client stops (e ∷ f) [] r r' (task ∷ tasks) known K K' state before k plays plays' left left' = let none : [] ≡ task ∷ tasks = plays'.1 in absurd (cc none)
 same_plays client stops (e ∷ f) (e' ∷ f') r r' [] known K K' state before k plays plays' left left' = absurd plays
 same_plays client stops (e ∷ f) (e' ∷ f') r r' (task ∷ tasks) known K K' state before k plays plays' left left' =
     let one = begun state before k e (f ++ r) left in
     let other = begun state before k e' (f' ++ r') left' in
-    let same : e ≡ e' = same_made state before k client known.holds (move_of task) e e' plays.0 plays'.0 one.here other.here in
-    let Next : Entry → Type 0 = λ x. Plays client stops (learned known task x) (left_after stops task x tasks) f' K' in
+    let same : e ≡ e' = same_done state before k client known.holds task.deed e e' plays.0 plays'.0 one.here other.here in
+    let Next : Entry → Type 0 = λ x. Plays client stops (learned known task x) (left_after stops task.change (given_of x) tasks) f' K' [] in
     let Behind : Entry → Type 0 = λ x. Left (after state x) (before ++ x ∷ []) (k + 1) (f' ++ r') in
-    let rest = same_plays client stops f f' r r' (left_after stops task e tasks) (learned known task e) K K' (after state e) (before ++ e ∷ []) (k + 1)
+    let rest = same_plays client stops f f' r r' (left_after stops task.change (given_of e) tasks) (learned known task e) K K' (after state e) (before ++ e ∷ []) (k + 1)
     plays.1 (subst Next (sym same) plays'.1) one.left (subst Behind (sym same) other.left) in
     record {
       front = ap (λ (x : Entry). x ∷ f) same ∙ ap (λ (xs : List Entry). e' ∷ xs) rest.front;
@@ -147,17 +148,17 @@ same_tasks : (client : ℕ) (tasks : Result (List Task) What) (f f' r r' : List 
     → GivesTasks client known tasks f K → GivesTasks client known tasks f' K' → Left state before k (f ++ r) → Left state before k (f' ++ r') → Same f f' K K' r r'
 same_tasks client (Ok tasks) f f' r r' known K K' state before k gives gives' left left' = same_plays client true f f' r r' tasks known K K' state before k gives gives' left left'
 same_tasks client (Err what) f f' r r' known K K' state before k gives gives' left left' =
-    let e : Entry = entries.Act client gives.0 (Denied what) gives.1 in
-    let e' : Entry = entries.Act client gives'.0 (Denied what) gives'.1 in
+    let e : Entry = entries.Act client gives.0.0 (Denied what) gives.0.1 in
+    let e' : Entry = entries.Act client gives'.0.0 (Denied what) gives'.0.1 in
     let One : List Entry → Type 0 = λ xs. Left state before k (xs ++ r) in
     let Other : List Entry → Type 0 = λ xs. Left state before k (xs ++ r') in
-    let one = begun state before k e r (subst One gives.2 left) in
-    let other = begun state before k e' r' (subst Other gives'.2 left') in
-    let same : e ≡ e' = same_act state before k client (Denied what) gives.0 gives'.0 gives.1 gives'.1 one.here other.here in
+    let one = begun state before k e r (subst One gives.0.2 left) in
+    let other = begun state before k e' r' (subst Other gives'.0.2 left') in
+    let same : e ≡ e' = same_act state before k client (Denied what) gives.0.0 gives'.0.0 gives.0.1 gives'.0.1 one.here other.here in
     let Behind : Entry → Type 0 = λ x. Left (after state x) (before ++ x ∷ []) (k + 1) r' in
     record {
-      front = gives.2 ∙ ap (λ (x : Entry). x ∷ []) same ∙ sym gives'.2;
-      known = gives.3 ∙ sym gives'.3;
+      front = gives.0.2 ∙ ap (λ (x : Entry). x ∷ []) same ∙ sym gives'.0.2;
+      known = gives.1 ∙ sym gives'.1;
       state = after state e;
       before = before ++ e ∷ [];
       k = k + 1;
@@ -216,7 +217,7 @@ same_calls setup client lines G H state before k calls calls' left left' =
     let Behind : Entry → Type 0 = λ x. Left (after state x) (before ++ x ∷ []) (k + 1) (calls'.middle ++ tail') in
     let given = same_lines client lines no_refs calls.middle calls'.middle tail tail' (first_known setup client) calls.known calls'.known (after state enter) (before ++ enter ∷ []) (k + 1)
     calls.lines_give calls'.lines_give one.left (subst Behind (sym entered) other.left) in
-    let Ending : Known → Type 0 = λ known. Plays client false known (end_tasks known) calls'.ending calls'.at_end in
+    let Ending : Known → Type 0 = λ known. Plays client false known (end_tasks known) calls'.ending calls'.at_end [] in
     let ended = same_plays client false calls.ending calls'.ending (leave ∷ []) (leave' ∷ []) (end_tasks calls.known) calls.known calls.at_end calls'.at_end given.state given.before given.k
     calls.end_gives (subst Ending (sym given.known) calls'.end_gives) given.left given.right in
     let left_last = begun ended.state ended.before ended.k leave [] ended.left in

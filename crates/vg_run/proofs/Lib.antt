@@ -3,7 +3,10 @@ pub mod OrderLemmas
 pub mod NumberedLemmas
 pub mod RefLemmas
 pub mod TaskLemmas
-pub mod StandLemmas
+pub mod HoldsLemmas
+pub mod SessionLemmas
+pub mod RequestLemmas
+pub mod ReplyLemmas
 pub mod SetupLemmas
 pub mod DeniedLemmas
 pub mod PlayLemmas

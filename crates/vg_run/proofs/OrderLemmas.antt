@@ -1,13 +1,12 @@
-use Rattle.std.proofs.Common.{◌≡◌, ◌≢◌, ◌+◌, ◌<◌, ◌≤◌, ◌==◌, ◌∙◌, sym, ap, refl, subst, arith, ℕ, zero, suc, Bool, true, false, cond, List, [], ◌∷◌, ◌++◌, length, map, filter, append_assoc, nat_le}
+use Rattle.std.proofs.Common.{◌≡◌, ◌≢◌, ◌+◌, ◌-◌, ◌<◌, ◌≤◌, ◌==◌, ◌∙◌, sym, ap, refl, subst, arith, ℕ, zero, suc, Bool, true, false, cond, List, [], ◌∷◌, ◌++◌, length, map, filter, append_assoc, nat_le}
 use Rattle.std.specs.List.{AllByRecursion, range_with_len}
 use Rattle.std.proofs.lemmas.List.{append-nil, length-map}
 use Rattle.std.proofs.lemmas.List.FromFn.{length-range_with_len}
 use Rattle.std.proofs.lemmas.Bool.Decides.{nat_tests}
 use Rattle.vg_machine.specs.declared.history.Entry.{Entry}
 use Rattle.vg_machine.specs.declared.history.Entry.TheVariants as entries
-use Rattle.vg_machine.specs.Order.{AreInOrder, CallOrder, GiveUp, IsFirst, IsInOrder, LaneOrder, by_call, call_of, client_of, is_leave, is_of_lane, numbers_below, of_client, placed}
+use Rattle.vg_machine.specs.Order.{AreInOrder, GiveUp, IsFirst, IsInOrder, LaneOrder, by_call, call_of, client_of, is_leave, is_of_lane, numbers_below, of_client, placed}
 use Rattle.vg_run.specs.Calls.{AreInPlace}
-use Rattle.vg_run.specs.Session.{IsPresent, IsRun}
 
 -- a history of one client alone is all its own
 pub of_client-all : (client : ℕ) (H : List Entry) → AllByRecursion (λ e. client_of e ≡ client) H → of_client client H ≡ H
@@ -85,15 +84,12 @@ all-map : (P Q : Entry → Type 0) (H : List Entry) → ((e : Entry) → P e →
 all-map P Q [] f all = tt
 all-map P Q (first ∷ more) f all = (f first all.0, all-map P Q more f all.1)
 
-order-more : (before H : List Entry) (entry : Entry) → AreInOrder before H → IsInOrder (before ++ H) entry → AreInOrder before (H ++ entry ∷ [])
+pub order-more : (before H : List Entry) (entry : Entry) → AreInOrder before H → IsInOrder (before ++ H) entry → AreInOrder before (H ++ entry ∷ [])
 order-more before [] entry order here = let P : List Entry → Type 0 = λ xs. IsInOrder xs entry in (subst P (append-nil before) here, tt)
 order-more before (first ∷ more) entry order here =
     let moved : before ++ (first ∷ more) ≡ (before ++ first ∷ []) ++ more = simp append_assoc in
     let P : List Entry → Type 0 = λ xs. IsInOrder xs entry in
     (order.0, order-more (before ++ first ∷ []) more entry order.1 (subst P moved here))
-
-pub length-run : (client used : ℕ) (H : List Entry) → IsRun client used H → length H ≡ used
-length-run client used H run = let e : length (map call_of H) ≡ length H = simp length-map in sym e ∙ ap length run.numbers ∙ length-range_with_len 1 used
 
 not-same : (k : ℕ) (e : Entry) → call_of e < k → call_of e ≢ k
 not-same k e below = λ same. absurd (omega arith)
@@ -102,42 +98,60 @@ below-all : (H : List Entry) (entry : Entry) → AllByRecursion (λ e. call_of e
 below-all H (entries.Act client call act reply) all = all
 below-all H (entries.Command client call request reply) all = all-filter (λ e. call_of e < call) (is_of_lane request.lane) H all
 
--- one entry more of the client, with its next number
-pub run-more : (client used : ℕ) (H : List Entry) (entry : Entry) → IsRun client used H → IsPresent H → client_of entry ≡ client → call_of entry ≡ used + 1
-    → LaneOrder H entry → (H ≡ [] → IsFirst entry) → GiveUp H entry → IsRun client (used + 1) (H ++ entry ∷ [])
-run-more client used H entry run present owner number lane first give_up =
-    let mine : of_client (client_of entry) H ≡ H = ap (λ (n : ℕ). of_client n H) owner ∙ of_client-all client H run.mine in
-    let below : AllByRecursion (λ e. call_of e < call_of entry) H = all_below H (call_of entry) 1 used run.numbers (omega arith) in
-    let Fresh : List Entry → Type 0 = λ xs. AllByRecursion (λ e. call_of e ≢ call_of entry) xs in
-    let Rising : List Entry → Type 0 = λ xs. AllByRecursion (λ e. call_of e < call_of entry) (numbers_below entry xs) in
-    let First : List Entry → Type 0 = λ xs. xs ≡ [] → IsFirst entry in
-    let Present : List Entry → Type 0 = λ xs. AllByRecursion (λ e. is_leave e ≡ false) xs in
-    let call : CallOrder H entry = record {
-      counted = omega arith;
-      fresh = subst Fresh (sym mine) (all-map (λ e. call_of e < call_of entry) (λ e. call_of e ≢ call_of entry) H (not-same (call_of entry)) below);
-      rising = subst Rising (sym mine) (below-all H entry below);
-      first = subst First (sym mine) first;
-      present = subst Present (sym mine) present;
-    } in
-    record {
-      order = order-more [] H entry run.order (record { lane = lane; call = call; give_up = give_up });
-      numbers = map-more H entry ∙ ap (λ (xs : List ℕ). xs ++ call_of entry ∷ []) run.numbers ∙ range-more 1 used (call_of entry) (omega arith);
-      mine = all-more (λ e. client_of e ≡ client) H entry run.mine owner;
-    }
+-- a client's entries with one more of its own
+pub of_client-more : (client : ℕ) (H : List Entry) (entry : Entry) → client_of entry ≡ client → of_client client (H ++ entry ∷ []) ≡ of_client client H ++ entry ∷ []
+of_client-more client [] entry owner =
+    let test : (client_of entry == client) ≡ true = grind (arith, nat_tests, owner) in
+    rw test refl
+of_client-more client (first ∷ more) entry owner = by_test (client_of first == client) (of_client-more client more entry owner)
+  where
+    by_test : (b : Bool) → of_client client (more ++ entry ∷ []) ≡ of_client client more ++ entry ∷ []
+        → cond b (first ∷ of_client client (more ++ entry ∷ [])) (of_client client (more ++ entry ∷ [])) ≡ cond b (first ∷ of_client client more) (of_client client more) ++ entry ∷ []
+    by_test true e = ap (λ (xs : List Entry). first ∷ xs) e
+    by_test false e = e
 
-pub present-more : (H : List Entry) (entry : Entry) → IsPresent H → is_leave entry ≡ false → IsPresent (H ++ entry ∷ [])
-present-more H entry present here = all-more (λ e. is_leave e ≡ false) H entry present here
+-- no more are a client's than there are
+pub of_client-few : (client : ℕ) (H : List Entry) → length (of_client client H) ≤ length H
+of_client-few client [] = omega arith
+of_client-few client (first ∷ more) = by_test (client_of first == client) (of_client-few client more)
+  where
+    by_test : (b : Bool) → length (of_client client more) ≤ length more → length (cond b (first ∷ of_client client more) (of_client client more)) ≤ length (first ∷ more)
+    by_test true few = omega arith
+    by_test false few = omega arith
 
--- a history with numbers drawn isn't empty
-pub run-begun : (client used : ℕ) (H : List Entry) → IsRun client used H → 1 ≤ used → H ≢ []
-run-begun client used H run begun = λ none. absurd (omega (arith, length-run client used H run, ap length none))
+-- where a client's entries have the numbers 1 to n, there are n
+pub numbered-length : (mine : List Entry) (used : ℕ) → map call_of mine ≡ range_with_len 1 used → length mine ≡ used
+numbered-length mine used numbers = let e : length (map call_of mine) ≡ length mine = simp length-map in sym e ∙ ap length numbers ∙ length-range_with_len 1 used
 
--- a history without entries is a run of no numbers
-pub run-none : (client : ℕ) → IsRun client 0 []
-run-none client = record { order = tt; numbers = refl; mine = tt }
+-- and they stand by their numbers
+pub numbered-sorted : (mine : List Entry) (used : ℕ) → map call_of mine ≡ range_with_len 1 used → by_call mine ≡ mine
+numbered-sorted mine used numbers = by_call-in_place mine (in_place-numbered mine 1 used numbers)
+
+-- one entry more has the next number
+pub numbered-more : (mine : List Entry) (used : ℕ) (entry : Entry) → map call_of mine ≡ range_with_len 1 used → call_of entry ≡ used + 1 → map call_of (mine ++ entry ∷ []) ≡ range_with_len 1 (used + 1)
+numbered-more mine used entry numbers number = map-more mine entry ∙ ap (λ (xs : List ℕ). xs ++ call_of entry ∷ []) numbers ∙ range-more 1 used (call_of entry) (omega arith)
 
 -- what a client gives up stands after all its calls
-pub give_up-run : (client used : ℕ) (H : List Entry) → IsRun client used H → map call_of (by_call (of_client client H)) ≡ range_with_len 1 used
-give_up-run client used H run =
-    let mine = of_client-all client H run.mine in
-    ap (λ (xs : List Entry). map call_of (by_call xs)) mine ∙ ap (map call_of) (by_call-in_place H (in_place-numbered H 1 used run.numbers)) ∙ run.numbers
+give_up : (H : List Entry) (used : ℕ) (entry : Entry) → map call_of (of_client (client_of entry) H) ≡ range_with_len 1 used → call_of entry ≡ used + 1 → GiveUp H entry
+give_up H used (entries.Act client call act reply) numbers number = λ gives.
+    let same : used ≡ call - 1 = omega arith in
+    ap (map call_of) (numbered-sorted (of_client client H) used numbers) ∙ numbers ∙ ap (range_with_len 1) same
+give_up H used (entries.Command client call request reply) numbers number = tt
+
+-- a client's next entry stands in order
+pub in_order : (H : List Entry) (used : ℕ) (entry : Entry) → map call_of (of_client (client_of entry) H) ≡ range_with_len 1 used → AllByRecursion (λ e. is_leave e ≡ false) (of_client (client_of entry) H)
+    → call_of entry ≡ used + 1 → LaneOrder H entry → (used ≡ 0 → IsFirst entry) → IsInOrder H entry
+in_order H used entry numbers present number lane first =
+    let mine : List Entry = of_client (client_of entry) H in
+    let below : AllByRecursion (λ e. call_of e < call_of entry) mine = all_below mine (call_of entry) 1 used numbers (omega arith) in
+    record {
+      lane = lane;
+      call = record {
+        counted = omega arith;
+        fresh = all-map (λ e. call_of e < call_of entry) (λ e. call_of e ≢ call_of entry) mine (not-same (call_of entry)) below;
+        rising = below-all mine entry below;
+        first = λ none. first (sym (numbered-length mine used numbers) ∙ ap length none);
+        present = present;
+      };
+      give_up = give_up H used entry numbers number;
+    }

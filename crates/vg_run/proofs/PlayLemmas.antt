@@ -1,100 +1,96 @@
 -- What the tasks of a call give, one entry after another.
-use Rattle.std.proofs.Common.{◌≡◌, ◌+◌, ◌<◌, ◌≤◌, ◌∙◌, sym, ap, refl, subst, arith, ℕ, Bool, true, false, cond, not, ◌||◌, List, [], ◌∷◌, ◌++◌, length, drop, filter, slice_set, append_assoc, append-nil, length-append, Option, Some, None, Result, Ok, Err, Vec}
-use Rattle.std.specs.Prelude.{IfErr}
+use Rattle.std.proofs.Common.{◌≡◌, ◌⊎◌, ◌+◌, ◌<◌, ◌≤◌, ◌∙◌, sym, ap, refl, subst, arith, inl, inr, ℕ, Bool, true, false, cond, not, ◌||◌, List, [], ◌∷◌, ◌++◌, length, map, drop, filter, slice_set, append_assoc, append-nil, length-append, Option, Some, None, Result, Ok, Err, Vec}
+use Rattle.std.specs.Prelude.{IfErr, OnErr}
 use Rattle.std.specs.List.{AllByRecursion}
-use Rattle.std.proofs.lemmas.List.{length-set}
+use Rattle.std.proofs.lemmas.List.{length-map, length-set}
+use Rattle.vg_machine.specs.declared.act.Act as the_act
+use Rattle.vg_machine.specs.declared.act.Act.TheVariants as acts
+use Rattle.vg_machine.specs.declared.act.ActReply.{ActReply}
 use Rattle.vg_machine.specs.declared.act.ActReply.TheVariants as act_replies
-use Rattle.vg_machine.specs.declared.history.Entry.{Entry}
-use Rattle.vg_machine.specs.declared.history.Entry.TheVariants as entries
-use Rattle.vg_run.specs.declared.names.Held.{Held}
-use Rattle.vg_run.specs.declared.task.Task.{Task}
-use Rattle.vg_run.specs.declared.task.Task.TheVariants as tasks
-use Rattle.vg_run.specs.Calls.{IsEntryOf, Plays, learned, names_after, names_reserved, shown_after, shows_after}
-use Rattle.vg_run.specs.Known.{Known}
-use Rattle.vg_run.specs.Moves.{IsFit}
-use Rattle.vg_run.specs.Names.{NamesState, is_generation, without_name}
-use Rattle.vg_machine.specs.declared.setup.Setup.{Setup}
-use Rattle.vg_machine.specs.declared.holds.Holds.{Holds}
-use Rattle.vg_machine.specs.Order.{updated}
+use Rattle.vg_machine.specs.declared.history.Entry.TheVariants.{Act, Command}
+use Rattle.vg_machine.specs.declared.history.Reply.{Reply}
+use Rattle.vg_machine.specs.declared.history.Request.{Request}
+use Rattle.vg_wire.specs.declared.request.Command.TheVariants.{TwoD}
+use Rattle.vg_wire.specs.declared.two_d.Command2d.{Command2d}
 use Rattle.vg_machine.specs.declared.act.What.{What}
-use Rattle.vg_machine.specs.Holds.{Deniable}
-use Rattle.vg_run.specs.Session.{IsFewPages, IsFitPlan, IsPlanOf, IsSmall, Stands, planned, weight, weights}
-use Rattle.vg_run.specs.Tasks.{follow_ups, is_accepted, is_unref_response, left_after}
-use Rattle.vg_run.proofs.StandLemmas.{updated-kept}
+use Rattle.vg_machine.specs.declared.history.Entry.{Entry}
+use Rattle.vg_machine.specs.declared.holds.Holds.{Holds}
+use Rattle.vg_machine.specs.Holds.{Deniable, denied_command}
+use Rattle.vg_machine.specs.Order.{is_leave, updated}
+use Rattle.vg_run.specs.declared.client.Client.{Client}
+use Rattle.vg_run.specs.declared.given.Given.{Given}
+use Rattle.vg_run.specs.declared.given.Given.TheVariants as givens
+use Rattle.vg_run.specs.declared.names.Held.{Held}
+use Rattle.vg_run.specs.declared.task.Change.{Change}
+use Rattle.vg_run.specs.declared.task.Change.TheVariants.{NewBuffer, EndOfName, Shows}
+use Rattle.vg_run.specs.declared.task.Deed.{Deed}
+use Rattle.vg_run.specs.declared.task.Deed.TheVariants as deeds
+use Rattle.vg_run.specs.declared.task.Task.{Task}
+use Rattle.vg_run.specs.declared.task.Way.{Way}
+use Rattle.vg_run.specs.Calls.{IsAsked, IsBegun, IsDone, IsEntryOf, IsFrontOf, Plays, learned, names_after, names_reserved, shows_after}
+use Rattle.vg_run.specs.Client.{HasAdded, HasDone, HasGoneOn, IsFewPages, IsFitPlan, IsPlanOf, IsReady, IsSmall, known, planned, weight_of, weights}
+use Rattle.vg_run.specs.Given.{follow_ups, given_of, goes_on, is_accepted, left_after, tells_denial}
+use Rattle.vg_run.specs.Known.{Known}
+use Rattle.vg_run.specs.Names.{NamesState, is_generation, without_name}
+use Rattle.vg_run.specs.Requests.{IsFit, request_by}
+use Rattle.vg_run.specs.Table.{page_entry}
+use Rattle.vg_run.specs.Session.{Course, IsActive, IsAdded, IsPresent, leaves, mine_of}
+use Rattle.vg_run.proofs.HoldsLemmas.{updated-kept}
+use Rattle.vg_run.proofs.OrderLemmas.{all-more}
 use Rattle.vg_run.proofs.TaskLemmas.{fit-append, weights-append}
 
--- a list's last element is one
-pub last-is : (xs ys : List Entry) (a b : Entry) → xs ++ a ∷ [] ≡ ys ++ b ∷ [] → a ≡ b
-last-is [] [] a b e = cc
-last-is [] (y ∷ ys) a b e =
-    let short : length (a ∷ []) ≡ length (y ∷ (ys ++ b ∷ [])) = ap length e in
-    let longer = length-append ys (b ∷ []) in
-    absurd (omega (arith, short, longer))
-last-is (x ∷ xs) [] a b e =
-    let short : length (x ∷ (xs ++ a ∷ [])) ≡ length (b ∷ []) = ap length e in
-    let longer = length-append xs (a ∷ []) in
-    absurd (omega (arith, short, longer))
-last-is (x ∷ xs) (y ∷ ys) a b e = let rest : xs ++ a ∷ [] ≡ ys ++ b ∷ [] = cc in last-is xs ys a b rest
-
--- the entries so far, and those of the tasks that are left, are those of all tasks
-abbrev pub Played : ℕ → Bool → Known → List Task → List Entry → Known → List Task → List Entry → Type 0
-Played client stops known0 tasks0 H0 known left H = (middle : List Entry) × (H ≡ H0 ++ middle)
-    × ((rest : List Entry) (after : Known) → Plays client stops known left rest after → Plays client stops known0 tasks0 (middle ++ rest) after)
-
-pub played-first : (client : ℕ) (stops : Bool) (known0 : Known) (tasks0 : List Task) (H0 : List Entry) → Played client stops known0 tasks0 H0 known0 tasks0 H0
-played-first client stops known0 tasks0 H0 = ([], sym (append-nil H0), λ rest after plays. plays)
-
-pub played-more : (client : ℕ) (stops : Bool) (known0 known known' : Known) (tasks0 left left1 left' : List Task) (task : Task) (entry : Entry) (H0 H H' : List Entry)
-    → left ≡ task ∷ left1 → IsEntryOf client known.holds task entry → H' ≡ H ++ entry ∷ [] → known' ≡ learned known task entry → left' ≡ left_after stops task entry left1
-    → Played client stops known0 tasks0 H0 known left H → Played client stops known0 tasks0 H0 known' left' H'
-played-more client stops known0 known known' tasks0 left left1 left' task entry H0 H H' first made more learns leaves played =
-    let regroup : (rest : List Entry) → (played.0 ++ entry ∷ []) ++ rest ≡ played.0 ++ (entry ∷ rest) = λ rest. simp append_assoc in
-    let All : Known → List Entry → Type 0 = λ after xs. Plays client stops known0 tasks0 xs after in
-    let Left : List Entry → Known → List Task → Type 0 = λ xs after ts. Plays client stops known ts xs after in
-    let Next : List Entry → Known → List Task → Type 0 = λ xs after ts. Plays client stops (learned known task entry) ts xs after in
-    let Here : List Entry → Known → Known → Type 0 = λ xs after k. Plays client stops k left' xs after in (
-      played.0 ++ entry ∷ [],
-      more ∙ ap (λ (xs : List Entry). xs ++ entry ∷ []) played.1 ∙ append_assoc H0 played.0 (entry ∷ []),
-      λ rest after plays.
-          let next = subst (Next rest after) leaves (subst (Here rest after) learns plays) in
-          subst (All after) (sym (regroup rest)) (played.2 (entry ∷ rest) after (subst (Left (entry ∷ rest) after) (sym first) (made, next))),
-    )
-
-pub played-all : (client : ℕ) (stops : Bool) (known0 known : Known) (tasks0 left : List Task) (H0 H : List Entry) → left ≡ [] → Played client stops known0 tasks0 H0 known left H
-    → (front : List Entry) × Plays client stops known0 tasks0 front known × (H ≡ H0 ++ front)
-played-all client stops known0 known tasks0 left H0 H none played =
-    let Left : List Task → Type 0 = λ ts. Plays client stops known ts [] known in
-    let All : List Entry → Type 0 = λ xs. Plays client stops known0 tasks0 xs known in
-    (played.0, subst All (append-nil played.0) (played.2 [] known (subst Left (sym none) refl)), played.1)
+-- one entry more, of the first task that was left
+plays-more : (client : ℕ) (stops : Bool) (known0 : Known) (tasks0 : List Task) (mine : List Entry) (known : Known) (task : Task) (left : List Task) (entry : Entry)
+    → Plays client stops known0 tasks0 mine known (task ∷ left) → IsEntryOf client known.holds task entry
+    → Plays client stops known0 tasks0 (mine ++ entry ∷ []) (learned known task entry) (left_after stops task.change (given_of entry) left)
+plays-more client stops known0 [] [] known task left entry plays made = let none : task ∷ left ≡ [] = plays.1 in absurd (cc none)
+plays-more client stops known0 (first ∷ tasks) [] known task left entry plays made =
+    let same : task ≡ first = let e : task ∷ left ≡ first ∷ tasks = plays.1 in cc e in
+    let rest : left ≡ tasks = let e : task ∷ left ≡ first ∷ tasks = plays.1 in cc e in
+    let Made : Known → Task → Type 0 = λ k t. IsEntryOf client k.holds t entry in
+    let one : IsEntryOf client known0.holds first entry = subst (λ (t : Task). Made known0 t) same (subst (λ (k : Known). Made k task) plays.0 made) in
+    let Next : Known → Task → List Task → Type 0 = λ k t ts. (learned known task entry ≡ learned k t entry) × (left_after stops task.change (given_of entry) left ≡ left_after stops t.change (given_of entry) ts) in
+    let next : Next known0 first tasks = subst (λ (ts : List Task). Next known0 first ts) rest (subst (λ (t : Task). Next known0 t left) same (subst (λ (k : Known). Next k task left) plays.0 (refl, refl))) in
+    (one, next)
+plays-more client stops known0 [] (e ∷ mine) known task left entry plays made = absurd plays
+plays-more client stops known0 (first ∷ tasks) (e ∷ mine) known task left entry plays made =
+    (plays.0, plays-more client stops (learned known0 first e) (left_after stops first.change (given_of e) tasks) mine known task left entry plays.1 made)
 
 -- what follows from a task is little, and fits
-follow-few : (task : Task) (entry : Entry) → weights (follow_ups task entry) + 1 ≤ weight task
-follow-few (tasks.Reserve width height format) (entries.Act client call act (act_replies.Reserved key pages)) = omega arith
-follow-few (tasks.Release generation key) (entries.Act client call act act_replies.Last) = omega arith
-follow-few task entry = omega arith
+follow-few : (change : Change) (given : Given) → weights (follow_ups change given) + 1 ≤ weight_of change
+follow-few (NewBuffer width height format) (givens.Act (act_replies.Reserved key pages)) = omega arith
+follow-few (NewBuffer width height format) given = omega arith
+follow-few (EndOfName generation key) (givens.Act act_replies.Last) = omega arith
+follow-few (EndOfName generation key) given = omega arith
+follow-few change given = omega arith
 
-follow-fit : (task : Task) (entry : Entry) → IsFewPages entry → AllByRecursion IsFit (follow_ups task entry)
-follow-fit (tasks.Reserve width height format) (entries.Act client call act (act_replies.Reserved key pages)) few = (tt, (few, tt))
-follow-fit (tasks.Release generation key) (entries.Act client call act act_replies.Last) few = (tt, (tt, tt))
-follow-fit task entry few = tt
+follow-fit : (change : Change) (given : Given) → IsFewPages given → AllByRecursion IsFit (follow_ups change given)
+follow-fit (NewBuffer width height format) (givens.Act (act_replies.Reserved key pages)) few =
+    let same : length (map page_entry pages) ≡ length pages = simp length-map in
+    (((tt, tt), tt), (((tt, omega (arith, same, few)), tt), tt))
+follow-fit (NewBuffer width height format) given few = tt
+follow-fit (EndOfName generation key) (givens.Act act_replies.Last) few = (((tt, tt), tt), ((tt, tt), tt))
+follow-fit (EndOfName generation key) given few = tt
+follow-fit change given few = tt
 
-weight-some : (task : Task) → 1 ≤ weight task
-weight-some (tasks.Reserve width height format) = omega arith
-weight-some (tasks.Release generation key) = omega arith
-weight-some task = omega arith
+weight-some : (change : Change) → 1 ≤ weight_of change
+weight-some (NewBuffer width height format) = omega arith
+weight-some (EndOfName generation key) = omega arith
+weight-some change = omega arith
 
-pub left-few : (stops : Bool) (task : Task) (entry : Entry) (left : List Task) → weights (left_after stops task entry left) + 1 ≤ weights (task ∷ left)
-left-few stops task entry left = by_test (not stops || is_unref_response task entry || is_accepted entry) (follow-few task entry) (weights-append (follow_ups task entry) left) (weight-some task)
+left-few : (stops : Bool) (task : Task) (given : Given) (left : List Task) → weights (left_after stops task.change given left) + 1 ≤ weights (task ∷ left)
+left-few stops task given left =
+    by_test (not stops || goes_on task.change given || is_accepted given) (follow-few task.change given) (weights-append (follow_ups task.change given) left) (weight-some task.change)
   where
-    by_test : (b : Bool) → weights (follow_ups task entry) + 1 ≤ weight task → weights (follow_ups task entry ++ left) ≡ weights (follow_ups task entry) + weights left → 1 ≤ weight task
-        → weights (cond b (follow_ups task entry ++ left) []) + 1 ≤ weights (task ∷ left)
+    by_test : (b : Bool) → weights (follow_ups task.change given) + 1 ≤ weight_of task.change → weights (follow_ups task.change given ++ left) ≡ weights (follow_ups task.change given) + weights left → 1 ≤ weight_of task.change
+        → weights (cond b (follow_ups task.change given ++ left) []) + 1 ≤ weights (task ∷ left)
     by_test true few both some = omega arith
     by_test false few both some = omega arith
 
-pub left-fit : (stops : Bool) (task : Task) (entry : Entry) (left : List Task) → IsFewPages entry → AllByRecursion IsFit left → AllByRecursion IsFit (left_after stops task entry left)
-left-fit stops task entry left few fit = by_test (not stops || is_unref_response task entry || is_accepted entry) (fit-append (follow_ups task entry) left (follow-fit task entry few) fit)
+left-fit : (stops : Bool) (change : Change) (given : Given) (left : List Task) → IsFewPages given → AllByRecursion IsFit left → AllByRecursion IsFit (left_after stops change given left)
+left-fit stops change given left few fit = by_test (not stops || goes_on change given || is_accepted given) (fit-append (follow_ups change given) left (follow-fit change given few) fit)
   where
-    by_test : (b : Bool) → AllByRecursion IsFit (follow_ups task entry ++ left) → AllByRecursion IsFit (cond b (follow_ups task entry ++ left) [])
+    by_test : (b : Bool) → AllByRecursion IsFit (follow_ups change given ++ left) → AllByRecursion IsFit (cond b (follow_ups change given ++ left) [])
     by_test true both = both
     by_test false both = tt
 
@@ -110,112 +106,179 @@ filter-fewer test (x ∷ xs) = by_test (test x) (filter-fewer test xs)
 abbrev pub GrowLittle : NamesState → NamesState → Type 0
 GrowLittle old new = (length new.current ≤ new.made) × (new.made ≤ old.made + 1) × (old.made ≤ new.made)
 
-reserved-little : (width height : ℕ) (entry : Entry) (names : NamesState) → length names.current ≤ names.made → GrowLittle names (names_reserved width height entry names)
-reserved-little width height (entries.Act client call act (act_replies.Reserved key pages)) names small =
+reserved-little : (width height : ℕ) (given : Given) (names : NamesState) → length names.current ≤ names.made → GrowLittle names (names_reserved width height given names)
+reserved-little width height (givens.Act (act_replies.Reserved key pages)) names small =
     let longer = length-append names.current (record { generation = names.made + 1; key = key; width = width; height = height } ∷ []) in
     (omega (arith, longer, small), omega arith, omega arith)
-reserved-little width height entry names small = (small, omega arith, omega arith)
+reserved-little width height given names small = (small, omega arith, omega arith)
 
-pub names-little : (task : Task) (entry : Entry) (names : NamesState) → length names.current ≤ names.made → GrowLittle names (names_after task entry names)
-names-little (tasks.Reserve width height format) entry names small = reserved-little width height entry names small
-names-little (tasks.Release generation key) entry names small = by_test (is_accepted entry) (filter-fewer (λ held. not (is_generation generation held)) names.current)
+names-little : (change : Change) (given : Given) (names : NamesState) → length names.current ≤ names.made → GrowLittle names (names_after change given names)
+names-little (NewBuffer width height format) given names small = reserved-little width height given names small
+names-little (EndOfName generation key) given names small = by_test (is_accepted given) (filter-fewer (λ held. not (is_generation generation held)) names.current)
   where
     by_test : (b : Bool) → length (filter (λ held. not (is_generation generation held)) names.current) ≤ length names.current → GrowLittle names (cond b (without_name generation names) names)
     by_test true fewer = (omega (arith, fewer, small), omega arith, omega arith)
     by_test false fewer = (small, omega arith, omega arith)
-names-little task entry names small = (small, omega arith, omega arith)
+names-little change given names small = (small, omega arith, omega arith)
 
-shown-length : (scanout : ℕ) (key : Option ℕ) (entry : Entry) (shows : List (Option ℕ)) → length (shown_after scanout key entry shows) ≡ length shows
-shown-length scanout key entry shows = by_test (is_accepted entry) (length-set shows scanout key)
+shows-length : (change : Change) (given : Given) (shows : List (Option ℕ)) → length (shows_after change given shows) ≡ length shows
+shows-length (Shows scanout key) given shows = by_test (is_accepted given) (length-set shows scanout key)
   where
     by_test : (b : Bool) → length (slice_set shows scanout key) ≡ length shows → length (cond b (slice_set shows scanout key) shows) ≡ length shows
     by_test true e = e
     by_test false e = refl
+shows-length change given shows = refl
 
-pub shows-length : (task : Task) (entry : Entry) (shows : List (Option ℕ)) → length (shows_after task entry shows) ≡ length shows
-shows-length (tasks.Show scanout key rect) entry shows = shown-length scanout (Some key) entry shows
-shows-length (tasks.Hide scanout) entry shows = shown-length scanout None entry shows
-shows-length (tasks.Drop scanout) entry shows = shown-length scanout None entry shows
-shows-length task entry shows = refl
-
-learned-is : (known0 known : Known) (task : Task) (entry : Entry) → known.holds ≡ updated known0.holds entry → known.names ≡ names_after task entry known0.names → known.shows ≡ shows_after task entry known0.shows
-    → known ≡ learned known0 task entry
-learned-is known0 known task entry holds names shows =
-    ap (λ (h : Holds). record { holds = h; names = known.names; shows = known.shows }) holds
-    ∙ ap (λ (ns : NamesState). record { holds = updated known0.holds entry; names = ns; shows = known.shows }) names
-    ∙ ap (λ (ss : List (Option ℕ)). record { holds = updated known0.holds entry; names = names_after task entry known0.names; shows = ss }) shows
-
--- how far a client has come with these tasks
-pub record IsPlaying (setup0 : Setup) (client used0 : ℕ) (stops : Bool) (known0 : Known) (tasks0 : List Task) (H0 : List Entry) (setup : Setup) (number used : ℕ) (known : Known) (left : List Task) (H : List Entry) : Type 0 where
-  pub same_setup : setup ≡ setup0
-  pub same_number : number ≡ client
-  pub displays : known.holds.displays ≡ known0.holds.displays
-  pub stands : Stands setup number used known.holds H
-  pub small : IsSmall used known.holds.displays known.names known.shows
-  pub made : known0.names.made ≤ known.names.made
-  pub fit : AllByRecursion IsFit left
-  pub room : used + weights left ≤ used0 + weights tasks0
-  pub played : Played client stops known0 tasks0 H0 known left H
-
-small-more : (used used' : ℕ) (known known' : Known) (task : Task) (entry : Entry) → IsSmall used known.holds.displays known.names known.shows → used' ≡ used + 1 → known' ≡ learned known task entry
-    → IsSmall used' known'.holds.displays known'.names known'.shows
+small-more : (used used' : ℕ) (known known' : Known) (task : Task) (entry : Entry) → IsSmall used known → used' ≡ used + 1 → known' ≡ learned known task entry → IsSmall used' known'
 small-more used used' known known' task entry small next learns =
-    let P : Known → Type 0 = λ k. IsSmall used' k.holds.displays k.names k.shows in
-    let names = names-little task entry known.names small.current in
+    let P : Known → Type 0 = λ k. IsSmall used' k in
+    let names = names-little task.change (given_of entry) known.names small.current in
     subst P (sym learns) (record {
       few_displays = let same = (updated-kept known.holds entry).displays in omega (arith, same, small.few_displays);
       current = names.0;
       made = omega (arith, names.1, small.made, next);
-      scanouts = let same = shows-length task entry known.shows in omega (arith, same, small.scanouts);
+      scanouts = let same = shows-length task.change (given_of entry) known.shows in omega (arith, same, small.scanouts);
     })
 
-pub playing-more : (setup0 : Setup) (client used0 : ℕ) (stops : Bool) (known0 : Known) (tasks0 : List Task) (H0 : List Entry) (setup setup' : Setup) (number number' used used' : ℕ) (known known' : Known) (left left1 left' : List Task) (task : Task) (entry one other : Entry) (front front' H H' : List Entry)
-    → IsPlaying setup0 client used0 stops known0 tasks0 H0 setup number used known left H
-    → left ≡ task ∷ left1 → IsEntryOf number known.holds task entry → H' ≡ H ++ entry ∷ [] → IsFewPages entry
-    → H' ≡ front ++ one ∷ [] → H' ≡ front' ++ other ∷ []
-    → known'.holds ≡ updated known.holds entry → known'.names ≡ names_after task one known.names → known'.shows ≡ shows_after task one known.shows
-    → left' ≡ left_after stops task other left1
-    → setup' ≡ setup → number' ≡ number → used' ≡ used + 1 → Stands setup' number' used' known'.holds H'
-    → IsPlaying setup0 client used0 stops known0 tasks0 H0 setup' number' used' known' left' H'
-playing-more setup0 client used0 stops known0 tasks0 H0 setup setup' number number' used used' known known' left left1 left' task entry one other front front' H H' playing first made more few is_one is_other holds names shows leaves same_setup same_number next stands =
-    let this : one ≡ entry = last-is front H one entry (sym is_one ∙ more) in
-    let that : other ≡ entry = last-is front' H other entry (sym is_other ∙ more) in
-    let learns : known' ≡ learned known task entry = learned-is known known' task entry holds (names ∙ ap (λ (e : Entry). names_after task e known.names) this) (shows ∙ ap (λ (e : Entry). shows_after task e known.shows) this) in
-    let left_is : left' ≡ left_after stops task entry left1 = leaves ∙ ap (λ (e : Entry). left_after stops task e left1) that in
+-- how far a client has come with these tasks
+pub record IsPlaying (stops : Bool) (tasks0 : List Task) (old : Course) (client0 : Client) (now : Course) (client : Client) (left : List Task) : Type 0 where
+  pub mine : List Entry
+  pub on : HasGoneOn old client0 mine now client
+  pub fit : AllByRecursion IsFit left
+  pub room : length mine + weights left ≤ weights tasks0
+  pub played : Plays client0.account.number stops (known client0) tasks0 mine (known client) left
+
+-- nothing is added
+pub added-none : (old : Course) (client : Client) → HasAdded old client [] old client
+added-none old client = record { setup = refl; clients = refl; number = refl; own = sym (append-nil _); entries = omega arith }
+
+-- what is added, and then more
+pub added-then : (old now new : Course) (client0 client client' : Client) (mine more : List Entry) → HasAdded old client0 mine now client → HasAdded now client more new client' → HasAdded old client0 (mine ++ more) new client'
+added-then old now new client0 client client' mine more one other = record {
+  setup = other.setup ∙ one.setup;
+  clients = other.clients ∙ one.clients;
+  number = other.number ∙ one.number;
+  own = other.own ∙ ap (λ (xs : List Entry). xs ++ more) one.own ∙ append_assoc _ mine more;
+  entries = let both = length-append mine more in omega (arith, one.entries, other.entries, both);
+}
+
+pub playing-first : (stops : Bool) (tasks : List Task) (course : Course) (client : Client) → IsReady course client → AllByRecursion IsFit tasks → IsPlaying stops tasks course client course client tasks
+playing-first stops tasks course client ready fit = record {
+  mine = [];
+  on = record { added = added-none course client; displays = refl; made = omega arith; ready = ready };
+  fit = fit;
+  room = omega arith;
+  played = (refl, refl);
+}
+
+learned-is : (known0 known : Known) (task : Task) (entry : Entry) → known.holds ≡ updated known0.holds entry → known.names ≡ names_after task.change (given_of entry) known0.names → known.shows ≡ shows_after task.change (given_of entry) known0.shows
+    → known ≡ learned known0 task entry
+learned-is known0 known task entry holds names shows =
+    ap (λ (h : Holds). record { holds = h; names = known.names; shows = known.shows }) holds
+    ∙ ap (λ (ns : NamesState). record { holds = updated known0.holds entry; names = ns; shows = known.shows }) names
+    ∙ ap (λ (ss : List (Option ℕ)). record { holds = updated known0.holds entry; names = names_after task.change (given_of entry) known0.names; shows = ss }) shows
+
+-- the client after it learned from a task that was done; it has the account that it had
+pub added-same : (old new : Course) (client client' client'' : Client) (mine : List Entry) → HasAdded old client mine new client' → client''.account ≡ client'.account → HasAdded old client mine new client''
+added-same old new client client' client'' mine added same = record {
+  setup = added.setup;
+  clients = added.clients;
+  number = ap (λ a. a.number) same ∙ added.number;
+  own = ap (λ a. mine_of a new) same ∙ added.own;
+  entries = added.entries;
+}
+
+-- the tasks with the next one done
+next-plays : (stops : Bool) (tasks0 : List Task) (old now : Course) (client0 client : Client) (left left1 : List Task) (task : Task) (entry : Entry) → (playing : IsPlaying stops tasks0 old client0 now client left) → left ≡ task ∷ left1
+    → IsDone client.account.number client.account.holds task.deed entry
+    → Plays client0.account.number stops (known client0) tasks0 (playing.mine ++ entry ∷ []) (learned (known client) task entry) (left_after stops task.change (given_of entry) left1)
+next-plays stops tasks0 old now client0 client left left1 task entry playing first made =
+    let Left : List Task → Type 0 = λ ts. Plays client0.account.number stops (known client0) tasks0 playing.mine (known client) ts in
+    let Owner : ℕ → Type 0 = λ n. IsDone n client.account.holds task.deed entry in
+    plays-more client0.account.number stops (known client0) tasks0 playing.mine (known client) task left1 entry (subst Left first playing.played) (subst Owner playing.on.added.number made)
+
+pub playing-more : (stops : Bool) (tasks0 : List Task) (old now new : Course) (client0 client client' client'' : Client) (left left1 left' : List Task) (task : Task) (entry : Entry) (given : Given)
+    → IsPlaying stops tasks0 old client0 now client left → left ≡ task ∷ left1 → IsDone client.account.number client.account.holds task.deed entry → HasDone now client entry given new client' → IsFewPages given
+    → client''.account ≡ client'.account → client''.names ≡ names_after task.change given client'.names → client''.shows.items ≡ shows_after task.change given client'.shows.items → left' ≡ left_after stops task.change given left1
+    → IsPlaying stops tasks0 old client0 new client'' left'
+playing-more stops tasks0 old now new client0 client client' client'' left left1 left' task entry given playing first made done few same names shows leaves =
+    let is = done.given_is in
+    let learns : known client'' ≡ learned (known client) task entry =
+    learned-is (known client) (known client'') task entry (ap (λ a. a.holds) same ∙ done.holds)
+    (names ∙ ap (λ (g : Given). names_after task.change g client'.names) is ∙ ap (names_after task.change (given_of entry)) done.names)
+    (shows ∙ ap (λ (g : Given). shows_after task.change g client'.shows.items) is ∙ ap (shows_after task.change (given_of entry)) done.shows) in
+    let left_is : left' ≡ left_after stops task.change (given_of entry) left1 = leaves ∙ ap (λ (g : Given). left_after stops task.change g left1) is in
     let Fit : List Task → Type 0 = λ ts. AllByRecursion IsFit ts in
     let fits : AllByRecursion IsFit (task ∷ left1) = subst Fit first playing.fit in
-    let Owner : ℕ → Type 0 = λ n. IsEntryOf n known.holds task entry in
-    let few_left : weights left' + 1 ≤ weights left =
-    let step = left-few stops task entry left1 in
-    let Few : List Task → List Task → Type 0 = λ ts us. weights ts + 1 ≤ weights us in
-    subst (λ (ts : List Task). Few ts left) (sym left_is) (subst (λ (us : List Task). Few (left_after stops task entry left1) us) (sym first) step) in
+    let Few : Given → Type 0 = λ g. IsFewPages g in
+    let step = left-few stops task (given_of entry) left1 in
+    let fewer : weights left' + 1 ≤ weights left =
+    let one : weights left' ≡ weights (left_after stops task.change (given_of entry) left1) = ap weights left_is in
+    let other : weights left ≡ weights (task ∷ left1) = ap weights first in
+    omega (arith, one, other, step) in
+    let longer = length-append playing.mine (entry ∷ []) in
+    let used : client''.account.used ≡ client.account.used + 1 = ap (λ a. a.used) same ∙ done.used in
+    let added = added-then old now new client0 client client'' playing.mine (entry ∷ []) playing.on.added (added-same now new client client' client'' (entry ∷ []) done.added same) in
+    let little = names-little task.change (given_of entry) client.names playing.on.ready.small.current in
+    let made_is : client''.names.made ≡ (names_after task.change (given_of entry) client.names).made = ap (λ (k : Known). k.names.made) learns in
+    let Ready : Client → Type 0 = λ k. IsActive new k.account in
+    let Plays_to : Known → List Task → Type 0 = λ k ts. Plays client0.account.number stops (known client0) tasks0 (playing.mine ++ entry ∷ []) k ts in
     record {
-      same_setup = same_setup ∙ playing.same_setup;
-      same_number = same_number ∙ playing.same_number;
-      displays = ap (λ (h : Holds). h.displays) holds ∙ (updated-kept known.holds entry).displays ∙ playing.displays;
-      stands = stands;
-      small = small-more used used' known known' task entry playing.small next learns;
-      made =
-          let little = names-little task entry known.names playing.small.current in
-          let same : known'.names.made ≡ (names_after task entry known.names).made = ap (λ (k : Known). k.names.made) learns in
-          omega (arith, little.2, same, playing.made);
-      fit = subst Fit (sym left_is) (left-fit stops task entry left1 few fits.1);
-      room = omega (arith, few_left, playing.room, next);
-      played = played-more client stops known0 known known' tasks0 left left1 left' task entry H0 H H' first (subst Owner playing.same_number made) more learns left_is playing.played;
+      mine = playing.mine ++ entry ∷ [];
+      on = record {
+        added = added;
+        displays = ap (λ (k : Known). k.holds.displays) learns ∙ (updated-kept client.account.holds entry).displays ∙ playing.on.displays;
+        made = omega (arith, little.2, made_is, playing.on.made);
+        ready = record {
+          active = subst (λ a. IsActive new a) (sym same) done.active;
+          small = small-more client.account.used client''.account.used (known client) (known client'') task entry playing.on.ready.small used learns;
+        };
+      };
+      fit = subst Fit (sym left_is) (left-fit stops task.change (given_of entry) left1 (subst Few is few) fits.1);
+      room = omega (arith, longer, fewer, playing.room);
+      played = subst (λ (ts : List Task). Plays_to (known client'') ts) (sym left_is) (subst (λ (k : Known). Plays_to k (left_after stops task.change (given_of entry) left1)) (sym learns)
+          (next-plays stops tasks0 old now client0 client left left1 task entry playing first made));
     }
 
-pub stands-same : (setup : Setup) (number number' used used' : ℕ) (holds holds' : Holds) (H : List Entry) → number' ≡ number → used' ≡ used → holds' ≡ holds → Stands setup number used holds H → Stands setup number' used' holds' H
-stands-same setup number number' used used' holds holds' H one two three stands =
-    let N : ℕ → Type 0 = λ n. Stands setup n used holds H in
-    let U : ℕ → Type 0 = λ n. Stands setup number' n holds H in
-    let P : Holds → Type 0 = λ h. Stands setup number' used' h H in
-    subst P (sym three) (subst U (sym two) (subst N (sym one) stands))
+-- what stands where memory lacks
+abbrev pub Stood : Bool → List Task → Course → Client → Course → Client → Type 0
+Stood stops tasks0 old client0 new client' = (mine : List Entry) × IsFrontOf client0.account.number stops (known client0) tasks0 mine × HasAdded old client0 mine new client'
 
-pub left-smaller : (stops : Bool) (task : Task) (entry : Entry) (left left1 left' : List Task) → left ≡ task ∷ left1 → left' ≡ left_after stops task entry left1 → weights left' < weights left
-left-smaller stops task entry left left1 left' first leaves =
-    let few = left-few stops task entry left1 in
+pub stood-make : (stops : Bool) (tasks0 : List Task) (old now new : Course) (client0 client client' : Client) (left left1 : List Task) (task : Task) (more : List Entry)
+    → IsPlaying stops tasks0 old client0 now client left → left ≡ task ∷ left1 → IsBegun client.account.number client.account.holds task.deed more → HasAdded now client more new client' → Stood stops tasks0 old client0 new client'
+stood-make stops tasks0 old now new client0 client client' left left1 task more playing first (inl none) added =
+    let All : List Entry → Type 0 = λ xs. Plays client0.account.number stops (known client0) tasks0 xs (known client) left in
+    let same : playing.mine ++ more ≡ playing.mine = ap (λ (xs : List Entry). playing.mine ++ xs) none ∙ append-nil playing.mine in
+    (playing.mine ++ more, (known client, left, subst All (sym same) playing.played), added-then old now new client0 client client' playing.mine more playing.on.added added)
+stood-make stops tasks0 old now new client0 client client' left left1 task more playing first (inr (entry, made, is)) added =
+    let All : List Entry → Type 0 = λ xs. Plays client0.account.number stops (known client0) tasks0 xs (learned (known client) task entry) (left_after stops task.change (given_of entry) left1) in
+    let same : playing.mine ++ more ≡ playing.mine ++ entry ∷ [] = ap (λ (xs : List Entry). playing.mine ++ xs) is in (
+      playing.mine ++ more,
+      (learned (known client) task entry, left_after stops task.change (given_of entry) left1, subst All (sym same) (next-plays stops tasks0 old now client0 client left left1 task entry playing first made)),
+      added-then old now new client0 client client' playing.mine more playing.on.added added,
+    )
+
+pub stood-done : (stops : Bool) (tasks0 : List Task) (old now new : Course) (client0 client client' client'' : Client) (left left1 : List Task) (task : Task) (entry : Entry) (given : Given)
+    → IsPlaying stops tasks0 old client0 now client left → left ≡ task ∷ left1 → IsDone client.account.number client.account.holds task.deed entry → HasDone now client entry given new client' → client''.account ≡ client'.account
+    → Stood stops tasks0 old client0 new client''
+stood-done stops tasks0 old now new client0 client client' client'' left left1 task entry given playing first made done same = (
+  playing.mine ++ entry ∷ [],
+  (learned (known client) task entry, left_after stops task.change (given_of entry) left1, next-plays stops tasks0 old now client0 client left left1 task entry playing first made),
+  added-then old now new client0 client client'' playing.mine (entry ∷ []) playing.on.added (added-same now new client client' client'' (entry ∷ []) done.added same),
+)
+
+-- all tasks are done
+pub played-all : (stops : Bool) (tasks0 : List Task) (old now : Course) (client0 client : Client) (left : List Task) → left ≡ [] → IsPlaying stops tasks0 old client0 now client left
+    → (mine : List Entry) × Plays client0.account.number stops (known client0) tasks0 mine (known client) [] × HasGoneOn old client0 mine now client × (length mine ≤ weights tasks0)
+played-all stops tasks0 old now client0 client left none playing =
+    let Left : List Task → Type 0 = λ ts. Plays client0.account.number stops (known client0) tasks0 playing.mine (known client) ts in
+    (playing.mine, subst Left none playing.played, playing.on, omega (arith, playing.room))
+
+pub left-smaller : (stops : Bool) (task : Task) (given : Given) (left left1 left' : List Task) → left ≡ task ∷ left1 → left' ≡ left_after stops task.change given left1 → weights left' < weights left
+left-smaller stops task given left left1 left' first leaves =
+    let few = left-few stops task given left1 in
     let one : weights left ≡ weights (task ∷ left1) = ap weights first in
-    let other : weights left' ≡ weights (left_after stops task entry left1) = ap weights leaves in
+    let other : weights left' ≡ weights (left_after stops task.change given left1) = ap weights leaves in
     omega (arith, few, one, other)
 
 pub none-left : (left : List Task) → left ≡ drop 1 left → left ≡ []
@@ -230,3 +293,99 @@ plan-is plan (Err what) plans = plans
 pub plan-fits : {A : Type 0} (holds : Holds) (plan : Result (List Task) What) (made : Result (Vec Task A) What) → IsPlanOf plan made → IfErr made (Deniable holds) → IsFitPlan holds made
 plan-fits holds plan (Ok tasks) plans may = (plans.1, plans.2)
 plan-fits holds plan (Err what) plans may = may
+
+-- one entry more of a client, that it made by a task or to tell a denial
+pub done-by : (old new : Course) (client client' : Client) (entry : Entry) (holds : Holds) (given : Given) → IsAdded old client.account entry holds new client'.account → holds ≡ updated client.account.holds entry → IsPresent old client.account → is_leave entry ≡ false
+    → client'.names ≡ client.names → client'.shows.items ≡ client.shows.items → given ≡ given_of entry → HasDone old client entry given new client'
+done-by old new client client' entry holds given is update present stays names shows given_is =
+    let used : client'.account.used ≡ client.account.used + 1 = ap (λ a. a.used) is.told in
+    let longer = length-append old.history (entry ∷ []) in
+    let grown : length new.history ≡ length old.history + 1 = ap (λ (k : Course). length k.history) is.course ∙ longer in
+    record {
+      added = added-by old new client client' entry holds is;
+      active = record {
+        account_is = is.account_is;
+        begun = omega (arith, used);
+        present = let P : List Entry → Type 0 = λ xs. AllByRecursion (λ e. is_leave e ≡ false) xs in subst P (sym is.mine) (all-more (λ e. is_leave e ≡ false) (mine_of client.account old) entry present stays);
+      };
+      used = used;
+      holds = ap (λ a. a.holds) is.told ∙ update;
+      names = names;
+      shows = shows;
+      given_is = given_is;
+    }
+  where
+    added-by : (old new : Course) (client client' : Client) (entry : Entry) (holds : Holds) → IsAdded old client.account entry holds new client'.account → HasAdded old client (entry ∷ []) new client'
+    added-by old new client client' entry holds is = record {
+      setup = ap (λ (k : Course). k.setup) is.course;
+      clients = ap (λ (k : Course). k.clients) is.course;
+      number = ap (λ a. a.number) is.told;
+      own = is.mine;
+      entries = ap (λ (k : Course). length k.history) is.course ∙ length-append old.history (entry ∷ []);
+    }
+
+-- an act that doesn't leave is no leave
+pub stays-act : (client call : ℕ) (act : the_act.Act) (reply : ActReply) → leaves act ≡ false → is_leave (Act client call act reply) ≡ false
+stays-act client call acts.Leave reply e = absurd (cc e)
+stays-act client call act reply e = refl
+
+-- what is told of an act is what its entry gives
+pub given-is : (client call : ℕ) (act : the_act.Act) (reply : ActReply) (told : Bool) (given : Given) → told ≡ tells_denial act → given ≡ cond told givens.Denied (givens.Act reply) → given ≡ given_of (Act client call act reply)
+given-is client call act reply told given is made = made ∙ ap (λ (b : Bool). cond b givens.Denied (givens.Act reply)) is
+
+-- what stands of one entry where memory lacked: nothing, or the entry
+pub begun-by : {R : Type 0} (old new : Course) (client client' : Client) (entry : R → Entry) (holds : R → Holds) → ((new ≡ old) × (client'.account ≡ client.account)) ⊎ ((r : R) × IsAdded old client.account (entry r) (holds r) new client'.account)
+    → (mine : List Entry) × ((mine ≡ []) ⊎ ((r : R) × (mine ≡ entry r ∷ []))) × HasAdded old client mine new client'
+begun-by old new client client' entry holds (inl (same, kept)) =
+    let P : Course → Type 0 = λ k. HasAdded old client [] k client' in
+    ([], inl refl, subst P (sym same) (added-same old old client client client' [] (added-none old client) kept))
+begun-by old new client client' entry holds (inr (r, is)) = (
+  entry r ∷ [],
+  inr (r, refl),
+  record {
+    setup = ap (λ (k : Course). k.setup) is.course;
+    clients = ap (λ (k : Course). k.clients) is.course;
+    number = ap (λ a. a.number) is.told;
+    own = is.mine;
+    entries = ap (λ (k : Course). length k.history) is.course ∙ length-append old.history (entry r ∷ []);
+  },
+)
+
+pub map_err : {T E : Type 0} {A B : Type 0} (r : Result T E) → (A → B) → OnErr r A → OnErr r B
+map_err (Ok x) f a = tt
+map_err (Err e) f a = f a
+
+-- a denial that stands, or nothing, is what a command begins with that is denied
+pub begun-denied : (old new : Course) (client client' : Client) (way : Way) (command : Command2d) (what : What) → denied_command client.account.holds (TwoD command) ≡ Some what
+    → (mine : List Entry) × ((mine ≡ []) ⊎ ((reply : ActReply) × (mine ≡ Act client.account.number (client.account.used + 1) (acts.Denied what) reply ∷ []))) × HasAdded old client mine new client'
+    → (mine : List Entry) × IsBegun client.account.number client.account.holds (deeds.Command way command) mine × HasAdded old client mine new client'
+begun-denied old new client client' way command what denied (mine, inl none, added) = (mine, inl none, added)
+begun-denied old new client client' way command what denied (mine, inr (reply, is), added) =
+    let entry : Entry = Act client.account.number (client.account.used + 1) (acts.Denied what) reply in
+    let P : Option What → Type 0 = λ d. IsAsked client.account.number d way command entry in
+    (mine, inr (entry, subst P (sym denied) (client.account.used + 1, reply, refl), is), added)
+
+-- and a command that was asked
+pub begun-asked : (old new : Course) (client client' : Client) (way : Way) (command : Command2d) (ordinal : ℕ) (request : Request) → denied_command client.account.holds (TwoD command) ≡ None → request ≡ request_by way ordinal command
+    → (mine : List Entry) × ((mine ≡ []) ⊎ ((reply : Reply) × (mine ≡ Command client.account.number (client.account.used + 1) request reply ∷ []))) × HasAdded old client mine new client'
+    → (mine : List Entry) × IsBegun client.account.number client.account.holds (deeds.Command way command) mine × HasAdded old client mine new client'
+begun-asked old new client client' way command ordinal request denied made (mine, inl none, added) = (mine, inl none, added)
+begun-asked old new client client' way command ordinal request denied made (mine, inr (reply, is), added) =
+    let entry : Entry = Command client.account.number (client.account.used + 1) request reply in
+    let P : Option What → Type 0 = λ d. IsAsked client.account.number d way command entry in
+    let same : entry ≡ Command client.account.number (client.account.used + 1) (request_by way ordinal command) reply = ap (λ (r : Request). Command client.account.number (client.account.used + 1) r reply) made in
+    (mine, inr (entry, subst P (sym denied) (client.account.used + 1, ordinal, reply, same), is), added)
+
+-- nothing stands yet
+pub begun-none : (course : Course) (client : Client) (deed : Deed) → (mine : List Entry) × IsBegun client.account.number client.account.holds deed mine × HasAdded course client mine course client
+begun-none course client deed = ([], inl refl, added-none course client)
+
+-- an act that stands, or nothing, is what an act begins with
+pub begun-act : (old new : Course) (client client' : Client) (deed : Deed) (act : the_act.Act) → deed ≡ deeds.Act act
+    → (mine : List Entry) × ((mine ≡ []) ⊎ ((reply : ActReply) × (mine ≡ Act client.account.number (client.account.used + 1) act reply ∷ []))) × HasAdded old client mine new client'
+    → (mine : List Entry) × IsBegun client.account.number client.account.holds deed mine × HasAdded old client mine new client'
+begun-act old new client client' deed act is (mine, inl none, added) = (mine, inl none, added)
+begun-act old new client client' deed act is (mine, inr (reply, one), added) =
+    let entry : Entry = Act client.account.number (client.account.used + 1) act reply in
+    let P : Deed → Type 0 = λ d. IsDone client.account.number client.account.holds d entry in
+    (mine, inr (entry, subst P (sym is) (client.account.used + 1, reply, refl), one), added)

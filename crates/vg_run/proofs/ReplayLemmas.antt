@@ -1,5 +1,5 @@
-use Rattle.std.proofs.Common.{◌≡◌, ◌+◌, ◌*◌, ◌==◌, ◌∙◌, sym, ap, refl, subst, arith, ℕ, Bool, true, false, cond, length, Option, Some, None, List, [], ◌∷◌, ◌++◌, length-append, count_by, Result, Ok, Err}
-use Rattle.std.specs.Prelude.{is_none, is_some, nat_le}
+use Rattle.std.proofs.Common.{◌≡◌, ◌+◌, ◌*◌, ◌==◌, ap, refl, ℕ, Bool, true, false, cond, length, Option, Some, None, List, [], ◌∷◌, ◌++◌, count_by, Result, Ok, Err}
+use Rattle.std.specs.Prelude.{is_some}
 use Rattle.std.specs.List.{fold}
 use Rattle.vg_wire.specs.declared.header.Header.{Header}
 use Rattle.vg_wire.specs.declared.request.Command.{Command}
@@ -8,11 +8,9 @@ use Rattle.vg_wire.specs.declared.request.Malformed.{Malformed}
 use Rattle.vg_wire.specs.declared.two_d.Command2d.{Command2d}
 use Rattle.vg_wire.specs.declared.two_d.Command2d.TheVariants.{DisplayInfo, Create2d, Unref, SetScanout, Flush, Transfer, Attach, Detach}
 use Rattle.vg_wire.specs.Request.{request_of}
-use Rattle.vg_machine.specs.declared.setup.Setup.{Setup}
 use Rattle.vg_machine.specs.declared.shape.Shape.{Shape}
 use Rattle.vg_machine.specs.declared.shape.Shape.TheVariants.{Plain, Indirect}
 use Rattle.vg_formats.specs.declared.rect.Rect.{Rect}
-use Rattle.vg_wire.specs.declared.response.Response.{Response}
 use Rattle.vg_machine.specs.declared.act.Act.{Act}
 use Rattle.vg_machine.specs.declared.act.Act.TheVariants.{Enter, Reserve, Store, Load, Release, Free, Take, Drop, Denied, Leave}
 use Rattle.vg_machine.specs.declared.act.ActReply.{ActReply}
@@ -26,11 +24,9 @@ use Rattle.vg_machine.specs.declared.history.Entry.{Entry}
 use Rattle.vg_machine.specs.declared.history.Entry.TheVariants as entries
 use Rattle.vg_machine.specs.declared.history.Request.{Request}
 use Rattle.vg_machine.specs.declared.history.Reply.TheVariants as replies
-use Rattle.vg_machine.specs.State.{State, counted, start}
+use Rattle.vg_machine.specs.State.{State, counted}
 use Rattle.vg_machine.specs.Step.{answer_of, answered_by, step, two_d_step, with_shown}
-use Rattle.vg_machine.specs.Replay.{AgreesFrom, Agrees, HasReply, after, replay, replay_from, shaped_step}
-use Rattle.vg_machine.specs.Order.{is_of_lane}
-use Rattle.vg_run.specs.Session.{IsReplay}
+use Rattle.vg_machine.specs.Replay.{AgreesFrom, HasReply, after, replay_from, shaped_step}
 
 -- the same setup, and as many entries
 pub record IsLike (old new : State) : Type 0 where
@@ -106,11 +102,11 @@ pub after-entries : (state : State) (entry : Entry) → (after state entry).entr
 after-entries state (entries.Act client call act reply) = (effect-like (counted state) client act).entries
 after-entries state (entries.Command client call request reply) = shaped-entries request.shape state request
 
-replay_from-more : (state : State) (H : List Entry) (entry : Entry) → replay_from state (H ++ entry ∷ []) ≡ after (replay_from state H) entry
+pub replay_from-more : (state : State) (H : List Entry) (entry : Entry) → replay_from state (H ++ entry ∷ []) ≡ after (replay_from state H) entry
 replay_from-more state [] entry = refl
 replay_from-more state (first ∷ more) entry = replay_from-more (after state first) more entry
 
-agrees-more : (state : State) (H : List Entry) (entry : Entry) → AgreesFrom state H → HasReply (replay_from state H) entry → AgreesFrom state (H ++ entry ∷ [])
+pub agrees-more : (state : State) (H : List Entry) (entry : Entry) → AgreesFrom state H → HasReply (replay_from state H) entry → AgreesFrom state (H ++ entry ∷ [])
 agrees-more state [] entry agrees reply = (reply, tt)
 agrees-more state (first ∷ more) entry agrees reply = (agrees.0, agrees-more (after state first) more entry agrees.1 reply)
 
@@ -121,19 +117,3 @@ fold-more f a (first ∷ more) x = fold-more f (f a first) more x
 -- one entry more is counted, or not
 pub count_by-more : (test : Entry → Bool) (H : List Entry) (entry : Entry) → count_by test (H ++ entry ∷ []) ≡ count_by test H + cond (test entry) 1 0
 count_by-more test H entry = fold-more (λ (n : ℕ) (e : Entry). n + cond (test e) 1 0) 0 H entry
-
--- one entry more keeps the display the replay
-pub replay-more : (display new : State) (H : List Entry) (commands count : ℕ) (entry : Entry) → IsReplay display H commands → new ≡ after display entry → HasReply display entry
-    → count ≡ commands + cond (is_of_lane 0 entry) 1 0 → IsReplay new (H ++ entry ∷ []) count
-replay-more display new H commands count entry is step reply lane =
-    let setup : new.setup ≡ display.setup = ap (λ (s : State). s.setup) step ∙ after-setup display entry in
-    let next : new ≡ replay display.setup (H ++ entry ∷ []) = step ∙ ap (λ (s : State). after s entry) is.state ∙ sym (replay_from-more (start display.setup) H entry) in
-    let P : State → Type 0 = λ s. HasReply s entry in
-    let agrees : Agrees display.setup (H ++ entry ∷ []) = agrees-more (start display.setup) H entry is.agrees (subst P is.state reply) in
-    let Q : Setup → Type 0 = λ s. Agrees s (H ++ entry ∷ []) in
-    record {
-      state = next ∙ ap (λ (s : Setup). replay s (H ++ entry ∷ [])) (sym setup);
-      agrees = subst Q (sym setup) agrees;
-      count = ap (λ (s : State). s.entries) step ∙ after-entries display entry ∙ simp length-append (omega (arith, is.count));
-      lane = lane ∙ sym (count_by-more (is_of_lane 0) H entry ∙ ap (λ (n : ℕ). n + cond (is_of_lane 0 entry) 1 0) (sym is.lane));
-    }

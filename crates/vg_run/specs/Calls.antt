@@ -1,5 +1,5 @@
 -- The entries that a client's calls give.
-use Rattle.std.specs.Prelude.{◌≡◌, ◌<◌, ◌==◌, ℕ, Bool, true, false, List, [], ◌∷◌, ◌++◌, length, map, bytes_eq, slice_set, if◌then◌else◌, Option, Some, None, Result, Ok, Err}
+use Rattle.std.specs.Prelude.{◌≡◌, ◌⊎◌, ◌<◌, ◌==◌, ℕ, Bool, true, false, List, [], ◌∷◌, ◌++◌, length, map, bytes_eq, slice_set, if◌then◌else◌, Option, Some, None, Result, Ok, Err}
 use Rattle.std.specs.List.{range_with_len, AllByRecursion}
 use Rattle.vg_formats.specs.declared.rect.Rect.{Rect}
 use Rattle.vg_wire.specs.declared.request.Command.TheVariants.{TwoD}
@@ -21,76 +21,95 @@ use Rattle.vg_script.specs.declared.types.Step.{Step}
 use Rattle.vg_script.specs.declared.types.Step.TheVariants as steps
 use Rattle.vg_run.specs.declared.call.Call.{Call}
 use Rattle.vg_run.specs.declared.call.Call.TheVariants as calls
+use Rattle.vg_run.specs.declared.given.Given.{Given}
+use Rattle.vg_run.specs.declared.given.Given.TheVariants as givens
 use Rattle.vg_run.specs.declared.names.NameRef.{NameRef}
-use Rattle.vg_run.specs.declared.task.Move.{Move}
-use Rattle.vg_run.specs.declared.task.Move.TheVariants as moves
+use Rattle.vg_run.specs.declared.task.Change.{Change}
+use Rattle.vg_run.specs.declared.task.Change.TheVariants.{NewBuffer, EndOfName, Shows}
+use Rattle.vg_run.specs.declared.task.Deed.{Deed}
+use Rattle.vg_run.specs.declared.task.Deed.TheVariants as deeds
 use Rattle.vg_run.specs.declared.task.Task.{Task}
-use Rattle.vg_run.specs.declared.task.Task.TheVariants as tasks
+use Rattle.vg_run.specs.declared.task.Way.{Way}
+use Rattle.vg_run.specs.Given.{given_of, is_accepted, left_after}
 use Rattle.vg_run.specs.Known.{Known, first_known}
-use Rattle.vg_run.specs.Moves.{control_request, move_of}
 use Rattle.vg_run.specs.Names.{NamesState, with_name, without_name}
-use Rattle.vg_run.specs.Tasks.{end_tasks, is_accepted, left_after, tasks_of}
+use Rattle.vg_run.specs.Requests.{request_by}
+use Rattle.vg_run.specs.Tasks.{end_tasks, tasks_of}
 
 -- A command is asked of the device, or denied to its client for the first thing that it names and that isn't allowed.
-abbrev pub IsAsked : ℕ → Option What → Command2d → Entry → Type 0
-IsAsked client (Some what) command entry = (call : ℕ) × (reply : ActReply) × (entry ≡ entries.Act client call (Denied what) reply)
-IsAsked client None command entry =
-    (call ordinal : ℕ) × (reply : Reply) × (entry ≡ entries.Command client call (control_request ordinal command) reply)
-
-abbrev pub IsMade : ℕ → Holds → Move → Entry → Type 0
-IsMade client holds (moves.Act act) entry = (call : ℕ) × (reply : ActReply) × (entry ≡ entries.Act client call act reply)
-IsMade client holds (moves.Command command) entry = IsAsked client (denied_command holds (TwoD command)) command entry
+abbrev pub IsAsked : ℕ → Option What → Way → Command2d → Entry → Type 0
+IsAsked client (Some what) way command entry = (call : ℕ) × (reply : ActReply) × (entry ≡ entries.Act client call (Denied what) reply)
+IsAsked client None way command entry =
+    (call ordinal : ℕ) × (reply : Reply) × (entry ≡ entries.Command client call (request_by way ordinal command) reply)
 
 -- The entry that a client with these holds gives for a task.
+abbrev pub IsDone : ℕ → Holds → Deed → Entry → Type 0
+IsDone client holds (deeds.Act act) entry = (call : ℕ) × (reply : ActReply) × (entry ≡ entries.Act client call act reply)
+IsDone client holds (deeds.Command way command) entry = IsAsked client (denied_command holds (TwoD command)) way command entry
+
+-- What it gives where memory lacked: that entry, or none.
+abbrev pub IsBegun : ℕ → Holds → Deed → List Entry → Type 0
+IsBegun client holds deed mine = (mine ≡ []) ⊎ ((entry : Entry) × IsDone client holds deed entry × (mine ≡ entry ∷ []))
+
 abbrev pub IsEntryOf : ℕ → Holds → Task → Entry → Type 0
-IsEntryOf client holds task entry = IsMade client holds (move_of task) entry
+IsEntryOf client holds task entry = IsDone client holds task.deed entry
 
 -- The names after a buffer was reserved.
-abbrev pub names_reserved : ℕ → ℕ → Entry → NamesState → NamesState
-names_reserved width height (entries.Act client call act (act_replies.Reserved key pages)) names = with_name key width height names
-names_reserved width height entry names = names
+abbrev pub names_reserved : ℕ → ℕ → Given → NamesState → NamesState
+names_reserved width height (givens.Act (act_replies.Reserved key pages)) names = with_name key width height names
+names_reserved width height given names = names
 
 -- A name is current from the reserve of its buffer until the release of it, where these are accepted.
-abbrev pub names_after : Task → Entry → NamesState → NamesState
-names_after (tasks.Reserve width height format) entry names = names_reserved width height entry names
-names_after (tasks.Release generation key) entry names = if is_accepted entry then without_name generation names else names
-names_after task entry names = names
+abbrev pub names_after : Change → Given → NamesState → NamesState
+names_after (NewBuffer width height format) given names = names_reserved width height given names
+names_after (EndOfName generation key) given names = if is_accepted given then without_name generation names else names
+names_after change given names = names
 
--- What a scanout shows where the entry is accepted.
-abbrev pub shown_after : ℕ → Option ℕ → Entry → List (Option ℕ) → List (Option ℕ)
-shown_after scanout key entry shows = if is_accepted entry then slice_set shows scanout key else shows
-
--- A client shows a buffer on a scanout from a SET_SCANOUT of a show or a flip until a hide or the end of the lease.
-abbrev pub shows_after : Task → Entry → List (Option ℕ) → List (Option ℕ)
-shows_after (tasks.Show scanout key rect) entry shows = shown_after scanout (Some key) entry shows
-shows_after (tasks.Hide scanout) entry shows = shown_after scanout None entry shows
-shows_after (tasks.Drop scanout) entry shows = shown_after scanout None entry shows
-shows_after task entry shows = shows
+-- What the scanouts show: a task changes it where it is accepted.
+abbrev pub shows_after : Change → Given → List (Option ℕ) → List (Option ℕ)
+shows_after (Shows scanout key) given shows = if is_accepted given then slice_set shows scanout key else shows
+shows_after change given shows = shows
 
 -- What a client knows after a task's entry.
 abbrev pub learned : Known → Task → Entry → Known
 learned known task entry = record {
   holds = updated known.holds entry;
-  names = names_after task entry known.names;
-  shows = shows_after task entry known.shows;
+  names = names_after task.change (given_of entry) known.names;
+  shows = shows_after task.change (given_of entry) known.shows;
 }
 
--- These are the entries of the tasks, and what follows from them, one after another, by a client that knows this at first and
--- that in the end.
-abbrev pub Plays : ℕ → Bool → Known → List Task → List Entry → Known → Type 0
-Plays client stops known [] [] known' = known' ≡ known
-Plays client stops known [] (entry ∷ more) known' = ⊥
-Plays client stops known (task ∷ left) [] known' = ⊥
-Plays client stops known (task ∷ left) (entry ∷ more) known' =
-    IsEntryOf client known.holds task entry × Plays client stops (learned known task entry) (left_after stops task entry left) more known'
+-- A client that knows this at first has given these entries for the tasks, and for what followed from them, one after another;
+-- then it knows that, and these tasks are left.
+abbrev pub Plays : ℕ → Bool → Known → List Task → List Entry → Known → List Task → Type 0
+Plays client stops known tasks [] known' left = (known' ≡ known) × (left ≡ tasks)
+Plays client stops known [] (entry ∷ more) known' left = ⊥
+Plays client stops known (task ∷ tasks) (entry ∷ more) known' left =
+    IsEntryOf client known.holds task entry
+    × Plays client stops (learned known task entry) (left_after stops task.change (given_of entry) tasks) more known' left
 
+-- These are the first entries of the tasks: all of them, or fewer where memory lacked.
+abbrev pub IsFrontOf : ℕ → Bool → Known → List Task → List Entry → Type 0
+IsFrontOf client stops known tasks mine = (known' : Known) × (left : List Task) × Plays client stops known tasks mine known' left
+
+-- The one entry that says what was denied.
+abbrev pub IsDenial : ℕ → What → List Entry → Type 0
+IsDenial client what mine = (call : ℕ) × (reply : ActReply) × (mine ≡ entries.Act client call (Denied what) reply ∷ [])
+
+-- These are the entries of a call: of its tasks, until one isn't accepted; or the one that says what was denied.
 abbrev pub GivesTasks : ℕ → Known → Result (List Task) What → List Entry → Known → Type 0
-GivesTasks client known (Ok tasks) mine known' = Plays client true known tasks mine known'
-GivesTasks client known (Err what) mine known' = (call : ℕ) × (reply : ActReply) × (mine ≡ entries.Act client call (Denied what) reply ∷ []) × (known' ≡ known)
+GivesTasks client known (Ok tasks) mine known' = Plays client true known tasks mine known' []
+GivesTasks client known (Err what) mine known' = IsDenial client what mine × (known' ≡ known)
 
--- These are the entries of a call: of its tasks, until one isn't accepted; or the one entry that says what was denied.
 abbrev pub Gives : ℕ → Known → Call → List Entry → Known → Type 0
 Gives client known call mine known' = GivesTasks client known (tasks_of known call) mine known'
+
+-- These are the first entries of a call.
+abbrev pub BeginsTasks : ℕ → Known → Result (List Task) What → List Entry → Type 0
+BeginsTasks client known (Ok tasks) mine = IsFrontOf client true known tasks mine
+BeginsTasks client known (Err what) mine = (mine ≡ []) ⊎ IsDenial client what mine
+
+abbrev pub Begins : ℕ → Known → Call → List Entry → Type 0
+Begins client known call mine = BeginsTasks client known (tasks_of known call) mine
 
 -- Of each name of a script the generation of the buffer that it was last given to; 0 where there is none.
 abbrev pub no_refs : List ℕ → ℕ
@@ -147,7 +166,7 @@ pub record GivesCalls (setup : Setup) (client : ℕ) (lines : List Line) (mine :
   pub at_end : Known
   pub whole : mine ≡ entries.Act client first Enter act_replies.Ok ∷ (middle ++ (ending ++ entries.Act client last Leave act_replies.Ok ∷ []))
   pub lines_give : GivesAll client no_refs (first_known setup client) lines middle known
-  pub end_gives : Plays client false known (end_tasks known) ending at_end
+  pub end_gives : Plays client false known (end_tasks known) ending at_end []
 
 -- Each of these entries stands before those with greater numbers.
 abbrev pub AreInPlace : List Entry → Type 0

@@ -3,7 +3,9 @@ pub mod Setup
 pub mod Names
 pub mod Known
 pub mod Client
-pub mod Moves
+pub mod Table
+pub mod Given
+pub mod Requests
 pub mod Tasks
 pub mod Calls
 pub mod Legal

@@ -8,7 +8,7 @@ use Rattle.vg_script.specs.Limits.{StepInLimits}
 use Rattle.vg_run.specs.declared.call.Call.{Call}
 use Rattle.vg_run.specs.declared.call.Call.TheVariants as calls
 use Rattle.vg_run.specs.declared.names.NameRef.{NameRef}
-use Rattle.vg_run.specs.Session.{IsCallFit}
+use Rattle.vg_run.specs.Client.{IsCallFit}
 
 abbrev pub generation_of : Option NameRef → ℕ
 generation_of (Some name) = name.generation

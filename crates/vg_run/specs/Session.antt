@@ -1,126 +1,105 @@
-use Rattle.std.specs.Prelude.{◌≡◌, ◌≤◌, ◌<◌, ◌^◌, ◌+◌, ℕ, false, List, [], ◌∷◌, ◌++◌, length, map, count_by, Option, Result, Ok, Err, Vec}
+-- A display with the history of all that it was asked, and the accounts of its clients.
+use Rattle.std.specs.Prelude.{◌≡◌, ◌≤◌, ◌<◌, ◌+◌, ℕ, Bool, true, false, List, [], ◌∷◌, ◌++◌, length, map, count_by, get_or}
 use Rattle.std.specs.List.{range_with_len, AllByRecursion}
 use Rattle.vg_machine.specs.declared.setup.Setup.{Setup}
-use Rattle.vg_machine.specs.declared.history.Entry.{Entry}
-use Rattle.vg_machine.specs.State.{State}
-use Rattle.vg_machine.specs.Replay.{Agrees, replay}
-use Rattle.vg_machine.specs.Order.{AreAllowed, AreInOrder, call_of, client_of, holds_of, is_leave, is_of_lane}
-use Rattle.vg_machine.specs.Holds.{Deniable}
-use Rattle.vg_machine.specs.declared.act.Act.{Act}
+use Rattle.vg_machine.specs.declared.act.Act as the_act
 use Rattle.vg_machine.specs.declared.act.Act.TheVariants.{Enter, Leave, Denied}
 use Rattle.vg_machine.specs.declared.act.ActReply.{ActReply}
-use Rattle.vg_machine.specs.declared.act.ActReply.TheVariants.{Reserved}
-use Rattle.vg_machine.specs.declared.history.Entry.TheVariants as entries
-use Rattle.vg_machine.specs.declared.holds.Holds.{Holds}
-use Rattle.vg_run.specs.declared.task.Task.{Task}
-use Rattle.vg_run.specs.declared.task.Task.TheVariants as tasks
-use Rattle.vg_run.specs.declared.call.Call.{Call}
-use Rattle.vg_run.specs.declared.call.Last.{Last}
-use Rattle.vg_run.specs.declared.call.Last.TheVariants as lasts
+use Rattle.vg_machine.specs.declared.history.Entry.{Entry}
+use Rattle.vg_machine.specs.declared.history.Entry.TheVariants.{Act, Command}
+use Rattle.vg_machine.specs.declared.history.Reply.{Reply}
 use Rattle.vg_machine.specs.declared.history.Request.{Request}
-use Rattle.vg_run.specs.declared.call.Call.TheVariants as calls
-use Rattle.vg_run.specs.Moves.{IsFit}
-use Rattle.vg_run.specs.Names.{NamesState}
-use Rattle.vg_machine.specs.declared.act.What.{What}
+use Rattle.vg_machine.specs.declared.holds.Holds.{Holds}
+use Rattle.vg_machine.specs.ActStep.{act_step}
+use Rattle.vg_machine.specs.Holds.{Allowed, Deniable, update}
+use Rattle.vg_machine.specs.Lane.{lane_of}
+use Rattle.vg_machine.specs.State.{State}
+use Rattle.vg_machine.specs.Replay.{Agrees, replay}
+use Rattle.vg_machine.specs.Order.{AreAllowed, AreInOrder, call_of, client_of, holds_of, is_leave, is_of_lane, of_client}
+use Rattle.vg_run.specs.declared.session.Account.{Account}
 
--- A display's run so far: its setup and the history.
+-- A display's run so far: its setup, the history, and how many clients there are.
 pub record Course : Type 0 where
   pub setup : Setup
   pub history : List Entry
+  pub clients : ℕ
 
--- The display is the replay of the history, which agrees with it.
-pub record IsReplay (display : State) (history : List Entry) (commands : ℕ) : Type 0 where
+-- The entry belongs to one of so many clients.
+abbrev pub IsOwned : ℕ → Entry → Type 0
+IsOwned clients entry = (1 ≤ client_of entry) × (client_of entry ≤ clients)
+
+-- The display is the replay of the history, which is sound: it agrees with the display, each entry stands in order and was
+-- allowed. Of each lane the commands are counted.
+pub record IsCourse (display : State) (history : List Entry) (clients : ℕ) (counts : List ℕ) : Type 0 where
   pub state : display ≡ replay display.setup history
   pub agrees : Agrees display.setup history
   pub count : display.entries ≡ length history
-  pub lane : commands ≡ count_by (is_of_lane 0) history
-
--- A history of one client alone, which has drawn this many numbers.
-pub record IsRun (client used : ℕ) (history : List Entry) : Type 0 where
   pub order : AreInOrder [] history
-  pub numbers : map call_of history ≡ range_with_len 1 used
-  pub mine : AllByRecursion (λ e. client_of e ≡ client) history
+  pub allowed : AreAllowed display.setup [] history
+  pub owners : AllByRecursion (IsOwned clients) history
+  pub lanes : length counts ≡ 66
+  pub ordinals : (lane : ℕ) → lane < 66 → get_or counts lane 0 ≡ count_by (is_of_lane lane) history
 
--- No client has left.
-abbrev pub IsPresent : List Entry → Type 0
-IsPresent history = AllByRecursion (λ e. is_leave e ≡ false) history
+-- A client's own entries.
+abbrev pub mine_of : Account → Course → List Entry
+mine_of account course = of_client account.number course.history
 
--- What a client does next stands rightly: it has begun and not left, its entries are numbered and allowed, and it holds what
--- they say.
-pub record Stands (setup : Setup) (client used : ℕ) (holds : Holds) (history : List Entry) : Type 0 where
-  pub run : IsRun client used history
-  pub present : IsPresent history
-  pub begun : 1 ≤ used
-  pub allowed : AreAllowed setup [] history
-  pub holding : holds ≡ holds_of setup client history
+-- What an account says of its client is so: the client is one of the display's, its entries have the numbers 1 to `used` in
+-- their order, and it holds what they say.
+pub record IsAccount (course : Course) (account : Account) : Type 0 where
+  pub known : (1 ≤ account.number) × (account.number ≤ course.clients)
+  pub numbers : map call_of (mine_of account course) ≡ range_with_len 1 account.used
+  pub holding : account.holds ≡ holds_of course.setup account.number course.history
 
--- A history of one client, which has left.
-pub record HasLeft (setup : Setup) (client : ℕ) (history : List Entry) : Type 0 where
-  pub used : ℕ
-  pub run : IsRun client used history
-  pub allowed : AreAllowed setup [] history
+abbrev pub leaves : the_act.Act → Bool
+leaves Leave = true
+leaves act = false
 
--- An act that may stand among the client's others: neither its first nor its last, and where it tells a denial, one that may be.
-abbrev pub MayStand : Holds → Act → Type 0
-MayStand holds Enter = ⊥
-MayStand holds Leave = ⊥
-MayStand holds (Denied what) = Deniable holds what
-MayStand holds act = Unit {0}
+-- The client hasn't left.
+abbrev pub IsPresent : Course → Account → Type 0
+IsPresent course account = AllByRecursion (λ e. is_leave e ≡ false) (mine_of account course)
 
--- The pages of a reply are few enough to be told in one request.
-abbrev pub HasFewPages : ActReply → Type 0
-HasFewPages (Reserved key pages) = length pages < 2 ^ 32
-HasFewPages reply = Unit {0}
+-- The account's client has begun and not left.
+pub record IsActive (course : Course) (account : Account) : Type 0 where
+  pub account_is : IsAccount course account
+  pub begun : 1 ≤ account.used
+  pub present : IsPresent course account
 
-abbrev pub IsFewPages : Entry → Type 0
-IsFewPages (entries.Act client call act reply) = HasFewPages reply
-IsFewPages (entries.Command client call request reply) = Unit {0}
+-- What is denied may be denied.
+abbrev pub MayBeDenied : Holds → the_act.Act → Type 0
+MayBeDenied holds (Denied what) = Deniable holds what
+MayBeDenied holds act = Unit {0}
 
--- How many entries a task can give, with those that follow from it.
-abbrev pub weight : Task → ℕ
-weight (tasks.Reserve width height format) = 3
-weight (tasks.Release generation key) = 3
-weight task = 1
+-- The act may be the client's next: the first is enter, and none follows when it has left.
+pub record MayAct (course : Course) (account : Account) (act : the_act.Act) : Type 0 where
+  pub account_is : IsAccount course account
+  pub first : account.used ≡ 0 → act ≡ Enter
+  pub present : IsPresent course account
+  pub denied : MayBeDenied account.holds act
 
-abbrev pub weights : List Task → ℕ
-weights [] = 0
-weights (task ∷ more) = weight task + weights more
+-- The request may be the client's next: it is the next of its lane, and allowed.
+pub record MayAsk (course : Course) (account : Account) (request : Request) : Type 0 where
+  pub active : IsActive course account
+  pub lane : request.lane ≡ lane_of request.queue request.bytes
+  pub ordinal : request.ordinal ≡ count_by (is_of_lane request.lane) course.history + 1
+  pub allowed : Allowed account.holds request.queue request.bytes
 
--- No more names are current than were made, no more were made than numbers drawn, and there are few scanouts.
-pub record IsSmall (used displays : ℕ) (names : NamesState) (shows : List (Option ℕ)) : Type 0 where
-  pub few_displays : displays ≤ 16
-  pub current : length names.current ≤ names.made
-  pub made : names.made ≤ used
-  pub scanouts : length shows ≤ 16
+-- A client's account with one number more.
+abbrev pub with_number : Account → Holds → Account
+with_number account holds = record { number = account.number; used = account.used + 1; holds = holds }
 
--- A call whose numbers are within its limits, with so many displays.
-abbrev pub IsCallFit : ℕ → Call → Type 0
-IsCallFit displays (calls.Buffer width height format) = (width ≤ 640) × (height ≤ 480)
-IsCallFit displays (calls.Drop scanout) = scanout < displays
-IsCallFit displays call = Unit {0}
+-- One entry more of a client, of which the account tells.
+pub record IsAdded (old : Course) (account : Account) (entry : Entry) (holds : Holds) (new : Course) (account' : Account) : Type 0 where
+  pub course : new ≡ record { setup = old.setup; history = old.history ++ entry ∷ []; clients = old.clients }
+  pub told : account' ≡ with_number account holds
+  pub account_is : IsAccount new account'
+  pub mine : mine_of account' new ≡ mine_of account old ++ entry ∷ []
 
--- What was made of a plan: its tasks, which are few and fit, or what is denied.
-abbrev pub IsPlanOf : {A : Type 0} → Result (List Task) What → Result (Vec Task A) What → Type 0
-IsPlanOf plan (Ok tasks) = (plan ≡ Ok tasks.items) × AllByRecursion IsFit tasks.items × (weights tasks.items ≤ 19)
-IsPlanOf plan (Err what) = plan ≡ Err what
+abbrev pub IsAddedAct : Course → Account → the_act.Act → ActReply → Course → Account → Type 0
+IsAddedAct old account act reply new account' =
+    IsAdded old account (Act account.number (account.used + 1) act reply) (update account.holds act reply) new account'
+    × (reply ≡ (act_step (replay old.setup old.history) account.number act).1)
 
--- The same, where memory may lack.
-abbrev pub Plans : {A E : Type 0} → Result (List Task) What → Result (Result (Vec Task A) What) E → Type 0
-Plans plan (Ok made) = IsPlanOf plan made
-Plans plan (Err none) = Unit {0}
-
--- What is planned, as lists.
-abbrev pub planned : {A : Type 0} → Result (Vec Task A) What → Result (List Task) What
-planned (Ok tasks) = Ok tasks.items
-planned (Err what) = Err what
-
--- The tasks are few and fit; what is denied may be.
-abbrev pub IsFitPlan : {A : Type 0} → Holds → Result (Vec Task A) What → Type 0
-IsFitPlan holds (Ok tasks) = AllByRecursion IsFit tasks.items × (weights tasks.items ≤ 19)
-IsFitPlan holds (Err what) = Deniable holds what
-
--- The reply is that of the history's last entry.
-abbrev pub IsLast : Last → List Entry → Type 0
-IsLast (lasts.Act reply) history = (front : List Entry) × (client call : ℕ) × (act : Act) × (history ≡ front ++ entries.Act client call act reply ∷ [])
-IsLast (lasts.Command answer) history =
-    (front : List Entry) × (client call : ℕ) × (request : Request) × (history ≡ front ++ entries.Command client call request answer.reply ∷ []) × (answer.entry ≡ length history)
+abbrev pub IsAddedCommand : Course → Account → Request → Reply → Course → Account → Type 0
+IsAddedCommand old account request reply new account' =
+    IsAdded old account (Command account.number (account.used + 1) request reply) account.holds new account'

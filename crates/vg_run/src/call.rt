@@ -1,9 +1,8 @@
-//! The calls of a client, and what they give.
+//! The calls of a client.
 
 use crate::names::NameRef;
 use vg_formats::Rect;
 use vg_list::Seq;
-use vg_machine::{ActReply, Reply};
 
 /// A call of a client. Offsets and lengths are in bytes, rectangles in pixels.
 #[derive(Debug, Drop)]
@@ -66,26 +65,4 @@ pub(crate) enum Call {
     Close {
         name: NameRef,
     },
-}
-
-/// What a command was answered, and the number of its entry.
-#[derive(Debug, Drop)]
-pub(crate) struct Answer {
-    pub(crate) entry: u64,
-    pub(crate) reply: Reply,
-}
-
-/// The reply of a call's last entry.
-#[derive(Debug, Drop)]
-pub(crate) enum Last {
-    Act { reply: ActReply },
-    Command { answer: Answer },
-}
-
-/// What a call gave: the numbers of its entries, the reply of the last of them, and the name that it made, if it made one.
-#[derive(Debug, Drop)]
-pub(crate) struct Outcome {
-    pub(crate) entries: Seq<u64>,
-    pub(crate) last: Last,
-    pub(crate) name: Option<NameRef>,
 }

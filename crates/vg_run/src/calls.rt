@@ -1,13 +1,12 @@
 //! The calls that lines of a script make.
 
-ghost use Rattle.std.specs.Prelude.{◌≡◌, ◌≤◌, ◌<◌, ◌+◌, ◌-◌, ◌^◌, ◌++◌, List, IfOk, OnOk};
+ghost use Rattle.std.specs.Prelude.{◌≡◌, ◌≤◌, ◌<◌, ◌+◌, ◌-◌, ◌^◌, List, length, IfOk, OnErr, OnOk};
 ghost use Rattle.vg_machine.specs.declared.history.Entry.{Entry as Entries};
 ghost use Rattle.vg_script.specs.Limits.{StepInLimits};
 ghost use Rattle.vg_run.specs.Calls as calls;
-ghost use Rattle.vg_run.specs.Calls.{Gives, newest, refs_after};
-ghost use Rattle.vg_run.specs.Client.{known};
+ghost use Rattle.vg_run.specs.Calls.{Begins, Gives, newest, refs_after};
+ghost use Rattle.vg_run.specs.Client.{HasAdded, HasGoneOn, IsReady, known};
 ghost use Rattle.vg_run.specs.Refs.{IsFitWith, generation_of, refs_of, unplaced};
-ghost use Rattle.vg_run.specs.Session.{IsSmall, Stands};
 
 use crate::call::Call;
 use crate::client::{Client, call};
@@ -27,24 +26,21 @@ pub(crate) fn run_line<'a>(
     refs: &mut Refs<'a>,
     step: &'a Step,
 ) -> Result<(), AllocError>
-    requires stands { Stands session.old.setup client.old.number client.old.used client.old.holds session.old.history }
-    requires small { IsSmall client.old.used client.old.holds.displays client.old.names client.old.shows.items }
-    requires limits { StepInLimits client.old.holds.displays step.now }
-    requires room { client.old.used + 20 < 2 ^ 31 - 1 }
-    ensures setup { session.new.setup ≡ session.old.setup }
-    ensures number { client.new.number ≡ client.old.number }
-    ensures displays { OnOk result (client.new.holds.displays ≡ client.old.holds.displays) }
-    ensures used { OnOk result (client.new.used ≤ client.old.used + 19) }
-    ensures gives { OnOk result ((front : List Entries)
-        × Gives client.old.number (known client.old) (calls.call_of_step (refs_of refs.old) step.now) front (known client.new)
-        × (session.new.history ≡ session.old.history ++ front)) }
+    requires ready { IsReady session.old client.old }
+    requires limits { StepInLimits client.old.account.holds.displays step.now }
+    requires room { length session.old.history + 20 < 2 ^ 31 - 1 }
+    ensures done { OnOk result ((mine : List Entries)
+        × Gives client.old.account.number (known client.old) (calls.call_of_step (refs_of refs.old) step.now) mine (known client.new)
+        × HasGoneOn session.old client.old mine session.new client.new
+        × (length mine ≤ 19)) }
+    ensures begun { OnErr result ((mine : List Entries)
+        × Begins client.old.account.number (known client.old) (calls.call_of_step (refs_of refs.old) step.now) mine
+        × HasAdded session.old client.old mine session.new client.new) }
     ensures refs { OnOk result (refs_of refs.new ≡ refs_after step.now (newest (known client.old) (known client.new)) (refs_of refs.old)) }
-    ensures stands { OnOk result (Stands session.new.setup client.new.number client.new.used client.new.holds session.new.history) }
-    ensures small { OnOk result (IsSmall client.new.used client.new.holds.displays client.new.names client.new.shows.items) }
 {
     let asked = call_of(alloc, refs, step)?;
-    let outcome = call(alloc, session, client, &asked)?;
-    name_made(refs, step, outcome.name)
+    let made = call(alloc, session, client, &asked)?;
+    name_made(refs, step, made)
 }
 
 /// Gives the name of a buffer line to what its call made.

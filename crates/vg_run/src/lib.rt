@@ -4,10 +4,14 @@
 mod call;
 mod calls;
 mod client;
+mod given;
 mod journal;
 mod laws;
+mod learn;
 mod names;
+mod play;
 mod refs;
+mod request;
 mod run;
 mod session;
 mod task;

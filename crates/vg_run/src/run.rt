@@ -1,8 +1,6 @@
 //! A script's run, from its first client to its journal.
 
-ghost use Rattle.std.specs.Prelude.{◌≡◌, ◌≤◌, [], All, length, count_by, IfOk, OnOk};
-ghost use Rattle.std.specs.List.{AllByRecursion};
-ghost use Rattle.vg_machine.specs.Order.{AreAllowed, AreInOrder, client_of};
+ghost use Rattle.std.specs.Prelude.{◌≡◌, ◌≤◌, ◌<◌, ◌+◌, [], All, length, count_by, IfOk, OnOk};
 ghost use Rattle.vg_machine.specs.Setup.{IsSetup};
 ghost use Rattle.vg_script.specs.Limits.{ClientInLimits, ScriptInLimits};
 ghost use Rattle.vg_run.specs.Calls.{Follows};
@@ -63,16 +61,13 @@ fn run_clients(
     clients: &[Seq<Line>],
 ) -> Result<(), AllocError>
     requires setup { IsSetup setup.now }
-    requires same { session.old.setup ≡ setup.now }
-    requires none { session.old.history ≡ [] }
+    requires new { session.old ≡ record { setup = setup.now; history = []; clients = 0 } }
     requires one { length clients.now ≤ 1 }
     requires short { All (λ lines. length lines ≤ 100000) clients.now }
     requires limits { All (ClientInLimits (length setup.now.displays)) clients.now }
-    ensures setup { session.new.setup ≡ session.old.setup }
+    ensures setup { OnOk result (session.new.setup ≡ session.old.setup) }
+    ensures clients { OnOk result (session.new.clients ≡ length clients.now) }
     ensures follows { OnOk result (FollowAll setup.now 1 clients.now session.new.history) }
-    ensures order { OnOk result (AreInOrder [] session.new.history) }
-    ensures allowed { OnOk result (AreAllowed setup.now [] session.new.history) }
-    ensures owners { OnOk result (AllByRecursion (λ e. (1 ≤ client_of e) × (client_of e ≤ length clients.now)) session.new.history) }
 {
     match clients {
         [lines] => run_client(alloc, session, setup, lines.as_slice()),
@@ -80,7 +75,7 @@ fn run_clients(
     }
 }
 
-/// Runs client 1.
+/// Runs the next client.
 fn run_client(
     alloc: Global,
     session: &mut Session,
@@ -89,16 +84,15 @@ fn run_client(
 ) -> Result<(), AllocError>
     requires setup { IsSetup setup.now }
     requires same { session.old.setup ≡ setup.now }
-    requires none { session.old.history ≡ [] }
+    requires few { session.old.clients < 16 }
+    requires room { length session.old.history ≤ 100000 }
     requires short { length lines.now ≤ 100000 }
     requires limits { ClientInLimits (length setup.now.displays) lines.now }
-    ensures setup { session.new.setup ≡ session.old.setup }
-    ensures follows { OnOk result (Follows setup.now lines.now session.new.history 1) }
-    ensures order { OnOk result (AreInOrder [] session.new.history) }
-    ensures allowed { OnOk result (AreAllowed setup.now [] session.new.history) }
-    ensures owners { OnOk result (AllByRecursion (λ e. client_of e ≡ 1) session.new.history) }
+    ensures setup { OnOk result (session.new.setup ≡ session.old.setup) }
+    ensures clients { OnOk result (session.new.clients ≡ session.old.clients + 1) }
+    ensures follows { OnOk result (Follows setup.now lines.now session.new.history (session.old.clients + 1)) }
 {
-    let mut client = enter(alloc, session, setup, 1)?;
+    let mut client = enter(alloc, session, setup)?;
     let mut refs: Refs = BTreeMap::new(alloc);
     for line in lines {
         run_line(alloc, session, &mut client, &mut refs, &line.step)?;
@@ -106,6 +100,7 @@ fn run_client(
     end(alloc, session, client)?;
     Ok(())
 }
+
 /// Whether the entry is a command on this queue.
 fn is_control(entry: &Entry) -> bool
     ensures { result ≡ legal.is_on_control entry.now }

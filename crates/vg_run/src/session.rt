@@ -1,100 +1,134 @@
-//! A display and the history of all that it was asked.
+//! A display, the history of all that it was asked, and the accounts of its clients.
 
-ghost use Rattle.std.specs.Prelude.{◌≡◌, ◌==◌, ◌<◌, if◌then◌else◌, ◌-◌, ◌+◌, ◌^◌, ◌++◌, ◌∷◌, [], List, length, count_by, IfOk, OnOk};
+ghost use Rattle.std.specs.Prelude.{◌≡◌, ◌⊎◌, ◌==◌, ◌<◌, if◌then◌else◌, ◌-◌, ◌+◌, ◌^◌, ◌++◌, ◌∷◌, [], List, length, count_by, replicate, slice_set, get_or, IfOk, OnOk, OnErr};
+ghost use Rattle.std.specs.List.{AllByRecursion};
 ghost use Rattle.vg_machine.specs.Setup.{IsSetup};
 ghost use Rattle.vg_machine.specs.Replay.{Agrees, replay};
-ghost use Rattle.vg_machine.specs.Order.{is_of_lane};
-ghost use Rattle.vg_machine.specs.ActStep.{act_step};
-ghost use Rattle.vg_machine.specs.Holds.{update};
-ghost use Rattle.vg_machine.specs.declared.history.Entry.{Entry as Entries};
-ghost use Rattle.vg_machine.specs.declared.history.Entry.TheVariants as entries;
+ghost use Rattle.vg_machine.specs.Order.{Sound, is_of_lane};
+ghost use Rattle.vg_machine.specs.Holds.{first_holds};
+ghost use Rattle.vg_machine.specs.declared.act.ActReply.{ActReply as ActReplies};
 ghost use Rattle.vg_machine.specs.declared.history.Reply.{Reply as Replies};
+ghost use Rattle.vg_run.specs.Session.{IsAccount, IsAddedAct, IsAddedCommand, IsOwned, MayAct, MayAsk};
 
 use std::alloc::{AllocError, Global};
 use std::marker::Model;
 use vg_list::Seq;
-use vg_machine::{Act, Display, Entry, Frame, Holds, Reply, Request, Setup};
+use vg_machine::{Act, ActReply, Display, Entry, Frame, Holds, Reply, Request, Setup};
+
+/// What is known of a client: its number, from 1, how many call numbers it has drawn, and what it holds.
+#[derive(Debug, Drop)]
+pub(crate) struct Account {
+    pub(crate) number: u32,
+    pub(crate) used: u64,
+    pub(crate) holds: Holds,
+}
 
 /// A display, with the history of the acts and commands that made it what it is.
 #[derive(Debug, Drop)]
 pub(crate) struct Session {
     display: Display,
     history: Vec<Entry>,
-    /// How many commands of lane 0 there are.
-    commands: u64,
+    /// How many clients there are.
+    clients: u32,
+    /// How many commands of each lane there are.
+    counts: Vec<u64>,
 }
 
 impl Model for Session {
-    ghost use Rattle.vg_run.specs.Session.{Course, IsReplay};
+    ghost use Rattle.vg_run.specs.Session.{Course, IsCourse};
 
     ghost Value = { Course };
 
-    ghost view = { λ s. record { setup = s.display.setup; history = s.history.items } };
+    ghost view = { λ s. record { setup = s.display.setup; history = s.history.items; clients = s.clients } };
 
-    ghost invariant = { λ s. IsReplay s.display s.history.items s.commands };
+    ghost invariant = { λ s. IsCourse s.display s.history.items s.clients s.counts.items };
 }
 
 impl Session {
     /// The display before its first entry.
     pub(crate) fn new(alloc: Global, setup: &Setup) -> Result<Session, AllocError>
         requires { IsSetup setup.now }
-        ensures { IfOk result (λ session. session ≡ record { setup = setup.now; history = [] }) }
+        ensures { IfOk result (λ session. session ≡ record { setup = setup.now; history = []; clients = 0 }) }
     {
         Ok(Session {
             display: Display::new(alloc, setup)?,
             history: Vec::new(alloc),
-            commands: 0,
+            clients: 0,
+            counts: no_counts(alloc)?,
         })
     }
 
-    /// The ordinal of the next command of lane 0.
-    pub(crate) fn next_ordinal(&self) -> u64
-        requires { length self.now.history < 2 ^ 31 - 1 }
-        ensures { result ≡ count_by (is_of_lane 0) self.now.history + 1 }
+    /// The next client, which hasn't begun yet.
+    pub(crate) fn client(&mut self, alloc: Global, setup: &Setup) -> Account
+        requires setup { IsSetup setup.now }
+        requires same { self.old.setup ≡ setup.now }
+        requires few { self.old.clients < 2 ^ 32 - 1 }
+        ensures course { self.new ≡ record { setup = self.old.setup; history = self.old.history; clients = self.old.clients + 1 } }
+        ensures account { result ≡ record { number = self.old.clients + 1; used = 0; holds = first_holds setup.now (self.old.clients + 1) } }
+        ensures account_is { IsAccount self.new result }
     {
-        self.commands + 1
+        self.clients += 1;
+        Account {
+            number: self.clients,
+            used: 0,
+            holds: Holds::new(alloc, setup, self.clients),
+        }
     }
 
-    /// Adds an act of a client, with its reply. Room for the entry is made before the display changes.
+    /// The ordinal of the next command of a lane.
+    pub(crate) fn next_ordinal(&self, lane: u32) -> u64
+        requires lane { lane < 66 }
+        requires room { length self.now.history < 2 ^ 31 - 1 }
+        ensures { result ≡ count_by (is_of_lane lane) self.now.history + 1 }
+    {
+        self.counts[lane as usize] + 1
+    }
+
+    /// Adds an act of a client, and gives the number of the entry and the reply. Room for the entry is made before the
+    /// display changes. Where memory lacks for the caller's copy of the reply alone, the entry stands.
     pub(crate) fn act(
         &mut self,
         alloc: Global,
-        client: u32,
-        call: u64,
-        holds: &mut Holds,
+        account: &mut Account,
         act: Act,
-    ) -> Result<(), AllocError>
+    ) -> Result<(u64, ActReply), AllocError>
         requires room { length self.old.history < 2 ^ 31 - 1 }
-        requires holds { holds.old.client ≡ client }
-        ensures setup { self.new.setup ≡ self.old.setup }
-        ensures entry { OnOk result (self.new.history
-            ≡ self.old.history ++ entries.Act client call act (act_step (replay self.old.setup self.old.history) client act).1 ∷ []) }
-        ensures holds { OnOk result (holds.new ≡ update holds.old act (act_step (replay self.old.setup self.old.history) client act).1) }
+        requires next { MayAct self.old account.old act }
+        ensures number { IfOk result (λ done. done.0 ≡ length self.new.history) }
+        ensures added { IfOk result (λ done. IsAddedAct self.old account.old act done.1 self.new account.new) }
+        ensures err { OnErr result (((self.new ≡ self.old) × (account.new ≡ account.old))
+            ⊎ ((reply : ActReplies) × IsAddedAct self.old account.old act reply self.new account.new)) }
     {
         self.history.reserve(1)?;
-        let reply = self.display.act(alloc, client, holds, &act)?;
+        let reply = self
+            .display
+            .act(alloc, account.number, &mut account.holds, &act)?;
+        let copy = copy_of(&reply);
+        account.used += 1;
         let entry = Entry::Act {
-            client,
-            call,
+            client: account.number,
+            call: account.used,
             act,
             reply,
         };
         self.history.push(entry).unwrap();
-        Ok(())
+        Ok((self.history.len() as u64, copy?))
     }
 
-    /// Adds a command of a client, with its reply. Room for the entry is made before the display changes.
+    /// Adds a command of a client, and gives the number of the entry and the reply. Room for the entry is made before the
+    /// display changes. Where memory lacks for the caller's copy of the reply alone, the entry stands.
     pub(crate) fn command(
         &mut self,
         alloc: Global,
-        client: u32,
-        call: u64,
+        account: &mut Account,
         request: Request,
-    ) -> Result<(), AllocError>
-        requires { length self.old.history < 2 ^ 31 - 1 }
-        ensures setup { self.new.setup ≡ self.old.setup }
-        ensures entry { OnOk result ((reply : Replies)
-            × (self.new.history ≡ self.old.history ++ entries.Command client call request reply ∷ [])) }
+    ) -> Result<(u64, Reply), AllocError>
+        requires room { length self.old.history < 2 ^ 31 - 1 }
+        requires next { MayAsk self.old account.old request }
+        ensures number { IfOk result (λ done. done.0 ≡ length self.new.history) }
+        ensures added { IfOk result (λ done. IsAddedCommand self.old account.old request done.1 self.new account.new) }
+        ensures err { OnErr result (((self.new ≡ self.old) × (account.new ≡ account.old))
+            ⊎ ((reply : Replies) × IsAddedCommand self.old account.old request reply self.new account.new)) }
     {
         self.history.reserve(1)?;
         let bytes = self.display.command(
@@ -103,39 +137,30 @@ impl Session {
             request.bytes.as_slice(),
             request.room,
         )?;
-        self.commands = counted(self.commands, request.lane);
+        let copy = copy_bytes(alloc, bytes.as_slice());
+        self.counts[request.lane as usize] += 1;
+        account.used += 1;
         let entry = Entry::Command {
-            client,
-            call,
+            client: account.number,
+            call: account.used,
             request,
             reply: Reply::Response {
                 bytes: Seq::from_vec(bytes),
             },
         };
         self.history.push(entry).unwrap();
-        Ok(())
-    }
-
-    /// How many entries there are.
-    pub(crate) fn len(&self) -> usize
-        ensures { result ≡ length self.now.history }
-    {
-        self.history.len()
-    }
-
-    /// The last entry.
-    pub(crate) fn last(&self) -> &Entry
-        requires { 0 < length self.now.history }
-        ensures { (front : List Entries) × (self.now.history ≡ front ++ result.now ∷ []) }
-    {
-        &self.history[self.history.len() - 1]
+        let reply = Reply::Response {
+            bytes: Seq::from_vec(copy?),
+        };
+        Ok((self.history.len() as u64, reply))
     }
 
     /// The history and the frames.
     pub(crate) fn close(self) -> (Vec<Entry>, Vec<Frame>)
         ensures history { result.0.items ≡ self.history }
         ensures frames { result.1.items ≡ (replay self.setup self.history).scanouts.frames }
-        ensures agrees { Agrees self.setup self.history }
+        ensures sound { Sound self.setup self.history }
+        ensures owners { AllByRecursion (IsOwned self.clients) self.history }
     {
         let Session {
             display,
@@ -146,10 +171,23 @@ impl Session {
     }
 }
 
-/// The count of commands of lane 0 with one command more of this lane.
-fn counted(commands: u64, lane: u32) -> u64
-    requires { commands < 2 ^ 31 }
-    ensures { result ≡ commands + (if lane == 0 then 1 else 0) }
+/// A copy of a reply.
+fn copy_of(reply: &ActReply) -> Result<ActReply, AllocError>
+    ensures { IfOk result (λ copy. copy ≡ reply.now) }
 {
-    if lane == 0 { commands + 1 } else { commands }
+    reply.clone()
+}
+
+/// A copy of bytes.
+fn copy_bytes(alloc: Global, bytes: &[u8]) -> Result<Vec<u8>, AllocError>
+    ensures { IfOk result (λ copy. copy.items ≡ bytes.now) }
+{
+    bytes.to_vec(alloc)
+}
+
+/// No command of any lane.
+fn no_counts(alloc: Global) -> Result<Vec<u64>, AllocError>
+    ensures { IfOk result (λ counts. counts.items ≡ replicate 66 0) }
+{
+    vec![in alloc; 0; 66]
 }

@@ -1,12 +1,12 @@
 //! The tasks that calls are made of. A task gives one entry: an act, or a command to the device.
 
-ghost use Rattle.std.specs.Prelude.{◌≡◌, ◌<◌, ◌^◌, Ok, length, map, IfOk};
+ghost use Rattle.std.specs.Prelude.{◌≡◌, ◌≤◌, ◌<◌, ◌^◌, map, length, IfOk};
 ghost use Rattle.vg_machine.specs.declared.act.Act.TheVariants as acts;
 ghost use Rattle.vg_wire.specs.declared.two_d.Command2d.TheVariants as commands;
-ghost use Rattle.vg_run.specs.Moves as moves;
-ghost use Rattle.vg_run.specs.Moves.{IsFit, IsFitMove, no_rect, page_entry};
-ghost use Rattle.vg_run.specs.declared.task.Move.TheVariants as move;
+ghost use Rattle.vg_run.specs.Table as table;
+ghost use Rattle.vg_run.specs.Table.{no_rect, page_entry};
 
+use crate::names::Held;
 use std::alloc::{AllocError, Global};
 use vg_formats::{MemEntry, Rect};
 use vg_list::Seq;
@@ -14,199 +14,131 @@ use vg_machine::Act;
 use vg_pages::{PAGE_BYTES, page_address};
 use vg_wire::Command2d;
 
-/// A task of a call. `key` is a buffer's, and the number of its resource.
+/// A task of a call: what is done, which gives one entry, and what the answer changes.
 #[derive(Debug, Drop)]
-pub(crate) enum Task {
-    /// GET_DISPLAY_INFO
-    Info,
-    /// Takes guest pages for a buffer of pixels of four bytes.
-    Reserve {
+pub(crate) struct Task {
+    pub(crate) deed: Deed,
+    pub(crate) change: Change,
+}
+
+/// What is done for a task.
+#[derive(Debug, Drop)]
+pub(crate) enum Deed {
+    Act { act: Act },
+    /// A command that waits for its response.
+    Command { way: Way, command: Command2d },
+}
+
+/// The way that a command goes to the device.
+#[derive(Clone, Copy, Debug, PartialEq, Eq)]
+pub(crate) enum Way {
+    /// The control queue, for this context, or for none where it is 0.
+    Control { context: u32 },
+    /// The control queue, on a timeline of a context, ring index 0 to 63.
+    Timeline { context: u32, ring: u8 },
+}
+
+/// What the answer to a task changes, for its client and for the rest of the call.
+#[derive(Clone, Copy, Debug, PartialEq, Eq)]
+pub(crate) enum Change {
+    /// Nothing.
+    Nothing,
+    /// A buffer that was reserved gets a name, and then a resource with its pages as its backing.
+    NewBuffer {
         width: u32,
         height: u32,
         format: u32,
     },
-    /// RESOURCE_CREATE_2D
-    Create {
-        key: u32,
-        width: u32,
-        height: u32,
-        format: u32,
-    },
-    /// RESOURCE_ATTACH_BACKING with an entry for each page
-    Attach {
-        key: u32,
-        pages: Seq<u32>,
-    },
-    Store {
-        key: u32,
-        offset: u32,
-        bytes: Seq<u8>,
-        times: u32,
-    },
-    Load {
-        key: u32,
-        offset: u32,
-        length: u32,
-    },
-    /// TRANSFER_TO_HOST_2D
-    Send {
-        key: u32,
-        rect: Rect,
-        offset: u64,
-    },
-    /// RESOURCE_FLUSH
-    Flush {
-        key: u32,
-        rect: Rect,
-    },
-    Take {
-        scanout: u32,
-    },
-    Drop {
-        scanout: u32,
-    },
-    /// SET_SCANOUT
-    Show {
-        scanout: u32,
-        key: u32,
-        rect: Rect,
-    },
-    /// SET_SCANOUT that disables a scanout, for good.
-    Hide {
-        scanout: u32,
-    },
-    /// SET_SCANOUT that disables a scanout, before it or what it shows is given up.
-    Clear {
-        scanout: u32,
-    },
-    /// Gives up the hold of the buffer that the name of this generation stands for.
-    Release {
+    /// The name of a buffer that was released ends. What no one holds any more is taken down.
+    EndOfName {
         generation: u32,
         key: u32,
     },
-    /// RESOURCE_UNREF
-    Unref {
-        key: u32,
+    /// The scanout shows a buffer of the client's, or none.
+    Shows {
+        scanout: u32,
+        key: Option<u32>,
     },
-    Free {
-        key: u32,
-    },
+    /// Nothing, and whatever the response is, the call goes on.
+    GoesOn,
 }
 
-/// What a client does for a task.
-#[derive(Debug, Drop)]
-pub(crate) enum Move {
-    Act { act: Act },
-    Command { command: Command2d },
-}
-
-/// What a client does for a task.
-pub(crate) fn move_of(alloc: Global, task: &Task) -> Result<Move, AllocError>
-    requires { IsFit task.now }
-    ensures value { IfOk result (λ done. done ≡ moves.move_of task.now) }
-    ensures count { IfOk result IsFitMove }
+/// A task that changes nothing but by its act.
+pub(crate) fn act_task(act: Act) -> Task
+    ensures { result ≡ table.act_task act }
 {
-    match task {
-        Task::Info => asks(Command2d::DisplayInfo),
-        Task::Reserve {
-            width,
-            height,
-            format,
-        } => does(Act::Reserve {
-            width: *width,
-            height: *height,
-            format: *format,
-            bytes: 4 * *width * *height,
-        }),
-        Task::Create {
-            key,
-            width,
-            height,
-            format,
-        } => asks(Command2d::Create2d {
-            resource: *key,
-            format: *format,
-            width: *width,
-            height: *height,
-        }),
-        Task::Attach { key, pages } => attach(alloc, *key, pages.as_slice()),
-        Task::Store {
-            key,
-            offset,
-            bytes,
-            times,
-        } => store(alloc, *key, *offset, bytes.as_slice(), *times),
-        Task::Load {
-            key,
-            offset,
-            length,
-        } => does(Act::Load {
-            key: *key,
-            offset: *offset,
-            length: *length,
-        }),
-        Task::Send { key, rect, offset } => asks(Command2d::Transfer {
-            rect: *rect,
-            offset: *offset,
-            resource: *key,
-        }),
-        Task::Flush { key, rect } => asks(Command2d::Flush {
-            rect: *rect,
-            resource: *key,
-        }),
-        Task::Take { scanout } => does(Act::Take { scanout: *scanout }),
-        Task::Drop { scanout } => does(Act::Drop { scanout: *scanout }),
-        Task::Show { scanout, key, rect } => asks(Command2d::SetScanout {
-            rect: *rect,
-            scanout: *scanout,
-            resource: *key,
-        }),
-        Task::Hide { scanout } => asks(disable(*scanout)),
-        Task::Clear { scanout } => asks(disable(*scanout)),
-        Task::Release { key, .. } => does(Act::Release { key: *key }),
-        Task::Unref { key } => asks(Command2d::Unref { resource: *key }),
-        Task::Free { key } => does(Act::Free { key: *key }),
+    Task {
+        deed: Deed::Act { act },
+        change: Change::Nothing,
     }
 }
 
-fn does(act: Act) -> Result<Move, AllocError>
-    ensures { result ≡ Ok (move.Act act) }
+/// A command for no context, with what its response changes.
+pub(crate) fn control_task(command: Command2d, change: Change) -> Task
+    ensures { result ≡ table.control_task command change }
 {
-    Ok(Move::Act { act })
-}
-
-fn asks(command: Command2d) -> Result<Move, AllocError>
-    ensures { result ≡ Ok (move.Command command) }
-{
-    Ok(Move::Command { command })
-}
-
-/// SET_SCANOUT that disables a scanout.
-fn disable(scanout: u32) -> Command2d
-    ensures { result ≡ commands.SetScanout no_rect scanout 0 }
-{
-    Command2d::SetScanout {
-        rect: Rect {
-            x: 0,
-            y: 0,
-            width: 0,
-            height: 0,
+    Task {
+        deed: Deed::Command {
+            way: Way::Control { context: 0 },
+            command,
         },
-        scanout,
-        resource: 0,
+        change,
     }
 }
 
-fn attach(alloc: Global, key: u32, pages: &[u32]) -> Result<Move, AllocError>
-    requires { length pages.now < 2 ^ 32 }
-    ensures value { IfOk result (λ done. done ≡ move.Command (commands.Attach key (map page_entry pages.now))) }
-    ensures count { IfOk result IsFitMove }
+/// GET_DISPLAY_INFO
+pub(crate) fn info_task() -> Task
+    ensures { result ≡ table.info_task }
+{
+    control_task(Command2d::DisplayInfo, Change::Nothing)
+}
+
+/// Takes guest pages for a buffer of pixels of four bytes.
+pub(crate) fn reserve_task(width: u32, height: u32, format: u32) -> Task
+    requires width { width ≤ 640 }
+    requires height { height ≤ 480 }
+    ensures { result ≡ table.reserve_task width height format }
+{
+    Task {
+        deed: Deed::Act {
+            act: Act::Reserve {
+                width,
+                height,
+                format,
+                bytes: 4 * width * height,
+            },
+        },
+        change: Change::NewBuffer {
+            width,
+            height,
+            format,
+        },
+    }
+}
+
+/// RESOURCE_CREATE_2D
+pub(crate) fn create_task(key: u32, width: u32, height: u32, format: u32) -> Task
+    ensures { result ≡ table.create_task key width height format }
+{
+    let command = Command2d::Create2d {
+        resource: key,
+        format,
+        width,
+        height,
+    };
+    control_task(command, Change::Nothing)
+}
+
+/// RESOURCE_ATTACH_BACKING with an entry for each page.
+pub(crate) fn attach_task(alloc: Global, key: u32, pages: &[u32]) -> Result<Task, AllocError>
+    ensures { IfOk result (λ task. task ≡ table.attach_task key pages.now) }
 {
     let entries = entries_of(alloc, pages)?;
-    asks(Command2d::Attach {
+    let command = Command2d::Attach {
         resource: key,
         entries: Seq::from_vec(entries),
-    })
+    };
+    Ok(control_task(command, Change::Nothing))
 }
 
 /// An entry for each page.
@@ -217,7 +149,7 @@ fn entries_of(alloc: Global, pages: &[u32]) -> Result<Vec<MemEntry>, AllocError>
 }
 
 fn page_entry(page: u32) -> MemEntry
-    ensures { result ≡ moves.page_entry page }
+    ensures { result ≡ table.page_entry page }
 {
     MemEntry {
         addr: page_address(page),
@@ -225,14 +157,125 @@ fn page_entry(page: u32) -> MemEntry
     }
 }
 
-fn store(alloc: Global, key: u32, offset: u32, bytes: &[u8], times: u32) -> Result<Move, AllocError>
-    ensures value { IfOk result (λ done. done ≡ move.Act (acts.Store key offset bytes.now times)) }
+/// Writes bytes into a buffer, so many times one after another.
+pub(crate) fn store_task(
+    alloc: Global,
+    key: u32,
+    offset: u32,
+    bytes: &[u8],
+    times: u32,
+) -> Result<Task, AllocError>
+    ensures { IfOk result (λ task. task ≡ table.store_task key offset bytes.now times) }
 {
     let bytes = Seq::from_vec(bytes.to_vec(alloc)?);
-    does(Act::Store {
+    Ok(act_task(Act::Store {
         key,
         offset,
         bytes,
         times,
-    })
+    }))
+}
+
+/// TRANSFER_TO_HOST_2D of a rectangle of a buffer, each pixel from its own place.
+pub(crate) fn send_task(held: Held, rect: Rect) -> Task
+    requires { held.width ≤ 640 }
+    ensures { result ≡ table.send_task held rect }
+{
+    let pixel = u64::from(held.width) * u64::from(rect.y) + u64::from(rect.x);
+    let command = Command2d::Transfer {
+        rect,
+        offset: 4 * pixel,
+        resource: held.key,
+    };
+    control_task(command, Change::Nothing)
+}
+
+/// RESOURCE_FLUSH
+pub(crate) fn flush_task(key: u32, rect: Rect) -> Task
+    ensures { result ≡ table.flush_task key rect }
+{
+    let command = Command2d::Flush {
+        rect,
+        resource: key,
+    };
+    control_task(command, Change::Nothing)
+}
+
+/// SET_SCANOUT of a part of a buffer.
+pub(crate) fn show_task(scanout: u32, key: u32, rect: Rect) -> Task
+    ensures { result ≡ table.show_task scanout key rect }
+{
+    let command = Command2d::SetScanout {
+        rect,
+        scanout,
+        resource: key,
+    };
+    let key = Some(key);
+    control_task(command, Change::Shows { scanout, key })
+}
+
+/// SET_SCANOUT that disables a scanout, with what it changes.
+fn disable(scanout: u32, change: Change) -> Task
+    ensures { result ≡ table.disable scanout change }
+{
+    let rect = Rect {
+        x: 0,
+        y: 0,
+        width: 0,
+        height: 0,
+    };
+    let command = Command2d::SetScanout {
+        rect,
+        scanout,
+        resource: 0,
+    };
+    control_task(command, change)
+}
+
+/// Disables a scanout, for good.
+pub(crate) fn hide_task(scanout: u32) -> Task
+    ensures { result ≡ table.hide_task scanout }
+{
+    disable(scanout, Change::Shows { scanout, key: None })
+}
+
+/// Disables a scanout, before it or what it shows is given up.
+pub(crate) fn clear_task(scanout: u32) -> Task
+    ensures { result ≡ table.clear_task scanout }
+{
+    disable(scanout, Change::Nothing)
+}
+
+/// Ends a lease.
+pub(crate) fn drop_task(scanout: u32) -> Task
+    ensures { result ≡ table.drop_task scanout }
+{
+    Task {
+        deed: Deed::Act {
+            act: Act::Drop { scanout },
+        },
+        change: Change::Shows { scanout, key: None },
+    }
+}
+
+/// Gives up the hold of the buffer that a name stands for.
+pub(crate) fn release_task(held: Held) -> Task
+    ensures { result ≡ table.release_task held }
+{
+    Task {
+        deed: Deed::Act {
+            act: Act::Release { key: held.key },
+        },
+        change: Change::EndOfName {
+            generation: held.generation,
+            key: held.key,
+        },
+    }
+}
+
+/// RESOURCE_UNREF
+pub(crate) fn unref_task(key: u32) -> Task
+    ensures { result ≡ table.unref_task key }
+{
+    control_task(Command2d::Unref { resource: key }, Change::GoesOn)
 }

@@ -1,25 +1,14 @@
-use Rattle.std.proofs.Common.{sym, subst, arith, List, Result}
-use Rattle.vg_machine.specs.declared.act.What.{What}
-use Rattle.vg_run.specs.declared.task.Task.{Task}
-use Rattle.vg_run.specs.Calls.{GivesTasks}
-use Rattle.vg_run.specs.Client.{known}
-use Rattle.vg_run.specs.Tasks.{tasks_of}
-use Rattle.vg_run.proofs.OrderLemmas.{length-run}
-use Rattle.vg_run.proofs.PlayLemmas.{plan-fits, plan-is}
+use Rattle.std.proofs.Common.{arith}
+use Rattle.vg_run.proofs.SessionLemmas.{few-used}
 use Rattle.vg_run.proofs.client.call.Goals as goal
 
-pub follow-requires-clause-plan : goal.follow-requires-clause-plan
-follow-requires-clause-plan c = plan-fits c.args.client.now.holds (tasks_of (known c.args.client.now) c.args.call.now) c.in_ok-plan.plan c.in_ok-plan.ensures.plans c.in_ok-plan.ensures.denied
+pub made-made-requires : goal.made-made-requires
+made-made-requires c =
+    let ready = c.requires.ready in
+    omega (arith, ready.small.made, few-used c.args.session.now c.args.client.now.account ready.active.account_is, c.requires.room)
 
-pub last_of-requires : goal.last_of-requires
-last_of-requires c =
-    let stands = c.in_ok-follow.ensures.stands in
-    omega (arith, length-run c.follow.new.client.number c.follow.new.client.used c.follow.new.session.history stands.run, stands.begun)
-
-pub returns-clause-gives : goal.returns-clause-gives
-returns-clause-gives c =
-    let now = c.args.client.now in
-    let done = c.in_ok-follow.ensures.gives in
-    let plan = plan-is (tasks_of (known now) c.args.call.now) c.in_ok-plan.plan c.in_ok-plan.ensures.plans in
-    let P : Result (List Task) What → Type 0 = λ p. GivesTasks now.number (known now) p done.0 (known c.follow.new.client) in
-    (done.0, subst P (sym plan) done.1, done.2)
+pub name_made-requires-clause-room : goal.name_made-requires-clause-room
+name_made-requires-clause-room c =
+    let done = c.in_ok-follow.ensures.done in
+    let ready = done.2.ready in
+    omega (arith, ready.small.made, few-used c.follow.new.session c.follow.new.client.account ready.active.account_is, done.2.added.entries, done.3, c.requires.room)

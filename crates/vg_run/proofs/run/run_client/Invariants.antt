@@ -1,7 +1,6 @@
-use Rattle.vg_run.specs.Client.{known}
 use Rattle.vg_run.specs.Refs.{refs_of}
 use Rattle.vg_run.proofs.LineLemmas.{IsFollowing}
 use Rattle.vg_run.proofs.run.run_client.Given as goal
 
 abbrev pub invariant-loop-line : goal.invariant-loop-line
-invariant-loop-line l = IsFollowing l.setup l.lines l.line-index l.session.setup l.client.number l.client.used (known l.client) (refs_of l.refs) l.session.history
+invariant-loop-line l = IsFollowing l.fn.session l.lines l.line-index l.session l.client (refs_of l.refs)

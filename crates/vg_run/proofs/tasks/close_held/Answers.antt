@@ -2,9 +2,10 @@ use Rattle.std.proofs.Common.{◌≡◌, ◌≤◌, sym, ap, refl, subst, List, 
 use Rattle.std.specs.List.{AllByRecursion}
 use Rattle.vg_machine.specs.declared.act.What.{What}
 use Rattle.vg_run.specs.declared.task.Task.{Task}
-use Rattle.vg_run.specs.Moves.{IsFit}
-use Rattle.vg_run.specs.Session.{weights}
-use Rattle.vg_run.specs.Tasks.{clear_tasks, release_of}
+use Rattle.vg_run.specs.Client.{weights}
+use Rattle.vg_run.specs.Requests.{IsFit}
+use Rattle.vg_run.specs.Table.{release_task}
+use Rattle.vg_run.specs.Tasks.{clear_tasks}
 use Rattle.vg_run.proofs.TaskLemmas.{close-few, close-fit}
 use Rattle.vg_run.proofs.tasks.close_held.Goals as goal
 
@@ -12,7 +13,7 @@ pub returns-clause-plans : goal.returns-clause-plans
 returns-clause-plans c =
     let key = c.args.held.key in
     let shows = c.args.shows.now in
-    let made : c.push.new.self.items ≡ clear_tasks key 0 shows ++ release_of c.args.held ∷ [] = rw (c.in_ok-push.ensures.items, c.in_ok-tasks.ensures, c.release_of.ensures) refl in
+    let made : c.push.new.self.items ≡ clear_tasks key 0 shows ++ release_task c.args.held ∷ [] = rw (c.in_ok-push.ensures.items, c.in_ok-tasks.ensures, c.release_task.ensures) refl in
     let Fit : List Task → Type 0 = λ xs. AllByRecursion IsFit xs in
     let Few : List Task → Type 0 = λ xs. weights xs ≤ 19 in
     let ok : List Task → Result (List Task) What = λ xs. Ok xs in

@@ -1,24 +1,25 @@
 use Rattle.std.proofs.Common.{◌≡◌, ◌≤◌, ◌+◌, ◌*◌, sym, refl, subst, List, ◌++◌, length, map}
 use Rattle.std.specs.List.{AllByRecursion}
 use Rattle.vg_run.specs.declared.task.Task.{Task}
-use Rattle.vg_run.specs.Moves.{IsFit}
-use Rattle.vg_run.specs.Session.{weights}
-use Rattle.vg_run.specs.Tasks.{leases_back, release_of}
+use Rattle.vg_run.specs.Client.{weights}
+use Rattle.vg_run.specs.Requests.{IsFit}
+use Rattle.vg_run.specs.Table.{release_task}
+use Rattle.vg_run.specs.Tasks.{leases_back}
 use Rattle.vg_run.proofs.TaskLemmas.{end-few, end-fit}
 use Rattle.vg_run.proofs.tasks.end_tasks.Goals as goal
 
 pub returns-clause-fit : goal.returns-clause-fit
 returns-clause-fit c =
     let client = c.args.client.now in
-    let made : c.release_each.new.tasks.items ≡ leases_back client.holds.scanouts 0 client.holds.displays ++ map release_of client.names.current =
+    let made : c.release_each.new.tasks.items ≡ leases_back client.account.holds.scanouts 0 client.account.holds.displays ++ map release_task client.names.current =
     rw (c.in_ok-release_each.ensures, c.in_ok-tasks.ensures, c.as_slice.ensures.value, c.in_ok-current.ensures) refl in
     let Fit : List Task → Type 0 = λ xs. AllByRecursion IsFit xs in
-    subst Fit (sym made) (end-fit client.holds.scanouts client.holds.displays client.names.current)
+    subst Fit (sym made) (end-fit client.account.holds.scanouts client.account.holds.displays client.names.current)
 
 pub returns-clause-few : goal.returns-clause-few
 returns-clause-few c =
     let client = c.args.client.now in
-    let made : c.release_each.new.tasks.items ≡ leases_back client.holds.scanouts 0 client.holds.displays ++ map release_of client.names.current =
+    let made : c.release_each.new.tasks.items ≡ leases_back client.account.holds.scanouts 0 client.account.holds.displays ++ map release_task client.names.current =
     rw (c.in_ok-release_each.ensures, c.in_ok-tasks.ensures, c.as_slice.ensures.value, c.in_ok-current.ensures) refl in
-    let Few : List Task → Type 0 = λ xs. weights xs ≤ 2 * client.holds.displays + 3 * length client.names.current in
-    subst Few (sym made) (end-few client.holds.scanouts client.holds.displays client.names.current)
+    let Few : List Task → Type 0 = λ xs. weights xs ≤ 2 * client.account.holds.displays + 3 * length client.names.current in
+    subst Few (sym made) (end-few client.account.holds.scanouts client.account.holds.displays client.names.current)
