@@ -33,12 +33,31 @@ fn faulty_bits_are_refused(rt: HostRuntime) {
 fn the_status_rises(rt: HostRuntime) -> Result<(), Fail> {
     let mut negotiation = Negotiation::offer();
     assert_eq!(rt; (negotiation.status(), negotiation.accepted()), (3, 0));
-    assert!(rt; negotiation.accept(0x1_0000_0003).is_ok());
+    match negotiation.accept(0x1_0000_0003) {
+        Ok(()) => negotiation.features_ok(),
+        Err(_) => return Err(Fail::from("the features were refused")),
+    }
+    assert_eq!(rt;
+        (negotiation.status(), negotiation.accepted()),
+        (11, 0x1_0000_0003)
+    );
     assert!(rt; negotiation.accept(0x0_0000_0003).is_err());
     assert_eq!(rt;
         (negotiation.status(), negotiation.accepted()),
-        (3, 0x1_0000_0003)
+        (11, 0x1_0000_0003)
     );
+    Ok(())
+}
+
+#[test]
+fn the_driver_is_ready(rt: HostRuntime) -> Result<(), Fail> {
+    let mut negotiation = Negotiation::offer();
+    match negotiation.accept(0x1_1000_001f) {
+        Ok(()) => negotiation.features_ok(),
+        Err(_) => return Err(Fail::from("the features were refused")),
+    }
+    negotiation.driver_ok();
+    assert_eq!(rt; negotiation.status(), 15);
     Ok(())
 }
 

@@ -101,7 +101,7 @@ trimmed-same (mode ∷ next ∷ more) e = ap (before_trimmed mode) (trimmed-same
     kept None = refl
     kept (Some size) = refl
 
-length-modes_bytes : (modes : List Mode) → length modes ≤ 16 → length (modes_bytes modes) ≡ 384
+pub length-modes_bytes : (modes : List Mode) → length modes ≤ 16 → length (modes_bytes modes) ≡ 384
 unfolding modes_bytes
 length-modes_bytes modes within =
     let long : length (sixteen modes) ≡ 16 = omega (arith, length-padded modes (16 - length modes)) in
@@ -110,6 +110,10 @@ length-modes_bytes modes within =
     length-run : (xs : List Mode) → length (flat_map mode_bytes xs) ≡ 24 * length xs
     length-run [] = refl
     length-run (mode ∷ more) = simp length-append (omega (arith, length-mode_bytes mode, length-run more))
+
+-- what is written of modes is read as themselves, behind a header
+pub read-modes_bytes : (front : List ℕ) (modes : List Mode) → length front ≡ 24 → IsModes modes → AllFit modes → trimmed (slots_of (front ++ modes_bytes modes)) ≡ modes
+read-modes_bytes front modes here valid fits = ap trimmed (slots_of-modes_bytes front modes here valid.0 fits) ∙ trimmed-nones modes (16 - length modes) ∙ trimmed-same modes valid.1
 
 nodata_body : (kind : ℕ) (bytes : List ℕ) → kind ≡ 0x1100 → body_of kind bytes ≡ Some Nodata
 nodata_body kind bytes e = rw e refl
@@ -126,8 +130,7 @@ body_of-response_bytes : (header : Header) (response : Response) → FitsRespons
 body_of-response_bytes header Nodata fits valid kind = nodata_body header.kind (header_bytes header ++ []) kind
 body_of-response_bytes header (DisplayInfo modes) fits valid kind =
     let long : length (header_bytes header ++ modes_bytes modes) ≡ 408 = simp length-append (omega (arith, length-header_bytes header, length-modes_bytes modes valid.0)) in
-    let read = slots_of-modes_bytes (header_bytes header) modes (length-header_bytes header) valid.0 fits in
-    let same = ap trimmed read ∙ trimmed-nones modes (16 - length modes) ∙ trimmed-same modes valid.1 in
+    let same = read-modes_bytes (header_bytes header) modes (length-header_bytes header) valid fits in
     display_body header.kind (header_bytes header ++ modes_bytes modes) kind long ∙ ap (λ (items : List Mode). Some (DisplayInfo items)) same
 body_of-response_bytes header (Error code) fits valid kind =
     error_body header.kind (header_bytes header ++ []) (omega arith) (omega arith) ∙ ap (λ (k : ℕ). Some (Error k)) kind
@@ -172,7 +175,7 @@ display_kind kind long h = grind (arith, nat_tests)
 error_kind : (kind : ℕ) → (nat_le 0x1200 kind && nat_le kind 0x1205) ≡ true → (0x1200 ≤ kind) × (kind ≤ 0x1205)
 error_kind kind h = (grind (arith, nat_tests), grind (arith, nat_tests))
 
-slots-modes : (bytes : List ℕ) → IsModes (trimmed (slots_of bytes))
+pub slots-modes : (bytes : List ℕ) → IsModes (trimmed (slots_of bytes))
 slots-modes bytes = (omega (arith, length-trimmed (slots_of bytes), length-slots_of bytes), ends_in_none-trimmed (slots_of bytes))
 
 -- what is found is a response of the header's kind

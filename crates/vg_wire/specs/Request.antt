@@ -7,11 +7,11 @@ use Rattle.vg_wire.specs.declared.request.Command.TheVariants.{TwoD}
 use Rattle.vg_wire.specs.declared.request.Malformed.{Malformed}
 use Rattle.vg_wire.specs.declared.request.Malformed.TheVariants.{ShortHeader, UnknownKind, WrongQueue, ShortBody}
 use Rattle.vg_wire.specs.Header.{header_of, header_bytes}
-use Rattle.vg_wire.specs.TwoD.{two_d_of, kind_of_2d, body_of_2d, FitsCount, IsCommand2d}
+use Rattle.vg_wire.specs.TwoD.{is_2d, two_d_of, kind_of_2d, body_of_2d, FitsCount, IsCommand2d}
 
 -- The kinds of commands.
 abbrev pub is_known : ℕ → Bool
-is_known kind = nat_le 0x0100 kind && nat_le kind 0x0107
+is_known kind = is_2d kind
 
 -- Kinds from 0x0300 on are the cursor queue's (VIRTIO 1.2, 5.7.6.10), the others the control queue's.
 abbrev pub is_queue_of : ℕ → Queue → Bool

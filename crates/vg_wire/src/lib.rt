@@ -13,10 +13,12 @@ mod request;
 mod response;
 mod two_d;
 
-pub use entries::Entries;
-pub use header::{Header, read_header};
+pub use entries::{Entries, put_entries, read_entries};
+pub use fields::{put_u32, put_u64, u32_at, u64_at};
+pub use header::{Header, put_header, read_header};
 pub use laws::{a_request_or_a_refusal, each_refusal};
-pub use modes::Modes;
+pub use modes::{Modes, put_modes, read_modes};
+pub use rect::{put_rect, rect_at};
 pub use request::{Command, Malformed, Queue, read_request, write_request};
 pub use response::{Response, read_response, write_response};
-pub use two_d::{Command2d, read_2d};
+pub use two_d::{Command2d, is_2d, put_2d, read_2d, size_2d};

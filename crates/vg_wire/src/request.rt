@@ -5,7 +5,7 @@ ghost use Rattle.vg_wire.specs.Request as Request;
 ghost use Rattle.vg_wire.specs.Request.{request_of, request_bytes, command_body, command_kind, queue_of, FitsEntries, IsCommand};
 
 use crate::header::{Header, put_header, read_header};
-use crate::two_d::{Command2d, put_2d, read_2d};
+use crate::two_d::{Command2d, is_2d, put_2d, read_2d};
 use std::alloc::{AllocError, Global};
 
 /// The two virtqueues of the device (VIRTIO 1.2, 5.7.2).
@@ -36,13 +36,6 @@ pub enum Malformed {
     ShortBody,
 }
 
-/// Whether a command has this kind.
-fn is_known(kind: u32) -> bool
-    ensures { result ≡ Request.is_known kind }
-{
-    (0x0100..=0x0107).contains(&kind)
-}
-
 /// Whether commands of this kind go on this queue.
 fn is_queue_of(kind: u32, queue: Queue) -> bool
     ensures { result ≡ Request.is_queue_of kind queue }
@@ -69,7 +62,7 @@ pub fn read_request(
     let Some(header) = read_header(bytes) else {
         return Ok(Err(Malformed::ShortHeader));
     };
-    if !is_known(header.kind) {
+    if !is_2d(header.kind) {
         return Ok(Err(Malformed::UnknownKind { kind: header.kind }));
     }
     if !is_queue_of(header.kind, queue) {

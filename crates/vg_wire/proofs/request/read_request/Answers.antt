@@ -41,16 +41,16 @@ pub returns-in-Some-2-clause-exact : goal.returns-in-Some-2-clause-exact
 returns-in-Some-2-clause-exact c =
     let long : 24 ≤ length c.args.bytes.now = search rules in
     sym (ap (given c.in-Some.header) c.in-Some-2.is)
-    ∙ read-behind c.args.queue c.args.bytes.now c.in-Some.header c.in_ok-command.field-0 long c.in-Some.ensures.fields c.if-not-is_known.ensures c.if-not-is_queue_of.ensures c.in_ok-command.ensures.exact
+    ∙ read-behind c.args.queue c.args.bytes.now c.in-Some.header c.in_ok-command.field-0 long c.in-Some.ensures.fields c.if-not-is_2d.ensures c.if-not-is_queue_of.ensures c.in_ok-command.ensures.exact
 
 pub returns-in-None-clause-exact : goal.returns-in-None-clause-exact
 returns-in-None-clause-exact c =
     let long : 24 ≤ length c.args.bytes.now = search rules in
     sym (ap (given c.in-Some.header) c.in-None.is)
-    ∙ read-behind c.args.queue c.args.bytes.now c.in-Some.header c.in_ok-command.field-0 long c.in-Some.ensures.fields c.if-not-is_known.ensures c.if-not-is_queue_of.ensures c.in_ok-command.ensures.exact
+    ∙ read-behind c.args.queue c.args.bytes.now c.in-Some.header c.in_ok-command.field-0 long c.in-Some.ensures.fields c.if-not-is_2d.ensures c.if-not-is_queue_of.ensures c.in_ok-command.ensures.exact
 
 pub returns-in_err-command-clause-memory : goal.returns-in_err-command-clause-memory
 returns-in_err-command-clause-memory c =
     let long : 24 ≤ length c.args.bytes.now = search rules in
     let found = two_d_of c.in-Some.header.kind (behind c.args.bytes.now) in
-    on_err c.from_residual.result (subst IsOk (read-behind c.args.queue c.args.bytes.now c.in-Some.header found long c.in-Some.ensures.fields c.if-not-is_known.ensures c.if-not-is_queue_of.ensures refl) (given-some c.in-Some.header found c.in_err-command.ensures.memory))
+    on_err c.from_residual.result (subst IsOk (read-behind c.args.queue c.args.bytes.now c.in-Some.header found long c.in-Some.ensures.fields c.if-not-is_2d.ensures c.if-not-is_queue_of.ensures refl) (given-some c.in-Some.header found c.in_err-command.ensures.memory))
