@@ -5,10 +5,10 @@ use Rattle.vg_formats.specs.declared.entry.MemEntry.{MemEntry}
 use Rattle.vg_pages.specs.Memory.{page_address}
 use Rattle.vg_wire.specs.declared.header.Header.{Header}
 use Rattle.vg_wire.specs.declared.request.Queue.TheVariants.{Control}
-use Rattle.vg_wire.specs.declared.request.Command.TheVariants.{TwoD}
+use Rattle.vg_wire_ext.specs.declared.command.Command.TheVariants.{TwoD}
 use Rattle.vg_wire.specs.declared.two_d.Command2d.{Command2d}
 use Rattle.vg_wire.specs.declared.two_d.Command2d.TheVariants as commands
-use Rattle.vg_wire.specs.Request.{request_bytes}
+use Rattle.vg_wire_ext.specs.Request.{request_bytes}
 use Rattle.vg_wire.specs.TwoD.{FitsCount, kind_of_2d}
 use Rattle.vg_machine.specs.declared.act.Act.TheVariants as acts
 use Rattle.vg_machine.specs.declared.history.Request.{Request}

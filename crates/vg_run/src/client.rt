@@ -3,9 +3,9 @@
 ghost use Rattle.std.specs.Prelude.{◌≡◌, ◌<◌, ◌≤◌, ◌-◌, ◌+◌, ◌^◌, ◌++◌, ◌∷◌, ◌==◌, if◌then◌else◌, [], ℕ, List, true, false, length, replicate, None, Ok, IfOk, OnOk};
 ghost use Rattle.std.specs.List.{AllByRecursion, range_with_len};
 ghost use Rattle.vg_wire.specs.TwoD.{FitsCount, kind_of_2d};
-ghost use Rattle.vg_wire.specs.Request.{request_of};
+ghost use Rattle.vg_wire_ext.specs.Request.{request_of};
 ghost use Rattle.vg_wire.specs.declared.request.Queue.TheVariants as queues;
-ghost use Rattle.vg_wire.specs.declared.request.Command.TheVariants as commands;
+ghost use Rattle.vg_wire_ext.specs.declared.command.Command.TheVariants as commands;
 ghost use Rattle.vg_machine.specs.Holds.{Allowed, denied_command};
 ghost use Rattle.vg_machine.specs.Lane.{lane_of};
 ghost use Rattle.vg_machine.specs.Order.{LaneOrder, updated};
@@ -36,7 +36,8 @@ use std::alloc::{AllocError, Global};
 use std::collections::VecDeque;
 use vg_list::Seq;
 use vg_machine::{Act, ActReply, Entry, Holds, Reply, Request, Setup, Shape, What, denied};
-use vg_wire::{Command, Command2d, Header, Queue, write_request};
+use vg_wire::{Command2d, Header, Queue};
+use vg_wire_ext::{Command, write_request};
 
 /// A client, which draws its own call numbers from 1.
 #[derive(Debug, Drop)]

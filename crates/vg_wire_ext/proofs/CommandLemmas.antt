@@ -1,4 +1,4 @@
-use Rattle.std.proofs.Common.{◌≡◌, ℕ, ℤ, pos, negsuc, suc, ◌+◌, ◌*◌, ◌-◌, ◌<◌, ◌≤◌, ◌^◌, List, [], ◌++◌, length, take, drop, Bool, true, Option, Some, option_map, if◌then◌else◌, FitsSigned, w32, refl, ap, sym, ◌∙◌, arith, append_assoc, length-append}
+use Rattle.std.proofs.Common.{◌≡◌, ℕ, ℤ, pos, negsuc, ◌+◌, ◌*◌, ◌<◌, ◌^◌, List, ◌++◌, length, Bool, true, Option, Some, option_map, if◌then◌else◌, FitsSigned, w32, refl, ap, ◌∙◌, arith, append_assoc, length-append}
 use Rattle.std.specs.Int.{cast_signed, cast_unsigned}
 use Rattle.std.proofs.lemmas.Int.{to_z-of_z}
 use Rattle.std.proofs.lemmas.List.{take_all}
@@ -7,9 +7,9 @@ use Rattle.vg_formats.specs.declared.entry.MemEntry.{MemEntry}
 use Rattle.vg_wire.specs.declared.two_d.Command2d.{Command2d}
 use Rattle.vg_wire.specs.declared.two_d.Command2d.TheVariants as two_d
 use Rattle.vg_wire.specs.Numbers.{number, number_at, le32, le64}
-use Rattle.vg_wire.specs.Rect.{IsRect, rect_at, rect_bytes}
+use Rattle.vg_wire.specs.Rect.{rect_bytes}
 use Rattle.vg_wire.specs.Entries.{entries_at, entries_bytes}
-use Rattle.vg_wire.specs.TwoD.{FitsCount, IsCommand2d, body_of_2d, kind_of_2d, two_d_of, is_2d}
+use Rattle.vg_wire.specs.TwoD.{body_of_2d, kind_of_2d, two_d_of, is_2d}
 use Rattle.vg_wire.proofs.HeaderLemmas.{length-le32, length-le64}
 use Rattle.vg_wire.proofs.EntryLemmas.{entries_at-entries_bytes, length-entries_bytes}
 use Rattle.vg_wire.proofs.TwoDLemmas.{number-le32, number-le64, rect_at-rect_bytes, whole_of, length-two, length-four, length-rect_bytes, length-body_of_2d, size_of_2d, two_d_of-body_of_2d}

@@ -1,10 +1,10 @@
-use Rattle.std.proofs.Common.{◌≡◌, ℕ, Bool, true, false, not, ◌||◌, List, ◌++◌, length, drop, ◌≤◌, Option, None, Some, Result, Ok, Err, is_some, if◌then◌else◌, arith, refl, ap, sym, length-append, nat_lt, nat_le, ◌∙◌}
+use Rattle.std.proofs.Common.{◌≡◌, ℕ, Bool, true, false, not, ◌||◌, List, ◌++◌, length, drop, ◌≤◌, Option, Some, Result, Ok, Err, is_some, if◌then◌else◌, arith, refl, ap, sym, length-append, nat_lt, ◌∙◌}
 use Rattle.std.specs.Prelude.{ok_or, option_map}
 use Rattle.std.proofs.lemmas.Bool.Decides.{nat_tests}
 use Rattle.std.proofs.lemmas.List.{drop_at}
 use Rattle.vg_wire.specs.declared.header.Header.{Header}
 use Rattle.vg_wire.specs.declared.request.Queue.{Queue}
-use Rattle.vg_wire.specs.declared.request.Queue.TheVariants.{Control, Cursor}
+use Rattle.vg_wire.specs.declared.request.Queue.TheVariants.{Control}
 use Rattle.vg_wire.specs.declared.request.Malformed.{Malformed}
 use Rattle.vg_wire.specs.declared.request.Malformed.TheVariants.{UnknownKind, WrongQueue, ShortBody}
 use Rattle.vg_wire.specs.declared.two_d.Command2d.{Command2d}

@@ -1,4 +1,4 @@
-use Rattle.std.proofs.Common.{◌≡◌, ℕ, ◌+◌, ◌≤◌, ◌<◌, List, [], ◌++◌, length, take, drop, replicate, Some, None, Bool, false, true, cond, nat_le, ◌==◌, ◌&&◌, subst, refl, ap, sym, ◌∙◌, arith, append_assoc, length-append}
+use Rattle.std.proofs.Common.{◌≡◌, ℕ, ◌≤◌, List, [], ◌++◌, length, take, drop, replicate, Some, None, Bool, false, true, cond, nat_le, ◌==◌, ◌&&◌, subst, refl, ap, ◌∙◌, arith, append_assoc, length-append}
 use Rattle.std.proofs.lemmas.Bool.Decides.{nat_tests}
 use Rattle.std.proofs.lemmas.List.{length-replicate, drop_at, take_at, take_all}
 use Rattle.vg_wire.specs.declared.header.Header.{Header}

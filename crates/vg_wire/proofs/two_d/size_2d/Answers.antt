@@ -1,4 +1,4 @@
-use Rattle.std.proofs.Common.{◌≡◌, ◌∙◌, ◌+◌, ◌*◌, ap, sym, arith, length}
+use Rattle.std.proofs.Common.{◌∙◌, ◌+◌, ◌*◌, ap, sym}
 use Rattle.vg_wire.proofs.TwoDLemmas.{length-body_of_2d, size_of_2d}
 use Rattle.vg_wire.proofs.two_d.size_2d.Goals as goal
 

@@ -1,4 +1,4 @@
-use Rattle.std.proofs.Common.{◌≡◌, ◌∙◌, ℕ, ◌≤◌, Bool, true, false, not, cond, Option, Some, None, Result, Ok, Err, refl, ap, sym, arith, length, drop, nat_lt}
+use Rattle.std.proofs.Common.{◌≡◌, ◌∙◌, ℕ, ◌≤◌, Bool, true, false, not, Option, Some, None, Result, Err, refl, ap, sym, arith, length, drop, nat_lt}
 use Rattle.std.specs.Prelude.{ok_or, option_map, if◌then◌else◌}
 use Rattle.std.proofs.lemmas.Bool.Decides.{nat_tests}
 use Rattle.vg_wire.specs.declared.header.Header.{Header}

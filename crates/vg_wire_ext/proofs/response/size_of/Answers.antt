@@ -1,4 +1,4 @@
-use Rattle.std.proofs.Common.{◌≡◌, ◌∙◌, ap, sym, length}
+use Rattle.std.proofs.Common.{◌∙◌, ap, sym}
 use Rattle.vg_wire_ext.proofs.ResponseLemmas.{length-response_body, size_of_response}
 use Rattle.vg_wire_ext.proofs.response.size_of.Goals as goal
 

@@ -1,4 +1,4 @@
-use Rattle.std.proofs.Common.{◌≡◌, ◌∙◌, ◌+◌, ◌*◌, ap, sym, length}
+use Rattle.std.proofs.Common.{◌∙◌, ◌+◌, ◌*◌, ap, sym}
 use Rattle.vg_wire_ext.proofs.CommandLemmas.{length-command_body, size_of_command}
 use Rattle.vg_wire_ext.proofs.write.size_of.Goals as goal
 

@@ -8,7 +8,7 @@ use Rattle.vg_machine.specs.State.{State}
 use Rattle.vg_machine.specs.Step.{step}
 use Rattle.vg_machine.specs.Replay.{request_step}
 use Rattle.vg_run.specs.Session.{Course}
-use Rattle.vg_run.proofs.ReplayLemmas.{replay-more, shaped-plain}
+use Rattle.vg_run.proofs.ReplayLemmas.{replay-more, shaped-plain, step-setup}
 use Rattle.vg_run.proofs.session.Session.command.Goals as goal
 
 -- what the display did and answered is the step of the request
@@ -33,3 +33,8 @@ returns-clause-entry c =
     let pushed = rw c.unwrap.ensures at c.push.ensures.items in
     let before = c.reserve.ensures.items ∙ ap (λ (v : Course). v.history) c.self.view_is in
     (Response c.from_vec.result, pushed ∙ ap (λ (H : List Entry). H ++ entries.Command c.args.client c.args.call c.args.request (Response c.from_vec.result) ∷ []) before)
+
+pub returns-clause-setup : goal.returns-clause-setup
+returns-clause-setup c =
+    step-setup c.self.inside.display c.command.new.self c.args.request.queue c.as_slice.result.now c.in_ok-bytes.bytes.items c.args.request.room c.in_ok-bytes.ensures.step
+    ∙ ap (λ (v : Course). v.setup) c.self.view_is
