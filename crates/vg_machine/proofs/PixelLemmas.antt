@@ -24,7 +24,7 @@ use Rattle.vg_formats.specs.Pixels.{Covers, are_meeting, common_of, is_empty, is
 use Rattle.vg_shown.specs.Shown.{pixel_at, shown_byte}
 use Rattle.vg_shown.proofs.ShownLemmas.{length-shown_bytes}
 use Rattle.vg_pages.specs.Memory.{Memory}
-use Rattle.vg_wire.specs.declared.response.Response.TheVariants as responses
+use Rattle.vg_wire_ext.specs.declared.response.Response.TheVariants as responses
 use Rattle.vg_machine.specs.declared.resource.Resource.{Resource}
 use Rattle.vg_machine.specs.declared.scanout.Screen.{Screen}
 use Rattle.vg_machine.specs.Backing.{backing_at, backing_bytes, bytes_of_rect, entries_at, total, transfer_end, transferred}

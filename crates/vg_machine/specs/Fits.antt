@@ -8,8 +8,8 @@ use Rattle.vg_machine.specs.declared.backing.Run.{Run}
 use Rattle.vg_machine.specs.declared.resource.Resource.{Resource}
 use Rattle.vg_machine.specs.declared.scanout.Binding.{Binding}
 use Rattle.vg_machine.specs.declared.scanout.Screen.{Screen}
-use Rattle.vg_wire.specs.declared.response.Response.{Response}
-use Rattle.vg_wire.specs.declared.response.Response.TheVariants as responses
+use Rattle.vg_wire_ext.specs.declared.response.Response.{Response}
+use Rattle.vg_wire_ext.specs.declared.response.Response.TheVariants as responses
 use Rattle.vg_machine.specs.Backing.{total}
 
 -- Each entry has bytes, and lies wholly in guest memory.

@@ -3,12 +3,12 @@ use Rattle.std.specs.Prelude.{◌≡◌, ◌≢◌, ◌<◌, ◌^◌, ℕ, ◌==
 use Rattle.std.specs.List.{list_any}
 use Rattle.vg_wire.specs.declared.header.Header.{Header}
 use Rattle.vg_wire.specs.declared.request.Queue.{Queue}
-use Rattle.vg_wire.specs.declared.request.Command.{Command}
-use Rattle.vg_wire.specs.declared.request.Command.TheVariants.{TwoD}
+use Rattle.vg_wire_ext.specs.declared.command.Command.{Command}
+use Rattle.vg_wire_ext.specs.declared.command.Command.TheVariants.{TwoD}
 use Rattle.vg_wire.specs.declared.request.Malformed.{Malformed}
 use Rattle.vg_wire.specs.declared.two_d.Command2d.{Command2d}
 use Rattle.vg_wire.specs.declared.two_d.Command2d.TheVariants.{DisplayInfo, Create2d, Unref, SetScanout, Flush, Transfer, Attach, Detach}
-use Rattle.vg_wire.specs.Request.{request_of}
+use Rattle.vg_wire_ext.specs.Request.{request_of}
 use Rattle.vg_machine.specs.declared.act.Act.{Act}
 use Rattle.vg_machine.specs.declared.act.Act.TheVariants as acts
 use Rattle.vg_machine.specs.declared.act.ActReply.{ActReply}
@@ -87,8 +87,10 @@ abbrev pub first_denied : Holds → Bool → List What → Option What
 first_denied holds creating [] = None
 first_denied holds creating (what ∷ more) = if is_allowed holds creating what then first_denied holds creating more else Some what
 
+-- What other commands than the 2D ones name is not looked at yet.
 abbrev pub denied_command : Holds → Command → Option What
 denied_command holds (TwoD command) = first_denied holds (is_creating command) (names_of command)
+denied_command holds _ = None
 
 abbrev pub denied_request : Holds → Result (Header × Command) Malformed → Option What
 denied_request holds (Ok (header, command)) = denied_command holds command

@@ -1,16 +1,16 @@
 use Rattle.std.specs.Prelude.{◌≡◌, ℕ, ◌+◌, ◌*◌, ◌==◌, ◌&&◌, ◌||◌, not, Bool, is_none, is_some, List, [], ◌∷◌, length, take, map, nat_le, if◌then◌else◌, Option, Some, None, Result, Ok, Err, bit_and}
 use Rattle.vg_wire.specs.declared.request.Queue.{Queue}
-use Rattle.vg_wire.specs.declared.request.Command.{Command}
-use Rattle.vg_wire.specs.declared.request.Command.TheVariants.{TwoD}
+use Rattle.vg_wire_ext.specs.declared.command.Command.{Command}
+use Rattle.vg_wire_ext.specs.declared.command.Command.TheVariants.{TwoD}
 use Rattle.vg_wire.specs.declared.request.Malformed.{Malformed}
 use Rattle.vg_wire.specs.declared.two_d.Command2d.{Command2d}
 use Rattle.vg_wire.specs.declared.two_d.Command2d.TheVariants.{DisplayInfo, Create2d, Unref, SetScanout, Flush, Transfer, Attach, Detach}
 use Rattle.vg_wire.specs.declared.header.Header.{Header}
-use Rattle.vg_wire.specs.declared.response.Response.{Response}
-use Rattle.vg_wire.specs.declared.response.Response.TheVariants as responses
+use Rattle.vg_wire_ext.specs.declared.response.Response.{Response}
+use Rattle.vg_wire_ext.specs.declared.response.Response.TheVariants as responses
 use Rattle.vg_wire.specs.Header.{header_of}
-use Rattle.vg_wire.specs.Request.{request_of}
-use Rattle.vg_wire.specs.Response.{response_bytes, response_kind}
+use Rattle.vg_wire_ext.specs.Request.{request_of}
+use Rattle.vg_wire_ext.specs.Response.{response_bytes, response_kind}
 use Rattle.std.specs.Ordering.{nat_cmp}
 use Rattle.std.specs.BTreeMap.{insert_entry}
 use Rattle.vg_formats.specs.declared.rect.Rect.{Rect}
@@ -160,9 +160,10 @@ two_d_step state (Transfer rect offset resource) = transfer_step state rect offs
 two_d_step state (Attach resource entries) = attach_step state resource entries
 two_d_step state (Detach resource) = detach_step state resource
 
--- What a command does and answers.
+-- What a command does and answers: the display has none but the 2D ones yet, and the others are answered ERR_UNSPEC and do nothing.
 abbrev pub command_step : State → Command → State × Response
 command_step state (TwoD command) = two_d_step state command
+command_step state _ = (state, responses.Error ERR_UNSPEC)
 
 -- What a request does and answers: one that is malformed is answered ERR_UNSPEC and does nothing.
 abbrev pub answer_of : State → Result (Header × Command) Malformed → State × Response
@@ -189,4 +190,6 @@ step state queue bytes room =
 abbrev pub Keeps : Response → State → State → Type 0
 Keeps responses.Nodata old new = Unit {0}
 Keeps (responses.DisplayInfo modes) old new = new ≡ old
+Keeps (responses.Edid block) old new = new ≡ old
+Keeps (responses.Uuid bytes) old new = new ≡ old
 Keeps (responses.Error code) old new = new ≡ old

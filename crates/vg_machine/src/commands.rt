@@ -2,7 +2,7 @@
 
 ghost use Rattle.std.specs.Prelude.{◌≡◌, ◌≢◌, IfOk, OnErr, map, Some, ◌<◌, ◌^◌, ◌-◌, length};
 ghost use Rattle.vg_wire.specs.TwoD.{FitsCount};
-ghost use Rattle.vg_wire.specs.declared.response.Response.TheVariants as responses;
+ghost use Rattle.vg_wire_ext.specs.declared.response.Response.TheVariants as responses;
 ghost use Rattle.vg_machine.specs.Fits as fit_words;
 ghost use Rattle.vg_machine.specs.Step.{attach_step, create_step, detach_step, flush_step, set_scanout_step, transfer_step, two_d_step, unref_step};
 
@@ -11,7 +11,8 @@ use crate::display::Display;
 use crate::scanout::Binding;
 use std::alloc::{AllocError, Global};
 use vg_formats::{MemEntry, Rect};
-use vg_wire::{Command2d, Modes, Response};
+use vg_wire::{Command2d, Modes};
+use vg_wire_ext::Response;
 
 impl Display {
     /// Runs a 2D command, and gives its response.

@@ -1,13 +1,14 @@
 //! The device on one thread.
 
 ghost use Rattle.std.specs.Prelude.{◌≡◌, ◌==◌, ◌<◌, ◌-◌, ◌^◌, if◌then◌else◌, bit_and, IfOk, OnOk, OnErr};
-ghost use Rattle.vg_wire.specs.Request.{request_of};
-ghost use Rattle.vg_wire.specs.Response.{response_kind};
+ghost use Rattle.vg_wire_ext.specs.Commands.{FitsEntries};
+ghost use Rattle.vg_wire_ext.specs.Request.{request_of};
+ghost use Rattle.vg_wire_ext.specs.Response.{response_kind};
 ghost use Rattle.vg_machine.specs.Setup.{IsSetup};
 ghost use Rattle.vg_machine.specs.State.{counted, start};
 ghost use Rattle.vg_machine.specs.ActStep.{KeepsIfRefused, act_step};
 ghost use Rattle.vg_machine.specs.Holds.{update};
-ghost use Rattle.vg_machine.specs.Step.{Keeps, answer_header, answer_of, answered, effect_and_bytes, step};
+ghost use Rattle.vg_machine.specs.Step.{Keeps, answer_header, answer_of, answered, command_step, effect_and_bytes, step};
 
 use crate::act::{Act, ActReply};
 use crate::backing::Backings;
@@ -20,7 +21,8 @@ use crate::share::Share;
 use std::alloc::{AllocError, Global};
 use std::marker::Model;
 use vg_pages::Pages;
-use vg_wire::{Command, Header, Queue, Response, read_header, read_request, write_response};
+use vg_wire::{Header, Queue, read_header};
+use vg_wire_ext::{Command, Response, read_request, write_response};
 
 /// A display device, and what its clients share beside it.
 #[derive(Debug, Drop)]
@@ -157,8 +159,21 @@ impl Display {
         ensures err { OnErr result (self.new ≡ self.old) }
     {
         match read_request(alloc, request, queue)? {
-            Ok((_, Command::TwoD(command))) => self.run_2d(alloc, &command),
+            Ok((_, command)) => self.run(alloc, &command),
             Err(_) => Ok(Response::Error { code: ERR_UNSPEC }),
+        }
+    }
+
+    /// Runs a command: those beside the 2D ones do nothing yet.
+    fn run(&mut self, alloc: Global, command: &Command) -> Result<Response, AllocError>
+        requires entries { self.old.entries < 2 ^ 31 - 1 }
+        requires count { FitsEntries command.now }
+        ensures step { IfOk result (λ response. command_step self.old command.now ≡ (self.new, response)) }
+        ensures err { OnErr result (self.new ≡ self.old) }
+    {
+        match command {
+            Command::TwoD(command) => self.run_2d(alloc, command),
+            _ => Ok(Response::Error { code: ERR_UNSPEC }),
         }
     }
 }
@@ -177,6 +192,8 @@ fn kind_of(response: &Response) -> u32
     match response {
         Response::Nodata => 0x1100,
         Response::DisplayInfo { .. } => 0x1101,
+        Response::Edid { .. } => 0x1104,
+        Response::Uuid { .. } => 0x1105,
         Response::Error { code } => *code,
     }
 }

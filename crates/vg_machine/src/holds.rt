@@ -4,13 +4,15 @@ ghost use Rattle.std.specs.Prelude.{◌≡◌, [], ◌∷◌, false, IfOk};
 ghost use Rattle.std.specs.List.{list_any};
 ghost use Rattle.vg_machine.specs.declared.act.What.TheVariants as whats;
 ghost use Rattle.vg_machine.specs.Setup.{IsSetup};
+ghost use Rattle.vg_machine.specs.Holds as holding;
 ghost use Rattle.vg_machine.specs.Holds.{denied_of, first_denied, first_holds, has_key, is_creating, names_of};
 
 use crate::act::What;
 use crate::setup::Setup;
 use std::alloc::{AllocError, Global};
 use vg_list::Seq;
-use vg_wire::{Command, Command2d, Queue, read_request};
+use vg_wire::{Command2d, Queue};
+use vg_wire_ext::{Command, read_request};
 
 /// What a client holds, by its own acts and their replies.
 #[derive(Debug, Drop, Clone)]
@@ -57,8 +59,18 @@ pub fn denied(
     ensures { IfOk result (λ what. what ≡ denied_of holds.now queue request.now) }
 {
     match read_request(alloc, request, queue)? {
-        Ok((_, Command::TwoD(command))) => Ok(denied_2d(holds, &command)),
+        Ok((_, command)) => Ok(denied_command(holds, &command)),
         Err(_) => Ok(None),
+    }
+}
+
+/// The first thing that a command names and that isn't allowed: none yet of a command beside the 2D ones.
+fn denied_command(holds: &Holds, command: &Command) -> Option<What>
+    ensures { result ≡ holding.denied_command holds.now command.now }
+{
+    match command {
+        Command::TwoD(command) => denied_2d(holds, command),
+        _ => None,
     }
 }
 

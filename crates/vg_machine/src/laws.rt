@@ -3,7 +3,7 @@
 
 ghost use Rattle.std.specs.Prelude.{◌≡◌, ℕ};
 ghost use Rattle.vg_formats.specs.declared.rect.Rect.{Rect};
-ghost use Rattle.vg_wire.specs.declared.response.Response.TheVariants as responses;
+ghost use Rattle.vg_wire_ext.specs.declared.response.Response.TheVariants as responses;
 ghost use Rattle.vg_wire.specs.declared.two_d.Command2d.TheVariants as commands;
 ghost use Rattle.vg_machine.specs.Pixels.{CopiesEachPixel, ShowsEachPixel};
 ghost use Rattle.vg_machine.specs.Step.{two_d_step};

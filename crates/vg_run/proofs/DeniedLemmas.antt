@@ -3,12 +3,12 @@ use Rattle.std.proofs.Common.{◌≡◌, ◌==◌, ◌^◌, ◌||◌, ◌&&◌, 
 use Rattle.std.specs.List.{list_any}
 use Rattle.std.proofs.lemmas.Bool.Decides.{nat_tests}
 use Rattle.vg_wire.specs.declared.header.Header.{Header}
-use Rattle.vg_wire.specs.declared.request.Command.{Command}
-use Rattle.vg_wire.specs.declared.request.Command.TheVariants.{TwoD}
+use Rattle.vg_wire_ext.specs.declared.command.Command.{Command}
+use Rattle.vg_wire_ext.specs.declared.command.Command.TheVariants.{TwoD}
 use Rattle.vg_wire.specs.declared.request.Malformed.{Malformed}
 use Rattle.vg_wire.specs.declared.request.Queue.TheVariants.{Control}
 use Rattle.vg_wire.specs.declared.two_d.Command2d.{Command2d}
-use Rattle.vg_wire.specs.Request.{request_of}
+use Rattle.vg_wire_ext.specs.Request.{request_of}
 use Rattle.vg_machine.specs.declared.act.What.{What}
 use Rattle.vg_machine.specs.declared.act.What.TheVariants.{Name, Resource, Scanout}
 use Rattle.vg_machine.specs.declared.holds.Holds.{Holds}

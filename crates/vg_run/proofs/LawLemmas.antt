@@ -2,7 +2,7 @@
 use Rattle.std.proofs.Common.{◌≡◌, ◌+◌, ◌≤◌, ◌∙◌, sym, ap, refl, subst, arith, ℕ, zero, suc, Bool, true, false, List, [], ◌∷◌, ◌++◌, length, map, append_assoc, Option, Some, None, Result, Ok, Err}
 use Rattle.std.specs.List.{AllByRecursion, range_with_len}
 use Rattle.vg_wire.specs.declared.two_d.Command2d.{Command2d}
-use Rattle.vg_wire.specs.declared.request.Command.TheVariants.{TwoD}
+use Rattle.vg_wire_ext.specs.declared.command.Command.TheVariants.{TwoD}
 use Rattle.vg_machine.specs.declared.setup.Setup.{Setup}
 use Rattle.vg_machine.specs.declared.act.Act.{Act}
 use Rattle.vg_machine.specs.declared.act.Act.TheVariants.{Enter, Leave, Denied}

@@ -10,7 +10,7 @@ use Rattle.vg_machine.specs.declared.act.ActReply.TheVariants as act_replies
 use Rattle.vg_machine.specs.declared.history.Entry.TheVariants.{Act, Command}
 use Rattle.vg_machine.specs.declared.history.Reply.{Reply}
 use Rattle.vg_machine.specs.declared.history.Request.{Request}
-use Rattle.vg_wire.specs.declared.request.Command.TheVariants.{TwoD}
+use Rattle.vg_wire_ext.specs.declared.command.Command.TheVariants.{TwoD}
 use Rattle.vg_wire.specs.declared.two_d.Command2d.{Command2d}
 use Rattle.vg_machine.specs.declared.act.What.{What}
 use Rattle.vg_machine.specs.declared.history.Entry.{Entry}

@@ -2,12 +2,13 @@ use Rattle.std.proofs.Common.{◌≡◌, ◌+◌, ◌*◌, ◌==◌, ap, refl, �
 use Rattle.std.specs.Prelude.{is_some}
 use Rattle.std.specs.List.{fold}
 use Rattle.vg_wire.specs.declared.header.Header.{Header}
-use Rattle.vg_wire.specs.declared.request.Command.{Command}
-use Rattle.vg_wire.specs.declared.request.Command.TheVariants.{TwoD}
+use Rattle.vg_wire_ext.specs.declared.command.Command.{Command}
+use Rattle.vg_wire_ext.specs.declared.command.Command.TheVariants.{TwoD, CapsetInfo, Capset, Edid, AssignUuid, CreateBlob, SetScanoutBlob, CtxCreate, CtxDestroy, CtxAttach, CtxDetach, Submit, UpdateCursor, MoveCursor}
 use Rattle.vg_wire.specs.declared.request.Malformed.{Malformed}
+use Rattle.vg_wire.specs.declared.request.Queue.{Queue}
 use Rattle.vg_wire.specs.declared.two_d.Command2d.{Command2d}
 use Rattle.vg_wire.specs.declared.two_d.Command2d.TheVariants.{DisplayInfo, Create2d, Unref, SetScanout, Flush, Transfer, Attach, Detach}
-use Rattle.vg_wire.specs.Request.{request_of}
+use Rattle.vg_wire_ext.specs.Request.{request_of}
 use Rattle.vg_machine.specs.declared.shape.Shape.{Shape}
 use Rattle.vg_machine.specs.declared.shape.Shape.TheVariants.{Plain, Indirect}
 use Rattle.vg_formats.specs.declared.rect.Rect.{Rect}
@@ -25,7 +26,7 @@ use Rattle.vg_machine.specs.declared.history.Entry.TheVariants as entries
 use Rattle.vg_machine.specs.declared.history.Request.{Request}
 use Rattle.vg_machine.specs.declared.history.Reply.TheVariants as replies
 use Rattle.vg_machine.specs.State.{State, counted}
-use Rattle.vg_machine.specs.Step.{answer_of, answered_by, step, two_d_step, with_shown}
+use Rattle.vg_machine.specs.Step.{answer_of, answered_by, command_step, step, two_d_step, with_shown}
 use Rattle.vg_machine.specs.Replay.{AgreesFrom, HasReply, after, replay_from, shaped_step}
 
 -- the same setup, and as many entries
@@ -59,9 +60,29 @@ two_d-like state (Transfer rect offset resource) = like-answered _ state _ (reco
 two_d-like state (Attach resource entries) = like-answered _ state _ (record { setup = refl; entries = refl })
 two_d-like state (Detach resource) = like-answered _ state _ (record { setup = refl; entries = refl })
 
+command-like : (state : State) (command : Command) → IsLike state (command_step state command).0
+command-like state (TwoD command) = two_d-like state command
+command-like state (CapsetInfo index) = like-itself state
+command-like state (Capset id version) = like-itself state
+command-like state (Edid scanout) = like-itself state
+command-like state (AssignUuid resource) = like-itself state
+command-like state (CreateBlob resource mem flags blob_id size entries) = like-itself state
+command-like state (SetScanoutBlob rect scanout resource width height format stride offset) = like-itself state
+command-like state (CtxCreate nlen context_init name) = like-itself state
+command-like state CtxDestroy = like-itself state
+command-like state (CtxAttach resource) = like-itself state
+command-like state (CtxDetach resource) = like-itself state
+command-like state (Submit size) = like-itself state
+command-like state (UpdateCursor scanout x y resource hot_x hot_y) = like-itself state
+command-like state (MoveCursor scanout x y) = like-itself state
+
 answer_of-like : (state : State) (read : Result (Header × Command) Malformed) → IsLike state (answer_of state read).0
-answer_of-like state (Ok (header, TwoD command)) = two_d-like state command
+answer_of-like state (Ok (header, command)) = command-like state command
 answer_of-like state (Err malformed) = like-itself state
+
+-- a request keeps the setup
+pub step-setup : (state new : State) (queue : Queue) (bytes answer : List ℕ) (room : ℕ) → ◌≡◌ {A = State × List ℕ} (new, answer) (step state queue bytes room) → new.setup ≡ state.setup
+step-setup state new queue bytes answer room made = ap (λ (done : State × List ℕ). done.0.setup) made ∙ (answer_of-like state (request_of queue bytes)).setup
 
 shaped-setup : (shape : Shape) (state : State) (request : Request) → (shaped_step shape state request).0.setup ≡ state.setup
 shaped-setup Plain state request = (answer_of-like state (request_of request.queue request.bytes)).setup

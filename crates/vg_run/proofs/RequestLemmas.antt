@@ -3,12 +3,13 @@ use Rattle.std.proofs.Common.{◌≡◌, ◌∙◌, not, nat_le, nat_lt, ap, ref
 use Rattle.std.specs.Prelude.{ok_or, option_map}
 use Rattle.std.proofs.lemmas.Bool.Decides.{nat_tests}
 use Rattle.vg_wire.specs.declared.header.Header.{Header}
-use Rattle.vg_wire.specs.declared.request.Command.{Command}
+use Rattle.vg_wire_ext.specs.declared.command.Command.{Command}
 use Rattle.vg_wire.specs.declared.request.Malformed.{Malformed}
 use Rattle.vg_wire.specs.declared.request.Malformed.TheVariants.{ShortHeader, ShortBody, UnknownKind, WrongQueue}
 use Rattle.vg_wire.specs.declared.request.Queue.TheVariants.{Control}
 use Rattle.vg_wire.specs.Header.{header_of}
-use Rattle.vg_wire.specs.Request.{command_of, is_known, is_queue_of, request_after, request_of}
+use Rattle.vg_wire_ext.specs.Commands.{command_of, is_known}
+use Rattle.vg_wire_ext.specs.Request.{is_queue_of, request_after, request_of}
 use Rattle.vg_machine.specs.Lane.{lane_of, lane_of_header}
 use Rattle.vg_run.specs.declared.task.Way.{Way}
 use Rattle.vg_run.specs.declared.task.Way.TheVariants.{Control as OnControl, Timeline}

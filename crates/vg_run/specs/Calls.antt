@@ -2,7 +2,7 @@
 use Rattle.std.specs.Prelude.{◌≡◌, ◌⊎◌, ◌<◌, ◌==◌, ℕ, Bool, true, false, List, [], ◌∷◌, ◌++◌, length, map, bytes_eq, slice_set, if◌then◌else◌, Option, Some, None, Result, Ok, Err}
 use Rattle.std.specs.List.{range_with_len, AllByRecursion}
 use Rattle.vg_formats.specs.declared.rect.Rect.{Rect}
-use Rattle.vg_wire.specs.declared.request.Command.TheVariants.{TwoD}
+use Rattle.vg_wire_ext.specs.declared.command.Command.TheVariants.{TwoD}
 use Rattle.vg_wire.specs.declared.two_d.Command2d.{Command2d}
 use Rattle.vg_machine.specs.declared.act.Act.TheVariants.{Enter, Leave, Denied}
 use Rattle.vg_machine.specs.declared.act.ActReply.{ActReply}

@@ -3,7 +3,7 @@
 ghost use Rattle.std.specs.Prelude.{◌≡◌, ◌⊎◌, ◌<◌, ◌≤◌, ◌-◌, ◌+◌, ◌^◌, ◌∷◌, [], List, length, false, if◌then◌else◌, IfOk, OnErr, OnOk};
 ghost use Rattle.std.specs.List.{AllByRecursion};
 ghost use Rattle.vg_wire.specs.TwoD.{FitsCount};
-ghost use Rattle.vg_wire.specs.declared.request.Command.TheVariants as commands;
+ghost use Rattle.vg_wire_ext.specs.declared.command.Command.TheVariants as commands;
 ghost use Rattle.vg_machine.specs.Holds.{Deniable, denied_command};
 ghost use Rattle.vg_machine.specs.declared.act.ActReply.{ActReply as ActReplies};
 ghost use Rattle.vg_machine.specs.declared.history.Entry.{Entry as Entries};

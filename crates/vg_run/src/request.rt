@@ -2,9 +2,9 @@
 
 ghost use Rattle.std.specs.Prelude.{◌≡◌, ◌<◌, Ok, IfOk};
 ghost use Rattle.vg_wire.specs.TwoD.{FitsCount, kind_of_2d};
-ghost use Rattle.vg_wire.specs.Request.{request_of};
+ghost use Rattle.vg_wire_ext.specs.Request.{request_of};
 ghost use Rattle.vg_wire.specs.declared.request.Queue.TheVariants as queues;
-ghost use Rattle.vg_wire.specs.declared.request.Command.TheVariants as commands;
+ghost use Rattle.vg_wire_ext.specs.declared.command.Command.TheVariants as commands;
 ghost use Rattle.vg_machine.specs.Lane.{lane_of};
 ghost use Rattle.vg_run.specs.Requests as requests;
 ghost use Rattle.vg_run.specs.Requests.{IsWay};
@@ -13,7 +13,8 @@ use crate::task::Way;
 use std::alloc::{AllocError, Global};
 use vg_list::Seq;
 use vg_machine::{Request, Shape};
-use vg_wire::{Command, Command2d, Header, Queue, write_request};
+use vg_wire::{Command2d, Header, Queue};
+use vg_wire_ext::{Command, write_request};
 
 /// The lane of a command that goes this way.
 pub(crate) fn lane_by(way: Way) -> u32
@@ -65,7 +66,7 @@ pub(crate) fn request_by(
 {
     let room = room_of(&command);
     let shape = shape_of(&command);
-    let header = header_by(way, kind_of(&command), ordinal);
+    let header = header_by(way, command.kind(), ordinal);
     let bytes = write_request(alloc, &header, &Command::TwoD(command))?;
     Ok(Request {
         queue: Queue::Control,
@@ -75,22 +76,6 @@ pub(crate) fn request_by(
         shape,
         bytes: Seq::from_vec(bytes),
     })
-}
-
-/// The kind of a command's header.
-fn kind_of(command: &Command2d) -> u32
-    ensures { result ≡ kind_of_2d command.now }
-{
-    match command {
-        Command2d::DisplayInfo => 0x0100,
-        Command2d::Create2d { .. } => 0x0101,
-        Command2d::Unref { .. } => 0x0102,
-        Command2d::SetScanout { .. } => 0x0103,
-        Command2d::Flush { .. } => 0x0104,
-        Command2d::Transfer { .. } => 0x0105,
-        Command2d::Attach { .. } => 0x0106,
-        Command2d::Detach { .. } => 0x0107,
-    }
 }
 
 /// How many bytes there are for a command's response.

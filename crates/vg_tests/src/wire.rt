@@ -7,9 +7,9 @@ use std::alloc::{AllocError, Global};
 use std::process::Abort;
 use std::test::Fail;
 use vg_formats::{MemEntry, Rect};
-use vg_wire::{
-    Command, Command2d, Entries, Header, Malformed, Modes, Queue, Response, read_2d, read_header,
-    read_request, read_response, write_request, write_response,
+use vg_wire::{Command2d, Entries, Header, Malformed, Modes, Queue, read_2d, read_header};
+use vg_wire_ext::{
+    Command, Response, read_request, read_response, write_request, write_response,
 };
 
 /// A header whose fields all differ, as the layout has it, with padding 0.
@@ -67,7 +67,7 @@ fn requests_are_read_or_refused_in_order(rt: HostRuntime) -> Result<(), Fail> {
         let read = read_request(alloc, bytes, queue)?;
         assert!(rt; read == Err(malformed), "{malformed:?}");
     }
-    for kind in [0x00ffu32, 0x0108, 0x0900] {
+    for kind in [0x00ffu32, 0x010e, 0x0900] {
         let other = Header { kind, ..HEADER };
         assert_eq!(rt; read_2d(alloc, &other, &[])?, None);
         let mut bytes = SPELLED;

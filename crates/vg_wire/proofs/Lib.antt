@@ -2,6 +2,5 @@ pub mod Numbers
 pub mod HeaderLemmas
 pub mod EntryLemmas
 pub mod TwoDLemmas
-pub mod RequestLemmas
 pub mod ModesLemmas
 pub mod SlotLemmas

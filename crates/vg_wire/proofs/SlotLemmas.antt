@@ -1,15 +1,9 @@
-use Rattle.std.proofs.Common.{◌≡◌, ℕ, suc, zero, ◌+◌, ◌-◌, ◌*◌, ◌<◌, ◌≤◌, ◌^◌, List, [], ◌∷◌, ◌++◌, length, replicate, map, Some, None, Bool, false, true, cond, nat_le, ◌==◌, ◌&&◌, subst, refl, ap, sym, ◌∙◌, arith, append_assoc, length-append}
+use Rattle.std.proofs.Common.{◌≡◌, ℕ, suc, zero, ◌+◌, ◌-◌, ◌*◌, ◌<◌, ◌≤◌, ◌^◌, List, [], ◌∷◌, ◌++◌, length, replicate, map, Some, None, false, refl, ap, sym, ◌∙◌, arith, append_assoc, length-append}
 use Rattle.std.specs.List.{flat_map, range_with_len}
-use Rattle.std.proofs.lemmas.Bool.Decides.{nat_tests}
 use Rattle.vg_wire.specs.Numbers.{number_at, le32}
 use Rattle.vg_wire.specs.Modes.{Mode, IsModes, FitsMode, AllFit, mode_bytes, modes_bytes, sixteen, slot_at, slots, slots_of, trimmed, before_trimmed, ends_in_none}
 use Rattle.std.proofs.lemmas.List.{append-nil, length-replicate}
-use Rattle.vg_wire.specs.declared.header.Header.{Header}
-use Rattle.vg_wire.specs.declared.response.Response.{Response}
-use Rattle.vg_wire.specs.declared.response.Response.TheVariants.{Nodata, DisplayInfo, Error}
-use Rattle.vg_wire.specs.Header.{IsHeader, header_of, header_bytes}
-use Rattle.vg_wire.specs.Response.{IsResponse, FitsResponse, Spells, body_of, response_body, response_bytes, response_kind}
-use Rattle.vg_wire.proofs.HeaderLemmas.{length-le32, number_at-le32, length-header_bytes, header_of-header_bytes}
+use Rattle.vg_wire.proofs.HeaderLemmas.{length-le32, number_at-le32}
 use Rattle.vg_wire.proofs.ModesLemmas.{trimmed-none, length-trimmed, length-slots_of, ends_in_none-trimmed}
 
 -- six numbers in a row
@@ -101,7 +95,7 @@ trimmed-same (mode ∷ next ∷ more) e = ap (before_trimmed mode) (trimmed-same
     kept None = refl
     kept (Some size) = refl
 
-length-modes_bytes : (modes : List Mode) → length modes ≤ 16 → length (modes_bytes modes) ≡ 384
+pub length-modes_bytes : (modes : List Mode) → length modes ≤ 16 → length (modes_bytes modes) ≡ 384
 unfolding modes_bytes
 length-modes_bytes modes within =
     let long : length (sixteen modes) ≡ 16 = omega (arith, length-padded modes (16 - length modes)) in
@@ -111,71 +105,9 @@ length-modes_bytes modes within =
     length-run [] = refl
     length-run (mode ∷ more) = simp length-append (omega (arith, length-mode_bytes mode, length-run more))
 
-nodata_body : (kind : ℕ) (bytes : List ℕ) → kind ≡ 0x1100 → body_of kind bytes ≡ Some Nodata
-nodata_body kind bytes e = rw e refl
+-- what is written of modes is read as themselves, behind a header
+pub read-modes_bytes : (front : List ℕ) (modes : List Mode) → length front ≡ 24 → IsModes modes → AllFit modes → trimmed (slots_of (front ++ modes_bytes modes)) ≡ modes
+read-modes_bytes front modes here valid fits = ap trimmed (slots_of-modes_bytes front modes here valid.0 fits) ∙ trimmed-nones modes (16 - length modes) ∙ trimmed-same modes valid.1
 
-display_body : (kind : ℕ) (bytes : List ℕ) → kind ≡ 0x1101 → length bytes ≡ 408 → body_of kind bytes ≡ Some (DisplayInfo (trimmed (slots_of bytes)))
-display_body kind bytes e long = rw (e, long) refl
-
-error_body : (kind : ℕ) (bytes : List ℕ) → 0x1200 ≤ kind → kind ≤ 0x1205 → body_of kind bytes ≡ Some (Error kind)
-error_body kind bytes low high = grind (arith, nat_tests)
-
--- the fields behind a header are those that were written
-body_of-response_bytes : (header : Header) (response : Response) → FitsResponse response → IsResponse response → header.kind ≡ response_kind response
-    → body_of header.kind (response_bytes header response) ≡ Some response
-body_of-response_bytes header Nodata fits valid kind = nodata_body header.kind (header_bytes header ++ []) kind
-body_of-response_bytes header (DisplayInfo modes) fits valid kind =
-    let long : length (header_bytes header ++ modes_bytes modes) ≡ 408 = simp length-append (omega (arith, length-header_bytes header, length-modes_bytes modes valid.0)) in
-    let read = slots_of-modes_bytes (header_bytes header) modes (length-header_bytes header) valid.0 fits in
-    let same = ap trimmed read ∙ trimmed-nones modes (16 - length modes) ∙ trimmed-same modes valid.1 in
-    display_body header.kind (header_bytes header ++ modes_bytes modes) kind long ∙ ap (λ (items : List Mode). Some (DisplayInfo items)) same
-body_of-response_bytes header (Error code) fits valid kind =
-    error_body header.kind (header_bytes header ++ []) (omega arith) (omega arith) ∙ ap (λ (k : ℕ). Some (Error k)) kind
-
--- what reading finds in the bytes of a response
-pub record Found (bytes : List ℕ) (header : Header) (response : Response) : Type 0 where
-  pub long : 24 ≤ length bytes
-  pub header_is : header_of bytes ≡ header
-  pub body_is : body_of (header_of bytes).kind bytes ≡ Some response
-
-pub spelled-found : (bytes : List ℕ) (header : Header) (response : Response) → IsHeader header → FitsResponse response → Spells header response bytes → Found bytes header response
-spelled-found bytes header response good fits spells =
-    let here : header_of bytes ≡ header = ap header_of spells.spelled ∙ header_of-header_bytes header (response_body response) good in
-    record {
-      long = rw spells.spelled (simp length-append (omega (arith, length-header_bytes header)));
-      header_is = here;
-      body_is = ap (λ (h : Header). body_of h.kind bytes) here ∙ ap (body_of header.kind) spells.spelled ∙ body_of-response_bytes header response fits spells.valid spells.kind;
-    }
-
-valid_by : (none first second : Bool) (kind : ℕ) (items : List Mode) (response : Response) → IsModes items → (none ≡ true → kind ≡ 0x1100) → (first ≡ true → kind ≡ 0x1101) → (second ≡ true → (0x1200 ≤ kind) × (kind ≤ 0x1205))
-    → cond none (Some Nodata) (cond first (Some (DisplayInfo items)) (cond second (Some (Error kind)) None)) ≡ Some response → IsResponse response × (kind ≡ response_kind response)
-valid_by true first second kind items response modes empty known range e =
-    let same : Nodata ≡ response = cc in
-    let P : Response → Type 0 = λ r. IsResponse r × (kind ≡ response_kind r) in
-    subst P same (tt, empty refl)
-valid_by false true second kind items response modes empty known range e =
-    let same : DisplayInfo items ≡ response = cc in
-    let P : Response → Type 0 = λ r. IsResponse r × (kind ≡ response_kind r) in
-    subst P same (modes, known refl)
-valid_by false false true kind items response modes empty known range e =
-    let same : Error kind ≡ response = cc in
-    let P : Response → Type 0 = λ r. IsResponse r × (kind ≡ response_kind r) in
-    subst P same (range refl, refl)
-valid_by false false false kind items response modes empty known range e = cc
-
-nodata_kind : (kind : ℕ) → (kind == 0x1100) ≡ true → kind ≡ 0x1100
-nodata_kind kind h = grind (arith, nat_tests)
-
-display_kind : (kind long : ℕ) → (kind == 0x1101 && long == 408) ≡ true → kind ≡ 0x1101
-display_kind kind long h = grind (arith, nat_tests)
-
-error_kind : (kind : ℕ) → (nat_le 0x1200 kind && nat_le kind 0x1205) ≡ true → (0x1200 ≤ kind) × (kind ≤ 0x1205)
-error_kind kind h = (grind (arith, nat_tests), grind (arith, nat_tests))
-
-slots-modes : (bytes : List ℕ) → IsModes (trimmed (slots_of bytes))
+pub slots-modes : (bytes : List ℕ) → IsModes (trimmed (slots_of bytes))
 slots-modes bytes = (omega (arith, length-trimmed (slots_of bytes), length-slots_of bytes), ends_in_none-trimmed (slots_of bytes))
-
--- what is found is a response of the header's kind
-pub body_of-valid : (kind : ℕ) (bytes : List ℕ) (response : Response) → body_of kind bytes ≡ Some response → IsResponse response × (kind ≡ response_kind response)
-body_of-valid kind bytes response e =
-    valid_by (kind == 0x1100) (kind == 0x1101 && length bytes == 408) (nat_le 0x1200 kind && nat_le kind 0x1205) kind (trimmed (slots_of bytes)) response (slots-modes bytes) (nodata_kind kind) (display_kind kind (length bytes)) (error_kind kind) e

@@ -15,11 +15,11 @@ use Rattle.vg_wire.proofs.HeaderLemmas.{length-le32, length-le64}
 use Rattle.vg_wire.proofs.EntryLemmas.{entries_at-entries_bytes, length-entries_bytes}
 
 -- the number in the bytes of a number
-number-le32 : (n : ℕ) → n < 2 ^ 32 → number (le32 n) ≡ n
+pub number-le32 : (n : ℕ) → n < 2 ^ 32 → number (le32 n) ≡ n
 unfolding le32
 number-le32 n h = sym (little_from-number 4 (little_bytes 4 n)) ∙ little_number-reads_back 4 n [] (omega arith)
 
-number-le64 : (n : ℕ) → n < 2 ^ 64 → number (le64 n) ≡ n
+pub number-le64 : (n : ℕ) → n < 2 ^ 64 → number (le64 n) ≡ n
 unfolding le64
 number-le64 n h = sym (little_from-number 8 (little_bytes 8 n)) ∙ little_number-reads_back 8 n [] (omega arith)
 
@@ -28,7 +28,7 @@ same_rect : {x x' y y' w w' h h' : ℕ} → x ≡ x' → y ≡ y' → w ≡ w' �
 same_rect a b c d = rw (a, b, c, d) refl
 
 -- what is written of a rectangle is read as itself
-rect_at-rect_bytes : (rect : Rect) (rest : List ℕ) → IsRect rect → rect_at 0 (rect_bytes rect ++ rest) ≡ rect
+pub rect_at-rect_bytes : (rect : Rect) (rest : List ℕ) → IsRect rect → rect_at 0 (rect_bytes rect ++ rest) ≡ rect
 unfolding number_at le32 rect_bytes
 rect_at-rect_bytes rect rest fits = same_rect (number-le32 rect.x fits.x) (number-le32 rect.y fits.y) (number-le32 rect.width fits.width) (number-le32 rect.height fits.height)
 
@@ -88,23 +88,44 @@ read-attach r es count fits =
     same_attach first (ap (λ (n : ℕ). entries_at 8 n (front ++ entries_bytes es)) (read-count r (length es) (entries_bytes es) count) ∙ entries_at-entries_bytes es front 8 long fits.1)
 
 -- enough bytes give the command
-whole_of : (size : ℕ) (body : List ℕ) (read command : Command2d) → size ≤ length body → read ≡ command → whole size body read ≡ Some command
+pub whole_of : {A : Type 0} (size : ℕ) (body : List ℕ) (read command : A) → size ≤ length body → read ≡ command → whole size body read ≡ Some command
 whole_of size body read command long same =
     let yes : nat_le size (length body) ≡ true = grind (arith, nat_tests) in
     rw (yes, same) refl
 
-length-four : (a b c d : ℕ) → length (le32 a ++ le32 b ++ le32 c ++ le32 d) ≡ 16
+pub length-four : (a b c d : ℕ) → length (le32 a ++ le32 b ++ le32 c ++ le32 d) ≡ 16
 length-four a b c d = simp length-append (omega (arith, length-le32 a, length-le32 b, length-le32 c, length-le32 d))
 
-length-two : (a b : ℕ) → length (le32 a ++ le32 b) ≡ 8
+pub length-two : (a b : ℕ) → length (le32 a ++ le32 b) ≡ 8
 length-two a b = simp length-append (omega (arith, length-le32 a, length-le32 b))
 
-length-rect_bytes : (rect : Rect) → length (rect_bytes rect) ≡ 16
+pub length-rect_bytes : (rect : Rect) → length (rect_bytes rect) ≡ 16
 unfolding rect_bytes
 length-rect_bytes rect = length-four rect.x rect.y rect.width rect.height
 
-length-attach : (r : ℕ) (es : List MemEntry) → length (body_of_2d (Attach r es)) ≡ 8 + 16 * length es
+pub length-attach : (r : ℕ) (es : List MemEntry) → length (body_of_2d (Attach r es)) ≡ 8 + 16 * length es
 length-attach r es = simp length-append (omega (arith, length-le32 r, length-le32 (length es), length-entries_bytes es))
+
+abbrev pub size_of_2d : Command2d → ℕ
+size_of_2d DisplayInfo = 0
+size_of_2d (Create2d r f w h) = 16
+size_of_2d (Unref r) = 8
+size_of_2d (SetScanout rect s r) = 24
+size_of_2d (Flush rect r) = 24
+size_of_2d (Transfer rect o r) = 32
+size_of_2d (Attach r es) = 8 + 16 * length es
+size_of_2d (Detach r) = 8
+
+-- how many bytes are written of a command's fields
+pub length-body_of_2d : (command : Command2d) → length (body_of_2d command) ≡ size_of_2d command
+length-body_of_2d DisplayInfo = refl
+length-body_of_2d (Create2d r f w h) = length-four r f w h
+length-body_of_2d (Unref r) = length-two r 0
+length-body_of_2d (SetScanout rect s r) = simp length-append (omega (arith, length-rect_bytes rect, length-le32 s, length-le32 r))
+length-body_of_2d (Flush rect r) = simp length-append (omega (arith, length-rect_bytes rect, length-le32 r, length-le32 0))
+length-body_of_2d (Transfer rect o r) = simp length-append (omega (arith, length-rect_bytes rect, length-le64 o, length-le32 r, length-le32 0))
+length-body_of_2d (Attach r es) = length-attach r es
+length-body_of_2d (Detach r) = length-two r 0
 
 -- what is written of a command's fields is read as itself
 pub two_d_of-body_of_2d : (command : Command2d) → FitsCount command → IsCommand2d command → two_d_of (kind_of_2d command) (body_of_2d command) ≡ Some command

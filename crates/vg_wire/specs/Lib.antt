@@ -3,6 +3,4 @@ pub mod Header
 pub mod Rect
 pub mod Entries
 pub mod TwoD
-pub mod Request
 pub mod Modes
-pub mod Response

@@ -1,4 +1,4 @@
-use Rattle.std.specs.Prelude.{ℕ, ◌+◌, ◌*◌, ◌^◌, ◌<◌, List, [], ◌++◌, length, ◌==◌, nat_le, if◌then◌else◌, Option, Some, None}
+use Rattle.std.specs.Prelude.{ℕ, Bool, ◌&&◌, ◌+◌, ◌*◌, ◌^◌, ◌<◌, List, [], ◌++◌, length, ◌==◌, nat_le, if◌then◌else◌, Option, Some, None}
 use Rattle.std.specs.List.{All}
 use Rattle.vg_wire.specs.declared.two_d.Command2d.{Command2d}
 use Rattle.vg_wire.specs.declared.two_d.Command2d.TheVariants.{DisplayInfo, Create2d, Unref, SetScanout, Flush, Transfer, Attach, Detach}
@@ -42,8 +42,12 @@ unfoldable pub detach : List ℕ → Command2d
 detach body = Detach (number_at 4 0 body)
 
 -- The command, if the bytes after the header are at least as many as its fields take.
-abbrev pub whole : ℕ → List ℕ → Command2d → Option Command2d
+abbrev pub whole : {A : Type 0} → ℕ → List ℕ → A → Option A
 whole size body command = if nat_le size (length body) then Some command else None
+
+-- The kinds of the 2D commands.
+abbrev pub is_2d : ℕ → Bool
+is_2d kind = nat_le 0x0100 kind && nat_le kind 0x0107
 
 -- The command that a kind and the bytes after the header spell. Each row has the kind, how many bytes the fields take, and
 -- the fields. None: no 2D command's kind, or fewer bytes.

@@ -25,7 +25,7 @@ fn entry_at(bytes: &[u8], at: usize) -> MemEntry
 }
 
 /// The entries, as many as `count`, that stand one after another from place `at`.
-pub(crate) fn read_entries(
+pub fn read_entries(
     alloc: Global,
     bytes: &[u8],
     at: usize,
@@ -54,7 +54,7 @@ fn put_entry(out: &mut Vec<u8>, entry: MemEntry) -> Result<(), AllocError>
 }
 
 /// Adds the bytes of these entries.
-pub(crate) fn put_entries(out: &mut Vec<u8>, entries: &[MemEntry]) -> Result<(), AllocError>
+pub fn put_entries(out: &mut Vec<u8>, entries: &[MemEntry]) -> Result<(), AllocError>
     ensures bytes { OnOk result (out.new.items ≡ out.old.items ++ entries_bytes entries.now) }
     ensures fit { OnOk result (All IsEntry entries.now) }
 {

@@ -7,7 +7,7 @@ use byteorder::{ByteOrder, LittleEndian};
 use std::alloc::AllocError;
 
 /// The number in the four bytes from place `at`.
-pub(crate) fn u32_at(bytes: &[u8], at: usize) -> u32
+pub fn u32_at(bytes: &[u8], at: usize) -> u32
     requires { at + 4 ≤ length bytes.now }
     ensures { result ≡ number_at 4 at bytes.now }
 {
@@ -15,7 +15,7 @@ pub(crate) fn u32_at(bytes: &[u8], at: usize) -> u32
 }
 
 /// The number in the eight bytes from place `at`.
-pub(crate) fn u64_at(bytes: &[u8], at: usize) -> u64
+pub fn u64_at(bytes: &[u8], at: usize) -> u64
     requires { at + 8 ≤ length bytes.now }
     ensures { result ≡ number_at 8 at bytes.now }
 {
@@ -24,7 +24,7 @@ pub(crate) fn u64_at(bytes: &[u8], at: usize) -> u64
 
 /// Adds the four bytes of a number.
 #[tactic(auto, unfolding(crate::specs::Numbers::le32))]
-pub(crate) fn put_u32(out: &mut Vec<u8>, n: u32) -> Result<(), AllocError>
+pub fn put_u32(out: &mut Vec<u8>, n: u32) -> Result<(), AllocError>
     ensures { OnOk result (out.new.items ≡ out.old.items ++ le32 n) }
 {
     let mut field = [0u8; 4];
@@ -34,7 +34,7 @@ pub(crate) fn put_u32(out: &mut Vec<u8>, n: u32) -> Result<(), AllocError>
 
 /// Adds the eight bytes of a number.
 #[tactic(auto, unfolding(crate::specs::Numbers::le64))]
-pub(crate) fn put_u64(out: &mut Vec<u8>, n: u64) -> Result<(), AllocError>
+pub fn put_u64(out: &mut Vec<u8>, n: u64) -> Result<(), AllocError>
     ensures { OnOk result (out.new.items ≡ out.old.items ++ le64 n) }
 {
     let mut field = [0u8; 8];

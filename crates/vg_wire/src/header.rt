@@ -41,7 +41,7 @@ pub fn read_header(bytes: &[u8]) -> Option<Header>
 
 /// Adds the 24 bytes of a header, with padding 0.
 #[tactic(auto, unfolding(crate::specs::Header::header_bytes))]
-pub(crate) fn put_header(out: &mut Vec<u8>, header: Header) -> Result<(), AllocError>
+pub fn put_header(out: &mut Vec<u8>, header: Header) -> Result<(), AllocError>
     ensures bytes { OnOk result (out.new.items ≡ out.old.items ++ header_bytes header) }
     ensures fits { IsHeader header }
 {

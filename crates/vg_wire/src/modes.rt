@@ -81,7 +81,7 @@ fn put_nones(out: &mut Vec<u8>, count: usize) -> Result<(), AllocError>
 }
 
 /// Adds the bytes of 16 modes: these, and none for each scanout past the last.
-pub(crate) fn put_modes(out: &mut Vec<u8>, modes: &Modes) -> Result<(), AllocError>
+pub fn put_modes(out: &mut Vec<u8>, modes: &Modes) -> Result<(), AllocError>
     ensures { OnOk result (out.new.items ≡ out.old.items ++ modes_bytes modes.now) }
 {
     let modes = modes.as_slice();
@@ -102,7 +102,7 @@ fn read_slot(bytes: &[u8], at: usize) -> Option<(u32, u32)>
 }
 
 /// The modes whose 16 times 24 bytes follow a header.
-pub(crate) fn read_modes(alloc: Global, bytes: &[u8]) -> Result<Modes, AllocError>
+pub fn read_modes(alloc: Global, bytes: &[u8]) -> Result<Modes, AllocError>
     requires { length bytes.now ≡ 408 }
     ensures { IfOk result (λ modes. modes ≡ trimmed (slots_of bytes.now)) }
 {

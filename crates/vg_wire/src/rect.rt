@@ -9,7 +9,7 @@ use std::alloc::AllocError;
 use vg_formats::Rect;
 
 /// The rectangle whose 16 bytes stand from place `at`.
-pub(crate) fn rect_at(bytes: &[u8], at: usize) -> Rect
+pub fn rect_at(bytes: &[u8], at: usize) -> Rect
     requires { at + 16 ≤ length bytes.now }
     ensures { result ≡ layout.rect_at at bytes.now }
 {
@@ -23,7 +23,7 @@ pub(crate) fn rect_at(bytes: &[u8], at: usize) -> Rect
 
 /// Adds the 16 bytes of a rectangle.
 #[tactic(auto, unfolding(crate::specs::Rect::rect_bytes))]
-pub(crate) fn put_rect(out: &mut Vec<u8>, rect: Rect) -> Result<(), AllocError>
+pub fn put_rect(out: &mut Vec<u8>, rect: Rect) -> Result<(), AllocError>
     ensures bytes { OnOk result (out.new.items ≡ out.old.items ++ rect_bytes rect) }
     ensures fits { IsRect rect }
 {

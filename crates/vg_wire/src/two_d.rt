@@ -170,6 +170,31 @@ fn read_detach(body: &[u8]) -> Option<Command2d>
     Some(Command2d::Detach { resource })
 }
 
+impl Command2d {
+    /// The kind of the command's header.
+    pub fn kind(&self) -> u32
+        ensures { result ≡ layout.kind_of_2d self.now }
+    {
+        match self {
+            Command2d::DisplayInfo => 0x0100,
+            Command2d::Create2d { .. } => 0x0101,
+            Command2d::Unref { .. } => 0x0102,
+            Command2d::SetScanout { .. } => 0x0103,
+            Command2d::Flush { .. } => 0x0104,
+            Command2d::Transfer { .. } => 0x0105,
+            Command2d::Attach { .. } => 0x0106,
+            Command2d::Detach { .. } => 0x0107,
+        }
+    }
+}
+
+/// Whether this kind is a 2D command's.
+pub fn is_2d(kind: u32) -> bool
+    ensures { result ≡ layout.is_2d kind }
+{
+    (0x0100..=0x0107).contains(&kind)
+}
+
 /// The 2D command of this header's kind, whose fields are at the front of `body`, the bytes after
 /// the header. None where the kind is no 2D command's or its fields aren't all there.
 #[tactic(auto, unfolding(crate::specs::TwoD::two_d_of))]
@@ -189,6 +214,24 @@ pub fn read_2d(alloc: Global, header: &Header, body: &[u8]) -> Result<Option<Com
         0x0106 => read_attach(alloc, body),
         0x0107 => Ok(read_detach(body)),
         _ => Ok(None),
+    }
+}
+
+/// How many bytes a command's fields take. It has fewer than 2^32 entries.
+pub fn size_2d(command: &Command2d) -> usize
+    requires { FitsCount command.now }
+    ensures size { result ≡ length (body_of_2d command.now) }
+    ensures small { result < 2 ^ 37 }
+{
+    match command {
+        Command2d::DisplayInfo => 0,
+        Command2d::Create2d { .. } => 16,
+        Command2d::Unref { .. } => 8,
+        Command2d::SetScanout { .. } => 24,
+        Command2d::Flush { .. } => 24,
+        Command2d::Transfer { .. } => 32,
+        Command2d::Attach { entries, .. } => 8 + 16 * entries.len(),
+        Command2d::Detach { .. } => 8,
     }
 }
 
@@ -268,8 +311,8 @@ fn put_attach(out: &mut Vec<u8>, resource: u32, entries: &[MemEntry]) -> Result<
     put_entries(out, entries)
 }
 
-/// Adds the bytes of a command's fields, with padding 0.
-pub(crate) fn put_2d(out: &mut Vec<u8>, command: &Command2d) -> Result<(), AllocError>
+/// Adds the bytes of a command's fields, with padding 0. It has fewer than 2^32 entries.
+pub fn put_2d(out: &mut Vec<u8>, command: &Command2d) -> Result<(), AllocError>
     requires { FitsCount command.now }
     ensures bytes { OnOk result (out.new.items ≡ out.old.items ++ body_of_2d command.now) }
     ensures fits { OnOk result (IsCommand2d command.now) }

@@ -1,0 +1,132 @@
+use Rattle.std.proofs.Common.{◌≡◌, ℕ, ◌≤◌, List, [], ◌++◌, length, take, drop, replicate, Some, None, Bool, false, true, cond, nat_le, ◌==◌, ◌&&◌, subst, refl, ap, ◌∙◌, arith, append_assoc, length-append}
+use Rattle.std.proofs.lemmas.Bool.Decides.{nat_tests}
+use Rattle.std.proofs.lemmas.List.{length-replicate, drop_at, take_at, take_all}
+use Rattle.vg_wire.specs.declared.header.Header.{Header}
+use Rattle.vg_wire.specs.Numbers.{le32}
+use Rattle.vg_wire.specs.Header.{IsHeader, header_of, header_bytes}
+use Rattle.vg_wire.specs.Modes.{Mode, IsModes, modes_bytes, slots_of, trimmed}
+use Rattle.vg_wire.proofs.HeaderLemmas.{length-le32, length-header_bytes, header_of-header_bytes}
+use Rattle.vg_wire.proofs.SlotLemmas.{length-modes_bytes, read-modes_bytes, slots-modes}
+use Rattle.vg_wire_ext.specs.declared.response.Response.{Response}
+use Rattle.vg_wire_ext.specs.declared.response.Response.TheVariants.{Nodata, DisplayInfo, Edid, Uuid, Error}
+use Rattle.vg_wire_ext.specs.Response.{IsResponse, FitsResponse, Spells, body_of, edid_body, response_body, response_bytes, response_kind}
+
+length-edid_body : (block : List ℕ) → length block ≡ 128 → length (edid_body block) ≡ 1032
+unfolding edid_body
+length-edid_body block fits = simp length-append (omega (arith, length-le32 128, length-le32 0, length-replicate {A = ℕ} 896 0, fits))
+
+-- how many bytes are written of a response
+abbrev pub size_of_response : Response → ℕ
+size_of_response Nodata = 0
+size_of_response (DisplayInfo modes) = 384
+size_of_response (Edid block) = 1032
+size_of_response (Uuid bytes) = 16
+size_of_response (Error code) = 0
+
+pub length-response_body : (response : Response) → IsResponse response → FitsResponse response → length (response_body response) ≡ size_of_response response
+length-response_body Nodata valid fits = refl
+length-response_body (DisplayInfo modes) valid fits = length-modes_bytes modes valid.0
+length-response_body (Edid block) valid fits = length-edid_body block fits
+length-response_body (Uuid bytes) valid fits = fits
+length-response_body (Error code) valid fits = refl
+
+nodata_body : (kind : ℕ) (bytes : List ℕ) → kind ≡ 0x1100 → body_of kind bytes ≡ Some Nodata
+nodata_body kind bytes e = rw e refl
+
+display_body : (kind : ℕ) (bytes : List ℕ) → kind ≡ 0x1101 → length bytes ≡ 408 → body_of kind bytes ≡ Some (DisplayInfo (trimmed (slots_of bytes)))
+display_body kind bytes e long = rw (e, long) refl
+
+block_body : (kind : ℕ) (bytes : List ℕ) → kind ≡ 0x1104 → length bytes ≡ 1056 → body_of kind bytes ≡ Some (Edid (take 128 (drop 32 bytes)))
+block_body kind bytes e long = rw (e, long) refl
+
+uuid_body : (kind : ℕ) (bytes : List ℕ) → kind ≡ 0x1105 → length bytes ≡ 40 → body_of kind bytes ≡ Some (Uuid (take 16 (drop 24 bytes)))
+uuid_body kind bytes e long = rw (e, long) refl
+
+error_body : (kind : ℕ) (bytes : List ℕ) → 0x1200 ≤ kind → kind ≤ 0x1205 → body_of kind bytes ≡ Some (Error kind)
+error_body kind bytes low high = grind (arith, nat_tests)
+
+-- the block behind a header and its size is read as itself
+read-edid_body : (front block : List ℕ) → length front ≡ 24 → length block ≡ 128 → take 128 (drop 32 (front ++ edid_body block)) ≡ block
+unfolding edid_body le32
+read-edid_body front block here fits =
+    let long : length ((front ++ le32 128) ++ le32 0) ≡ 32 = simp length-append (omega (arith, length-le32 128, length-le32 0)) in
+    let behind = simp append_assoc at (drop_at ((front ++ le32 128) ++ le32 0) (block ++ replicate 896 0) 32 long) in
+    ap (take 128) behind ∙ take_at block (replicate 896 0) 128 fits
+
+read-uuid : (front bytes : List ℕ) → length front ≡ 24 → length bytes ≡ 16 → take 16 (drop 24 (front ++ bytes)) ≡ bytes
+read-uuid front bytes here fits = ap (take 16) (drop_at front bytes 24 here) ∙ take_all 16 bytes (omega arith)
+
+-- the fields behind a header are those that were written
+body_of-response_bytes : (header : Header) (response : Response) → FitsResponse response → IsResponse response → header.kind ≡ response_kind response
+    → body_of header.kind (response_bytes header response) ≡ Some response
+body_of-response_bytes header Nodata fits valid kind = nodata_body header.kind (header_bytes header ++ []) kind
+body_of-response_bytes header (DisplayInfo modes) fits valid kind =
+    let long : length (header_bytes header ++ modes_bytes modes) ≡ 408 = simp length-append (omega (arith, length-header_bytes header, length-modes_bytes modes valid.0)) in
+    let same = read-modes_bytes (header_bytes header) modes (length-header_bytes header) valid fits in
+    display_body header.kind (header_bytes header ++ modes_bytes modes) kind long ∙ ap (λ (items : List Mode). Some (DisplayInfo items)) same
+body_of-response_bytes header (Edid block) fits valid kind =
+    let long : length (header_bytes header ++ edid_body block) ≡ 1056 = simp length-append (omega (arith, length-header_bytes header, length-edid_body block fits)) in
+    let same = read-edid_body (header_bytes header) block (length-header_bytes header) fits in
+    block_body header.kind (header_bytes header ++ edid_body block) kind long ∙ ap (λ (bytes : List ℕ). Some (Edid bytes)) same
+body_of-response_bytes header (Uuid bytes) fits valid kind =
+    let long : length (header_bytes header ++ bytes) ≡ 40 = simp length-append (omega (arith, length-header_bytes header, fits)) in
+    let same = read-uuid (header_bytes header) bytes (length-header_bytes header) fits in
+    uuid_body header.kind (header_bytes header ++ bytes) kind long ∙ ap (λ (uuid : List ℕ). Some (Uuid uuid)) same
+body_of-response_bytes header (Error code) fits valid kind =
+    error_body header.kind (header_bytes header ++ []) (omega arith) (omega arith) ∙ ap (λ (k : ℕ). Some (Error k)) kind
+
+-- what reading finds in the bytes of a response
+pub record Found (bytes : List ℕ) (header : Header) (response : Response) : Type 0 where
+  pub long : 24 ≤ length bytes
+  pub header_is : header_of bytes ≡ header
+  pub body_is : body_of (header_of bytes).kind bytes ≡ Some response
+
+pub spelled-found : (bytes : List ℕ) (header : Header) (response : Response) → IsHeader header → FitsResponse response → Spells header response bytes → Found bytes header response
+spelled-found bytes header response good fits spells =
+    let here : header_of bytes ≡ header = ap header_of spells.spelled ∙ header_of-header_bytes header (response_body response) good in
+    record {
+      long = rw spells.spelled (simp length-append (omega (arith, length-header_bytes header)));
+      header_is = here;
+      body_is = ap (λ (h : Header). body_of h.kind bytes) here ∙ ap (body_of header.kind) spells.spelled ∙ body_of-response_bytes header response fits spells.valid spells.kind;
+    }
+
+-- a response of the kind that a header has
+abbrev IsOfKind : ℕ → Response → Type 0
+IsOfKind kind response = IsResponse response × (kind ≡ response_kind response)
+
+valid_by : (none first second third fourth : Bool) (kind : ℕ) (items : List Mode) (block uuid : List ℕ) (response : Response) → IsModes items
+    → (none ≡ true → kind ≡ 0x1100) → (first ≡ true → kind ≡ 0x1101) → (second ≡ true → kind ≡ 0x1104) → (third ≡ true → kind ≡ 0x1105) → (fourth ≡ true → (0x1200 ≤ kind) × (kind ≤ 0x1205))
+    → cond none (Some Nodata) (cond first (Some (DisplayInfo items)) (cond second (Some (Edid block)) (cond third (Some (Uuid uuid)) (cond fourth (Some (Error kind)) None)))) ≡ Some response
+    → IsOfKind kind response
+valid_by true first second third fourth kind items block uuid response modes a b c d f e =
+    let same : Nodata ≡ response = cc in
+    subst (IsOfKind kind) same (tt, a refl)
+valid_by false true second third fourth kind items block uuid response modes a b c d f e =
+    let same : DisplayInfo items ≡ response = cc in
+    subst (IsOfKind kind) same (modes, b refl)
+valid_by false false true third fourth kind items block uuid response modes a b c d f e =
+    let same : Edid block ≡ response = cc in
+    subst (IsOfKind kind) same (tt, c refl)
+valid_by false false false true fourth kind items block uuid response modes a b c d f e =
+    let same : Uuid uuid ≡ response = cc in
+    subst (IsOfKind kind) same (tt, d refl)
+valid_by false false false false true kind items block uuid response modes a b c d f e =
+    let same : Error kind ≡ response = cc in
+    subst (IsOfKind kind) same (f refl, refl)
+valid_by false false false false false kind items block uuid response modes a b c d f e = cc
+
+one_kind : (kind code : ℕ) → (kind == code) ≡ true → kind ≡ code
+one_kind kind code h = grind (arith, nat_tests)
+
+long_kind : (kind code long size : ℕ) → (kind == code && long == size) ≡ true → kind ≡ code
+long_kind kind code long size h = grind (arith, nat_tests)
+
+error_kind : (kind : ℕ) → (nat_le 0x1200 kind && nat_le kind 0x1205) ≡ true → (0x1200 ≤ kind) × (kind ≤ 0x1205)
+error_kind kind h = (grind (arith, nat_tests), grind (arith, nat_tests))
+
+-- what is found is a response of the header's kind
+pub body_of-valid : (kind : ℕ) (bytes : List ℕ) (response : Response) → body_of kind bytes ≡ Some response → IsResponse response × (kind ≡ response_kind response)
+body_of-valid kind bytes response e =
+    valid_by (kind == 0x1100) (kind == 0x1101 && length bytes == 408) (kind == 0x1104 && length bytes == 1056) (kind == 0x1105 && length bytes == 40) (nat_le 0x1200 kind && nat_le kind 0x1205)
+    kind (trimmed (slots_of bytes)) (take 128 (drop 32 bytes)) (take 16 (drop 24 bytes)) response (slots-modes bytes)
+    (one_kind kind 0x1100) (long_kind kind 0x1101 (length bytes) 408) (long_kind kind 0x1104 (length bytes) 1056) (long_kind kind 0x1105 (length bytes) 40) (error_kind kind) e

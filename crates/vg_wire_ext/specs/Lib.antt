@@ -1,0 +1,4 @@
+pub mod Fields
+pub mod Commands
+pub mod Request
+pub mod Response

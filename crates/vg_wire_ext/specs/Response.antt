@@ -1,0 +1,63 @@
+use Rattle.std.specs.Prelude.{◌≡◌, ◌≤◌, ◌<◌, ◌^◌, ◌==◌, ◌&&◌, ℕ, List, [], ◌++◌, length, take, drop, replicate, nat_le, if◌then◌else◌, Option, Some, None}
+use Rattle.vg_wire.specs.declared.header.Header.{Header}
+use Rattle.vg_wire.specs.Numbers.{le32}
+use Rattle.vg_wire.specs.Header.{header_bytes}
+use Rattle.vg_wire.specs.Modes.{IsModes, AllFit, modes_bytes, slots_of, trimmed}
+use Rattle.vg_wire_ext.specs.declared.response.Response.{Response}
+use Rattle.vg_wire_ext.specs.declared.response.Response.TheVariants.{Nodata, DisplayInfo, Edid, Uuid, Error}
+
+-- The kind that a response's header has (VIRTIO 1.2, 5.7.6.7, enum virtio_gpu_ctrl_type): an error's code is its kind.
+abbrev pub response_kind : Response → ℕ
+response_kind Nodata = 0x1100
+response_kind (DisplayInfo modes) = 0x1101
+response_kind (Edid block) = 0x1104
+response_kind (Uuid bytes) = 0x1105
+response_kind (Error code) = code
+
+-- struct virtio_gpu_resp_edid: size, padding, edid[1024], of which the block takes 128
+unfoldable pub edid_body : List ℕ → List ℕ
+edid_body block = le32 128 ++ le32 0 ++ block ++ replicate 896 0
+
+-- What follows the header (VIRTIO 1.2, 5.7.6.8).
+abbrev pub response_body : Response → List ℕ
+response_body Nodata = []
+response_body (DisplayInfo modes) = modes_bytes modes
+response_body (Edid block) = edid_body block
+response_body (Uuid bytes) = bytes
+response_body (Error code) = []
+
+-- The one spelling of a response, with padding 0.
+abbrev pub response_bytes : Header → Response → List ℕ
+response_bytes header response = header_bytes header ++ response_body response
+
+-- A response that can be given: its modes are such, its code is an error's.
+abbrev pub IsResponse : Response → Type 0
+IsResponse Nodata = Unit {0}
+IsResponse (DisplayInfo modes) = IsModes modes
+IsResponse (Edid block) = Unit {0}
+IsResponse (Uuid bytes) = Unit {0}
+IsResponse (Error code) = (0x1200 ≤ code) × (code ≤ 0x1205)
+
+-- A response whose numbers fit their bytes, and whose block and bytes are as many as they are, as each value of the type does.
+abbrev pub FitsResponse : Response → Type 0
+FitsResponse Nodata = Unit {0}
+FitsResponse (DisplayInfo modes) = AllFit modes
+FitsResponse (Edid block) = length block ≡ 128
+FitsResponse (Uuid bytes) = length bytes ≡ 16
+FitsResponse (Error code) = code < 2 ^ 32
+
+-- The bytes are this header and response.
+pub record Spells (header : Header) (response : Response) (bytes : List ℕ) : Type 0 where
+  pub valid : IsResponse response
+  pub kind : header.kind ≡ response_kind response
+  pub spelled : bytes ≡ response_bytes header response
+
+-- The response whose fields stand at their places behind a header of this kind.
+abbrev pub body_of : ℕ → List ℕ → Option Response
+body_of kind bytes =
+    if kind == 0x1100 then Some Nodata
+    else if kind == 0x1101 && length bytes == 408 then Some (DisplayInfo (trimmed (slots_of bytes)))
+    else if kind == 0x1104 && length bytes == 1056 then Some (Edid (take 128 (drop 32 bytes)))
+    else if kind == 0x1105 && length bytes == 40 then Some (Uuid (take 16 (drop 24 bytes)))
+    else if nat_le 0x1200 kind && nat_le kind 0x1205 then Some (Error kind)
+    else None

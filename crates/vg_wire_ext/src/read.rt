@@ -1,0 +1,272 @@
+//! The commands read from their fields (VIRTIO 1.2, 5.7.6.8 to 5.7.6.10), each at the front of `body`, the bytes after the
+//! header. None where they aren't all there.
+
+ghost use Rattle.std.specs.Prelude.{◌≡◌, ◌≤◌, length, IfOk, IfSome, OnErr, IsSome, is_some, option_map};
+ghost use Rattle.vg_wire.specs.TwoD.{whole};
+ghost use Rattle.vg_wire_ext.specs.Commands as layout;
+ghost use Rattle.vg_wire_ext.specs.Commands.{by_row, command_of, row_of, FitsEntries};
+
+use crate::command::Command;
+use crate::fields::i32_at;
+use std::alloc::{AllocError, Global};
+use vg_wire::{Header, is_2d, read_2d, read_entries, rect_at, u32_at, u64_at};
+
+/// GET_CAPSET_INFO: eight bytes.
+#[tactic(auto, unfolding(crate::specs::Commands::capset_info))]
+fn read_capset_info(body: &[u8]) -> Option<Command>
+    ensures exact { result ≡ whole 8 body.now (layout.capset_info body.now) }
+    ensures count { IfSome result FitsEntries }
+{
+    if body.len() < 8 {
+        return None;
+    }
+    let index = u32_at(body, 0);
+    Some(Command::CapsetInfo { index })
+}
+
+/// GET_CAPSET: eight bytes.
+#[tactic(auto, unfolding(crate::specs::Commands::capset))]
+fn read_capset(body: &[u8]) -> Option<Command>
+    ensures exact { result ≡ whole 8 body.now (layout.capset body.now) }
+    ensures count { IfSome result FitsEntries }
+{
+    if body.len() < 8 {
+        return None;
+    }
+    Some(Command::Capset {
+        id: u32_at(body, 0),
+        version: u32_at(body, 4),
+    })
+}
+
+/// GET_EDID: eight bytes.
+#[tactic(auto, unfolding(crate::specs::Commands::edid))]
+fn read_edid(body: &[u8]) -> Option<Command>
+    ensures exact { result ≡ whole 8 body.now (layout.edid body.now) }
+    ensures count { IfSome result FitsEntries }
+{
+    if body.len() < 8 {
+        return None;
+    }
+    let scanout = u32_at(body, 0);
+    Some(Command::Edid { scanout })
+}
+
+/// RESOURCE_ASSIGN_UUID: eight bytes.
+#[tactic(auto, unfolding(crate::specs::Commands::assign_uuid))]
+fn read_assign_uuid(body: &[u8]) -> Option<Command>
+    ensures exact { result ≡ whole 8 body.now (layout.assign_uuid body.now) }
+    ensures count { IfSome result FitsEntries }
+{
+    if body.len() < 8 {
+        return None;
+    }
+    let resource = u32_at(body, 0);
+    Some(Command::AssignUuid { resource })
+}
+
+/// RESOURCE_CREATE_BLOB: 32 bytes and the 16 of each entry.
+#[tactic(auto, unfolding(crate::specs::Commands::create_blob, crate::specs::Commands::create_blob_size))]
+fn read_create_blob(alloc: Global, body: &[u8]) -> Result<Option<Command>, AllocError>
+    ensures exact { IfOk result (λ command.
+        command ≡ whole (layout.create_blob_size body.now) body.now (layout.create_blob body.now)) }
+    ensures memory { OnErr result (layout.create_blob_size body.now ≤ length body.now) }
+    ensures count { IfOk result (λ command. IfSome command FitsEntries) }
+{
+    if body.len() < 32 {
+        return Ok(None);
+    }
+    let count = u32_at(body, 12) as usize;
+    // Nothing is allocated for entries that aren't there.
+    if body.len() < 32 + 16 * count {
+        return Ok(None);
+    }
+    let entries = read_entries(alloc, body, 32, count)?;
+    Ok(Some(Command::CreateBlob {
+        resource: u32_at(body, 0),
+        mem: u32_at(body, 4),
+        flags: u32_at(body, 8),
+        blob_id: u64_at(body, 16),
+        size: u64_at(body, 24),
+        entries,
+    }))
+}
+
+/// SET_SCANOUT_BLOB: 72 bytes. Strides and offsets of planes 1 to 3 are not looked at.
+#[tactic(auto, unfolding(crate::specs::Commands::set_scanout_blob))]
+fn read_set_scanout_blob(body: &[u8]) -> Option<Command>
+    ensures exact { result ≡ whole 72 body.now (layout.set_scanout_blob body.now) }
+    ensures count { IfSome result FitsEntries }
+{
+    if body.len() < 72 {
+        return None;
+    }
+    Some(Command::SetScanoutBlob {
+        rect: rect_at(body, 0),
+        scanout: u32_at(body, 16),
+        resource: u32_at(body, 20),
+        width: u32_at(body, 24),
+        height: u32_at(body, 28),
+        format: u32_at(body, 32),
+        stride: u32_at(body, 40),
+        offset: u32_at(body, 56),
+    })
+}
+
+/// CTX_CREATE: 72 bytes.
+#[tactic(auto, unfolding(crate::specs::Commands::ctx_create))]
+fn read_ctx_create(body: &[u8]) -> Option<Command>
+    ensures exact { result ≡ whole 72 body.now (layout.ctx_create body.now) }
+    ensures count { IfSome result FitsEntries }
+{
+    if body.len() < 72 {
+        return None;
+    }
+    let mut name = [0; 64];
+    name.copy_from_slice(&body[8..72]);
+    Some(Command::CtxCreate {
+        nlen: u32_at(body, 0),
+        context_init: u32_at(body, 4),
+        name,
+    })
+}
+
+/// CTX_ATTACH_RESOURCE: eight bytes.
+#[tactic(auto, unfolding(crate::specs::Commands::ctx_attach))]
+fn read_ctx_attach(body: &[u8]) -> Option<Command>
+    ensures exact { result ≡ whole 8 body.now (layout.ctx_attach body.now) }
+    ensures count { IfSome result FitsEntries }
+{
+    if body.len() < 8 {
+        return None;
+    }
+    let resource = u32_at(body, 0);
+    Some(Command::CtxAttach { resource })
+}
+
+/// CTX_DETACH_RESOURCE: eight bytes.
+#[tactic(auto, unfolding(crate::specs::Commands::ctx_detach))]
+fn read_ctx_detach(body: &[u8]) -> Option<Command>
+    ensures exact { result ≡ whole 8 body.now (layout.ctx_detach body.now) }
+    ensures count { IfSome result FitsEntries }
+{
+    if body.len() < 8 {
+        return None;
+    }
+    let resource = u32_at(body, 0);
+    Some(Command::CtxDetach { resource })
+}
+
+/// SUBMIT_3D: eight bytes.
+#[tactic(auto, unfolding(crate::specs::Commands::submit))]
+fn read_submit(body: &[u8]) -> Option<Command>
+    ensures exact { result ≡ whole 8 body.now (layout.submit body.now) }
+    ensures count { IfSome result FitsEntries }
+{
+    if body.len() < 8 {
+        return None;
+    }
+    let size = u32_at(body, 0);
+    Some(Command::Submit { size })
+}
+
+/// UPDATE_CURSOR: 32 bytes.
+#[tactic(auto, unfolding(crate::specs::Commands::update_cursor))]
+fn read_update_cursor(body: &[u8]) -> Option<Command>
+    ensures exact { result ≡ whole 32 body.now (layout.update_cursor body.now) }
+    ensures count { IfSome result FitsEntries }
+{
+    if body.len() < 32 {
+        return None;
+    }
+    Some(Command::UpdateCursor {
+        scanout: u32_at(body, 0),
+        x: i32_at(body, 4),
+        y: i32_at(body, 8),
+        resource: u32_at(body, 16),
+        hot_x: u32_at(body, 20),
+        hot_y: u32_at(body, 24),
+    })
+}
+
+/// MOVE_CURSOR: 32 bytes, of which those behind the position are not looked at.
+#[tactic(auto, unfolding(crate::specs::Commands::move_cursor))]
+fn read_move_cursor(body: &[u8]) -> Option<Command>
+    ensures exact { result ≡ whole 32 body.now (layout.move_cursor body.now) }
+    ensures count { IfSome result FitsEntries }
+{
+    if body.len() < 32 {
+        return None;
+    }
+    Some(Command::MoveCursor {
+        scanout: u32_at(body, 0),
+        x: i32_at(body, 4),
+        y: i32_at(body, 8),
+    })
+}
+
+/// The command of a kind that no 2D command has. CTX_DESTROY has no fields, so it is always there.
+#[tactic(auto, unfolding(crate::specs::Commands::row_of, crate::specs::Commands::ctx_destroy))]
+fn read_by_row(alloc: Global, kind: u32, body: &[u8]) -> Result<Option<Command>, AllocError>
+    ensures exact { IfOk result (λ command. command ≡ by_row (row_of kind) body.now) }
+    // Memory is asked for only once all of the command is there.
+    ensures memory { OnErr result (IsSome (by_row (row_of kind) body.now)) }
+    ensures count { IfOk result (λ command. IfSome command FitsEntries) }
+{
+    match kind {
+        0x0108 => Ok(read_capset_info(body)),
+        0x0109 => Ok(read_capset(body)),
+        0x010a => Ok(read_edid(body)),
+        0x010b => Ok(read_assign_uuid(body)),
+        0x010c => read_create_blob(alloc, body),
+        0x010d => Ok(read_set_scanout_blob(body)),
+        0x0200 => Ok(read_ctx_create(body)),
+        0x0201 => Ok(Some(Command::CtxDestroy)),
+        0x0202 => Ok(read_ctx_attach(body)),
+        0x0203 => Ok(read_ctx_detach(body)),
+        0x0207 => Ok(read_submit(body)),
+        0x0300 => Ok(read_update_cursor(body)),
+        0x0301 => Ok(read_move_cursor(body)),
+        _ => Ok(None),
+    }
+}
+
+/// Whether commands have this kind that are no 2D commands.
+#[tactic(auto, unfolding(crate::specs::Commands::row_of))]
+fn has_row(kind: u32) -> bool
+    ensures { result ≡ is_some (row_of kind) }
+{
+    match kind {
+        0x0108 | 0x0109 | 0x010a | 0x010b | 0x010c | 0x010d => true,
+        0x0200 | 0x0201 | 0x0202 | 0x0203 | 0x0207 => true,
+        0x0300 | 0x0301 => true,
+        _ => false,
+    }
+}
+
+/// Whether a command has this kind.
+pub(crate) fn is_known(kind: u32) -> bool
+    ensures { result ≡ layout.is_known kind }
+{
+    is_2d(kind) || has_row(kind)
+}
+
+/// The command of this header's kind, whose fields are at the front of `body`, the bytes after the
+/// header. None where no command has the kind or its fields aren't all there.
+pub(crate) fn read_command(
+    alloc: Global,
+    header: &Header,
+    body: &[u8],
+) -> Result<Option<Command>, AllocError>
+    ensures exact { IfOk result (λ command. command ≡ command_of header.now.kind body.now) }
+    ensures memory { OnErr result (IsSome (command_of header.now.kind body.now)) }
+    ensures count { IfOk result (λ command. IfSome command FitsEntries) }
+{
+    if !is_2d(header.kind) {
+        return read_by_row(alloc, header.kind, body);
+    }
+    match read_2d(alloc, header, body)? {
+        Some(command) => Ok(Some(Command::TwoD(command))),
+        None => Ok(None),
+    }
+}

@@ -1,0 +1,149 @@
+//! A whole response: a header and what it answers (VIRTIO 1.2, 5.7.6.7 and 5.7.6.8).
+
+ghost use Rattle.std.specs.Prelude.{◌≡◌, ◌≤◌, ◌++◌, Some, IfOk, OnErr, OnOk, IfSome, IsSome, length, take, drop};
+ghost use Rattle.vg_wire.specs.Header.{IsHeader, header_of};
+ghost use Rattle.vg_wire.specs.declared.header.Header.{Header as HeaderFields};
+ghost use Rattle.vg_wire_ext.specs.declared.response.Response.{Response as Responses};
+ghost use Rattle.vg_wire_ext.specs.Response as spelling;
+ghost use Rattle.vg_wire_ext.specs.Response.{FitsResponse, IsResponse, Spells, response_bytes, response_body, response_kind};
+
+use std::alloc::{AllocError, Global};
+use vg_wire::{Header, Modes, put_header, put_modes, put_u32, read_header, read_modes};
+
+/// A response, without its header.
+#[derive(Debug, Drop)]
+pub enum Response {
+    /// OK_NODATA, kind 0x1100.
+    Nodata,
+    /// OK_DISPLAY_INFO, kind 0x1101.
+    DisplayInfo { modes: Modes },
+    /// OK_EDID, kind 0x1104: the base block.
+    Edid { block: [u8; 128] },
+    /// OK_RESOURCE_UUID, kind 0x1105: the UUID's bytes, the first of its text first.
+    Uuid { bytes: [u8; 16] },
+    /// An error, whose code 0x1200 to 0x1205 is its kind.
+    Error { code: u32 },
+}
+
+/// Adds the fields of OK_EDID: the size of the block, the block, and zeros up to 1,024 bytes.
+#[tactic(auto, unfolding(crate::specs::Response::edid_body))]
+fn put_edid(out: &mut Vec<u8>, block: &[u8; 128]) -> Result<(), AllocError>
+    ensures { OnOk result (out.new.items ≡ out.old.items ++ spelling.edid_body block.now) }
+{
+    put_u32(out, 128)?;
+    put_u32(out, 0)?;
+    out.extend_from_slice(block)?;
+    out.extend_from_slice(&[0; 896])
+}
+
+/// Adds what follows the header.
+fn put_response(out: &mut Vec<u8>, response: &Response) -> Result<(), AllocError>
+    ensures { OnOk result (out.new.items ≡ out.old.items ++ response_body response.now) }
+{
+    match response {
+        Response::DisplayInfo { modes } => put_modes(out, modes),
+        Response::Edid { block } => put_edid(out, block),
+        Response::Uuid { bytes } => out.extend_from_slice(bytes),
+        Response::Nodata | Response::Error { .. } => out.extend_from_slice(&[]),
+    }
+}
+
+/// How many bytes follow the header of a response that can be given.
+fn size_of(response: &Response) -> usize
+    ensures size { IsResponse response.now → FitsResponse response.now → result ≡ length (response_body response.now) }
+    ensures small { result ≤ 1032 }
+{
+    match response {
+        Response::Nodata => 0,
+        Response::DisplayInfo { .. } => 384,
+        Response::Edid { .. } => 1032,
+        Response::Uuid { .. } => 16,
+        Response::Error { .. } => 0,
+    }
+}
+
+/// The bytes of a response, with padding 0. The header has the kind of the response.
+pub fn write_response(
+    alloc: Global,
+    header: &Header,
+    response: &Response,
+) -> Result<Vec<u8>, AllocError>
+    requires { header.now.kind ≡ response_kind response.now }
+    ensures { IfOk result (λ out. out.items ≡ response_bytes header.now response.now) }
+{
+    let mut out = Vec::with_capacity(alloc, 24 + size_of(response))?;
+    put_header(&mut out, *header)?;
+    put_response(&mut out, response)?;
+    Ok(out)
+}
+
+/// The block of an OK_EDID.
+fn read_block(bytes: &[u8]) -> [u8; 128]
+    requires { length bytes.now ≡ 1056 }
+    ensures { result ≡ take 128 (drop 32 bytes.now) }
+{
+    let mut block = [0; 128];
+    block.copy_from_slice(&bytes[32..160]);
+    block
+}
+
+/// The bytes of an OK_RESOURCE_UUID.
+fn read_uuid(bytes: &[u8]) -> [u8; 16]
+    requires { length bytes.now ≡ 40 }
+    ensures { result ≡ take 16 (drop 24 bytes.now) }
+{
+    let mut uuid = [0; 16];
+    uuid.copy_from_slice(&bytes[24..40]);
+    uuid
+}
+
+/// The response that a header of this kind begins, as far as its fields tell.
+fn read_body(alloc: Global, kind: u32, bytes: &[u8]) -> Result<Option<Response>, AllocError>
+    ensures value { IfOk result (λ response. response ≡ spelling.body_of kind bytes.now) }
+    ensures memory { OnErr result (IsSome (spelling.body_of kind bytes.now)) }
+{
+    if kind == 0x1100 {
+        return Ok(Some(Response::Nodata));
+    }
+    if kind == 0x1101 && bytes.len() == 408 {
+        let modes = read_modes(alloc, bytes)?;
+        return Ok(Some(Response::DisplayInfo { modes }));
+    }
+    if kind == 0x1104 && bytes.len() == 1056 {
+        let block = read_block(bytes);
+        return Ok(Some(Response::Edid { block }));
+    }
+    if kind == 0x1105 && bytes.len() == 40 {
+        let bytes = read_uuid(bytes);
+        return Ok(Some(Response::Uuid { bytes }));
+    }
+    if (0x1200..=0x1205).contains(&kind) {
+        return Ok(Some(Response::Error { code: kind }));
+    }
+    Ok(None)
+}
+
+/// The response that these bytes spell. None where they spell none: another length or kind, a mode
+/// that is neither enabled nor zero, another size than 128 or bytes behind the block of an OK_EDID, or
+/// padding that isn't 0.
+pub fn read_response(alloc: Global, bytes: &[u8]) -> Result<Option<(Header, Response)>, AllocError>
+    ensures found { IfOk result (λ read. IfSome read (λ pair. Spells pair.0 pair.1 bytes.now)) }
+    // What is spelled is read as what it spells, so None comes exactly where nothing does.
+    ensures only { IfOk result (λ read. (header : HeaderFields) (response : Responses) → IsHeader header → FitsResponse response
+        → Spells header response bytes.now → read ≡ Some (header, response)) }
+    // Memory is asked for only by bytes that have the kind and the length of a response.
+    ensures memory { OnErr result ((24 ≤ length bytes.now) × IsSome (spelling.body_of (header_of bytes.now).kind bytes.now)) }
+{
+    let Some(header) = read_header(bytes) else {
+        return Ok(None);
+    };
+    let Some(response) = read_body(alloc, header.kind, bytes)? else {
+        return Ok(None);
+    };
+    let spelled = write_response(alloc, &header, &response)?;
+    if spelled.as_slice() == bytes {
+        Ok(Some((header, response)))
+    } else {
+        Ok(None)
+    }
+}
