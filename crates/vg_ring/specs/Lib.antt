@@ -2,4 +2,5 @@ pub mod Cargo
 pub mod Words
 pub mod Entries
 pub mod Rule
+pub mod Tells
 pub mod Plays

@@ -1,4 +1,4 @@
-use Rattle.std.specs.Prelude.{◌≡◌, ℕ, suc, ◌+◌, ◌*◌, ◌%◌, ◌<◌, ◌≤◌, ◌⊎◌, Bool, Option, Some, None, List, [], ◌∷◌, ◌++◌, length, map, slice_index, replicate, ◌==◌, if◌then◌else◌}
+use Rattle.std.specs.Prelude.{◌≡◌, ℕ, suc, ◌+◌, ◌*◌, ◌%◌, ◌^◌, ◌<◌, ◌≤◌, ◌⊎◌, Bool, Option, Some, None, List, [], ◌∷◌, ◌++◌, length, map, slice_index, replicate, ◌==◌, if◌then◌else◌}
 use mathlib.Core.Option.{some, none}
 use lib.ListN.{get_elem?}
 use Rattle.atomic_table.specs.Table.{State}
@@ -14,6 +14,7 @@ use Rattle.vg_ring.specs.declared.views.DeviceView.{DeviceView}
 use Rattle.vg_ring.specs.declared.views.View.{View}
 use Rattle.vg_ring.specs.declared.views.View.TheVariants.{Start, Driver, Device, Right, Spent}
 use Rattle.vg_ring.specs.Cargo.{CargoData}
+use Rattle.vg_wire.specs.declared.request.Queue.{Queue}
 use Rattle.vg_ring.specs.Words.{addr_place, rest_place, available_place, used_place, used_word}
 use Rattle.vg_ring.specs.Entries.{head_of, entries, without, Has, weigh, uses, spread, heads, times, stored_of, IsFresh, IsDone, InOrder}
 
@@ -45,12 +46,17 @@ abbrev pub Returns : ℕ → List ℕ → ℕ → List Answer → Type 0
 Returns n words k [] = Unit {0}
 Returns n words k (a ∷ more) = (word_at words (used_place n (k % n)) ≡ used_word (head_of a.entry) a.len) × Returns n words (suc k) more
 
+-- Each entry is of this queue.
+abbrev pub AreOf : Queue → List Entry → Type 0
+AreOf queue [] = Unit {0}
+AreOf queue (e ∷ more) = (e.queue ≡ queue) × AreOf queue more
+
 -- Each entry has a head.
 abbrev pub HaveHeads : List Entry → Type 0
 HaveHeads [] = Unit {0}
 HaveHeads (e ∷ more) = (0 < length e.places) × HaveHeads more
 
-module _ {P : Type 0} (wanted : P → Bool) (n : ℕ) where
+module _ {P : Type 0} (wanted : P → Bool) (queue : Queue) (n : ℕ) where
   abbrev pub Homes : Type 0
   Homes = List (mathlib.Core.Option.Option (Option (CargoData P)))
 
@@ -130,6 +136,8 @@ module _ {P : Type 0} (wanted : P → Bool) (n : ℕ) where
     pub sent : d.published ≡ v.fetched ++ coming
     pub back : v.completed ≡ d.reaped ++ going
     pub ordered : InOrder [] d.published
+    pub queued : AreOf queue d.published
+    pub bounded : length d.published < 2 ^ 63
     pub shared : (f : Entry → ℕ) → weigh f d.outs ≡ weigh f coming + weigh f v.held + weigh f (entries going)
     pub once : (h : ℕ) → uses h d.outs ≤ 1
     pub below : (h : ℕ) → 0 < uses h d.outs → h < n

@@ -10,10 +10,12 @@ use crate::tagged::Tagged;
 use crate::views::View;
 use atomic_table::{Play, Seat, Split, Table, TableRule};
 use std::alloc::Global;
+use vg_wire::Queue;
 
-/// What a table is told once: how many descriptors the queue has.
+/// What a table is told once: which queue it is, and how many descriptors that has.
 #[derive(Clone, Copy)]
 pub struct Size {
+    pub queue: Queue,
     pub count: u16,
 }
 
@@ -24,7 +26,7 @@ pub(crate) type Line<P> = Table<Option<Cargo<P>>, View, Size, Law, Global>;
 pub(crate) type Pass<P> = Seat<Option<Cargo<P>>, View>;
 
 impl<P: Tagged> TableRule<Option<Cargo<P>>, View, Size> for Law {
-    ghost holds = { λ size. Ring P.is_wanted size.count };
+    ghost holds = { λ size. Ring P.is_wanted size.queue size.count };
 
     ghost first = { λ _. Start };
 }

@@ -11,7 +11,7 @@ use Rattle.vg_ring.proofs.made.make_line.Goals as goal
 pub vacant-requires : goal.vacant-requires
 vacant-requires g c =
     let words : c.as_slice.result.now ≡ replicate (2 + 4 * c.args.count) 0 = c.as_slice.ensures.value ∙ c.in_ok-words.ensures in
-    subst (λ (ws : List ℕ). Ring g.P.Tagged.is_wanted c.args.count (opening ws (replicate c.args.count None) Start)) (sym words) (opens g.P.Tagged.is_wanted c.args.count)
+    subst (λ (ws : List ℕ). Ring g.P.Tagged.is_wanted c.args.queue c.args.count (opening ws (replicate c.args.count None) Start)) (sym words) (opens g.P.Tagged.is_wanted c.args.queue c.args.count)
 
 pub split_seat-device-requires : goal.split_seat-device-requires
 split_seat-device-requires g c =
@@ -20,4 +20,4 @@ split_seat-device-requires g c =
     let view : c.in_ok-line.driver.me.0 ≡ Start = ap (λ m. m.0) made.4 in
     let words : c.as_slice.result.now ≡ replicate (2 + 4 * c.args.count) 0 = c.as_slice.ensures.value ∙ c.in_ok-words.ensures in
     let long : length c.as_slice.result.now ≡ 2 + 4 * c.args.count = ap length words ∙ length-replicate (2 + 4 * c.args.count) 0 in
-    (made.2, omega (arith, made.0, long), subst (λ (v : View). Splits (Ring g.P.Tagged.is_wanted key.count) c.in_ok-line.driver.id v (Driver new_driver) (Device new_device)) (sym view) (splits_start g.P.Tagged.is_wanted key.count c.in_ok-line.driver.id))
+    (made.2, omega (arith, made.0, long), subst (λ (v : View). Splits (Ring g.P.Tagged.is_wanted key.queue key.count) c.in_ok-line.driver.id v (Driver new_driver) (Device new_device)) (sym view) (splits_start g.P.Tagged.is_wanted key.queue key.count c.in_ok-line.driver.id))

@@ -1,0 +1,51 @@
+use Rattle.std.specs.Prelude.{◌≡◌, ℕ, ◌+◌, ◌^◌, ◌<◌, ◌≤◌, Bool, Option, Some, List, [], ◌∷◌, ◌++◌, length, ◌⊎◌}
+use Rattle.atomic_table.specs.Table.{Me}
+use Rattle.vg_wire.specs.declared.request.Queue.{Queue}
+use Rattle.vg_ring.specs.declared.views.Entry.{Entry}
+use Rattle.vg_ring.specs.declared.views.Answer.{Answer}
+use Rattle.vg_ring.specs.declared.views.Stored.{Stored}
+use Rattle.vg_ring.specs.declared.views.DriverView.{DriverView}
+use Rattle.vg_ring.specs.declared.views.DeviceView.{DeviceView}
+use Rattle.vg_ring.specs.declared.views.View.{View}
+use Rattle.vg_ring.specs.declared.views.View.TheVariants.{Driver, Device}
+use Rattle.vg_ring.specs.Cargo.{CargoData}
+use Rattle.vg_ring.specs.Words.{addr_place, rest_place, used_word}
+use Rattle.vg_ring.specs.Entries.{head_of, weigh, heads, without, Has, stored_of, IsFresh, IsDone, InOrder}
+use Rattle.vg_ring.specs.Rule.{fetched_after, reaped_after}
+
+-- What the load of the available element tells, which takes the cargo.
+pub record IsTaken {P : Type 0} (wanted : P → Bool) (queue : Queue) (n : ℕ) (v : DeviceView) (found : ℕ) (me : Me (Option (CargoData P)) View) : Type 0 where
+  pub entry : Entry
+  pub cargo : CargoData P
+  pub after : me ≡ (Device (fetched_after v entry), (head_of entry, Some cargo) ∷ [])
+  pub head : found ≡ head_of entry
+  pub small : found < n
+  pub fresh : IsFresh wanted entry cargo
+  pub ordered : InOrder [] (v.fetched ++ entry ∷ [])
+  pub of_queue : entry.queue ≡ queue
+  pub some_place : 0 < length entry.places
+  pub bounded : length v.fetched + 1 < 2 ^ 63
+  pub most : length v.fetched + 1 ≤ length v.completed + n
+  pub heads : heads (head_of entry) (entry ∷ v.held) ≡ 1
+
+-- What the load of the used element tells, which takes the cargo.
+pub record IsReaped {P : Type 0} (wanted : P → Bool) (n : ℕ) (d : DriverView) (found : ℕ) (me : Me (Option (CargoData P)) View) : Type 0 where
+  pub answer : Answer
+  pub cargo : CargoData P
+  pub after : me ≡ (Driver (reaped_after d answer), (head_of answer.entry, Some cargo) ∷ [])
+  pub found_is : found ≡ used_word (head_of answer.entry) answer.len
+  pub small : head_of answer.entry < n
+  pub done : IsDone wanted answer cargo
+  pub fewer : length d.reaped < length d.published
+  pub some_place : 0 < length answer.entry.places
+  pub outs : (f : Entry → ℕ) → weigh f d.outs ≡ weigh f (without (head_of answer.entry) d.outs) + f answer.entry
+
+-- The descriptor is one that a publication of these entries has stored.
+abbrev pub IsIn : Stored → List Stored → Type 0
+IsIn d [] = ⊥
+IsIn d (other ∷ more) = (other ≡ d) ⊎ IsIn d more
+
+-- The word that was found is that of each descriptor of these entries that has it.
+abbrev pub TellsWord : ℕ → ℕ → ℕ → List Entry → Type 0
+TellsWord n word found held =
+    (e : Entry) (d : Stored) → Has e held → IsIn d (stored_of n e) → (word ≡ addr_place d.place → found ≡ d.addr) × (word ≡ rest_place d.place → found ≡ d.rest)
