@@ -5,10 +5,11 @@ use Rattle.std.proofs.lemmas.List.{get_or-set_same, length-set, set-get_or, appe
 use Rattle.std.proofs.Math.Nat.{mod-lt}
 use Rattle.atomic_table.proofs.Lists.{set_else, set_here}
 use Rattle.std.proofs.lemmas.Bool.{cases_eq, eq-eqb}
-use Rattle.atomic_table.specs.Table.{State, Act, Allows, Me, Valid, stepped, carried_after}
+use Rattle.atomic_table.specs.Table.{State, Act, Allows, Valid, stepped, carried_after}
 use Rattle.atomic_table.specs.Table.Act.{keeps, takes, gives}
 use Rattle.vg_ring.specs.declared.views.Entry.{Entry}
 use Rattle.vg_ring.specs.declared.views.Answer.{Answer}
+use Rattle.vg_ring.specs.declared.views.Stored.{Stored}
 use Rattle.vg_ring.specs.declared.views.DriverStage.{DriverStage}
 use Rattle.vg_ring.specs.declared.views.DriverStage.TheVariants as driver
 use Rattle.vg_ring.specs.declared.views.DeviceStage.{DeviceStage}
@@ -19,10 +20,10 @@ use Rattle.vg_ring.specs.declared.views.View.{View}
 use Rattle.vg_ring.specs.declared.views.View.TheVariants.{Device}
 use Rattle.vg_ring.specs.Cargo.{CargoData}
 use Rattle.vg_wire.specs.declared.request.Queue.{Queue}
-use Rattle.vg_ring.specs.Words.{addr_place, available_place, used_place, used_word}
-use Rattle.vg_ring.specs.Entries.{head_of, times, uses_in, places_in, head_in, uses, heads, spread, entries, weigh, IsFresh, IsDone, InOrder}
-use Rattle.vg_ring.specs.Rule.{word_at, Offers, Stand, AreOf, HaveHeads, places_of, DriverKnows, DeviceKnows, driver_hand, device_hand, IsRing, Ring, set_stage, fetched_after, completed_after, looked_by_device}
-use Rattle.vg_ring.specs.Tells.{IsTaken}
+use Rattle.vg_ring.specs.Words.{addr_place, rest_place, available_place, used_place, used_word}
+use Rattle.vg_ring.specs.Entries.{head_of, times, uses_in, places_in, head_in, uses, heads, spread, entries, weigh, stored_of, IsDone, InOrder, Has}
+use Rattle.vg_ring.specs.Rule.{word_at, Offers, Stand, StandStored, AreOf, HaveHeads, places_of, DriverKnows, DeviceKnows, driver_hand, device_hand, IsRing, Ring, set_stage, fetched_after, completed_after, looked_by_device}
+use Rattle.vg_ring.specs.Tells.{IsTaken, IsIn, TellsWord}
 use Rattle.vg_ring.proofs.Frames.{word_else, stored_high, stand_high, stored_low, stand_low, stand_snoc, stand_append, stand_front, offers_high, returns_apart, returns_snoc, offers_kept, returns_kept}
 use Rattle.vg_ring.proofs.Counts.{heads_uses, length_spread, weigh-append, have-append, of-back, weigh-ones, in_order-front, head_in_places, heads_less, heads_length, length-entries, entries-append, have-front}
 use Rattle.vg_ring.proofs.Slots.{wait_kept, lie_kept, lie_snoc}
@@ -44,6 +45,7 @@ module _ {P : Type 0} (wanted : P → Bool) (queue : Queue) (n : ℕ) where
         ordered = r.ordered;
         queued = r.queued;
         bounded = r.bounded;
+        device_queue = r.device_queue;
         shared = r.shared;
         once = r.once;
         below = r.below;
@@ -90,7 +92,7 @@ module _ {P : Type 0} (wanted : P → Bool) (queue : Queue) (n : ℕ) where
   takes_first : (s : State (Option (CargoData P)) View) (id : ℕ) (d : DriverView) (v : DeviceView) (coming : List Entry) (going : List Answer)
       → id ≡ 1 → IsRing wanted queue n s d (set_stage v device.Newer) coming going
       → (w : View) × (a : Act (Option (CargoData P))) × Valid s.homes [] a × Ring wanted queue n (stepped s (available_place n (length v.fetched % n)) (get_or s.words (available_place n (length v.fetched % n)) 0) id [] w a)
-      × IsTaken wanted queue n v (get_or s.words (available_place n (length v.fetched % n)) 0) (w, carried_after [] a)
+      × IsTaken wanted n v (get_or s.words (available_place n (length v.fetched % n)) 0) (w, carried_after [] a)
   takes_first s id d v [] going id_is r = absurd (omega (arith, r.device_knows))
   takes_first s id d v (e ∷ coming) going id_is r =
       let h = head_of e in
@@ -113,6 +115,7 @@ module _ {P : Type 0} (wanted : P → Bool) (queue : Queue) (n : ℕ) where
         ordered = r.ordered;
         queued = r.queued;
         bounded = r.bounded;
+        device_queue = r.device_queue;
         shared = λ f. (let old = r.shared f in omega (arith, old));
         once = r.once;
         below = r.below;
@@ -151,7 +154,7 @@ module _ {P : Type 0} (wanted : P → Bool) (queue : Queue) (n : ℕ) where
           small = rw r.offers.0 small;
           fresh = r.wait.0.2;
           ordered = in_order-front [] (v.fetched ++ e ∷ []) coming (subst (λ (es : List Entry). InOrder [] es) all r.ordered);
-          of_queue = (of-back queue v.fetched (e ∷ coming) (subst (λ (es : List Entry). AreOf queue es) r.sent r.queued)).0;
+          of_queue = (of-back queue v.fetched (e ∷ coming) (subst (λ (es : List Entry). AreOf queue es) r.sent r.queued)).0 ∙ sym r.device_queue;
           some_place = r.come_heads.0;
           bounded = (let long = ap length all ∙ length-append (v.fetched ++ e ∷ []) coming in let one = length-append v.fetched (e ∷ []) in let old = r.bounded in omega (arith, long, one, old));
           most = (
@@ -169,7 +172,7 @@ module _ {P : Type 0} (wanted : P → Bool) (queue : Queue) (n : ℕ) where
 
   -- The available element is loaded, and the slot of its head is taken.
   pub takes_entry : (slots id : ℕ) (v : DeviceView)
-      → Allows (Ring wanted queue n) slots id (Device (set_stage v device.Newer), []) (available_place n (length v.fetched % n)) (λ k. k) (IsTaken wanted queue n v)
+      → Allows (Ring wanted queue n) slots id (Device (set_stage v device.Newer), []) (available_place n (length v.fetched % n)) (λ k. k) (IsTaken wanted n v)
   takes_entry slots id v = λ s ring many at bound.
       let w = at_device wanted queue n s id (set_stage v device.Newer) ring at in
       takes_first s id w.driver v w.coming w.going w.id_is w.ring
@@ -196,6 +199,7 @@ module _ {P : Type 0} (wanted : P → Bool) (queue : Queue) (n : ℕ) where
         ordered = r.ordered;
         queued = r.queued;
         bounded = r.bounded;
+        device_queue = r.device_queue;
         shared = r.shared;
         once = r.once;
         below = r.below;
@@ -286,6 +290,7 @@ module _ {P : Type 0} (wanted : P → Bool) (queue : Queue) (n : ℕ) where
         ordered = r.ordered;
         queued = r.queued;
         bounded = r.bounded;
+        device_queue = r.device_queue;
         shared = r.shared;
         once = r.once;
         below = r.below;
@@ -357,6 +362,7 @@ module _ {P : Type 0} (wanted : P → Bool) (queue : Queue) (n : ℕ) where
         ordered = r.ordered;
         queued = r.queued;
         bounded = r.bounded;
+        device_queue = r.device_queue;
         shared = λ f. (let old = r.shared f in let one = cut f in let two = more f in omega (arith, old, one, two));
         once = r.once;
         below = r.below;
@@ -384,3 +390,24 @@ module _ {P : Type 0} (wanted : P → Bool) (queue : Queue) (n : ℕ) where
         seated = seated_device wanted queue n s.views w.driver (set_stage v (device.Answering e a.len)) v' refl r.seated;
       } in
       (Device v', gives, tt, rw w.id_is (inr (w.driver, v', w.coming, w.going ++ a ∷ [], next)), refl)
+
+  stored_tells : (ws : List ℕ) (stored : List Stored) (d : Stored) → StandStored ws stored → IsIn d stored → (word_at ws (addr_place d.place) ≡ d.addr) × (word_at ws (rest_place d.place) ≡ d.rest)
+  stored_tells ws [] d stand is_in = absurd is_in
+  stored_tells ws (f ∷ more) d stand (inl same) = subst (λ (x : Stored). (word_at ws (addr_place x.place) ≡ x.addr) × (word_at ws (rest_place x.place) ≡ x.rest)) same (stand.0, stand.1)
+  stored_tells ws (f ∷ more) d stand (inr is_in) = stored_tells ws more d stand.2 is_in
+
+  stand_tells : (ws : List ℕ) (es : List Entry) (e : Entry) → Stand n ws es → Has e es → StandStored ws (stored_of n e)
+  stand_tells ws [] e stand has = absurd has
+  stand_tells ws (f ∷ es) e stand (inl same) = subst (λ (x : Entry). StandStored ws (stored_of n x)) same stand.0
+  stand_tells ws (f ∷ es) e stand (inr has) = stand_tells ws es e stand.1 has
+
+  -- A word of the ring is loaded.
+  pub reads : (slots id i : ℕ) (v : DeviceView)
+      → Allows (Ring wanted queue n) slots id (Device (set_stage v device.Resting), []) i (λ k. k) (λ found me. (me ≡ (Device (set_stage v device.Resting), [])) × TellsWord n i found v.held)
+  reads slots id i v = λ s ring many at bound.
+      let w = at_device wanted queue n s id (set_stage v device.Resting) ring at in
+      let next = moves s w.driver (set_stage v device.Resting) v.looks v.seen device.Resting w.coming w.going i w.ring (λ h no. no) tt in
+      let tells : TellsWord n i (get_or s.words i 0) v.held = λ e d has is_in.
+      (let both = stored_tells s.words (stored_of n e) d (stand_tells s.words v.held e w.ring.held_stand has) is_in in
+      (λ at_addr. ap (λ (k : ℕ). get_or s.words k 0) at_addr ∙ both.0, λ at_rest. ap (λ (k : ℕ). get_or s.words k 0) at_rest ∙ both.1)) in
+      (Device (set_stage v device.Resting), keeps, tt, rw w.id_is (inr (w.driver, set_stage v device.Resting, w.coming, w.going, next)), (refl, tells))

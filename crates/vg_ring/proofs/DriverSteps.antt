@@ -6,7 +6,7 @@ use Rattle.std.proofs.Math.Nat.{mod-lt}
 use Rattle.atomic_table.proofs.Lists.{set_else, set_here}
 use Rattle.std.proofs.lemmas.Bool.{cases_lt, cases_eq, eq-eqb, ne_eqb}
 use Rattle.std.proofs.lemmas.Bool.Decides.{eqb_tells}
-use Rattle.atomic_table.specs.Table.{State, Act, Allows, Me, Valid, stepped, carried_after}
+use Rattle.atomic_table.specs.Table.{State, Act, Allows, Valid, stepped, carried_after}
 use Rattle.atomic_table.specs.Table.Act.{keeps, takes, gives}
 use Rattle.vg_ring.specs.declared.views.Entry.{Entry}
 use Rattle.vg_ring.specs.declared.views.Answer.{Answer}
@@ -21,8 +21,8 @@ use Rattle.vg_ring.specs.declared.views.View.{View}
 use Rattle.vg_ring.specs.declared.views.View.TheVariants.{Driver}
 use Rattle.vg_ring.specs.Cargo.{CargoData}
 use Rattle.vg_wire.specs.declared.request.Queue.{Queue}
-use Rattle.vg_ring.specs.Words.{addr_place, rest_place, available_place, used_place, used_word}
-use Rattle.vg_ring.specs.Entries.{head_of, times, uses_in, places_in, head_in, uses, heads, spread, entries, lane_count, weigh, without, stored_of, IsFresh, IsDone}
+use Rattle.vg_ring.specs.Words.{addr_place, rest_place, available_place, used_place}
+use Rattle.vg_ring.specs.Entries.{head_of, times, uses_in, places_in, head_in, uses, heads, spread, entries, lane_count, weigh, without, stored_of, IsFresh}
 use Rattle.vg_ring.specs.Rule.{word_at, Returns, places_of, StandStored, AreFree, DriverKnows, DeviceKnows, driver_hand, device_hand, IsRing, Ring, staged, published_after, reaped_after, looked_by_driver}
 use Rattle.vg_ring.specs.Tells.{IsReaped}
 use Rattle.vg_ring.proofs.Frames.{word_else, stored_kept, stored_high, stand_kept, stand_high, stored_low, stand_low, stand_snoc, offers_kept, offers_apart, offers_snoc, returns_kept, IsWordOf}
@@ -69,6 +69,7 @@ module _ {P : Type 0} (wanted : P → Bool) (queue : Queue) (n : ℕ) where
         ordered = ring.ordered;
         queued = ring.queued;
         bounded = ring.bounded;
+        device_queue = ring.device_queue;
         shared = ring.shared;
         once = ring.once;
         below = ring.below;
@@ -184,6 +185,7 @@ module _ {P : Type 0} (wanted : P → Bool) (queue : Queue) (n : ℕ) where
         ordered = r.ordered;
         queued = r.queued;
         bounded = r.bounded;
+        device_queue = r.device_queue;
         shared = r.shared;
         once = r.once;
         below = r.below;
@@ -245,6 +247,7 @@ module _ {P : Type 0} (wanted : P → Bool) (queue : Queue) (n : ℕ) where
         ordered = in_order-snoc [] d.published e r.ordered ordinal;
         queued = of-append queue d.published (e ∷ []) r.queued (of_queue, tt);
         bounded = omega (arith, long, few_sent);
+        device_queue = r.device_queue;
         shared = λ f. (let old = r.shared f in let more = weigh-append f w.coming (e ∷ []) in omega (arith, old, more));
         once = λ k. (let old = free k in omega (arith, old));
         below = λ k is_there. elim (cases_lt 0 (times k e.places)) [ inl here ↦ small k here | inr gone ↦ r.below k (omega arith) ];
@@ -289,6 +292,7 @@ module _ {P : Type 0} (wanted : P → Bool) (queue : Queue) (n : ℕ) where
         ordered = r.ordered;
         queued = r.queued;
         bounded = r.bounded;
+        device_queue = r.device_queue;
         shared = r.shared;
         once = r.once;
         below = r.below;
@@ -369,6 +373,7 @@ module _ {P : Type 0} (wanted : P → Bool) (queue : Queue) (n : ℕ) where
         ordered = r.ordered;
         queued = r.queued;
         bounded = r.bounded;
+        device_queue = r.device_queue;
         shared = λ f. (let old = r.shared f in let one = cut f in omega (arith, old, one));
         once = λ k. (let old = r.once k in let one = cut (uses_in k) in omega (arith, old, one));
         below = λ k is_there. r.below k (let one = cut (uses_in k) in omega (arith, one));
@@ -444,6 +449,7 @@ module _ {P : Type 0} (wanted : P → Bool) (queue : Queue) (n : ℕ) where
         ordered = r.ordered;
         queued = r.queued;
         bounded = r.bounded;
+        device_queue = r.device_queue;
         shared = r.shared;
         once = r.once;
         below = r.below;

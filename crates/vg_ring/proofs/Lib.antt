@@ -2,8 +2,10 @@ mod WordLemmas
 pub mod Frames
 pub mod Counts
 pub mod Slots
+pub mod Heads
 pub mod Seats
 pub mod DriverSteps
 pub mod DeviceSteps
 pub mod RightSteps
 pub mod Told
+pub mod ToldDevice

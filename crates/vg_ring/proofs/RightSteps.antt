@@ -17,13 +17,9 @@ use Rattle.vg_ring.specs.Cargo.{CargoData}
 use Rattle.vg_wire.specs.declared.request.Queue.{Queue}
 use Rattle.vg_ring.specs.Entries.{head_of, head_in, heads, without, Has}
 use Rattle.vg_ring.specs.Rule.{word_at, IsRing, IsNew, IsGuest, AreSeated, Ring, set_stage, lent_after, returned_after, new_driver, new_device}
+use Rattle.vg_ring.proofs.Heads.{has_heads}
 use Rattle.vg_ring.proofs.Seats.{within, at_device}
 use Rattle.vg_ring.proofs.DeviceSteps.{moves}
-
-has_heads : (e : Entry) (es : List Entry) → Has e es → 1 ≤ heads (head_of e) es
-has_heads e [] has = absurd has
-has_heads e (f ∷ es) (inl same) = (let here : head_in (head_of e) f ≡ 1 = rw (eq-eqb (head_of f) (head_of e) (ap head_of same)) refl in omega (arith, here))
-has_heads e (f ∷ es) (inr has) = (let rest = has_heads e es has in omega (arith, rest))
 
 has_choice : (e f : Entry) (es fs : List Entry) (b : Bool) → Has e es → Has e fs → Has e (cond b es (f ∷ fs))
 has_choice e f es fs true has rest = has
@@ -38,7 +34,7 @@ heads_choice : (k : ℕ) (f : Entry) (es fs : List Entry) (b : Bool) → heads k
 heads_choice k f es fs true fewer = omega arith
 heads_choice k f es fs false fewer = omega arith
 
-heads_without : (k h : ℕ) (es : List Entry) → heads k (without h es) ≤ heads k es
+pub heads_without : (k h : ℕ) (es : List Entry) → heads k (without h es) ≤ heads k es
 heads_without k h [] = omega arith
 heads_without k h (f ∷ es) = heads_choice k f es (without h es) (eqb (head_of f) h) (heads_without k h es)
 
@@ -78,7 +74,7 @@ module _ {P : Type 0} (wanted : P → Bool) (queue : Queue) (n : ℕ) where
   right_at views d v (suc (suc i)) e seated at = (omega arith, seated.guests (suc (suc i)) (Right e) (omega arith) at)
 
   guest_more : (e : Entry) (lent : List Entry) (w : View) → IsGuest wanted queue n lent w → IsGuest wanted queue n (e ∷ lent) w
-  guest_more e lent Start guest = guest
+  guest_more e lent (Start q) guest = guest
   guest_more e lent (Driver d) guest = guest
   guest_more e lent (Device v) guest = guest
   guest_more e lent (Right f) guest = inr guest
@@ -129,6 +125,7 @@ module _ {P : Type 0} (wanted : P → Bool) (queue : Queue) (n : ℕ) where
         ordered = r.ordered;
         queued = r.queued;
         bounded = r.bounded;
+        device_queue = r.device_queue;
         shared = r.shared;
         once = r.once;
         below = r.below;
@@ -158,14 +155,14 @@ module _ {P : Type 0} (wanted : P → Bool) (queue : Queue) (n : ℕ) where
       rw w.id_is (inr (w.driver, lent_after v e, w.coming, w.going, next))
 
   -- The table as it is made keeps the rule, and so does the cut into two ends.
-  pub opens : Ring wanted queue n (opening (replicate (2 + 4 * n) 0) (replicate n None) Start)
+  pub opens : Ring wanted queue n (opening (replicate (2 + 4 * n) 0) (replicate n None) (Start queue))
   opens = inl (record { words = refl; homes = all_home n None; views = refl })
 
   fresh_ring : (s : State (Option (CargoData P)) View) (id : ℕ) → IsNew wanted queue n s → id ≡ 0
-      → IsRing wanted queue n (record { words = s.words; homes = s.homes; views = set s.views id (Driver new_driver) ++ Device new_device ∷ [] }) new_driver new_device [] []
+      → IsRing wanted queue n (record { words = s.words; homes = s.homes; views = set s.views id (Driver new_driver) ++ Device (new_device queue) ∷ [] }) new_driver (new_device queue) [] []
   fresh_ring s id fresh id_is =
       let word : (i : ℕ) → word_at s.words i ≡ 0 = λ i. ap (λ (ws : List ℕ). get_or ws i 0) fresh.words ∙ zeros (2 + 4 * n) i in
-      let two : set s.views id (Driver new_driver) ++ Device new_device ∷ [] ≡ Driver new_driver ∷ Device new_device ∷ [] = rw (fresh.views, id_is) refl in
+      let two : set s.views id (Driver new_driver) ++ Device (new_device queue) ∷ [] ≡ Driver new_driver ∷ Device (new_device queue) ∷ [] = rw (fresh.views, id_is) refl in
       record {
         words = ap length fresh.words ∙ length-replicate (2 + 4 * n) 0;
         homes = ap length fresh.homes ∙ length-replicate n (some None);
@@ -174,6 +171,7 @@ module _ {P : Type 0} (wanted : P → Bool) (queue : Queue) (n : ℕ) where
         ordered = tt;
         queued = tt;
         bounded = omega arith;
+        device_queue = refl;
         shared = λ f. refl;
         once = λ h. omega arith;
         below = λ h is_there. omega arith;
@@ -195,31 +193,31 @@ module _ {P : Type 0} (wanted : P → Bool) (queue : Queue) (n : ℕ) where
         device_knows = tt;
         matched = λ f. refl;
         lent_once = λ h. omega arith;
-        seated = subst (λ (vs : List View). AreSeated wanted queue n vs new_driver new_device) (sym two) two_seats;
+        seated = subst (λ (vs : List View). AreSeated wanted queue n vs new_driver (new_device queue)) (sym two) two_seats;
       }
     where
-      no_right : (i : ℕ) (w : View) → 1 < i → get_elem? (Driver new_driver ∷ Device new_device ∷ []) i ≡ some w → ⊥
+      no_right : (i : ℕ) (w : View) → 1 < i → get_elem? (Driver new_driver ∷ Device (new_device queue) ∷ []) i ≡ some w → ⊥
       no_right zero w late at = omega arith
       no_right (suc zero) w late at = omega arith
       no_right (suc (suc i)) w late at = some-ne-none w (sym at)
 
-      two_seats : AreSeated wanted queue n (Driver new_driver ∷ Device new_device ∷ []) new_driver new_device
+      two_seats : AreSeated wanted queue n (Driver new_driver ∷ Device (new_device queue) ∷ []) new_driver (new_device queue)
       two_seats = record { driver_at = refl; device_at = refl; guests = λ i w late at. absurd (no_right i w late at); apart = λ i j e f at at' same. apart_there i j e f at at' }
         where
-          apart_there : (i j : ℕ) (e f : Entry) → get_elem? (Driver new_driver ∷ Device new_device ∷ []) i ≡ some (Right e) → get_elem? (Driver new_driver ∷ Device new_device ∷ []) j ≡ some (Right f) → i ≡ j
+          apart_there : (i j : ℕ) (e f : Entry) → get_elem? (Driver new_driver ∷ Device (new_device queue) ∷ []) i ≡ some (Right e) → get_elem? (Driver new_driver ∷ Device (new_device queue) ∷ []) j ≡ some (Right f) → i ≡ j
           apart_there zero j e f at at' = (let both : Driver new_driver ≡ Right e = some-injective (Driver new_driver) (Right e) at in absurd (cc))
-          apart_there (suc zero) j e f at at' = (let both : Device new_device ≡ Right e = some-injective (Device new_device) (Right e) at in absurd (cc))
+          apart_there (suc zero) j e f at at' = (let both : Device (new_device queue) ≡ Right e = some-injective (Device (new_device queue)) (Right e) at in absurd (cc))
           apart_there (suc (suc i)) j e f at at' = absurd (some-ne-none (Right e) (sym at))
 
-  first_seat : (views : List View) (id : ℕ) (w : View) → views ≡ Start ∷ [] → get_elem? views id ≡ some w → id ≡ 0
+  first_seat : (views : List View) (id : ℕ) (w : View) → views ≡ (Start queue) ∷ [] → get_elem? views id ≡ some w → id ≡ 0
   first_seat views zero w e at = refl
   first_seat views (suc i) w e at = absurd (some-ne-none w (sym (subst (λ (vs : List View). get_elem? vs (suc i) ≡ some w) e at)))
 
-  pub splits_start : (id : ℕ) → Splits (Ring wanted queue n) id Start (Driver new_driver) (Device new_device)
-  splits_start id s (inl fresh) at = inr (new_driver, new_device, [], [], fresh_ring s id fresh (first_seat s.views id Start fresh.views at))
-  splits_start zero s (inr r) at = (let both : some (Driver r.0) ≡ some Start = sym r.4.seated.driver_at ∙ at in absurd (cc))
-  splits_start (suc zero) s (inr r) at = (let both : some (Device r.1) ≡ some Start = sym r.4.seated.device_at ∙ at in absurd (cc))
-  splits_start (suc (suc i)) s (inr r) at = absurd (r.4.seated.guests (suc (suc i)) Start (omega arith) at)
+  pub splits_start : (id : ℕ) → Splits (Ring wanted queue n) id (Start queue) (Driver new_driver) (Device (new_device queue))
+  splits_start id s (inl fresh) at = inr (new_driver, (new_device queue), [], [], fresh_ring s id fresh (first_seat s.views id (Start queue) fresh.views at))
+  splits_start zero s (inr r) at = (let both : some (Driver r.0) ≡ some (Start queue) = sym r.4.seated.driver_at ∙ at in absurd (cc))
+  splits_start (suc zero) s (inr r) at = (let both : some (Device r.1) ≡ some (Start queue) = sym r.4.seated.device_at ∙ at in absurd (cc))
+  splits_start (suc (suc i)) s (inr r) at = absurd (r.4.seated.guests (suc (suc i)) (Start queue) (omega arith) at)
 
   -- After a right was taken in, a load tells that it was lent.
   pub settles_returned : (slots id i : ℕ) (v : DeviceView) (e : Entry) (old : List Entry)
@@ -248,7 +246,7 @@ module _ {P : Type 0} (wanted : P → Bool) (queue : Queue) (n : ℕ) where
       still i f at = elim (at_set (set views 1 (Device (returned_after v e))) other i Spent (Right f) at) [ inl same ↦ absurd (cc) | inr else_there ↦ moved views (returned_after v e) i f else_there.1 ]
 
       guest_less : (i : ℕ) (w : View) → 1 < i → i ≢ other → get_elem? views i ≡ some w → IsGuest wanted queue n (without (head_of e) v.lent) w
-      guest_less i Start past apart at = seated.guests i Start past at
+      guest_less i (Start q) past apart at = seated.guests i (Start q) past at
       guest_less i (Driver x) past apart at = seated.guests i (Driver x) past at
       guest_less i (Device x) past apart at = seated.guests i (Device x) past at
       guest_less i (Right f) past apart at = has_without f (head_of e) v.lent (λ same. apart (seated.apart i other f e at at_other same)) (seated.guests i (Right f) past at)
@@ -269,6 +267,7 @@ module _ {P : Type 0} (wanted : P → Bool) (queue : Queue) (n : ℕ) where
         ordered = r.ordered;
         queued = r.queued;
         bounded = r.bounded;
+        device_queue = r.device_queue;
         shared = r.shared;
         once = r.once;
         below = r.below;

@@ -20,11 +20,11 @@ within (x ∷ xs) zero a e = omega arith
 within (x ∷ xs) (suc i) a e = let rest = within xs i a e in omega (arith, rest)
 
 module _ {P : Type 0} (wanted : P → Bool) (queue : Queue) (n : ℕ) where
-  new_start : (views : List View) (id : ℕ) (w : View) → views ≡ Start ∷ [] → get_elem? views id ≡ some w → w ≡ Start
+  new_start : (views : List View) (id : ℕ) (w : View) → views ≡ Start queue ∷ [] → get_elem? views id ≡ some w → w ≡ Start queue
   new_start views id w e at = go id (subst (λ (vs : List View). get_elem? vs id ≡ some w) e at)
     where
-      go : (id : ℕ) → get_elem? (Start ∷ []) id ≡ some w → w ≡ Start
-      go zero here = sym (some-injective Start w here)
+      go : (id : ℕ) → get_elem? (Start queue ∷ []) id ≡ some w → w ≡ Start queue
+      go zero here = sym (some-injective (Start queue) w here)
       go (suc i) here = absurd (some-ne-none w (sym here))
 
   -- a seat with a driver's view is the driver's

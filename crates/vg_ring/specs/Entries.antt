@@ -5,6 +5,8 @@ use Rattle.vg_ring.specs.declared.views.Entry.{Entry}
 use Rattle.vg_ring.specs.declared.views.Answer.{Answer}
 use Rattle.vg_ring.specs.declared.views.Stored.{Stored}
 use Rattle.vg_ring.specs.Cargo.{CargoData, base_of}
+use Rattle.vg_chain.specs.declared.shape.Shape.TheVariants.{Plain}
+use Rattle.vg_wire.specs.declared.request.Queue.TheVariants.{Control}
 use Rattle.vg_ring.specs.Words.{rest_word}
 
 -- The head's place is the first one.
@@ -99,3 +101,15 @@ without place (e ∷ more) = if head_of e == place then more else (e ∷ without
 abbrev pub Has : Entry → List Entry → Type 0
 Has e [] = ⊥
 Has e (f ∷ more) = (f ≡ e) ⊎ Has e more
+
+-- The first entry whose head is there.
+abbrev pub no_entry : Entry
+no_entry = record { places = []; queue = Control; lane = 0; ordinal = 0; shape = Plain; request = []; room = 0 }
+
+abbrev pub held_at : ℕ → List Entry → Entry
+held_at place [] = no_entry
+held_at place (e ∷ more) = if head_of e == place then e else held_at place more
+
+-- The answer that a cargo is for an entry.
+abbrev pub answer_with : {P : Type 0} → Entry → ℕ → CargoData P → Answer
+answer_with e len cargo = record { entry = e; len = len; response = cargo.parcel.response }

@@ -117,7 +117,7 @@ module _ {P : Type 0} (wanted : P → Bool) (queue : Queue) (n : ℕ) where
 
   -- What the seats from the third on know.
   abbrev pub IsGuest : List Entry → View → Type 0
-  IsGuest lent Start = ⊥
+  IsGuest lent (Start q) = ⊥
   IsGuest lent (Driver d) = ⊥
   IsGuest lent (Device v) = ⊥
   IsGuest lent (Right e) = Has e lent
@@ -138,6 +138,7 @@ module _ {P : Type 0} (wanted : P → Bool) (queue : Queue) (n : ℕ) where
     pub ordered : InOrder [] d.published
     pub queued : AreOf queue d.published
     pub bounded : length d.published < 2 ^ 63
+    pub device_queue : v.queue ≡ queue
     pub shared : (f : Entry → ℕ) → weigh f d.outs ≡ weigh f coming + weigh f v.held + weigh f (entries going)
     pub once : (h : ℕ) → uses h d.outs ≤ 1
     pub below : (h : ℕ) → 0 < uses h d.outs → h < n
@@ -165,7 +166,7 @@ module _ {P : Type 0} (wanted : P → Bool) (queue : Queue) (n : ℕ) where
   pub record IsNew (s : State (Option (CargoData P)) View) : Type 0 where
     pub words : s.words ≡ replicate (2 + 4 * n) 0
     pub homes : s.homes ≡ replicate n (some None)
-    pub views : s.views ≡ Start ∷ []
+    pub views : s.views ≡ Start queue ∷ []
 
   abbrev pub Ring : State (Option (CargoData P)) View → Type 0
   Ring s = IsNew s ⊎ ((d : DriverView) × (v : DeviceView) × (coming : List Entry) × (going : List Answer) × IsRing s d v coming going)
@@ -205,5 +206,5 @@ returned_after v e = record v { lent = without (head_of e) v.lent; stage = devic
 abbrev pub new_driver : DriverView
 new_driver = record { published = []; reaped = []; outs = []; looks = 0; seen = 0; stage = driver.Resting }
 
-abbrev pub new_device : DeviceView
-new_device = record { fetched = []; completed = []; held = []; lent = []; looks = 0; seen = 0; stage = device.Resting }
+abbrev pub new_device : Queue → DeviceView
+new_device queue = record { queue = queue; fetched = []; completed = []; held = []; lent = []; looks = 0; seen = 0; stage = device.Resting }

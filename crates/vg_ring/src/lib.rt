@@ -1,12 +1,13 @@
 //! The two ends of a split virtqueue that threads share (VIRTIO 1.2, 2.7).
 #![tactic(auto)]
 
-mod awaited;
 mod cargo;
+mod device;
 mod driver;
 mod law;
 mod made;
 mod parcel;
+mod plays;
 mod tagged;
 mod views;
 mod words;
