@@ -8,4 +8,5 @@ pub mod DriverSteps
 pub mod DeviceSteps
 pub mod RightSteps
 pub mod Told
+pub mod PlaceLemmas
 pub mod ToldDevice

@@ -4,3 +4,4 @@ pub mod Entries
 pub mod Rule
 pub mod Tells
 pub mod Plays
+pub mod Places

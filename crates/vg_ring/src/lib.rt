@@ -7,6 +7,7 @@ mod driver;
 mod law;
 mod made;
 mod parcel;
+mod places;
 mod plays;
 mod tagged;
 mod views;
