@@ -106,6 +106,17 @@ module _ {P : Type 0} (wanted : P → Bool) (queue : Queue) (n : ℕ) where
       (knows.0, stored_kept s.words p (addr_place p) a stored (inl refl) apart knows.1, here, small) in
       (Driver (staged d (driver.Half stored p a)), keeps, tt, rw w.id_is (inr (staged d (driver.Half stored p a), w.device, w.coming, w.going, next)), refl)
 
+  -- The address of the first descriptor of a publication.
+  pub stores_first : (slots id : ℕ) (d : DriverView) (p a : ℕ) → p < n → uses p d.outs ≡ 0
+      → Allows (Ring wanted queue n) slots id (Driver (staged d driver.Resting), []) (addr_place p) (λ _. a) (λ r me. me ≡ (Driver (staged d (driver.Half [] p a)), []))
+  stores_first slots id d p a small free = λ s ring many at bound.
+      let w = at_driver wanted queue n s id (staged d driver.Resting) ring at in
+      let long = w.ring.words in
+      let here : word_at (set s.words (addr_place p) a) (addr_place p) ≡ a = get_or-set_same s.words (addr_place p) a 0 (omega arith) in
+      let none_yet : AreFree wanted queue n [] d.outs = record { below = λ h some. absurd (omega arith); once = λ h. (let few = w.ring.once h in omega (arith, few)) } in
+      let next = stores s (staged d driver.Resting) (driver.Half [] p a) w.device w.coming w.going p (addr_place p) a w.ring small (inl refl) free (λ h no. no) (none_yet, tt, here, small) in
+      (Driver (staged d (driver.Half [] p a)), keeps, tt, rw w.id_is (inr (staged d (driver.Half [] p a), w.device, w.coming, w.going, next)), refl)
+
   twice : (h : ℕ) (stored : List Stored) (p a r : ℕ) → times h (places_of (stored ++ record { place = p; addr = a; rest = r } ∷ [])) ≡ times h (places_of stored) + times h (p ∷ [])
   twice h stored p a r = ap (times h) (places-snoc stored (record { place = p; addr = a; rest = r })) ∙ times-append h (places_of stored) (p ∷ [])
 

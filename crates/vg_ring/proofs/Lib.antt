@@ -9,4 +9,5 @@ pub mod DeviceSteps
 pub mod RightSteps
 pub mod Told
 pub mod PlaceLemmas
+pub mod LayLemmas
 pub mod ToldDevice

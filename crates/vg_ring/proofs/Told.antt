@@ -14,9 +14,9 @@ use Rattle.vg_ring.specs.declared.views.Answer.{Answer}
 use Rattle.vg_ring.specs.Words.{addr_place, rest_place, available_place, used_place, used_word}
 use Rattle.vg_ring.specs.Entries.{head_of, times, uses, spread, published_as}
 use Rattle.vg_ring.specs.Rule.{Ring, staged, place_of, places_of, published_after, looked_by_driver}
-use Rattle.vg_ring.specs.Plays.{driver_of, place_at, with_half, with_rest, offered, sent_with, rested}
+use Rattle.vg_ring.specs.Plays.{driver_of, laid, place_at, with_half, with_rest, offered, sent_with, rested}
 use Rattle.vg_ring.specs.Tells.{IsOffer, IsReaped}
-use Rattle.vg_ring.proofs.DriverSteps.{stores_address, stores_rest, offers_element, publishes, looks_at_used, takes_answer, settles_driver}
+use Rattle.vg_ring.proofs.DriverSteps.{stores_first, stores_address, stores_rest, offers_element, publishes, looks_at_used, takes_answer, settles_driver}
 
 -- a step at a seat that is known by an equation, and which tells something else
 pub allows_as : {S V : Type 0} (holds : State S V → Type 0) (slots id : ℕ) (me me' : Me S V) (i i' : ℕ) (f : ℕ → ℕ) (then then' : ℕ → Me S V → Type 0)
@@ -49,20 +49,26 @@ head_found wanted n d found me t head len same small few =
     (omega (arith, is, less, small, few), omega (arith, is, less, small, few))
 
 module _ {P : Type 0} (wanted : P → Bool) (queue : Queue) (n : ℕ) where
-  told_half : (me : Me (Option (CargoData P)) View) (d : DriverView) (stored : List Stored) (p a : ℕ) → me ≡ (Driver (staged d (driver.Writing stored)), []) → ◌≡◌ {A = Me (Option (CargoData P)) View} (with_half me.0 (2 + 2 * p) a, me.1) (Driver (staged d (driver.Half stored p a)), [])
-  told_half me d stored p a e =
+  told_half : (me : Me (Option (CargoData P)) View) (d : DriverView) (stored : List Stored) (p a : ℕ) → me ≡ (Driver (staged d (laid stored)), []) → ◌≡◌ {A = Me (Option (CargoData P)) View} (with_half me.0 (2 + 2 * p) a, me.1) (Driver (staged d (driver.Half stored p a)), [])
+  told_half me d [] p a e =
       let place : place_at (2 + 2 * p) ≡ p = omega arith in
-      ap {B = Me (Option (CargoData P)) View} (λ (m : Me (Option (CargoData P)) View). (with_half m.0 (2 + 2 * p) a, m.1)) e ∙ ap {B = Me (Option (CargoData P)) View} (λ (q : ℕ). (Driver (staged d (driver.Half stored q a)), [])) place
+      ap {B = Me (Option (CargoData P)) View} (λ (m : Me (Option (CargoData P)) View). (with_half m.0 (2 + 2 * p) a, m.1)) e ∙ ap {B = Me (Option (CargoData P)) View} (λ (q : ℕ). (Driver (staged d (driver.Half [] q a)), [])) place
+  told_half me d (s ∷ more) p a e =
+      let place : place_at (2 + 2 * p) ≡ p = omega arith in
+      ap {B = Me (Option (CargoData P)) View} (λ (m : Me (Option (CargoData P)) View). (with_half m.0 (2 + 2 * p) a, m.1)) e ∙ ap {B = Me (Option (CargoData P)) View} (λ (q : ℕ). (Driver (staged d (driver.Half (s ∷ more) q a)), [])) place
 
   told_rest : (me : Me (Option (CargoData P)) View) (d : DriverView) (stored : List Stored) (p a x : ℕ) → me ≡ (Driver (staged d (driver.Half stored p a)), [])
       → ◌≡◌ {A = Me (Option (CargoData P)) View} (with_rest me.0 x, me.1) (Driver (staged d (driver.Writing (stored ++ record { place = p; addr = a; rest = x } ∷ []))), [])
   told_rest me d stored p a x e = ap {B = Me (Option (CargoData P)) View} (λ (m : Me (Option (CargoData P)) View). (with_rest m.0 x, m.1)) e
 
-  pub address_step : (slots id : ℕ) (me : Me (Option (CargoData P)) View) (d : DriverView) (stored : List Stored) (p a : ℕ) → me ≡ (Driver (staged d (driver.Writing stored)), []) → p < n → uses p d.outs ≡ 0 → times p (places_of stored) ≡ 0
+  pub address_step : (slots id : ℕ) (me : Me (Option (CargoData P)) View) (d : DriverView) (stored : List Stored) (p a : ℕ) → me ≡ (Driver (staged d (laid stored)), []) → p < n → uses p d.outs ≡ 0 → times p (places_of stored) ≡ 0
       → Allows (Ring wanted queue n) slots id me (2 + 2 * p) (λ _. a) (λ _ after. after ≡ (with_half me.0 (2 + 2 * p) a, me.1))
-  address_step slots id me d stored p a e small free apart =
-      allows_as (Ring wanted queue n) slots id me (Driver (staged d (driver.Writing stored)), []) (2 + 2 * p) (addr_place p) (λ _. a) (λ _ after. after ≡ (Driver (staged d (driver.Half stored p a)), [])) (λ _ after. after ≡ (with_half me.0 (2 + 2 * p) a, me.1))
-      e refl (stores_address wanted queue n slots id d stored p a small free apart) (λ r m is. is ∙ sym (told_half me d stored p a e))
+  address_step slots id me d [] p a e small free apart =
+      allows_as (Ring wanted queue n) slots id me (Driver (staged d driver.Resting), []) (2 + 2 * p) (addr_place p) (λ _. a) (λ _ after. after ≡ (Driver (staged d (driver.Half [] p a)), [])) (λ _ after. after ≡ (with_half me.0 (2 + 2 * p) a, me.1))
+      e refl (stores_first wanted queue n slots id d p a small free) (λ r m is. is ∙ sym (told_half me d [] p a e))
+  address_step slots id me d (s ∷ more) p a e small free apart =
+      allows_as (Ring wanted queue n) slots id me (Driver (staged d (driver.Writing (s ∷ more))), []) (2 + 2 * p) (addr_place p) (λ _. a) (λ _ after. after ≡ (Driver (staged d (driver.Half (s ∷ more) p a)), [])) (λ _ after. after ≡ (with_half me.0 (2 + 2 * p) a, me.1))
+      e refl (stores_address wanted queue n slots id d (s ∷ more) p a small free apart) (λ r m is. is ∙ sym (told_half me d (s ∷ more) p a e))
 
   pub rest_step : (slots id : ℕ) (me : Me (Option (CargoData P)) View) (d : DriverView) (stored : List Stored) (p a x : ℕ) → me ≡ (Driver (staged d (driver.Half stored p a)), []) → p < n → uses p d.outs ≡ 0 → times p (places_of stored) ≡ 0
       → Allows (Ring wanted queue n) slots id me (2 + 2 * p + 1) (λ _. x) (λ _ after. after ≡ (with_rest me.0 x, me.1))
@@ -70,7 +76,7 @@ module _ {P : Type 0} (wanted : P → Bool) (queue : Queue) (n : ℕ) where
       allows_as (Ring wanted queue n) slots id me (Driver (staged d (driver.Half stored p a)), []) (2 + 2 * p + 1) (rest_place p) (λ _. x) (λ _ after. after ≡ (Driver (staged d (driver.Writing (stored ++ record { place = p; addr = a; rest = x } ∷ []))), [])) (λ _ after. after ≡ (with_rest me.0 x, me.1))
       e (omega arith) (stores_rest wanted queue n slots id d stored p a x small free apart) (λ r m is. is ∙ sym (told_rest me d stored p a x e))
 
-  pub half_is : (me after : Me (Option (CargoData P)) View) (d : DriverView) (stored : List Stored) (p a : ℕ) → me ≡ (Driver (staged d (driver.Writing stored)), []) → after ≡ (with_half me.0 (2 + 2 * p) a, me.1) → after ≡ (Driver (staged d (driver.Half stored p a)), [])
+  pub half_is : (me after : Me (Option (CargoData P)) View) (d : DriverView) (stored : List Stored) (p a : ℕ) → me ≡ (Driver (staged d (laid stored)), []) → after ≡ (with_half me.0 (2 + 2 * p) a, me.1) → after ≡ (Driver (staged d (driver.Half stored p a)), [])
   half_is me after d stored p a e is = is ∙ told_half me d stored p a e
 
   -- The available element of a cargo whose descriptors were stored.

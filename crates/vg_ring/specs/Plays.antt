@@ -39,7 +39,7 @@ place_at word = (word - 2) / 2
 
 -- After an address, or the rest of a descriptor, was stored.
 abbrev pub half_after : DriverStage → ℕ → ℕ → DriverStage
-half_after driver.Resting word x = driver.Resting
+half_after driver.Resting word x = driver.Half [] (place_at word) x
 half_after (driver.Writing stored) word x = driver.Half stored (place_at word) x
 half_after (driver.Half stored p a) word x = driver.Half stored p a
 half_after (driver.Offered stored) word x = driver.Offered stored
@@ -74,6 +74,14 @@ writing view stored = Driver (staged (driver_of view) (driver.Writing stored))
 
 abbrev pub written_by : View → List Stored
 written_by view = written_in (driver_of view).stage
+
+-- The stage once these descriptors are stored.
+abbrev pub laid : List Stored → DriverStage
+laid [] = driver.Resting
+laid (d ∷ more) = driver.Writing (d ∷ more)
+
+abbrev pub laying : View → View
+laying view = Driver (staged (driver_of view) (laid (written_by view)))
 
 -- After the available element was stored, and after the available index, where the cargo lay in the slot.
 abbrev pub offered : View → View
