@@ -10,4 +10,6 @@ pub mod RightSteps
 pub mod Told
 pub mod PlaceLemmas
 pub mod LayLemmas
+pub mod SendLemmas
+pub mod KeptLemmas
 pub mod ToldDevice

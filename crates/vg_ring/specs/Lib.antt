@@ -5,3 +5,4 @@ pub mod Rule
 pub mod Tells
 pub mod Plays
 pub mod Places
+pub mod Ends

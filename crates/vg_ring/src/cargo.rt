@@ -1,11 +1,13 @@
 //! What goes over a ring: a request with its room, and the pass that goes with it.
 
 ghost use Rattle.std.specs.Prelude.{◌≡◌, length, take, min};
+ghost use Rattle.vg_ring.specs.Cargo.{IsLane, IsExtent};
 
 use crate::parcel::{Parcel, Tag};
 use crate::tagged::Tagged;
 use std::marker::Model;
 use std::mem;
+use vg_chain::Extent;
 
 /// A parcel and its pass, which has the parcel's tag.
 #[derive(Drop)]
@@ -40,8 +42,15 @@ impl<P: Tagged> Cargo<P> {
     pub fn tag(&self) -> Tag
         ensures tag { (result.lane ≡ self.now.parcel.lane) × (result.ordinal ≡ self.now.parcel.ordinal) }
         ensures pass { P.tag_of self.now.pass ≡ (result.lane, result.ordinal) }
+        ensures lane { IsLane self.now.parcel.queue result.lane }
     {
         self.parcel.tag()
+    }
+
+    pub(crate) fn extent(&self) -> Extent
+        ensures { IsExtent self.now.parcel result.base result.request result.room }
+    {
+        self.parcel.extent()
     }
 
     /// The request's bytes.

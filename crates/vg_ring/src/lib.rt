@@ -4,16 +4,21 @@
 mod cargo;
 mod device;
 mod driver;
+mod driver_end;
 mod law;
 mod made;
+mod naming;
 mod parcel;
 mod places;
 mod plays;
+mod sending;
 mod tagged;
 mod views;
 mod words;
 
 pub use cargo::Cargo;
+pub use driver_end::{DriverEnd, Reaped};
+pub use naming::Naming;
 pub use parcel::{Parcel, Tag};
 pub use tagged::Tagged;
 pub use views::{Answer, DeviceStage, DeviceView, DriverStage, DriverView, Entry, Stored, View};

@@ -2,7 +2,7 @@
 
 ghost use Rattle.std.specs.Prelude.{◌≡◌, ◌+◌, ◌≤◌, ◌^◌, [], length, take, min, IfOk};
 ghost use Rattle.vg_chain.specs.Made.{IsCount, AreTables};
-ghost use Rattle.vg_ring.specs.Cargo.{IsLane};
+ghost use Rattle.vg_ring.specs.Cargo.{IsLane, IsExtent};
 ghost use Rattle.vg_ring.specs.Cargo as cargo;
 
 use std::alloc::{AllocError, Global};
@@ -110,9 +110,21 @@ impl Parcel {
         })
     }
 
+    /// Where the request and its room lie.
+    pub(crate) fn extent(&self) -> Extent
+        ensures { IsExtent self.now result.base result.request result.room }
+    {
+        Extent {
+            base: base_of(self.queue, self.head),
+            request: self.request.len() as u32,
+            room: self.room.len() as u32,
+        }
+    }
+
     /// The lane and the ordinal.
     pub fn tag(&self) -> Tag
-        ensures { (result.lane ≡ self.now.lane) × (result.ordinal ≡ self.now.ordinal) }
+        ensures tag { (result.lane ≡ self.now.lane) × (result.ordinal ≡ self.now.ordinal) }
+        ensures lane { IsLane self.now.queue result.lane }
     {
         self.tag
     }

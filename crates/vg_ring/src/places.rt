@@ -69,6 +69,14 @@ impl Places {
         })
     }
 
+    /// The first free place.
+    pub(crate) fn first(&self) -> u16
+        requires { self.now.at < length self.now.free.items }
+        ensures { result ≡ slice_index self.now.free.items self.now.at }
+    {
+        self.free[self.at]
+    }
+
     /// The next places, as many as `count`.
     pub(crate) fn front(&self, count: u16) -> &[u16]
         requires { self.now.at + count ≤ length self.now.free.items }
