@@ -11,6 +11,7 @@ use Rattle.vg_wire.specs.declared.request.Queue.{Queue}
 use Rattle.vg_ring.specs.declared.views.Entry.{Entry}
 use Rattle.vg_ring.specs.declared.views.Answer.{Answer}
 use Rattle.vg_ring.specs.declared.views.DriverView.{DriverView}
+use Rattle.vg_ring.specs.declared.views.DriverStage.{DriverStage}
 use Rattle.vg_ring.specs.declared.views.DriverStage.TheVariants as driver
 use Rattle.vg_ring.specs.declared.views.View.{View}
 use Rattle.vg_ring.specs.declared.views.View.TheVariants.{Driver}
@@ -233,3 +234,96 @@ count_fits size d published reaped free links at counts queue next lists shape n
 
 pub rests : {P : Type 0} (me : Me (Option (CargoData P)) View) (d : DriverView) → me ≡ (Driver (staged d driver.Resting), []) → me ≡ (resting_driver me.0, [])
 rests me d e = e ∙ sym (ap {B = Me (Option (CargoData _)) View} (λ (m : Me (Option (CargoData _)) View). (resting_driver m.0, [])) e)
+
+module _ {P : Type 0} (wanted : P → Bool) (size : ℕ) (d : DriverView) (published reaped : ℕ) (free links : List ℕ) (at : ℕ) (counts : List ℕ) (k : IsKept size d published reaped free links at counts) (looks seen : ℕ) where
+  abbrev looked : DriverStage → DriverView
+  looked stage = record d { looks = looks; seen = seen; stage = stage }
+
+  pub kept_looked : IsKept size (looked driver.Resting) published reaped free links at counts
+  kept_looked = record {
+    published_is = k.published_is;
+    reaped_is = k.reaped_is;
+    few = k.few;
+    balance = k.balance;
+    places = k.places;
+    lanes = k.lanes;
+    counts_are = k.counts_are;
+  }
+
+  module _ (head len : ℕ) (cargo : CargoData P) (me : Me (Option (CargoData P)) View) (r : HasReaped wanted size (looked driver.Newer) head len cargo me) where
+    pub given_is : IsGiven links free at head r.answer.entry.places
+    given_is =
+        let wrongs = r.outs (wrong_in links) in
+        let before = k.places.linked in
+        let spreads = r.outs places_in in
+        let at_is = k.places.at_is in
+        let most = k.places.at_most in
+        let free_size = k.places.free_size in
+        let links_size = k.places.links_size in
+        record {
+          path = record {
+            some = r.some_place;
+            head_is = sym r.head_is;
+            linked = omega (arith, wrongs, before);
+            apart = λ p. (let one = r.outs (uses_in p) in let once = k.places.once p in omega (arith, one, once));
+            below = λ p some. (let one = r.outs (uses_in p) in let less = k.places.below p (omega (arith, one, some)) in omega (arith, less, links_size));
+          };
+          many = omega (arith, spreads, at_is);
+          most = omega (arith, most, free_size);
+        }
+
+    pub kept_reaped : (free' : List ℕ) (at' : ℕ) → length free' ≡ length free → IsGivenBack free at free' at' r.answer.entry.places
+        → IsKept size (staged (reaped_after (looked driver.Newer) r.answer) driver.Resting) published (reaped + 1) free' links at' counts
+    kept_reaped free' at' same given =
+        let wrongs = r.outs (wrong_in links) in
+        let before = k.places.linked in
+        let spreads = r.outs places_in in
+        let at_is = k.places.at_is in
+        let most = k.places.at_most in
+        let fewer = given.fewer in
+        let is = k.reaped_is in
+        let grown = length-append d.reaped (r.answer ∷ []) in
+        record {
+          published_is = k.published_is;
+          reaped_is = omega (arith, is, grown);
+          few = k.few;
+          balance = λ f.
+              (let old = k.balance f in
+              let one = r.outs f in
+              let all : weigh f (entries (d.reaped ++ r.answer ∷ [])) ≡ weigh f (entries d.reaped ++ r.answer.entry ∷ []) = ap (weigh f) (entries-append d.reaped (r.answer ∷ [])) in
+              let more = weigh-append f (entries d.reaped) (r.answer.entry ∷ []) in
+              omega (arith, old, one, all, more));
+          places = record {
+            free_size = same ∙ k.places.free_size;
+            links_size = k.places.links_size;
+            at_is = omega (arith, spreads, at_is, fewer);
+            at_most = omega (arith, most, fewer);
+            once = λ p. (let once = k.places.once p in let one = r.outs (uses_in p) in let back = given.counts p in omega (arith, once, one, back));
+            below = λ p some. k.places.below p (let one = r.outs (uses_in p) in let back = given.counts p in omega (arith, one, back, some));
+            linked = omega (arith, wrongs, before);
+          };
+          lanes = k.lanes;
+          counts_are = k.counts_are;
+        }
+
+    pub reaps_is : (queue : Queue) (next next' : ℕ) (new : DriverLists) → looks ≡ d.looks + 1 → new ≡ driver_lists queue size next' (staged (reaped_after (looked driver.Newer) r.answer) driver.Resting)
+        → Reaps wanted (driver_lists queue size next d) head len cargo new
+    reaps_is queue next next' new looks_is is = record {
+      answer = r.answer;
+      reaped = ap (λ (l : DriverLists). l.reaped) is;
+      head_is = r.head_is;
+      len_is = r.len_is;
+      done = r.done;
+      once = λ f.
+          (let old = k.balance f in
+          let one = r.outs f in
+          let all : weigh f (entries (d.reaped ++ r.answer ∷ [])) ≡ weigh f (entries d.reaped ++ r.answer.entry ∷ []) = ap (weigh f) (entries-append d.reaped (r.answer ∷ [])) in
+          let more = weigh-append f (entries d.reaped) (r.answer.entry ∷ []) in
+          let now : weigh f (entries new.reaped) ≡ weigh f (entries (d.reaped ++ r.answer ∷ [])) = ap (λ (l : DriverLists). weigh f (entries l.reaped)) is in
+          let sent : weigh f new.published ≡ weigh f d.published = ap (λ (l : DriverLists). weigh f l.published) is in
+          omega (arith, old, one, all, more, now, sent));
+      most = r.fewer;
+      published = ap (λ (l : DriverLists). l.published) is;
+      same = (ap (λ (l : DriverLists). l.queue) is, ap (λ (l : DriverLists). l.size) is);
+      looks = ap (λ (l : DriverLists). l.looks) is ∙ looks_is;
+    }
