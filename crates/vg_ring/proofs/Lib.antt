@@ -12,4 +12,5 @@ pub mod PlaceLemmas
 pub mod LayLemmas
 pub mod SendLemmas
 pub mod KeptLemmas
+pub mod TendedLemmas
 pub mod ToldDevice

@@ -25,7 +25,7 @@ has_choice : (e f : Entry) (es fs : List Entry) (b : Bool) → Has e es → Has 
 has_choice e f es fs true has rest = has
 has_choice e f es fs false has rest = inr rest
 
-has_without : (e : Entry) (h : ℕ) (es : List Entry) → head_of e ≢ h → Has e es → Has e (without h es)
+pub has_without : (e : Entry) (h : ℕ) (es : List Entry) → head_of e ≢ h → Has e es → Has e (without h es)
 has_without e h [] other has = absurd has
 has_without e h (f ∷ es) other (inl same) = (let away : eqb (head_of f) h ≡ false = ne_eqb (head_of f) h (λ e'. other (ap head_of (sym same) ∙ e')) in rw away (inl same))
 has_without e h (f ∷ es) other (inr has) = has_choice e f es (without h es) (eqb (head_of f) h) has (has_without e h es other has)

@@ -6,3 +6,4 @@ pub mod Tells
 pub mod Plays
 pub mod Places
 pub mod Ends
+pub mod DeviceEnds

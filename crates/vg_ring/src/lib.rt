@@ -3,6 +3,7 @@
 
 mod cargo;
 mod device;
+mod device_end;
 mod driver;
 mod driver_end;
 mod law;
@@ -11,15 +12,18 @@ mod naming;
 mod parcel;
 mod places;
 mod plays;
+mod right;
 mod sending;
 mod tagged;
 mod views;
 mod words;
 
 pub use cargo::Cargo;
+pub use device_end::{DeviceEnd, Fetched};
 pub use driver_end::{DriverEnd, Reaped};
 pub use naming::Naming;
 pub use parcel::{Parcel, Tag};
+pub use right::Right;
 pub use tagged::Tagged;
 pub use views::{Answer, DeviceStage, DeviceView, DriverStage, DriverView, Entry, Stored, View};
 pub use words::words_are_bytes;

@@ -1,0 +1,119 @@
+//! The device's end of a ring (VIRTIO 1.2, 2.7.6 and 2.7.8).
+
+ghost use Rattle.std.specs.Prelude.{◌≡◌, ◌+◌, ◌<◌, false, [], ◌∷◌, length, MatchOption};
+ghost use Rattle.vg_ring.specs.declared.views.Entry.{Entry};
+ghost use Rattle.vg_ring.specs.Entries.{head_of, heads, Has};
+ghost use Rattle.vg_ring.specs.DeviceEnds.{HasAt, IsCargoOf, Fetches, FetchesNone, TakesIn, completing};
+
+use crate::cargo::Cargo;
+use crate::device::{cut_right, give_back, join_right, look_at_available, take_entry};
+use crate::law::{Line, Pass};
+use crate::naming::Naming;
+use crate::parcel::Tag;
+use crate::right::Right;
+use crate::tagged::Tagged;
+use std::marker::{Model, PhantomData};
+use std::sync::Arc;
+
+/// A cargo that was fetched, and the place of its head descriptor.
+#[derive(Drop)]
+pub struct Fetched<P: Tagged> {
+    pub head: u16,
+    pub cargo: Cargo<P>,
+}
+
+/// The end that fetches cargoes and gives them back.
+#[derive(Drop)]
+pub struct DeviceEnd<P: Tagged, N: Naming> {
+    line: Arc<Line<P>>,
+    pass: Pass<P>,
+    size: u16,
+    fetched: u64,
+    completed: u64,
+    /// The tag of the cargo of each head.
+    tags: Vec<Tag>,
+    of: PhantomData<N>,
+}
+
+impl<P: Tagged, N: Naming> Model for DeviceEnd<P, N> {
+    ghost use Rattle.std.specs.Prelude.{◌≡◌, []};
+    ghost use Rattle.vg_ring.specs.Ends.{IsOnLine};
+    ghost use Rattle.vg_ring.specs.DeviceEnds.{DeviceLists, device_lists, IsTended};
+    ghost use Rattle.vg_ring.specs.Plays.{device_of, queue_of, resting_device};
+
+    ghost Value = { DeviceLists };
+
+    ghost view = { λ t. device_lists t.size (device_of t.pass.me.0) };
+
+    ghost invariant = { λ t. IsOnLine N.ring t.line.value.shared.table_id t.pass.table_id t.line.value.shared.key (queue_of t.pass.me.0) t.size × (t.pass.me ≡ (resting_device t.pass.me.0, [])) × IsTended t.size (device_of t.pass.me.0) t.fetched t.completed t.tags.items };
+}
+
+impl<P: Tagged, N: Naming> DeviceEnd<P, N> {
+    /// How many cargoes were fetched.
+    pub fn fetched(&self) -> u64
+        ensures { result ≡ length self.now.fetched }
+    {
+        self.fetched
+    }
+
+    /// How many cargoes were completed.
+    pub fn completed(&self) -> u64
+        ensures { result ≡ length self.now.completed }
+    {
+        self.completed
+    }
+
+    /// The next cargo. None where the available index that was loaded is the count.
+    pub fn fetch(&mut self) -> Option<Fetched<P>>
+        ensures { MatchOption result (FetchesNone self.old self.new) (λ f. Fetches P.is_wanted self.old f.head f.cargo self.new) }
+    {
+        let found = look_at_available(&self.line, &mut self.pass);
+        if found == self.fetched % 65536 {
+            return None;
+        }
+        let (head, cargo) = take_entry(&self.line, &mut self.pass, self.size, self.fetched);
+        self.tags[head as usize] = cargo.tag();
+        self.fetched += 1;
+        Some(Fetched { head, cargo })
+    }
+
+    /// A right to the cargo of a head that was fetched, and that isn't completed nor lent.
+    pub fn lend(&mut self, head: u16) -> Right<N>
+        requires held { (e : Entry) × HasAt e head self.old.held }
+        requires unlent { heads head self.old.lent ≡ 0 }
+        ensures entry { HasAt result.entry head self.old.held }
+        ensures walked { result.walked ≡ false }
+        ensures lent { self.new ≡ record self.old { lent = result.entry ∷ self.old.lent } }
+    {
+        let seat = cut_right(&self.line, &mut self.pass, head);
+        Right::of(seat, head, self.tags[head as usize])
+    }
+
+    /// Takes a right in, which ends the loan.
+    pub fn take_in(&mut self, right: Right<N>)
+        ensures { TakesIn self.old right self.new }
+    {
+        join_right(&self.line, &mut self.pass, right.into_seat());
+    }
+
+    /// Gives back the cargo of a head that was fetched, and that isn't completed nor lent, with a pass that isn't wanted
+    /// and the length of its response.
+    pub fn complete(&mut self, head: u16, len: u32, cargo: Cargo<P>)
+        requires entry { (e : Entry) × HasAt e head self.old.held × IsCargoOf e cargo }
+        requires unlent { heads head self.old.lent ≡ 0 }
+        requires len { length cargo.parcel.response ≡ len }
+        requires done { P.is_wanted cargo.pass ≡ false }
+        ensures { (e : Entry) → HasAt e head self.old.held → self.new ≡ completing self.old e len cargo }
+    {
+        give_back(
+            &self.line,
+            &mut self.pass,
+            self.size,
+            self.completed,
+            head,
+            len,
+            cargo,
+        );
+        self.completed += 1;
+    }
+}
