@@ -156,6 +156,7 @@ module _ {P : Type 0} (wanted : P → Bool) (queue : Queue) (n : ℕ) where
           ordered = in_order-front [] (v.fetched ++ e ∷ []) coming (subst (λ (es : List Entry). InOrder [] es) all r.ordered);
           of_queue = (of-back queue v.fetched (e ∷ coming) (subst (λ (es : List Entry). AreOf queue es) r.sent r.queued)).0 ∙ sym r.device_queue;
           some_place = r.come_heads.0;
+          apart = λ p. (let all = r.shared (uses_in p) in let one = r.once p in omega (arith, all, one));
           bounded = (let long = ap length all ∙ length-append (v.fetched ++ e ∷ []) coming in let one = length-append v.fetched (e ∷ []) in let old = r.bounded in omega (arith, long, one, old));
           most = (
             let ones = r.matched (λ _. 1) in

@@ -225,7 +225,7 @@ module _ {P : Type 0} (wanted : P → Bool) (queue : Queue) (n : ℕ) where
   -- The available index, and the slot goes home with the cargo.
   pub publishes : (slots id : ℕ) (d : DriverView) (first : Stored) (stored : List Stored) (e : Entry) (cargo : CargoData P)
       → first ∷ stored ≡ stored_of n e → places_of (first ∷ stored) ≡ e.places → spread d.outs + length e.places ≤ n
-      → IsFresh wanted e cargo → e.ordinal ≡ lane_count e.lane d.published + 1 → e.queue ≡ queue → length d.published + 1 < 2 ^ 63
+      → IsFresh wanted n e cargo → e.ordinal ≡ lane_count e.lane d.published + 1 → e.queue ≡ queue → length d.published + 1 < 2 ^ 63
       → Allows (Ring wanted queue n) slots id (Driver (staged d (driver.Offered (first ∷ stored))), (first.place, Some cargo) ∷ []) 0 (λ _. (length d.published + 1) % 65536)
       (λ _ me. me ≡ (Driver (published_after d e), []))
   publishes slots id d first stored e cargo made_is places_are room fresh ordinal of_queue few_sent = λ s ring many at bound.

@@ -9,8 +9,8 @@ use Rattle.vg_ring.specs.declared.views.DriverView.{DriverView}
 use Rattle.vg_ring.specs.declared.views.View.{View}
 use Rattle.vg_ring.specs.declared.views.View.TheVariants.{Driver}
 use Rattle.vg_ring.specs.Cargo.{CargoData}
-use Rattle.vg_ring.specs.Words.{rest_word}
-use Rattle.vg_ring.specs.Entries.{times, uses, stored_at}
+use Rattle.vg_ring.specs.Words.{rest_word, descriptor_from}
+use Rattle.vg_ring.specs.Entries.{times, uses, stored_at, AreBack}
 use Rattle.vg_ring.specs.Rule.{staged, places_of}
 use Rattle.vg_ring.specs.Plays.{driver_of, laid, laying, writing, written_by}
 use Rattle.vg_ring.proofs.PlaceLemmas.{times_get}
@@ -86,3 +86,16 @@ pub is_there : (ring : List Descriptor) (i : ℕ) (x : Option Descriptor) → i 
 is_there [] i x less is = absurd (omega arith)
 is_there (d ∷ ring) zero x less is = ap is_some (sym is)
 is_there (d ∷ ring) (suc i) x less is = is_there ring i x (omega arith) is
+
+pub back_next : (ring : List Descriptor) (i : ℕ) (x : Descriptor) → slice_get ring i ≡ Some x → descriptor_from x.addr (rest_word x) ≡ x → AreBack (take i ring) → AreBack (take (i + 1) ring)
+back_next ring i x there is back = subst (λ (k : ℕ). AreBack (take k ring)) (let one : suc i ≡ i + 1 = omega arith in one) (go ring i there back)
+  where
+    go : (ring : List Descriptor) (i : ℕ) → slice_get ring i ≡ Some x → AreBack (take i ring) → AreBack (take (suc i) ring)
+    go [] i there back = tt
+    go (d ∷ ring) zero there back = (let same : d ≡ x = cc in subst (λ (y : Descriptor). descriptor_from y.addr (rest_word y) ≡ y) (sym same) is, tt)
+    go (d ∷ ring) (suc i) there back = (back.0, go ring i there back.1)
+
+pub back_all : (ring : List Descriptor) (i : ℕ) → length ring ≤ i → AreBack (take i ring) → AreBack ring
+back_all [] i less back = tt
+back_all (d ∷ ring) zero less back = absurd (omega arith)
+back_all (d ∷ ring) (suc i) less back = (back.0, back_all ring i (omega arith) back.1)

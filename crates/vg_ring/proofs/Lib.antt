@@ -13,4 +13,5 @@ pub mod LayLemmas
 pub mod SendLemmas
 pub mod KeptLemmas
 pub mod TendedLemmas
+pub mod MadeLemmas
 pub mod ToldDevice

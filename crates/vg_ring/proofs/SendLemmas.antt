@@ -2,14 +2,14 @@ use Rattle.std.proofs.Common.{◌≡◌, ℕ, ◌+◌, ◌<◌, ◌≤◌, Bool,
 use Rattle.atomic_table.specs.Table.{Me}
 use Rattle.vg_chain.specs.declared.descriptor.Descriptor.{Descriptor}
 use Rattle.vg_chain.specs.declared.shape.Shape.{Shape}
-use Rattle.vg_chain.specs.Made.{made}
+use Rattle.vg_chain.specs.Made.{made, IsCount, IsNeeded}
 use Rattle.vg_wire.specs.declared.request.Queue.{Queue}
 use Rattle.vg_ring.specs.declared.views.Stored.{Stored}
 use Rattle.vg_ring.specs.declared.views.DriverView.{DriverView}
 use Rattle.vg_ring.specs.declared.views.View.{View}
 use Rattle.vg_ring.specs.declared.views.View.TheVariants.{Driver}
 use Rattle.vg_ring.specs.Cargo.{CargoData, IsExtent, base_of}
-use Rattle.vg_ring.specs.Entries.{stored_at, stored_of, published_as}
+use Rattle.vg_ring.specs.Entries.{stored_at, stored_of, ring_of, AreBack, published_as}
 use Rattle.vg_ring.specs.Ends.{IsSendable}
 use Rattle.vg_ring.specs.Rule.{staged, places_of, published_after}
 use Rattle.vg_ring.specs.Plays.{driver_of, laid, written_by}
@@ -44,14 +44,25 @@ module _ {P : Type 0} (wanted : P → Bool) (queue : Queue) (n : ℕ) where
       ∙ (ap (λ (z : ℕ). stored_by p.shape (length p.request) p.room z places) base
       ∙ ap (λ (ps : List ℕ). stored_by p.shape (length p.request) p.room (base_of p.queue (get_or ps 0 0)) ps) (sym (stored_places places (made shape m r b n places).ring many)))))
 
+  ring_is : (shape : Shape) (m r b published : ℕ) (d : DriverView) (places : List ℕ) (cargo : CargoData P) → IsSendable wanted queue n d published shape places cargo → IsExtent cargo.parcel b m r → length (made shape m r b n places).ring ≡ length places
+      → (made shape m r b n places).ring ≡ ring_of n (published_as (places_of (stored_by shape m r b places)) cargo)
+  ring_is shape m r b published d places cargo s x many =
+      let p = cargo.parcel in
+      let base : b ≡ base_of p.queue (get_or places 0 0) = x.base ∙ ap (base_of p.queue) (sym s.head_is) in
+      ap (λ (z : Shape). (made z m r b n places).ring) (sym s.shape_is)
+      ∙ (ap (λ (z : ℕ). (made p.shape z r b n places).ring) x.request
+      ∙ (ap (λ (z : ℕ). (made p.shape (length p.request) z b n places).ring) x.room
+      ∙ (ap (λ (z : ℕ). (made p.shape (length p.request) p.room z n places).ring) base
+      ∙ ap (λ (ps : List ℕ). (made p.shape (length p.request) p.room (base_of p.queue (get_or ps 0 0)) n ps).ring) (sym (stored_places places (made shape m r b n places).ring many)))))
+
   pub many_in : (shape : Shape) (m r b published : ℕ) (d : DriverView) (places : List ℕ) (cargo : CargoData P) → IsSendable wanted queue n d published shape places cargo → IsExtent cargo.parcel b m r → length (made shape m r b n places).ring ≡ length places
   many_in shape m r b published d places cargo s x =
       subst (λ (z : ℕ). length (made shape z r b n places).ring ≡ length places) (sym x.request) (subst (λ (z : ℕ). length (made shape (length cargo.parcel.request) z b n places).ring ≡ length places) (sym x.room) (s.needed b n places))
 
   pub offer_is : (me : Me (Option (CargoData P)) View) (shape : Shape) (m r b published : ℕ) (d : DriverView) (places : List ℕ) (cargo : CargoData P)
-      → IsSendable wanted queue n d published shape places cargo → IsExtent cargo.parcel b m r → me ≡ (Driver (staged d (laid (stored_by shape m r b places))), [])
+      → IsSendable wanted queue n d published shape places cargo → IsExtent cargo.parcel b m r → AreBack (made shape m r b n places).ring → me ≡ (Driver (staged d (laid (stored_by shape m r b places))), [])
       → IsOffer wanted queue n (driver_of me.0) (written_by me.0) (get_or places 0 0) cargo
-  offer_is me shape m r b published d places cargo s x e =
+  offer_is me shape m r b published d places cargo s x back e =
       let stored = stored_by shape m r b places in
       let many = many_in shape m r b published d places cargo s x in
       let places_are = stored_places places (made shape m r b n places).ring many in
@@ -72,6 +83,9 @@ module _ {P : Type 0} (wanted : P → Bool) (queue : Queue) (n : ℕ) where
         queue_is = s.queue_is;
         few = omega (arith, count, last);
         wanted_is = s.wanted_is;
+        count = subst IsCount (sym s.shape_is) s.count;
+        needed = subst (λ (z : ℕ). IsNeeded cargo.parcel.shape (length cargo.parcel.request) cargo.parcel.room z) (sym long) (subst (λ (z : Shape). IsNeeded z (length cargo.parcel.request) cargo.parcel.room (length places)) (sym s.shape_is) s.needed);
+        back = subst AreBack (ring_is shape m r b published d places cargo s x many) back;
       }))
 
   pub sent_is : (me after : Me (Option (CargoData P)) View) (shape : Shape) (m r b published : ℕ) (d : DriverView) (places : List ℕ) (cargo : CargoData P)

@@ -31,7 +31,7 @@ module _ {P : Type 0} (wanted : P → Bool) (queue : Queue) (n : ℕ) where
       let other = heads_here h a.entry (entries more) apart in
       ((lie.0.0, set_else homes h (head_of a.entry) x other.0 ∙ lie.0.1, lie.0.2), lie_kept homes h x more other.1 lie.1)
 
-  pub wait_snoc : (homes : Homes wanted queue n) (es : List Entry) (e : Entry) (cargo : CargoData P) → Wait wanted queue n homes es → get_elem? homes (head_of e) ≡ some (some (Some cargo)) → IsFresh wanted e cargo
+  pub wait_snoc : (homes : Homes wanted queue n) (es : List Entry) (e : Entry) (cargo : CargoData P) → Wait wanted queue n homes es → get_elem? homes (head_of e) ≡ some (some (Some cargo)) → IsFresh wanted n e cargo
       → Wait wanted queue n homes (es ++ e ∷ [])
   wait_snoc homes [] e cargo wait here fresh = ((cargo, here, fresh), tt)
   wait_snoc homes (f ∷ es) e cargo wait here fresh = (wait.0, wait_snoc homes es e cargo wait.1 here fresh)

@@ -13,7 +13,7 @@ use Rattle.vg_ring.specs.declared.views.DeviceStage.TheVariants as device
 use Rattle.vg_ring.specs.declared.views.View.{View}
 use Rattle.vg_ring.specs.declared.views.View.TheVariants.{Device, Right}
 use Rattle.vg_ring.specs.Cargo.{CargoData, IsLane}
-use Rattle.vg_ring.specs.Entries.{head_of, head_in, entries, weigh, heads, without, published_as, answer_with, held_at, Has, IsFresh, IsDone, InOrder}
+use Rattle.vg_ring.specs.Entries.{head_of, head_in, entries, weigh, heads, without, published_as, answer_with, held_at, times, Has, IsWhole, IsFresh, IsDone, InOrder}
 use Rattle.vg_ring.specs.Rule.{set_stage, fetched_after, completed_after, lent_after, returned_after, looked_by_device}
 use Rattle.vg_ring.specs.Plays.{device_of, queue_of, right_of, resting_device}
 use Rattle.vg_ring.specs.Tells.{HasTaken}
@@ -83,6 +83,9 @@ module _ (size : ℕ) (v : DeviceView) (fetched completed : ℕ) (tags : List Ta
     below = k.below;
     lent_once = k.lent_once;
     lent_held = k.lent_held;
+    whole = k.whole;
+    apart = k.apart;
+    some_place = k.some_place;
     tags_size = k.tags_size;
     tags_are = k.tags_are;
   }
@@ -112,6 +115,9 @@ module _ (size : ℕ) (v : DeviceView) (fetched completed : ℕ) (tags : List Ta
           ];
           lent_once = k.lent_once;
           lent_held = λ f has. inr (k.lent_held f has);
+          whole = λ f has. elim has [ inl same ↦ subst (IsWhole size) same r.fresh.whole | inr old ↦ k.whole f old ];
+          apart = λ f has. elim has [ inl same ↦ subst (λ (x : Entry). (p : ℕ) → times p x.places ≤ 1) same r.apart | inr old ↦ k.apart f old ];
+          some_place = λ f has. elim has [ inl same ↦ subst (λ (x : Entry). 0 < length x.places) same r.some_place | inr old ↦ k.some_place f old ];
           tags_size = tags_long tags head tag ∙ k.tags_size;
           tags_are = λ f has. elim has [
             | inl same ↦ (
@@ -176,6 +182,9 @@ module _ (size : ℕ) (v : DeviceView) (fetched completed : ℕ) (tags : List Ta
           | inr other ↦ (let here : head_in h e ≡ 0 = rw (ne_eqb (head_of e) h other) refl in let old = k.lent_once h in omega (arith, here, old))
         ];
         lent_held = λ f lent. elim lent [ inl same ↦ subst (λ (x : Entry). Has x v.held) same has.0 | inr old ↦ k.lent_held f old ];
+        whole = k.whole;
+        apart = k.apart;
+        some_place = k.some_place;
         tags_size = k.tags_size;
         tags_are = k.tags_are;
       })
@@ -190,6 +199,9 @@ module _ (size : ℕ) (v : DeviceView) (fetched completed : ℕ) (tags : List Ta
     below = k.below;
     lent_once = λ h. (let fewer = heads_without h (head_of e) v.lent in let old = k.lent_once h in omega (arith, fewer, old));
     lent_held = λ f has. k.lent_held f (has_left f (head_of e) v.lent has);
+    whole = k.whole;
+    apart = k.apart;
+    some_place = k.some_place;
     tags_size = k.tags_size;
     tags_are = k.tags_are;
   }
@@ -264,6 +276,9 @@ module _ (size : ℕ) (v : DeviceView) (fetched completed : ℕ) (tags : List Ta
         below = λ g left. k.below g (has_left g head v.held left);
         lent_once = k.lent_once;
         lent_held = λ g lent. has_without g head v.held (λ same. (let some = has_heads g v.lent lent in let moved : heads (head_of g) v.lent ≡ heads head v.lent = ap (λ (i : ℕ). heads i v.lent) same in omega (arith, some, moved, unlent))) (k.lent_held g lent);
+        whole = λ g left. k.whole g (has_left g head v.held left);
+        apart = λ g left. k.apart g (has_left g head v.held left);
+        some_place = λ g left. k.some_place g (has_left g head v.held left);
         tags_size = k.tags_size;
         tags_are = λ g left. k.tags_are g (has_left g head v.held left);
       }
@@ -291,6 +306,7 @@ device_ok ring table seat seat' key queue size me v fetched completed tags on sa
     queue_is = on.queue_is ∙ (sym queue_same ∙ sym (ap {B = Queue} (λ (m : Me (Option (CargoData _)) View). queue_of m.0) e));
     size_is = on.size_is;
     some = on.some;
+    least = on.least;
     small = on.small;
   },
   rests_device me v e,

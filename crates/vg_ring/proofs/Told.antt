@@ -2,6 +2,7 @@ use Rattle.std.proofs.Common.{◌≡◌, ℕ, ◌+◌, ◌*◌, ◌%◌, ◌<◌
 use Rattle.std.specs.Prelude.{Option, Some, None, slice_index}
 use Rattle.std.proofs.lemmas.List.{length-map}
 use Rattle.atomic_table.specs.Table.{State, Allows, Me, rest}
+use Rattle.vg_chain.specs.Made.{IsNeeded}
 use Rattle.vg_ring.specs.declared.views.Stored.{Stored}
 use Rattle.vg_ring.specs.declared.views.DriverStage.TheVariants as driver
 use Rattle.vg_ring.specs.declared.views.DriverView.{DriverView}
@@ -104,7 +105,7 @@ module _ {P : Type 0} (wanted : P → Bool) (queue : Queue) (n : ℕ) where
       subst (λ (y : ℕ). Allows (Ring wanted queue n) slots id me 0 (λ _. y) (λ _ after. after ≡ (sent_with me.0 me.1, []))) (sym count)
       (allows_as (Ring wanted queue n) slots id me (Driver (staged d (driver.Offered (first ∷ more))), (first.place, Some cargo) ∷ []) 0 0 (λ _. (length d.published + 1) % 65536)
       (λ _ after. after ≡ (Driver (published_after d entry), [])) (λ _ after. after ≡ (sent_with me.0 me.1, []))
-      e' refl (publishes wanted queue n slots id d first more entry cargo offer.stored_is refl room (record { entry = refl; head_is = offer.head_is ∙ sym offer.first; wanted_is = offer.wanted_is }) offer.ordinal offer.queue_is offer.few)
+      e' refl (publishes wanted queue n slots id d first more entry cargo offer.stored_is refl room (record { entry = refl; head_is = offer.head_is ∙ sym offer.first; wanted_is = offer.wanted_is; whole = record { count = offer.count; needed = subst (λ (m : ℕ). IsNeeded cargo.parcel.shape (length cargo.parcel.request) cargo.parcel.room m) (sym (long (first ∷ more))) offer.needed; back = offer.back } }) offer.ordinal offer.queue_is offer.few)
       (λ r m told. told ∙ sym (ap {B = Me (Option (CargoData P)) View} (λ (m : Me (Option (CargoData P)) View). (sent_with m.0 m.1, [])) e')))
 
   -- The used element.

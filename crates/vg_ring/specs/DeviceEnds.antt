@@ -8,7 +8,7 @@ use Rattle.vg_ring.specs.declared.views.DeviceView.{DeviceView}
 use Rattle.vg_ring.specs.declared.views.View.{View}
 use Rattle.vg_ring.specs.declared.views.View.TheVariants.{Right}
 use Rattle.vg_ring.specs.Cargo.{CargoData, IsLane}
-use Rattle.vg_ring.specs.Entries.{head_of, entries, weigh, heads, without, published_as, no_entry, answer_with, Has, IsFresh, InOrder}
+use Rattle.vg_ring.specs.Entries.{head_of, entries, weigh, heads, without, published_as, no_entry, answer_with, times, Has, IsWhole, IsFresh, InOrder}
 use Rattle.vg_ring.specs.Plays.{right_of}
 
 -- What is known at the device's end: which queue it is and how many descriptors that has, what was fetched and what was
@@ -42,7 +42,7 @@ pub record Fetches {P : Type 0} (wanted : P → Bool) (old : DeviceLists) (head 
   pub held : new.held ≡ entry ∷ old.held
   pub head_is : head ≡ head_of entry
   pub small : head < old.size
-  pub fresh : IsFresh wanted entry cargo
+  pub fresh : IsFresh wanted old.size entry cargo
   pub of_queue : entry.queue ≡ old.queue
   pub lane : IsLane entry.queue entry.lane
   pub ordered : InOrder [] new.fetched
@@ -111,5 +111,8 @@ pub record IsTended (size : ℕ) (v : DeviceView) (fetched completed : ℕ) (tag
   pub below : (e : Entry) → Has e v.held → head_of e < size
   pub lent_once : (h : ℕ) → heads h v.lent ≤ 1
   pub lent_held : (e : Entry) → Has e v.lent → Has e v.held
+  pub whole : (e : Entry) → Has e v.held → IsWhole size e
+  pub apart : (e : Entry) → Has e v.held → (p : ℕ) → times p e.places ≤ 1
+  pub some_place : (e : Entry) → Has e v.held → 0 < length e.places
   pub tags_size : length tags ≡ size
   pub tags_are : (e : Entry) → Has e v.held → slice_get tags (head_of e) ≡ Some (tag_of e)

@@ -72,6 +72,7 @@ pub record IsOnLine (ring table seat : TableId) (key : Size) (queue : Queue) (si
   pub queue_is : key.queue ≡ queue
   pub size_is : key.count ≡ size
   pub some : 0 < size
+  pub least : 2 ≤ size
   pub small : size ≤ 32768
 
 -- What the driver's end keeps is what its view tells.

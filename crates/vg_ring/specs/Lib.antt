@@ -7,3 +7,4 @@ pub mod Plays
 pub mod Places
 pub mod Ends
 pub mod DeviceEnds
+pub mod Making

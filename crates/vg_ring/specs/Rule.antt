@@ -63,7 +63,7 @@ module _ {P : Type 0} (wanted : P → Bool) (queue : Queue) (n : ℕ) where
   -- The cargo of each entry is at home in the slot of its head.
   abbrev pub Wait : Homes → List Entry → Type 0
   Wait homes [] = Unit {0}
-  Wait homes (e ∷ more) = ((cargo : CargoData P) × (get_elem? homes (head_of e) ≡ some (some (Some cargo))) × IsFresh wanted e cargo) × Wait homes more
+  Wait homes (e ∷ more) = ((cargo : CargoData P) × (get_elem? homes (head_of e) ≡ some (some (Some cargo))) × IsFresh wanted n e cargo) × Wait homes more
 
   abbrev pub Lie : Homes → List Answer → Type 0
   Lie homes [] = Unit {0}

@@ -1,5 +1,6 @@
-use Rattle.std.specs.Prelude.{◌≡◌, ℕ, ◌+◌, ◌^◌, ◌<◌, ◌≤◌, Bool, Option, Some, List, [], ◌∷◌, ◌++◌, length, slice_index, ◌⊎◌, true}
+use Rattle.std.specs.Prelude.{◌≡◌, ℕ, ◌+◌, ◌^◌, ◌<◌, ◌≤◌, Bool, Option, Some, List, [], ◌∷◌, ◌++◌, length, slice_index, slice_get, ◌⊎◌, true}
 use Rattle.atomic_table.specs.Table.{Me}
+use Rattle.vg_chain.specs.Made.{IsCount, IsNeeded}
 use Rattle.vg_wire.specs.declared.request.Queue.{Queue}
 use Rattle.vg_ring.specs.declared.views.Entry.{Entry}
 use Rattle.vg_ring.specs.declared.views.Answer.{Answer}
@@ -11,8 +12,9 @@ use Rattle.vg_ring.specs.declared.views.DeviceView.{DeviceView}
 use Rattle.vg_ring.specs.declared.views.View.{View}
 use Rattle.vg_ring.specs.declared.views.View.TheVariants.{Driver, Device}
 use Rattle.vg_ring.specs.Cargo.{CargoData}
-use Rattle.vg_ring.specs.Words.{addr_place, rest_place, used_word}
-use Rattle.vg_ring.specs.Entries.{head_of, spread, weigh, heads, without, Has, stored_of, published_as, lane_count, IsFresh, IsDone, InOrder}
+use Rattle.vg_ring.specs.Words.{addr_place, rest_place, used_word, descriptor_from}
+use Rattle.vg_chain.specs.declared.descriptor.Descriptor.{Descriptor}
+use Rattle.vg_ring.specs.Entries.{head_of, times, spread, weigh, heads, without, Has, stored_of, ring_of, AreBack, published_as, lane_count, IsFresh, IsDone, InOrder}
 use Rattle.vg_ring.specs.Rule.{places_of, staged, set_stage, fetched_after, reaped_after}
 
 -- What the load of the available element tells, which takes the cargo.
@@ -22,10 +24,11 @@ pub record IsTaken {P : Type 0} (wanted : P → Bool) (n : ℕ) (v : DeviceView)
   pub after : me ≡ (Device (fetched_after v entry), (head_of entry, Some cargo) ∷ [])
   pub head : found ≡ head_of entry
   pub small : found < n
-  pub fresh : IsFresh wanted entry cargo
+  pub fresh : IsFresh wanted n entry cargo
   pub ordered : InOrder [] (v.fetched ++ entry ∷ [])
   pub of_queue : entry.queue ≡ v.queue
   pub some_place : 0 < length entry.places
+  pub apart : (p : ℕ) → times p entry.places ≤ 1
   pub bounded : length v.fetched + 1 < 2 ^ 63
   pub most : length v.fetched + 1 ≤ length v.completed + n
   pub heads : heads (head_of entry) (entry ∷ v.held) ≡ 1
@@ -63,6 +66,9 @@ pub record IsOffer {P : Type 0} (wanted : P → Bool) (queue : Queue) (n : ℕ) 
   pub queue_is : cargo.parcel.queue ≡ queue
   pub few : length d.published + 1 < 2 ^ 63
   pub wanted_is : wanted cargo.pass ≡ true
+  pub count : IsCount cargo.parcel.shape
+  pub needed : IsNeeded cargo.parcel.shape (length cargo.parcel.request) cargo.parcel.room (length stored)
+  pub back : AreBack (ring_of n (published_as (places_of stored) cargo))
 
 -- What a fetch gives, and what the device's end knows after it.
 pub record HasTaken {P : Type 0} (wanted : P → Bool) (n : ℕ) (v : DeviceView) (head : ℕ) (cargo : CargoData P) (me : Me (Option (CargoData P)) View) : Type 0 where
@@ -70,10 +76,11 @@ pub record HasTaken {P : Type 0} (wanted : P → Bool) (n : ℕ) (v : DeviceView
   pub after : me ≡ (Device (set_stage (fetched_after v entry) device.Resting), [])
   pub head_is : head ≡ head_of entry
   pub small : head < n
-  pub fresh : IsFresh wanted entry cargo
+  pub fresh : IsFresh wanted n entry cargo
   pub ordered : InOrder [] (v.fetched ++ entry ∷ [])
   pub of_queue : entry.queue ≡ v.queue
   pub some_place : 0 < length entry.places
+  pub apart : (p : ℕ) → times p entry.places ≤ 1
   pub bounded : length v.fetched + 1 < 2 ^ 63
   pub most : length v.fetched + 1 ≤ length v.completed + n
   pub heads : heads (head_of entry) (entry ∷ v.held) ≡ 1
@@ -89,3 +96,11 @@ pub record HasReaped {P : Type 0} (wanted : P → Bool) (n : ℕ) (d : DriverVie
   pub fewer : length d.reaped < length d.published
   pub some_place : 0 < length answer.entry.places
   pub outs : (f : Entry → ℕ) → weigh f d.outs ≡ weigh f (without (head_of answer.entry) d.outs) + f answer.entry
+
+-- The descriptor of a place is that of each of these entries that has the place, and so are those of the places below
+-- this one.
+abbrev pub TellsDescriptor : ℕ → ℕ → Descriptor → List Entry → Type 0
+TellsDescriptor n place found held = (e : Entry) (d : Stored) → Has e held → IsIn d (stored_of n e) → d.place ≡ place → found ≡ descriptor_from d.addr d.rest
+
+abbrev pub TellsTable : ℕ → ℕ → List Descriptor → List Entry → Type 0
+TellsTable n below table held = (e : Entry) (d : Stored) → Has e held → IsIn d (stored_of n e) → d.place < below → slice_get table d.place ≡ Some (descriptor_from d.addr d.rest)

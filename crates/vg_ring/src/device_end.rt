@@ -3,7 +3,12 @@
 ghost use Rattle.std.specs.Prelude.{◌≡◌, ◌+◌, ◌<◌, false, [], ◌∷◌, length, MatchOption};
 ghost use Rattle.vg_ring.specs.declared.views.Entry.{Entry};
 ghost use Rattle.vg_ring.specs.Entries.{head_of, heads, Has};
-ghost use Rattle.vg_ring.specs.DeviceEnds.{HasAt, IsCargoOf, Fetches, FetchesNone, TakesIn, completing};
+ghost use Rattle.vg_wire.specs.declared.request.Queue.{Queue};
+ghost use Rattle.vg_ring.specs.declared.views.View.TheVariants.{Device};
+ghost use Rattle.vg_ring.specs.Rule.{new_device};
+ghost use Rattle.vg_ring.specs.Ends.{IsOnLine};
+ghost use Rattle.vg_ring.specs.Making.{IsNewDevice};
+ghost use Rattle.vg_ring.specs.DeviceEnds.{HasAt, IsCargoOf, Fetches, FetchesNone, TakesIn, completing, IsTended};
 
 use crate::cargo::Cargo;
 use crate::device::{cut_right, give_back, join_right, look_at_available, take_entry};
@@ -115,5 +120,25 @@ impl<P: Tagged, N: Naming> DeviceEnd<P, N> {
             cargo,
         );
         self.completed += 1;
+    }
+
+    pub(crate) fn of(
+        line: Arc<Line<P>>,
+        pass: Pass<P>,
+        size: u16,
+        tags: Vec<Tag>,
+    ) -> DeviceEnd<P, N>
+        requires line { (queue : Queue) × IsOnLine N.ring line.value.shared.table_id pass.table_id line.value.shared.key queue size × (pass.me ≡ (Device (new_device queue), [])) × IsTended size (new_device queue) 0 0 tags.items }
+        ensures { (queue : Queue) → pass.me ≡ (Device (new_device queue), []) → IsNewDevice queue size result }
+    {
+        DeviceEnd {
+            line,
+            pass,
+            size,
+            fetched: 0,
+            completed: 0,
+            tags,
+            of: PhantomData,
+        }
     }
 }

@@ -3,7 +3,7 @@
 ghost use Rattle.std.specs.Prelude.{◌≡◌, ◌+◌, ◌*◌, ◌%◌, ◌<◌, [], ◌∷◌, ◌++◌, length, ℕ, ◌≤◌, slice_index};
 ghost use Rattle.vg_ring.specs.declared.views.View.TheVariants.{Driver};
 ghost use Rattle.vg_ring.specs.Plays.{driver_of, laying, writing, written_by, laid, resting_driver, newer_driver};
-ghost use Rattle.vg_ring.specs.Entries.{times, uses, stored_at, published_as};
+ghost use Rattle.vg_ring.specs.Entries.{times, uses, stored_at, published_as, AreBack};
 ghost use Rattle.vg_ring.specs.Rule.{staged, places_of, published_after, looked_by_driver};
 ghost use Rattle.vg_chain.specs.Made.{made, IsCount, IsMeasured, IsNeeded};
 ghost use Rattle.vg_ring.specs.Tells.{IsOffer, HasReaped};
@@ -28,6 +28,7 @@ pub(crate) fn store_descriptor<P: Tagged>(
     requires place { place < line.now.shared.key.count }
     requires free { (uses place (driver_of pass.old.me.0).outs ≡ 0) × (times place (places_of (written_by pass.old.me.0)) ≡ 0) }
     ensures line { (pass.new.table_id ≡ pass.old.table_id) × (pass.new.id ≡ pass.old.id) }
+    ensures back { layout.descriptor_from descriptor.addr (layout.rest_word descriptor) ≡ descriptor }
     ensures view { pass.new.me ≡ (writing pass.old.me.0 (written_by pass.old.me.0 ++ record { place = place; addr = descriptor.addr; rest = layout.rest_word descriptor } ∷ []), []) }
 {
     let at = 2 + 2 * place as usize;
@@ -61,6 +62,7 @@ pub(crate) fn lay<P: Tagged>(
     requires free { (p : ℕ) → times p places.now + uses p (driver_of pass.old.me.0).outs ≤ 1 }
     requires below { (p : ℕ) → 0 < times p places.now → p < size }
     ensures line { (pass.new.table_id ≡ pass.old.table_id) × (pass.new.id ≡ pass.old.id) }
+    ensures back { AreBack (made shape extent.now.request extent.now.room extent.now.base size places.now).ring }
     ensures view { pass.new.me ≡ (Driver (staged (driver_of pass.old.me.0) (laid (stored_at places.now (made shape extent.now.request extent.now.room extent.now.base size places.now).ring))), []) }
 {
     for at in 0..places.len() {

@@ -3,7 +3,10 @@
 ghost use Rattle.std.specs.Prelude.{◌≡◌, ℕ, ◌+◌, ◌-◌, ◌^◌, ◌<◌, nat_le, true, [], length, MatchOption};
 ghost use Rattle.vg_chain.specs.Made.{IsCount, IsNeeded};
 ghost use Rattle.vg_ring.specs.Entries.{uses, spread, entries, lane_count};
-ghost use Rattle.vg_ring.specs.Ends.{HasRoom, Publishes, Reaps, ReapsNone};
+ghost use Rattle.vg_ring.specs.declared.views.View.TheVariants.{Driver};
+ghost use Rattle.vg_ring.specs.Rule.{new_driver};
+ghost use Rattle.vg_ring.specs.Making.{IsNewDriver};
+ghost use Rattle.vg_ring.specs.Ends.{HasRoom, Publishes, Reaps, ReapsNone, IsOnLine, IsKept};
 
 use crate::cargo::Cargo;
 use crate::driver::{look_at_used, take_answer};
@@ -135,5 +138,31 @@ impl<P: Tagged, N: Naming> DriverEnd<P, N> {
         self.places.give(head);
         self.reaped += 1;
         Some(Reaped { head, len, cargo })
+    }
+
+    pub(crate) fn of(
+        line: Arc<Line<P>>,
+        pass: Pass<P>,
+        queue: Queue,
+        size: u16,
+        places: Places,
+        counts: Vec<u64>,
+    ) -> DriverEnd<P, N>
+        requires line { IsOnLine N.ring line.value.shared.table_id pass.table_id line.value.shared.key queue size }
+        requires view { pass.me ≡ (Driver new_driver, []) }
+        requires kept { IsKept size new_driver 0 0 places.free.items places.links.items places.at counts.items }
+        ensures { IsNewDriver queue size result }
+    {
+        DriverEnd {
+            line,
+            pass,
+            queue,
+            size,
+            published: 0,
+            reaped: 0,
+            places,
+            counts,
+            of: PhantomData,
+        }
     }
 }

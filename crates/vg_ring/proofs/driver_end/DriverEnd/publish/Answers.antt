@@ -164,7 +164,7 @@ invariant_of-self g c =
     let now = c.send.ensures.view ∙ ap (λ ps. (Driver (published_after d (published_as ps c.args.cargo)), [])) c.front.ensures in
     let taken = c.take.ensures in
     let kept = kept_published t.size d t.published t.reaped free links at t.counts.items k g.P.Tagged.is_wanted t.queue c.args.shape count c.args.cargo places c.take.new.self.links.items lane c.index_mut.result.now refl fits.0 taken.length taken.linked taken.others last c.tag-lane.ensures.tag.0 small read in (
-      record { table_is = on.table_is; seat_is = c.send.ensures.line.0 ∙ on.seat_is; words = on.words; slots = on.slots; queue_is = on.queue_is; size_is = on.size_is; some = on.some; small = on.small },
+      record { table_is = on.table_is; seat_is = c.send.ensures.line.0 ∙ on.seat_is; words = on.words; slots = on.slots; queue_is = on.queue_is; size_is = on.size_is; some = on.some; least = on.least; small = on.small },
       rests c.send.new.pass.me (published_after d (published_as places c.args.cargo)) now,
       subst (λ v. IsKept t.size v (t.published + 1) t.reaped c.take.new.self.free.items c.take.new.self.links.items c.take.new.self.at (slice_set t.counts.items lane (c.index_mut.result.now + 1))) (sym (ap (λ m. driver_of m.0) now))
       (subst (λ xs. IsKept t.size (published_after d (published_as places c.args.cargo)) (t.published + 1) t.reaped xs c.take.new.self.links.items c.take.new.self.at (slice_set t.counts.items lane (c.index_mut.result.now + 1))) (sym taken.free.0)
