@@ -157,6 +157,7 @@ module _ {P : Type 0} (wanted : P → Bool) (queue : Queue) (n : ℕ) where
           of_queue = (of-back queue v.fetched (e ∷ coming) (subst (λ (es : List Entry). AreOf queue es) r.sent r.queued)).0 ∙ sym r.device_queue;
           some_place = r.come_heads.0;
           apart = λ p. (let all = r.shared (uses_in p) in let one = r.once p in omega (arith, all, one));
+          below = λ p some. r.below p (let all = r.shared (uses_in p) in omega (arith, all, some));
           bounded = (let long = ap length all ∙ length-append (v.fetched ++ e ∷ []) coming in let one = length-append v.fetched (e ∷ []) in let old = r.bounded in omega (arith, long, one, old));
           most = (
             let ones = r.matched (λ _. 1) in

@@ -1,15 +1,14 @@
-use Rattle.std.proofs.Common.{◌≡◌, ◌≢◌, ℕ, zero, suc, ◌+◌, ◌-◌, ◌*◌, ◌%◌, ◌^◌, ◌<◌, ◌≤◌, Bool, true, false, cond, eqb, List, [], ◌∷◌, ◌++◌, length, take, drop, get_or, set, refl, sym, ap, subst, inl, inr, ◌∙◌, arith, length-append}
+use Rattle.std.proofs.Common.{◌≡◌, ◌≢◌, ℕ, zero, suc, ◌+◌, ◌-◌, ◌%◌, ◌^◌, ◌<◌, ◌≤◌, Bool, true, false, cond, eqb, List, [], ◌∷◌, ◌++◌, length, take, drop, get_or, set, refl, sym, ap, subst, inl, inr, ◌∙◌, arith, length-append}
 use Rattle.std.specs.Prelude.{Option}
-use Rattle.std.proofs.lemmas.List.{get_or-set_same, get_or-set_other, length-set, append-nil}
+use Rattle.std.proofs.lemmas.List.{get_or-set_same, get_or-set_other, length-set}
 use Rattle.std.proofs.lemmas.Bool.{cases_eq, eq-eqb, ne_eqb}
 use Rattle.atomic_table.specs.Table.{Me}
 use Rattle.vg_chain.specs.declared.shape.Shape.{Shape}
 use Rattle.vg_chain.specs.declared.shape.Shape.TheVariants.{Plain, Pieces, Indirect, Mixed, Bad}
 use Rattle.vg_chain.specs.declared.chain.ChainFault.TheVariants as fault
-use Rattle.vg_chain.specs.Made.{made, mixed, linked, or_empty, pieces, room_of, rest_of, parts_of, Layout, IsCount, IsNeeded}
+use Rattle.vg_chain.specs.Made.{made, mixed, linked, or_empty, Layout, IsCount, IsNeeded}
 use Rattle.vg_wire.specs.declared.request.Queue.{Queue}
 use Rattle.vg_ring.specs.declared.views.Entry.{Entry}
-use Rattle.vg_ring.specs.declared.views.Answer.{Answer}
 use Rattle.vg_ring.specs.declared.views.DriverView.{DriverView}
 use Rattle.vg_ring.specs.declared.views.DriverStage.{DriverStage}
 use Rattle.vg_ring.specs.declared.views.DriverStage.TheVariants as driver
@@ -17,10 +16,10 @@ use Rattle.vg_ring.specs.declared.views.View.{View}
 use Rattle.vg_ring.specs.declared.views.View.TheVariants.{Driver}
 use Rattle.vg_wire.specs.declared.request.Queue.TheVariants.{Control, Cursor}
 use Rattle.vg_ring.specs.Cargo.{CargoData, ParcelData, IsExtent, IsLane}
-use Rattle.vg_ring.specs.Entries.{head_of, entries, times, weigh, uses, uses_in, places_in, spread, lane_count, without, published_as}
+use Rattle.vg_ring.specs.Entries.{entries, times, weigh, uses, uses_in, places_in, spread, lane_count, published_as}
 use Rattle.vg_ring.specs.Rule.{staged, published_after, reaped_after, looked_by_driver}
-use Rattle.vg_ring.specs.Places.{wrong, wrong_in, ArePlaces, IsPath, IsGiven, IsGivenBack}
-use Rattle.vg_ring.specs.Plays.{driver_of, resting_driver, newer_driver}
+use Rattle.vg_ring.specs.Places.{wrong, wrong_in, IsGiven, IsGivenBack}
+use Rattle.vg_ring.specs.Plays.{resting_driver}
 use Rattle.vg_ring.specs.Tells.{HasReaped}
 use Rattle.vg_ring.specs.Ends.{DriverLists, driver_lists, HasRoom, IsKept, IsSendable, Publishes, Reaps}
 use Rattle.vg_ring.proofs.Counts.{weigh-append, entries-append}

@@ -14,4 +14,5 @@ pub mod SendLemmas
 pub mod KeptLemmas
 pub mod TendedLemmas
 pub mod MadeLemmas
+pub mod TableLemmas
 pub mod ToldDevice

@@ -1,5 +1,4 @@
-use Rattle.std.proofs.Common.{◌≡◌, ℕ, zero, suc, ◌+◌, ◌*◌, ◌<◌, ◌≤◌, List, [], ◌∷◌, length, get_or, replicate, refl, sym, ap, subst, ◌∙◌, arith}
-use Rattle.std.specs.Prelude.{Option}
+use Rattle.std.proofs.Common.{◌≡◌, ℕ, List, length, get_or, replicate, refl, sym, ap, subst, ◌∙◌, arith}
 use Rattle.std.specs.List.{range_with_len}
 use Rattle.std.proofs.lemmas.List.{length-replicate, get_or-replicate}
 use Rattle.std.proofs.lemmas.List.FromFn.{length-range_with_len}
@@ -9,7 +8,6 @@ use Rattle.vg_ring.specs.Entries.{times}
 use Rattle.vg_ring.specs.Rule.{new_driver, new_device}
 use Rattle.vg_ring.specs.Ends.{IsKept}
 use Rattle.vg_ring.specs.DeviceEnds.{IsTended}
-use Rattle.vg_ring.specs.Making.{IsSize}
 use Rattle.vg_ring.proofs.PlaceLemmas.{range_once, range_below}
 
 pub kept_new : (size : ℕ) (free links : List ℕ) (at : ℕ) (counts : List ℕ) → free ≡ range_with_len 0 size → at ≡ 0 → length links ≡ size → counts ≡ replicate 66 0 → IsKept size new_driver 0 0 free links at counts
@@ -45,6 +43,7 @@ tended_new queue size tags long = record {
   whole = λ e has. absurd has;
   apart = λ e has. absurd has;
   some_place = λ e has. absurd has;
+  places_below = λ e has. absurd has;
   tags_size = long;
   tags_are = λ e has. absurd has;
 }

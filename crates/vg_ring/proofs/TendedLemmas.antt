@@ -1,4 +1,4 @@
-use Rattle.std.proofs.Common.{◌≡◌, ◌≢◌, ℕ, zero, suc, ◌+◌, ◌%◌, ◌^◌, ◌<◌, ◌≤◌, Bool, false, cond, eqb, List, [], ◌∷◌, ◌++◌, Some, length, get_or, set, slice_get, refl, sym, ap, subst, inl, inr, ◌∙◌, arith, length-append}
+use Rattle.std.proofs.Common.{◌≡◌, ◌≢◌, ℕ, zero, suc, ◌+◌, ◌%◌, ◌<◌, ◌≤◌, Bool, false, cond, List, [], ◌∷◌, ◌++◌, Some, length, set, slice_get, refl, sym, ap, subst, inl, inr, ◌∙◌, arith, length-append}
 use Rattle.std.specs.Prelude.{Option}
 use Rattle.std.proofs.lemmas.Bool.{cases_lt, cases_eq, eq-eqb, ne_eqb}
 use Rattle.std.proofs.lemmas.Bool.Decides.{eqb_tells}
@@ -8,12 +8,11 @@ use Rattle.vg_ring.specs.declared.parcel.Tag.{Tag}
 use Rattle.vg_ring.specs.declared.views.Entry.{Entry}
 use Rattle.vg_ring.specs.declared.views.Answer.{Answer}
 use Rattle.vg_ring.specs.declared.views.DeviceView.{DeviceView}
-use Rattle.vg_ring.specs.declared.views.DeviceStage.{DeviceStage}
 use Rattle.vg_ring.specs.declared.views.DeviceStage.TheVariants as device
 use Rattle.vg_ring.specs.declared.views.View.{View}
 use Rattle.vg_ring.specs.declared.views.View.TheVariants.{Device, Right}
 use Rattle.vg_ring.specs.Cargo.{CargoData, IsLane}
-use Rattle.vg_ring.specs.Entries.{head_of, head_in, entries, weigh, heads, without, published_as, answer_with, held_at, times, Has, IsWhole, IsFresh, IsDone, InOrder}
+use Rattle.vg_ring.specs.Entries.{head_of, head_in, entries, weigh, heads, without, published_as, answer_with, held_at, times, Has, IsWhole, IsDone, InOrder}
 use Rattle.vg_ring.specs.Rule.{set_stage, fetched_after, completed_after, lent_after, returned_after, looked_by_device}
 use Rattle.vg_ring.specs.Plays.{device_of, queue_of, right_of, resting_device}
 use Rattle.vg_ring.specs.Tells.{HasTaken}
@@ -22,7 +21,7 @@ use Rattle.vg_ring.specs.Ends.{IsOnLine}
 use Rattle.atomic_table.specs.Seated.{TableId}
 use Rattle.vg_ring.specs.declared.law.Size.{Size}
 use Rattle.vg_ring.proofs.Counts.{weigh-append, weigh-ones, entries-append, length-entries}
-use Rattle.vg_ring.proofs.Heads.{has_heads, held_there, held_is, held_cut}
+use Rattle.vg_ring.proofs.Heads.{has_heads, held_is, held_cut}
 use Rattle.vg_ring.proofs.RightSteps.{has_without, heads_without}
 
 pub rests_device : {P : Type 0} (me : Me (Option (CargoData P)) View) (v : DeviceView) → me ≡ (Device (set_stage v device.Resting), []) → me ≡ (resting_device me.0, [])
@@ -86,6 +85,7 @@ module _ (size : ℕ) (v : DeviceView) (fetched completed : ℕ) (tags : List Ta
     whole = k.whole;
     apart = k.apart;
     some_place = k.some_place;
+    places_below = k.places_below;
     tags_size = k.tags_size;
     tags_are = k.tags_are;
   }
@@ -118,6 +118,7 @@ module _ (size : ℕ) (v : DeviceView) (fetched completed : ℕ) (tags : List Ta
           whole = λ f has. elim has [ inl same ↦ subst (IsWhole size) same r.fresh.whole | inr old ↦ k.whole f old ];
           apart = λ f has. elim has [ inl same ↦ subst (λ (x : Entry). (p : ℕ) → times p x.places ≤ 1) same r.apart | inr old ↦ k.apart f old ];
           some_place = λ f has. elim has [ inl same ↦ subst (λ (x : Entry). 0 < length x.places) same r.some_place | inr old ↦ k.some_place f old ];
+          places_below = λ f has. elim has [ inl same ↦ subst (λ (x : Entry). (p : ℕ) → 0 < times p x.places → p < size) same r.below | inr old ↦ k.places_below f old ];
           tags_size = tags_long tags head tag ∙ k.tags_size;
           tags_are = λ f has. elim has [
             | inl same ↦ (
@@ -185,6 +186,7 @@ module _ (size : ℕ) (v : DeviceView) (fetched completed : ℕ) (tags : List Ta
         whole = k.whole;
         apart = k.apart;
         some_place = k.some_place;
+    places_below = k.places_below;
         tags_size = k.tags_size;
         tags_are = k.tags_are;
       })
@@ -202,6 +204,7 @@ module _ (size : ℕ) (v : DeviceView) (fetched completed : ℕ) (tags : List Ta
     whole = k.whole;
     apart = k.apart;
     some_place = k.some_place;
+    places_below = k.places_below;
     tags_size = k.tags_size;
     tags_are = k.tags_are;
   }
@@ -279,6 +282,7 @@ module _ (size : ℕ) (v : DeviceView) (fetched completed : ℕ) (tags : List Ta
         whole = λ g left. k.whole g (has_left g head v.held left);
         apart = λ g left. k.apart g (has_left g head v.held left);
         some_place = λ g left. k.some_place g (has_left g head v.held left);
+        places_below = λ g left. k.places_below g (has_left g head v.held left);
         tags_size = k.tags_size;
         tags_are = λ g left. k.tags_are g (has_left g head v.held left);
       }

@@ -29,6 +29,7 @@ pub record IsTaken {P : Type 0} (wanted : P → Bool) (n : ℕ) (v : DeviceView)
   pub of_queue : entry.queue ≡ v.queue
   pub some_place : 0 < length entry.places
   pub apart : (p : ℕ) → times p entry.places ≤ 1
+  pub below : (p : ℕ) → 0 < times p entry.places → p < n
   pub bounded : length v.fetched + 1 < 2 ^ 63
   pub most : length v.fetched + 1 ≤ length v.completed + n
   pub heads : heads (head_of entry) (entry ∷ v.held) ≡ 1
@@ -81,6 +82,7 @@ pub record HasTaken {P : Type 0} (wanted : P → Bool) (n : ℕ) (v : DeviceView
   pub of_queue : entry.queue ≡ v.queue
   pub some_place : 0 < length entry.places
   pub apart : (p : ℕ) → times p entry.places ≤ 1
+  pub below : (p : ℕ) → 0 < times p entry.places → p < n
   pub bounded : length v.fetched + 1 < 2 ^ 63
   pub most : length v.fetched + 1 ≤ length v.completed + n
   pub heads : heads (head_of entry) (entry ∷ v.held) ≡ 1

@@ -1,6 +1,6 @@
 //! The device's end of a ring (VIRTIO 1.2, 2.7.6 and 2.7.8).
 
-ghost use Rattle.std.specs.Prelude.{◌≡◌, ◌+◌, ◌<◌, false, [], ◌∷◌, length, MatchOption};
+ghost use Rattle.std.specs.Prelude.{◌≡◌, ◌+◌, ◌<◌, true, false, [], ◌∷◌, length, MatchOption, IfOk, OnOk, OnErr};
 ghost use Rattle.vg_ring.specs.declared.views.Entry.{Entry};
 ghost use Rattle.vg_ring.specs.Entries.{head_of, heads, Has};
 ghost use Rattle.vg_wire.specs.declared.request.Queue.{Queue};
@@ -8,7 +8,8 @@ ghost use Rattle.vg_ring.specs.declared.views.View.TheVariants.{Device};
 ghost use Rattle.vg_ring.specs.Rule.{new_device};
 ghost use Rattle.vg_ring.specs.Ends.{IsOnLine};
 ghost use Rattle.vg_ring.specs.Making.{IsNewDevice};
-ghost use Rattle.vg_ring.specs.DeviceEnds.{HasAt, IsCargoOf, Fetches, FetchesNone, TakesIn, completing, IsTended};
+ghost use Rattle.vg_ring.specs.DeviceEnds.{HasAt, IsCargoOf, Fetches, FetchesNone, TakesIn, completing, IsTended, IsAnswer};
+ghost use Rattle.vg_ring.specs.Cargo.{base_of};
 
 use crate::cargo::Cargo;
 use crate::device::{cut_right, give_back, join_right, look_at_available, take_entry};
@@ -16,9 +17,12 @@ use crate::law::{Line, Pass};
 use crate::naming::Naming;
 use crate::parcel::Tag;
 use crate::right::Right;
+use crate::table::read_table;
 use crate::tagged::Tagged;
+use std::alloc::{AllocError, Global};
 use std::marker::{Model, PhantomData};
 use std::sync::Arc;
+use vg_chain::{Chain, ChainFault, a_layout_is_walked, a_walk_has_one_result, walk};
 
 /// A cargo that was fetched, and the place of its head descriptor.
 #[derive(Drop)]
@@ -92,6 +96,34 @@ impl<P: Tagged, N: Naming> DeviceEnd<P, N> {
     {
         let seat = cut_right(&self.line, &mut self.pass, head);
         Right::of(seat, head, self.tags[head as usize])
+    }
+
+    /// The chain of a cargo that is lent, or its fault, as its descriptors stand in the ring's words. The right is walked then,
+    /// unless there was no memory.
+    pub fn chain(
+        &mut self,
+        alloc: Global,
+        right: &mut Right<N>,
+        cargo: &Cargo<P>,
+    ) -> Result<Result<Chain, ChainFault>, AllocError>
+        requires lent { Has right.old.entry self.old.lent }
+        requires cargo { IsCargoOf right.old.entry cargo.now }
+        ensures chain { IfOk result (λ walked. IsAnswer right.old.entry.shape (length right.old.entry.request) right.old.entry.room (base_of right.old.entry.queue (head_of right.old.entry)) walked) }
+        ensures walked { OnOk result (right.new ≡ record right.old { walked = true }) }
+        ensures err { OnErr result (right.new ≡ right.old) }
+        ensures same { self.new ≡ self.old }
+    {
+        let table = read_table(alloc, &self.line, &mut self.pass, self.size)?;
+        let walked = walk(
+            alloc,
+            table.as_slice(),
+            right.head(),
+            &cargo.parts(),
+        )?;
+        a_walk_has_one_result();
+        a_layout_is_walked();
+        right.set_walked();
+        Ok(walked)
     }
 
     /// Takes a right in, which ends the loan.

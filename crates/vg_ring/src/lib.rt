@@ -15,6 +15,7 @@ mod plays;
 mod right;
 mod ring;
 mod sending;
+mod table;
 mod tagged;
 mod views;
 mod words;

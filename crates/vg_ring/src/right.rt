@@ -1,6 +1,6 @@
 //! The right to a cargo that the device's end has lent.
 
-ghost use Rattle.std.specs.Prelude.{◌≡◌, [], ◌∷◌, false};
+ghost use Rattle.std.specs.Prelude.{◌≡◌, [], ◌∷◌, true, false};
 ghost use Rattle.vg_ring.specs.declared.views.View.TheVariants as views;
 ghost use Rattle.vg_ring.specs.Entries.{head_of};
 ghost use Rattle.vg_ring.specs.DeviceEnds.{IsRight, right_data};
@@ -55,6 +55,12 @@ impl<N: Naming> Right<N> {
         ensures { result ≡ self.now.walked }
     {
         self.walked
+    }
+
+    pub(crate) fn set_walked(&mut self)
+        ensures { self.new ≡ record self.old { walked = true } }
+    {
+        self.walked = true;
     }
 
     pub(crate) fn of<P: Tagged>(seat: Pass<P>, head: u16, tag: Tag) -> Right<N>

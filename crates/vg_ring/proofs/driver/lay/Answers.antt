@@ -1,10 +1,8 @@
-use Rattle.std.proofs.Common.{◌≡◌, ◌∙◌, ◌+◌, ◌<◌, suc, length, take, Some, Option, List, [], ◌∷◌, ◌++◌, ap, subst, sym, arith, slice_get, IsSome}
-use Rattle.vg_chain.specs.declared.descriptor.Descriptor.{Descriptor}
+use Rattle.std.proofs.Common.{◌≡◌, ◌∙◌, ◌<◌, length, take, Some, [], ap, subst, sym, arith, slice_get}
 use Rattle.vg_chain.specs.Made.{made}
-use Rattle.vg_ring.specs.declared.views.Stored.{Stored}
 use Rattle.vg_ring.specs.declared.views.View.TheVariants.{Driver}
-use Rattle.vg_ring.specs.Plays.{driver_of, laid, written_by}
-use Rattle.vg_ring.specs.Entries.{times, uses, stored_at}
+use Rattle.vg_ring.specs.Plays.{driver_of, laid}
+use Rattle.vg_ring.specs.Entries.{times, stored_at}
 use Rattle.vg_ring.specs.Rule.{staged, places_of}
 use Rattle.vg_ring.proofs.PlaceLemmas.{times_get}
 use Rattle.vg_ring.proofs.LayLemmas.{apart_before, is_there, back_next, back_all, laid_next, stored_all, outs_are, written_is, laying_is}

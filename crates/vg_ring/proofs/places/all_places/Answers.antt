@@ -1,4 +1,4 @@
-use Rattle.std.proofs.Common.{◌≡◌, ◌∙◌, rules, sym, ap, arith, ◌++◌, [], ◌∷◌}
+use Rattle.std.proofs.Common.{sym}
 use Rattle.vg_ring.proofs.PlaceLemmas.{range_more}
 use Rattle.vg_ring.proofs.places.all_places.Goals as goal
 

@@ -1,4 +1,4 @@
-use Rattle.std.proofs.Common.{◌≡◌, ℕ, suc, ◌-◌, ◌+◌, ◌<◌, length, drop, slice_index_or, subst, sym, ap, ◌∙◌, arith}
+use Rattle.std.proofs.Common.{◌≡◌, ℕ, suc, ◌-◌, ◌+◌, ◌<◌, length, drop, slice_index_or, subst, ap, ◌∙◌, arith}
 use Rattle.vg_ring.specs.Places.{wrong, next_in}
 use Rattle.vg_ring.proofs.PlaceLemmas.{times_get, linked_more, others_more}
 use Rattle.vg_ring.proofs.places.link.Goals as goal

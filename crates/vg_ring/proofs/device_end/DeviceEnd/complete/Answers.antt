@@ -1,11 +1,8 @@
-use Rattle.std.proofs.Common.{◌≡◌, ◌∙◌, ◌+◌, ◌%◌, ◌<◌, [], ◌∷◌, length, slice_set, refl, sym, ap, subst, arith}
-use Rattle.vg_ring.specs.declared.views.View.TheVariants.{Device, Right}
-use Rattle.vg_ring.specs.declared.views.DeviceStage.TheVariants.{Newer, Resting}
-use Rattle.vg_ring.specs.Entries.{head_of, heads, held_at, answer_with, without, Has}
-use Rattle.vg_ring.specs.Rule.{set_stage, fetched_after, completed_after, lent_after, returned_after}
-use Rattle.vg_ring.specs.Plays.{device_of, queue_of, right_of}
-use Rattle.vg_ring.specs.Tells.{HasTaken}
-use Rattle.vg_ring.specs.DeviceEnds.{HasAt, IsCargoOf, Fetches, TakesIn, IsTended, device_lists, completing}
+use Rattle.std.proofs.Common.{◌≡◌, ◌+◌, refl, sym, ap, subst, arith}
+use Rattle.vg_ring.specs.Entries.{heads, held_at, answer_with, without}
+use Rattle.vg_ring.specs.Rule.{completed_after}
+use Rattle.vg_ring.specs.Plays.{device_of}
+use Rattle.vg_ring.specs.DeviceEnds.{HasAt, device_lists, completing}
 use Rattle.vg_ring.proofs.TendedLemmas.{has_one, last_completed, tended_completed, completes_is, device_ok, done_is}
 use Rattle.vg_ring.proofs.device_end.DeviceEnd.complete.Goals as goal
 

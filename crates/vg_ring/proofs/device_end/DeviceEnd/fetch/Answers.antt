@@ -1,11 +1,9 @@
-use Rattle.std.proofs.Common.{◌≡◌, ◌∙◌, ◌+◌, ◌%◌, ◌<◌, [], ◌∷◌, length, slice_set, refl, sym, ap, subst, arith}
-use Rattle.vg_ring.specs.declared.views.View.TheVariants.{Device, Right}
-use Rattle.vg_ring.specs.declared.views.DeviceStage.TheVariants.{Newer, Resting}
-use Rattle.vg_ring.specs.Entries.{head_of, heads, held_at, answer_with, without, Has}
-use Rattle.vg_ring.specs.Rule.{set_stage, fetched_after, completed_after, lent_after, returned_after}
-use Rattle.vg_ring.specs.Plays.{device_of, queue_of, right_of}
+use Rattle.std.proofs.Common.{◌∙◌, ◌+◌, ◌%◌, slice_set, refl, sym, ap, subst}
+use Rattle.vg_ring.specs.declared.views.DeviceStage.TheVariants.{Newer}
+use Rattle.vg_ring.specs.Rule.{fetched_after}
+use Rattle.vg_ring.specs.Plays.{device_of}
 use Rattle.vg_ring.specs.Tells.{HasTaken}
-use Rattle.vg_ring.specs.DeviceEnds.{HasAt, IsCargoOf, Fetches, TakesIn, IsTended, device_lists, completing}
+use Rattle.vg_ring.specs.DeviceEnds.{Fetches, device_lists}
 use Rattle.vg_ring.specs.Cargo.{IsLane}
 use Rattle.vg_ring.proofs.TendedLemmas.{look_newer_device, look_none_device, tended_looked, tended_taken, fetches_is, device_ok, tag_is}
 use Rattle.vg_ring.proofs.device_end.DeviceEnd.fetch.Goals as goal

@@ -1,11 +1,8 @@
-use Rattle.std.proofs.Common.{◌≡◌, ◌∙◌, ◌+◌, ◌%◌, ◌<◌, [], ◌∷◌, length, slice_set, refl, sym, ap, subst, arith}
-use Rattle.vg_ring.specs.declared.views.View.TheVariants.{Device, Right}
-use Rattle.vg_ring.specs.declared.views.DeviceStage.TheVariants.{Newer, Resting}
-use Rattle.vg_ring.specs.Entries.{head_of, heads, held_at, answer_with, without, Has}
-use Rattle.vg_ring.specs.Rule.{set_stage, fetched_after, completed_after, lent_after, returned_after}
-use Rattle.vg_ring.specs.Plays.{device_of, queue_of, right_of}
-use Rattle.vg_ring.specs.Tells.{HasTaken}
-use Rattle.vg_ring.specs.DeviceEnds.{HasAt, IsCargoOf, Fetches, TakesIn, IsTended, device_lists, completing}
+use Rattle.std.proofs.Common.{◌≡◌, ◌∙◌, ◌<◌, length, refl, sym, ap, subst, arith}
+use Rattle.vg_ring.specs.Entries.{heads, held_at}
+use Rattle.vg_ring.specs.Rule.{lent_after}
+use Rattle.vg_ring.specs.Plays.{device_of, right_of}
+use Rattle.vg_ring.specs.DeviceEnds.{HasAt}
 use Rattle.std.proofs.lemmas.Option.{slice_get_read}
 use Rattle.vg_ring.proofs.TendedLemmas.{has_one, tended_lent, device_ok, right_ok}
 use Rattle.vg_ring.proofs.device_end.DeviceEnd.lend.Goals as goal

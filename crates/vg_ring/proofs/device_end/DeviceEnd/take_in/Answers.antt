@@ -1,11 +1,10 @@
-use Rattle.std.proofs.Common.{◌≡◌, ◌∙◌, ◌+◌, ◌%◌, ◌<◌, [], ◌∷◌, length, slice_set, refl, sym, ap, subst, arith}
-use Rattle.vg_ring.specs.declared.views.View.TheVariants.{Device, Right}
-use Rattle.vg_ring.specs.declared.views.DeviceStage.TheVariants.{Newer, Resting}
-use Rattle.vg_ring.specs.Entries.{head_of, heads, held_at, answer_with, without, Has}
-use Rattle.vg_ring.specs.Rule.{set_stage, fetched_after, completed_after, lent_after, returned_after}
-use Rattle.vg_ring.specs.Plays.{device_of, queue_of, right_of}
-use Rattle.vg_ring.specs.Tells.{HasTaken}
-use Rattle.vg_ring.specs.DeviceEnds.{HasAt, IsCargoOf, Fetches, TakesIn, IsTended, device_lists, completing}
+use Rattle.std.proofs.Common.{◌∙◌, [], refl, ap, subst}
+use Rattle.vg_ring.specs.declared.views.View.TheVariants.{Device}
+use Rattle.vg_ring.specs.declared.views.DeviceStage.TheVariants.{Resting}
+use Rattle.vg_ring.specs.Entries.{Has}
+use Rattle.vg_ring.specs.Rule.{set_stage, returned_after}
+use Rattle.vg_ring.specs.Plays.{device_of, right_of}
+use Rattle.vg_ring.specs.DeviceEnds.{TakesIn, device_lists}
 use Rattle.vg_ring.proofs.TendedLemmas.{tended_returned, takes_in_is, device_ok}
 use Rattle.vg_ring.proofs.device_end.DeviceEnd.take_in.Goals as goal
 

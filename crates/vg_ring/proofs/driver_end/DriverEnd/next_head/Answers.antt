@@ -1,4 +1,4 @@
-use Rattle.std.proofs.Common.{◌≡◌, ◌<◌, ◌∙◌, sym, ap, subst, arith}
+use Rattle.std.proofs.Common.{◌<◌, sym, subst, arith}
 use Rattle.vg_ring.specs.Ends.{HasRoom}
 use Rattle.vg_ring.specs.Plays.{driver_of}
 use Rattle.vg_ring.proofs.KeptLemmas.{room_is, next_small}

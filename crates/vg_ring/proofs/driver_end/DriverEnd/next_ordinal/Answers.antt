@@ -1,4 +1,4 @@
-use Rattle.std.proofs.Common.{◌≡◌, ◌∙◌, arith, length}
+use Rattle.std.proofs.Common.{arith}
 use Rattle.std.proofs.lemmas.List.{get_or_read}
 use Rattle.vg_ring.specs.Plays.{driver_of}
 use Rattle.vg_ring.proofs.KeptLemmas.{lane_few}

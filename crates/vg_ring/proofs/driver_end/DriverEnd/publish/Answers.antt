@@ -1,9 +1,9 @@
-use Rattle.std.proofs.Common.{◌≡◌, ◌∙◌, ◌+◌, ◌-◌, ◌^◌, ◌<◌, ◌≤◌, ℕ, length, take, drop, slice_index, slice_set, List, [], ◌∷◌, ◌++◌, refl, sym, ap, subst, arith}
+use Rattle.std.proofs.Common.{◌≡◌, ◌∙◌, ◌+◌, ◌-◌, ◌^◌, ◌<◌, length, take, drop, slice_index, slice_set, [], refl, sym, ap, subst, arith}
 use Rattle.std.proofs.lemmas.List.{get_or_read}
 use Rattle.vg_ring.specs.declared.views.View.TheVariants.{Driver}
 use Rattle.vg_ring.specs.Entries.{lane_count, published_as}
 use Rattle.vg_ring.specs.Rule.{published_after}
-use Rattle.vg_ring.specs.Ends.{IsKept, IsOnLine, IsSendable, Publishes, driver_lists}
+use Rattle.vg_ring.specs.Ends.{IsKept, Publishes, driver_lists}
 use Rattle.vg_ring.specs.Plays.{driver_of}
 use Rattle.vg_ring.proofs.KeptLemmas.{needed_is, count_fits, sendable, kept_published, published_is, lane_small, lane_few, rests}
 use Rattle.vg_ring.proofs.driver_end.DriverEnd.publish.Goals as goal

@@ -1,5 +1,5 @@
-use Rattle.std.proofs.Common.{◌≡◌, ◌∙◌, ◌+◌, ◌%◌, refl, sym, ap, subst}
-use Rattle.vg_ring.specs.Ends.{IsKept, IsOnLine, Reaps, driver_lists}
+use Rattle.std.proofs.Common.{◌∙◌, ◌+◌, ◌%◌, refl, sym, ap, subst}
+use Rattle.vg_ring.specs.Ends.{IsKept, Reaps, driver_lists}
 use Rattle.vg_ring.specs.Plays.{driver_of}
 use Rattle.vg_ring.specs.Rule.{reaped_after, staged}
 use Rattle.vg_ring.specs.declared.views.DriverStage.TheVariants.{Newer, Resting}

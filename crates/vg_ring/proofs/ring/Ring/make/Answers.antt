@@ -1,4 +1,4 @@
-use Rattle.std.proofs.Common.{◌≡◌, ◌∙◌, refl, sym, ap, arith}
+use Rattle.std.proofs.Common.{◌∙◌, refl, sym, ap, arith}
 use Rattle.vg_ring.proofs.MadeLemmas.{kept_new, tended_new}
 use Rattle.vg_ring.proofs.ring.Ring.make.Goals as goal
 
