@@ -15,4 +15,5 @@ pub mod KeptLemmas
 pub mod TendedLemmas
 pub mod MadeLemmas
 pub mod TableLemmas
+pub mod Sent
 pub mod ToldDevice

@@ -15,8 +15,10 @@ mod plays;
 mod right;
 mod ring;
 mod sending;
+
 mod table;
 mod tagged;
+mod threads;
 mod views;
 mod words;
 
@@ -26,6 +28,7 @@ pub use driver_end::{DriverEnd, Reaped};
 pub use naming::Naming;
 pub use parcel::{Parcel, Tag};
 pub use right::Right;
+pub use threads::ends_may_be_sent;
 pub use ring::{Made, Ring};
 pub use tagged::Tagged;
 pub use views::{Answer, DeviceStage, DeviceView, DriverStage, DriverView, Entry, Stored, View};
