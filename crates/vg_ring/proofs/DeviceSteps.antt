@@ -160,14 +160,14 @@ module _ {P : Type 0} (wanted : P → Bool) (queue : Queue) (n : ℕ) where
           below = λ p some. r.below p (let all = r.shared (uses_in p) in omega (arith, all, some));
           bounded = (let long = ap length all ∙ length-append (v.fetched ++ e ∷ []) coming in let one = length-append v.fetched (e ∷ []) in let old = r.bounded in omega (arith, long, one, old));
           most = (
-            let ones = r.matched (λ _. 1) in
-            let f1 = weigh-ones v.fetched in
-            let f2 = weigh-ones (entries v.completed) in
-            let f3 = weigh-ones v.held in
-            let f4 = length-entries v.completed in
-            let f5 = length_spread v.held r.held_heads in
-            let f6 = r.come_heads.0 in
-            omega (arith, ones, f1, f2, f3, f4, f5, f6, few));
+              let ones = r.matched (λ _. 1) in
+              let f1 = weigh-ones v.fetched in
+              let f2 = weigh-ones (entries v.completed) in
+              let f3 = weigh-ones v.held in
+              let f4 = length-entries v.completed in
+              let f5 = length_spread v.held r.held_heads in
+              let f6 = r.come_heads.0 in
+              omega (arith, ones, f1, f2, f3, f4, f5, f6, few));
           heads = mine;
         },
       )

@@ -171,12 +171,17 @@ giving_more links free at head free' at' place g away = record {
       let few = w.3 in
       let many = given.many in
       let most = given.most in
-      let shrunk : at' - 1 + length places ≡ at + length (drop 1 w.0) = omega (arith, some, shorter, left, many, few) in
-      (drop 1 w.0, s.more away, shrunk, omega (arith, shorter, few), λ p.
-        (let back = given_back free' at' place p (omega (arith, some, left, many)) (omega (arith, size, left, few, most)) in
-        let counts = s.counts p in
-        let all = w.4 p in
-        omega (arith, back, counts, all))));
+      let shrunk : at' - 1 + length places ≡ at + length (drop 1 w.0) = omega (arith, some, shorter, left, many, few) in (
+        drop 1 w.0,
+        s.more away,
+        shrunk,
+        omega (arith, shorter, few),
+        λ p.
+            (let back = given_back free' at' place p (omega (arith, some, left, many)) (omega (arith, size, left, few, most)) in
+            let counts = s.counts p in
+            let all = w.4 p in
+            omega (arith, back, counts, all)),
+      ));
 }
 
 pub giving_ends : (links free : List ℕ) (at head : ℕ) (free' : List ℕ) (at' place : ℕ) → IsGiving links free at head free' at' place → get_or links place 0 ≡ place

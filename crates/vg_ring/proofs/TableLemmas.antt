@@ -109,7 +109,7 @@ chain_is size table held e cargo base m r tables head walked one_law laid_law le
     let placed = measured.base in
     let asked : IsRequest e.shape (length e.request) e.room b size = record { request = omega (arith, request, m'); room = omega (arith, room, r'); base = omega (arith, placed, base'); queue = least; count = whole.count } in
     let gives = subst (λ (ps : List ℕ). GivesIts e.shape (memory_of e.shape (length e.request) e.room b size ps) table (get_or e.places 0 0) (length e.request) e.room b) laid.1
-        (laid_law e.shape (length e.request) e.room b size table (get_or e.places 0 0) (drop 1 e.places) asked laid.0) in
+    (laid_law e.shape (length e.request) e.room b size table (get_or e.places 0 0) (drop 1 e.places) asked laid.0) in
     let w1 = subst (λ (x : ℕ). Walks (memory x m r tables) table head walked) base' walks in
     let w2 = subst (λ (x : ℕ). Walks (memory b x r tables) table head walked) m' w1 in
     let w3 = subst (λ (x : ℕ). Walks (memory b (length e.request) x tables) table head walked) r' w2 in

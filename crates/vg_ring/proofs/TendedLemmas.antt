@@ -186,7 +186,7 @@ module _ (size : ℕ) (v : DeviceView) (fetched completed : ℕ) (tags : List Ta
         whole = k.whole;
         apart = k.apart;
         some_place = k.some_place;
-    places_below = k.places_below;
+        places_below = k.places_below;
         tags_size = k.tags_size;
         tags_are = k.tags_are;
       })

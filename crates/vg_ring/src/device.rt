@@ -10,7 +10,10 @@ ghost use Rattle.vg_ring.specs.Tells.{HasTaken, TellsWord};
 
 use crate::cargo::Cargo;
 use crate::law::{Line, Pass};
-use crate::plays::{Answers, Completes, CutsRight, Fetches, LooksAtAvailable, Names, Reads, Settles, TakesRight, TellsLent};
+use crate::plays::{
+    Answers, Completes, CutsRight, Fetches, LooksAtAvailable, Names, Reads, Settles, TakesRight,
+    TellsLent,
+};
 use crate::tagged::Tagged;
 use crate::words::{available_word, used_element_word, used_word};
 
@@ -40,8 +43,7 @@ pub(crate) fn take_entry<P: Tagged>(
 {
     let element = available_word(size, fetched);
     let head = line.shared.load::<Fetches>(pass, element);
-    let slot = line.shared
-        .exchange(pass, head as usize, None);
+    let slot = line.shared.exchange(pass, head as usize, None);
     line.shared.load::<Settles>(pass, 0);
     let cargo = slot.unwrap();
     (head as u16, cargo)
@@ -70,8 +72,7 @@ pub(crate) fn give_back<P: Tagged>(
     let element = used_element_word(size, completed);
     line.shared
         .store::<Answers>(pass, element, used_word(head, len));
-    let _none = line.shared
-        .exchange(pass, head as usize, Some(cargo));
+    let _none = line.shared.exchange(pass, head as usize, Some(cargo));
     line.shared
         .store::<Completes>(pass, 1, (completed + 1) % 65536);
 }
@@ -87,8 +88,7 @@ pub(crate) fn cut_right<P: Tagged>(line: &Line<P>, pass: &mut Pass<P>, head: u16
     ensures view { pass.new.me ≡ (Device (lent_after (device_of pass.old.me.0) (held_at head (device_of pass.old.me.0).held)), []) }
     ensures right { result.me ≡ (Right (held_at head (device_of pass.old.me.0).held), []) }
 {
-    line.shared
-        .load::<Names>(pass, 2 + 2 * head as usize);
+    line.shared.load::<Names>(pass, 2 + 2 * head as usize);
     line.shared.split_seat::<CutsRight>(pass)
 }
 
@@ -101,8 +101,7 @@ pub(crate) fn join_right<P: Tagged>(line: &Line<P>, pass: &mut Pass<P>, right: P
     ensures view { pass.new.me ≡ (Device (set_stage (returned_after (device_of pass.old.me.0) (right_of right.me.0)) Resting), []) }
     ensures lent { Has (right_of right.me.0) (device_of pass.old.me.0).lent }
 {
-    line.shared
-        .join_seat::<TakesRight>(pass, right);
+    line.shared.join_seat::<TakesRight>(pass, right);
     line.shared.load::<TellsLent>(pass, 0);
 }
 

@@ -91,6 +91,7 @@ impl<P: Tagged, N: Naming> DeviceEnd<P, N> {
         requires held { (e : Entry) × HasAt e head self.old.held }
         requires unlent { heads head self.old.lent ≡ 0 }
         ensures entry { HasAt result.entry head self.old.held }
+        ensures only { (e : Entry) → HasAt e head self.old.held → result.entry ≡ e }
         ensures walked { result.walked ≡ false }
         ensures lent { self.new ≡ record self.old { lent = result.entry ∷ self.old.lent } }
     {
@@ -114,12 +115,7 @@ impl<P: Tagged, N: Naming> DeviceEnd<P, N> {
         ensures same { self.new ≡ self.old }
     {
         let table = read_table(alloc, &self.line, &mut self.pass, self.size)?;
-        let walked = walk(
-            alloc,
-            table.as_slice(),
-            right.head(),
-            &cargo.parts(),
-        )?;
+        let walked = walk(alloc, table.as_slice(), right.head(), &cargo.parts())?;
         a_walk_has_one_result();
         a_layout_is_walked();
         right.set_walked();

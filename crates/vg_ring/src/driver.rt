@@ -9,8 +9,8 @@ ghost use Rattle.vg_chain.specs.Made.{made, IsCount, IsMeasured, IsNeeded};
 ghost use Rattle.vg_ring.specs.Tells.{IsOffer, HasReaped};
 ghost use Rattle.vg_ring.specs.Words as layout;
 
-use crate::law::{Line, Pass};
 use crate::cargo::Cargo;
+use crate::law::{Line, Pass};
 use crate::plays::{LooksAtUsed, Offers, Publishes, Reaps, Settles, StoresAddress, StoresRest};
 use crate::tagged::Tagged;
 use crate::words::{available_word, rest_word, used_element_word, used_of};
@@ -91,10 +91,8 @@ pub(crate) fn offer<P: Tagged>(
     ensures view { pass.new.me ≡ (Driver (published_after (driver_of pass.old.me.0) (published_as (places_of (written_by pass.old.me.0)) cargo)), []) }
 {
     let element = available_word(size, published);
-    line.shared
-        .store::<Offers>(pass, element, u64::from(head));
-    let _none = line.shared
-        .exchange(pass, head as usize, Some(cargo));
+    line.shared.store::<Offers>(pass, element, u64::from(head));
+    let _none = line.shared.exchange(pass, head as usize, Some(cargo));
     line.shared
         .store::<Publishes>(pass, 0, (published + 1) % 65536);
 }
@@ -126,8 +124,7 @@ pub(crate) fn take_answer<P: Tagged>(
     let element = used_element_word(size, reaped);
     let word = line.shared.load::<Reaps>(pass, element);
     let (head, len) = used_of(word);
-    let slot = line.shared
-        .exchange(pass, head as usize, None);
+    let slot = line.shared.exchange(pass, head as usize, None);
     line.shared.load::<Settles>(pass, 0);
     let cargo = slot.unwrap();
     (head, len, cargo)

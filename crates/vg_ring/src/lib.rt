@@ -15,7 +15,6 @@ mod plays;
 mod right;
 mod ring;
 mod sending;
-
 mod table;
 mod tagged;
 mod threads;
@@ -28,9 +27,9 @@ pub use driver_end::{DriverEnd, Reaped};
 pub use naming::Naming;
 pub use parcel::{Parcel, Tag};
 pub use right::Right;
-pub use threads::ends_may_be_sent;
 pub use ring::{Made, Ring};
 pub use tagged::Tagged;
+pub use threads::ends_may_be_sent;
 pub use views::{Answer, DeviceStage, DeviceView, DriverStage, DriverView, Entry, Stored, View};
 pub use words::words_are_bytes;
 

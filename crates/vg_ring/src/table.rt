@@ -12,7 +12,12 @@ use std::alloc::{AllocError, Global};
 use vg_chain::Descriptor;
 
 /// The descriptor at a place.
-fn read_descriptor<P: Tagged>(line: &Line<P>, pass: &mut Pass<P>, size: u16, place: u16) -> Descriptor
+fn read_descriptor<P: Tagged>(
+    line: &Line<P>,
+    pass: &mut Pass<P>,
+    size: u16,
+    place: u16,
+) -> Descriptor
     requires line { (pass.old.table_id ≡ line.now.shared.table_id) × (line.now.shared.table_id.slots ≡ size) × (line.now.shared.table_id.words ≡ 2 + 4 * size) × (line.now.shared.key.count ≡ size) }
     requires place { place < size }
     requires view { pass.old.me ≡ (resting_device pass.old.me.0, []) }

@@ -19,7 +19,7 @@ store-requires g c =
       c.requires.line.0,
       omega (arith, c.requires.line.1, c.used_element_word-element.ensures.small),
       allows_size g.P.Tagged.is_wanted t.key.queue t.key.count c.args.size t.table_id.slots c.args.pass.now.id me c.used_element_word-element.result (λ _. x) (λ _ after. after ≡ (answering me.0 x, (x % 2 ^ 32, None) ∷ me.1)) c.requires.line.2
-      (answer_step g.P.Tagged.is_wanted t.key.queue c.args.size t.table_id.slots c.args.pass.now.id me v c.used_element_word-element.result c.args.head c.args.len x c.requires.view place c.requires.held c.used_word.ensures c.ranges.head.fits),
+          (answer_step g.P.Tagged.is_wanted t.key.queue c.args.size t.table_id.slots c.args.pass.now.id me v c.used_element_word-element.result c.args.head c.args.len x c.requires.view place c.requires.held c.used_word.ensures c.ranges.head.fits),
     )
 
 pub exchange-none-requires : goal.exchange-none-requires
@@ -41,7 +41,7 @@ store-requires-2 g c =
       c.exchange-none.ensures.0 ∙ (c.store.ensures.0 ∙ c.requires.line.0),
       omega (arith, c.requires.line.1),
       allows_size g.P.Tagged.is_wanted t.key.queue t.key.count c.args.size t.table_id.slots c.exchange-none.new.seat.id now 1 (λ _. (c.args.completed + 1) % 65536) (λ _ after. after ≡ (answered_with now.0 now.1, [])) c.requires.line.2
-      (complete_step g.P.Tagged.is_wanted t.key.queue c.args.size t.table_id.slots c.exchange-none.new.seat.id now v c.args.head c.args.len ((c.args.completed + 1) % 65536) c.args.cargo is c.requires.held (ap (λ k. (k + 1) % 65536) c.requires.count) c.requires.cargo),
+          (complete_step g.P.Tagged.is_wanted t.key.queue c.args.size t.table_id.slots c.exchange-none.new.seat.id now v c.args.head c.args.len ((c.args.completed + 1) % 65536) c.args.cargo is c.requires.held (ap (λ k. (k + 1) % 65536) c.requires.count) c.requires.cargo),
     )
 
 pub returns-clause-view : goal.returns-clause-view

@@ -17,7 +17,7 @@ load-head-requires g c =
       c.requires.line.0,
       omega (arith, c.requires.line.1, c.available_word-element.ensures.small),
       allows_size g.P.Tagged.is_wanted t.key.queue t.key.count c.args.size t.table_id.slots c.args.pass.now.id me c.available_word-element.result (λ k. k) (λ found after. IsTaken g.P.Tagged.is_wanted t.table_id.slots v found after) c.requires.line.3
-      (fetch_step g.P.Tagged.is_wanted t.key.queue c.args.size t.table_id.slots c.args.pass.now.id me v c.available_word-element.result c.requires.view place c.requires.line.2),
+          (fetch_step g.P.Tagged.is_wanted t.key.queue c.args.size t.table_id.slots c.args.pass.now.id me v c.available_word-element.result c.requires.view place c.requires.line.2),
     )
 
 pub exchange-slot-requires : goal.exchange-slot-requires
@@ -38,5 +38,5 @@ load-requires g c =
       c.exchange-slot.ensures.0 ∙ (c.load-head.ensures.0 ∙ c.requires.line.0),
       omega (arith, c.requires.line.1),
       allows_size g.P.Tagged.is_wanted t.key.queue t.key.count c.args.size t.table_id.slots c.exchange-slot.new.seat.id now 0 (λ k. k) (λ found after. after ≡ (rested now.0, [])) c.requires.line.3
-      (settle_device_step g.P.Tagged.is_wanted t.key.queue c.args.size t.table_id.slots c.exchange-slot.new.seat.id 0 now (fetched_after v r.entry) r.entry c.load-head.result view r.head),
+          (settle_device_step g.P.Tagged.is_wanted t.key.queue c.args.size t.table_id.slots c.exchange-slot.new.seat.id 0 now (fetched_after v r.entry) r.entry c.load-head.result view r.head),
     )

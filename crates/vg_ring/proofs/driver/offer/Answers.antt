@@ -14,7 +14,7 @@ store-requires g c =
       c.requires.line.0,
       omega (arith, c.requires.line.1, c.available_word-element.ensures.small),
       allows_size g.P.Tagged.is_wanted t.key.queue t.key.count c.args.size t.table_id.slots c.args.pass.now.id me c.available_word-element.result (λ _. c.from.result) (λ _ after. after ≡ (offered me.0, (c.from.result, None) ∷ me.1)) c.requires.line.2
-      (offer_step g.P.Tagged.is_wanted t.key.queue c.args.size t.table_id.slots c.args.pass.now.id me d (written_by me.0) c.available_word-element.result c.from.result c.requires.view place o.some (o.first ∙ sym c.from.ensures) o.room),
+          (offer_step g.P.Tagged.is_wanted t.key.queue c.args.size t.table_id.slots c.args.pass.now.id me d (written_by me.0) c.available_word-element.result c.from.result c.requires.view place o.some (o.first ∙ sym c.from.ensures) o.room),
     )
 
 pub store-requires-2 : goal.store-requires-2
@@ -28,5 +28,5 @@ store-requires-2 g c =
       c.exchange-none.ensures.0 ∙ (c.store.ensures.0 ∙ c.requires.line.0),
       omega (arith, c.requires.line.1),
       allows_size g.P.Tagged.is_wanted t.key.queue t.key.count c.args.size t.table_id.slots c.exchange-none.new.seat.id now 0 (λ _. (c.args.published + 1) % 65536) (λ _ after. after ≡ (sent_with now.0 now.1, [])) c.requires.line.2
-      (publish_step g.P.Tagged.is_wanted t.key.queue c.args.size t.table_id.slots c.exchange-none.new.seat.id now d (written_by me.0) ((c.args.published + 1) % 65536) c.args.head c.args.cargo view (ap (λ k. (k + 1) % 65536) c.requires.count) c.requires.offer),
+          (publish_step g.P.Tagged.is_wanted t.key.queue c.args.size t.table_id.slots c.exchange-none.new.seat.id now d (written_by me.0) ((c.args.published + 1) % 65536) c.args.head c.args.cargo view (ap (λ k. (k + 1) % 65536) c.requires.count) c.requires.offer),
     )

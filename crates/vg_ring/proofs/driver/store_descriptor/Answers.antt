@@ -2,6 +2,7 @@ use Rattle.std.proofs.Common.{◌∙◌, arith}
 use Rattle.vg_ring.specs.Plays.{driver_of, written_by}
 use Rattle.vg_ring.proofs.Told.{address_step, rest_step, half_is}
 use Rattle.vg_ring.proofs.driver.store_descriptor.Goals as goal
+
 pub store-requires : goal.store-requires
 store-requires g c =
     let me = c.args.pass.now.me in

@@ -16,7 +16,7 @@ load-word-requires g c =
       c.requires.line.0,
       omega (arith, c.requires.line.1, c.used_element_word-element.ensures.small),
       allows_size g.P.Tagged.is_wanted t.key.queue t.key.count c.args.size t.table_id.slots c.args.pass.now.id me c.used_element_word-element.result (λ k. k) (λ found after. IsReaped g.P.Tagged.is_wanted t.table_id.slots d found after) c.requires.line.3
-      (take_step g.P.Tagged.is_wanted t.key.queue c.args.size t.table_id.slots c.args.pass.now.id me d c.used_element_word-element.result c.requires.view place c.requires.line.2),
+          (take_step g.P.Tagged.is_wanted t.key.queue c.args.size t.table_id.slots c.args.pass.now.id me d c.used_element_word-element.result c.requires.view place c.requires.line.2),
     )
 
 pub exchange-slot-requires : goal.exchange-slot-requires
@@ -39,5 +39,5 @@ load-requires g c =
       c.exchange-slot.ensures.0 ∙ (c.load-word.ensures.0 ∙ c.requires.line.0),
       omega (arith, c.requires.line.1),
       allows_size g.P.Tagged.is_wanted t.key.queue t.key.count c.args.size t.table_id.slots c.exchange-slot.new.seat.id now 0 (λ k. k) (λ found after. after ≡ (rested now.0, [])) c.requires.line.3
-      (settle_driver_step g.P.Tagged.is_wanted t.key.queue c.args.size t.table_id.slots c.exchange-slot.new.seat.id 0 now (reaped_after d r.answer) r.answer c.used_of-head.result.0 view is.0 (subst (λ k. k < c.args.size) (sym is.0) r.small)),
+          (settle_driver_step g.P.Tagged.is_wanted t.key.queue c.args.size t.table_id.slots c.exchange-slot.new.seat.id 0 now (reaped_after d r.answer) r.answer c.used_of-head.result.0 view is.0 (subst (λ k. k < c.args.size) (sym is.0) r.small)),
     )

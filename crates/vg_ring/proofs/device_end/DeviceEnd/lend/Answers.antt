@@ -58,3 +58,15 @@ returns-clause-entry g c =
     let one = has_one e c.args.head v.held has (k.once c.args.head) in
     let entry = ap (λ r. r.entry) c.of.ensures ∙ (ap (λ m. right_of m.0) c.cut_right-seat.ensures.right ∙ one.1) in
     subst (λ f. HasAt f c.args.head c.args.self.now.held) (sym entry) c.requires.held.1
+
+pub returns-clause-only : goal.returns-clause-only
+returns-clause-only g c =
+    let t = c.self.inside in
+    let v = device_of t.pass.me.0 in
+    let k = c.self.invariant.2 in
+    let on = c.self.invariant.0 in
+    let e = c.requires.held.0 in
+    let has = subst (λ l. HasAt e c.args.head l.held) (sym c.self.view_is) c.requires.held.1 in
+    let unlent = subst (λ l. heads c.args.head l.lent ≡ 0) (sym c.self.view_is) c.requires.unlent in
+    let one = has_one e c.args.head v.held has (k.once c.args.head) in
+    λ f at. (let there = subst (λ l. HasAt f c.args.head l.held) (sym c.self.view_is) at in ap (λ r. r.entry) c.of.ensures ∙ (ap (λ m. right_of m.0) c.cut_right-seat.ensures.right ∙ (has_one f c.args.head v.held there (k.once c.args.head)).1))

@@ -167,8 +167,8 @@ invariant_of-self g c =
       record { table_is = on.table_is; seat_is = c.send.ensures.line.0 ∙ on.seat_is; words = on.words; slots = on.slots; queue_is = on.queue_is; size_is = on.size_is; some = on.some; least = on.least; small = on.small },
       rests c.send.new.pass.me (published_after d (published_as places c.args.cargo)) now,
       subst (λ v. IsKept t.size v (t.published + 1) t.reaped c.take.new.self.free.items c.take.new.self.links.items c.take.new.self.at (slice_set t.counts.items lane (c.index_mut.result.now + 1))) (sym (ap (λ m. driver_of m.0) now))
-      (subst (λ xs. IsKept t.size (published_after d (published_as places c.args.cargo)) (t.published + 1) t.reaped xs c.take.new.self.links.items c.take.new.self.at (slice_set t.counts.items lane (c.index_mut.result.now + 1))) (sym taken.free.0)
-      (subst (λ i. IsKept t.size (published_after d (published_as places c.args.cargo)) (t.published + 1) t.reaped free c.take.new.self.links.items i (slice_set t.counts.items lane (c.index_mut.result.now + 1))) (sym taken.free.1) kept)),
+          (subst (λ xs. IsKept t.size (published_after d (published_as places c.args.cargo)) (t.published + 1) t.reaped xs c.take.new.self.links.items c.take.new.self.at (slice_set t.counts.items lane (c.index_mut.result.now + 1))) (sym taken.free.0)
+          (subst (λ i. IsKept t.size (published_after d (published_as places c.args.cargo)) (t.published + 1) t.reaped free c.take.new.self.links.items i (slice_set t.counts.items lane (c.index_mut.result.now + 1))) (sym taken.free.1) kept)),
     )
 
 pub returns-clause-published : goal.returns-clause-published

@@ -37,7 +37,7 @@ invariant_of-self-2 g c =
       record { table_is = on.table_is; seat_is = c.take_answer-head.ensures.line.0 ∙ (c.look_at_used-found.ensures.line.0 ∙ on.seat_is); words = on.words; slots = on.slots; queue_is = on.queue_is; size_is = on.size_is; some = on.some; least = on.least; small = on.small },
       rests me (reaped_after (record d { looks = d.looks + 1; seen = found; stage = Newer }) r.answer) r.after,
       subst (λ v. IsKept t.size v t.published (t.reaped + 1) c.give.new.self.free.items c.give.new.self.links.items c.give.new.self.at t.counts.items) (sym (ap (λ m. driver_of m.0) r.after))
-      (subst (λ xs. IsKept t.size (staged (reaped_after (record d { looks = d.looks + 1; seen = found; stage = Newer }) r.answer) Resting) t.published (t.reaped + 1) c.give.new.self.free.items xs c.give.new.self.at t.counts.items) (sym gave.length.0) kept),
+          (subst (λ xs. IsKept t.size (staged (reaped_after (record d { looks = d.looks + 1; seen = found; stage = Newer }) r.answer) Resting) t.published (t.reaped + 1) c.give.new.self.free.items xs c.give.new.self.at t.counts.items) (sym gave.length.0) kept),
     )
 
 pub returns : goal.returns

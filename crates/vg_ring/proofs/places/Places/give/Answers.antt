@@ -31,5 +31,5 @@ loop-place-preserved c =
     let next : c.index-next.result.now ≡ slice_index_or old.links.items c.loop-place.place 0 = read ∙ ap (λ xs. slice_index_or xs c.loop-place.place 0) c.loop-place.invariant.0 in (
       c.loop-place.invariant.0,
       subst (λ k. IsGiving old.links.items old.free.items old.at c.args.head (slice_set now.free.items (now.at - 1) c.loop-place.place) (now.at - 1) k) (sym next)
-      (giving_more old.links.items old.free.items old.at c.args.head now.free.items now.at c.loop-place.place c.loop-place.invariant.1 (λ same. c.if-next-place.false (next ∙ same))),
+          (giving_more old.links.items old.free.items old.at c.args.head now.free.items now.at c.loop-place.place c.loop-place.invariant.1 (λ same. c.if-next-place.false (next ∙ same))),
     )
