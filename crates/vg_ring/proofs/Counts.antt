@@ -2,11 +2,12 @@ use Rattle.std.proofs.Common.{◌≡◌, ℕ, suc, ◌+◌, ◌*◌, ◌<◌, �
 use Rattle.std.proofs.lemmas.List.{append-nil}
 use Rattle.std.proofs.lemmas.Bool.{eq-eqb, ne_eqb}
 use Rattle.std.proofs.lemmas.Bool.Decides.{eqb_tells}
+use Rattle.vg_wire.specs.declared.request.Queue.{Queue}
 use Rattle.vg_ring.specs.declared.views.Entry.{Entry}
 use Rattle.vg_ring.specs.declared.views.Answer.{Answer}
 use Rattle.vg_ring.specs.declared.views.Stored.{Stored}
 use Rattle.vg_ring.specs.Entries.{head_of, entries, times, weigh, without, head_in, uses, spread, heads, lane_count, InOrder}
-use Rattle.vg_ring.specs.Rule.{places_of, StandStored, HaveHeads}
+use Rattle.vg_ring.specs.Rule.{places_of, StandStored, AreOf, HaveHeads}
 
 pub times-append : (h : ℕ) (xs ys : List ℕ) → times h (xs ++ ys) ≡ times h xs + times h ys
 times-append h [] ys = omega arith
@@ -53,6 +54,14 @@ in_order-snoc before (f ∷ es) e order next =
 pub in_order-front : (before es fs : List Entry) → InOrder before (es ++ fs) → InOrder before es
 in_order-front before [] fs order = tt
 in_order-front before (e ∷ es) fs order = (order.0, in_order-front (before ++ e ∷ []) es fs order.1)
+
+pub of-append : (queue : Queue) (es fs : List Entry) → AreOf queue es → AreOf queue fs → AreOf queue (es ++ fs)
+of-append queue [] fs are more = more
+of-append queue (e ∷ es) fs are more = (are.0, of-append queue es fs are.1 more)
+
+pub of-back : (queue : Queue) (es fs : List Entry) → AreOf queue (es ++ fs) → AreOf queue fs
+of-back queue [] fs are = are
+of-back queue (e ∷ es) fs are = of-back queue es fs are.1
 
 pub head_in_places : (h : ℕ) (e : Entry) → 0 < length e.places → head_of e ≡ h → 1 ≤ times h e.places
 head_in_places h e some is = (let here = head_times h e.places some in let one : head_in h e ≡ 1 = rw (eq-eqb (head_of e) h is) refl in omega (arith, here, one))

@@ -14,21 +14,18 @@ use Rattle.vg_ring.specs.declared.views.DeviceView.{DeviceView}
 use Rattle.vg_ring.specs.declared.views.View.{View}
 use Rattle.vg_ring.specs.declared.views.View.TheVariants.{Start, Driver, Device, Right, Spent}
 use Rattle.vg_ring.specs.Cargo.{CargoData}
+use Rattle.vg_wire.specs.declared.request.Queue.{Queue}
 use Rattle.vg_ring.specs.Entries.{head_of, head_in, heads, without, Has}
 use Rattle.vg_ring.specs.Rule.{word_at, IsRing, IsNew, IsGuest, AreSeated, Ring, set_stage, lent_after, returned_after, new_driver, new_device}
+use Rattle.vg_ring.proofs.Heads.{has_heads}
 use Rattle.vg_ring.proofs.Seats.{within, at_device}
 use Rattle.vg_ring.proofs.DeviceSteps.{moves}
-
-has_heads : (e : Entry) (es : List Entry) → Has e es → 1 ≤ heads (head_of e) es
-has_heads e [] has = absurd has
-has_heads e (f ∷ es) (inl same) = (let here : head_in (head_of e) f ≡ 1 = rw (eq-eqb (head_of f) (head_of e) (ap head_of same)) refl in omega (arith, here))
-has_heads e (f ∷ es) (inr has) = (let rest = has_heads e es has in omega (arith, rest))
 
 has_choice : (e f : Entry) (es fs : List Entry) (b : Bool) → Has e es → Has e fs → Has e (cond b es (f ∷ fs))
 has_choice e f es fs true has rest = has
 has_choice e f es fs false has rest = inr rest
 
-has_without : (e : Entry) (h : ℕ) (es : List Entry) → head_of e ≢ h → Has e es → Has e (without h es)
+pub has_without : (e : Entry) (h : ℕ) (es : List Entry) → head_of e ≢ h → Has e es → Has e (without h es)
 has_without e h [] other has = absurd has
 has_without e h (f ∷ es) other (inl same) = (let away : eqb (head_of f) h ≡ false = ne_eqb (head_of f) h (λ e'. other (ap head_of (sym same) ∙ e')) in rw away (inl same))
 has_without e h (f ∷ es) other (inr has) = has_choice e f es (without h es) (eqb (head_of f) h) has (has_without e h es other has)
@@ -37,7 +34,7 @@ heads_choice : (k : ℕ) (f : Entry) (es fs : List Entry) (b : Bool) → heads k
 heads_choice k f es fs true fewer = omega arith
 heads_choice k f es fs false fewer = omega arith
 
-heads_without : (k h : ℕ) (es : List Entry) → heads k (without h es) ≤ heads k es
+pub heads_without : (k h : ℕ) (es : List Entry) → heads k (without h es) ≤ heads k es
 heads_without k h [] = omega arith
 heads_without k h (f ∷ es) = heads_choice k f es (without h es) (eqb (head_of f) h) (heads_without k h es)
 
@@ -61,23 +58,23 @@ zeros zero i = refl
 zeros (suc m) zero = refl
 zeros (suc m) (suc i) = zeros m i
 
-module _ {P : Type 0} (wanted : P → Bool) (n : ℕ) where
+module _ {P : Type 0} (wanted : P → Bool) (queue : Queue) (n : ℕ) where
   -- A load of a word of a head that is to be lent.
   pub names : (slots id i : ℕ) (v : DeviceView) (e : Entry) → heads (head_of e) v.held ≡ 1 → heads (head_of e) v.lent ≡ 0
-      → Allows (Ring wanted n) slots id (Device (set_stage v device.Resting), []) i (λ k. k) (λ found me. me ≡ (Device (set_stage v (device.Naming e)), []))
+      → Allows (Ring wanted queue n) slots id (Device (set_stage v device.Resting), []) i (λ k. k) (λ found me. me ≡ (Device (set_stage v (device.Naming e)), []))
   names slots id i v e mine unlent = λ s ring many at bound.
-      let w = at_device wanted n s id (set_stage v device.Resting) ring at in
-      let next = moves wanted n s w.driver (set_stage v device.Resting) v.looks v.seen (device.Naming e) w.coming w.going i w.ring (λ h no. no) (mine, unlent) in
+      let w = at_device wanted queue n s id (set_stage v device.Resting) ring at in
+      let next = moves wanted queue n s w.driver (set_stage v device.Resting) v.looks v.seen (device.Naming e) w.coming w.going i w.ring (λ h no. no) (mine, unlent) in
       (Device (set_stage v (device.Naming e)), keeps, tt, rw w.id_is (inr (w.driver, set_stage v (device.Naming e), w.coming, w.going, next)), refl)
 
   -- a right's entry is lent
-  right_at : (views : List View) (d : DriverView) (v : DeviceView) (i : ℕ) (e : Entry) → AreSeated wanted n views d v → get_elem? views i ≡ some (Right e) → (1 < i) × Has e v.lent
+  right_at : (views : List View) (d : DriverView) (v : DeviceView) (i : ℕ) (e : Entry) → AreSeated wanted queue n views d v → get_elem? views i ≡ some (Right e) → (1 < i) × Has e v.lent
   right_at views d v zero e seated at = (let both : some (Driver d) ≡ some (Right e) = sym seated.driver_at ∙ at in absurd (cc))
   right_at views d v (suc zero) e seated at = (let both : some (Device v) ≡ some (Right e) = sym seated.device_at ∙ at in absurd (cc))
   right_at views d v (suc (suc i)) e seated at = (omega arith, seated.guests (suc (suc i)) (Right e) (omega arith) at)
 
-  guest_more : (e : Entry) (lent : List Entry) (w : View) → IsGuest wanted n lent w → IsGuest wanted n (e ∷ lent) w
-  guest_more e lent Start guest = guest
+  guest_more : (e : Entry) (lent : List Entry) (w : View) → IsGuest wanted queue n lent w → IsGuest wanted queue n (e ∷ lent) w
+  guest_more e lent (Start q) guest = guest
   guest_more e lent (Driver d) guest = guest
   guest_more e lent (Device v) guest = guest
   guest_more e lent (Right f) guest = inr guest
@@ -86,8 +83,8 @@ module _ {P : Type 0} (wanted : P → Bool) (n : ℕ) where
   moved : (views : List View) (x : DeviceView) (i : ℕ) (e : Entry) → get_elem? (set views 1 (Device x)) i ≡ some (Right e) → get_elem? views i ≡ some (Right e)
   moved views x i e at = elim (at_set views 1 i (Device x) (Right e) at) [ inl w ↦ absurd (cc) | inr w ↦ w.1 ]
 
-  seated_more : (views : List View) (d : DriverView) (v : DeviceView) (stage : DeviceStage) (e : Entry) → heads (head_of e) v.lent ≡ 0 → AreSeated wanted n views d (set_stage v stage)
-      → AreSeated wanted n (set views 1 (Device (lent_after v e)) ++ Right e ∷ []) d (lent_after v e)
+  seated_more : (views : List View) (d : DriverView) (v : DeviceView) (stage : DeviceStage) (e : Entry) → heads (head_of e) v.lent ≡ 0 → AreSeated wanted queue n views d (set_stage v stage)
+      → AreSeated wanted queue n (set views 1 (Device (lent_after v e)) ++ Right e ∷ []) d (lent_after v e)
   seated_more views d v stage e unlent seated =
       let front : List View = set views 1 (Device (lent_after v e)) in
       record {
@@ -95,7 +92,7 @@ module _ {P : Type 0} (wanted : P → Bool) (n : ℕ) where
         device_at = at_longer front (Right e ∷ []) 1 (Device (lent_after v e)) (set_here views 1 (Device (lent_after v e)) (within views 1 (Device (set_stage v stage)) seated.device_at));
         guests = λ i w late at. elim (snoc_cases front (Right e) i w at) [
           | inl old ↦ guest_more e v.lent w (seated.guests i w late (sym (set_else views 1 i (Device (lent_after v e)) (λ same. omega arith)) ∙ old))
-          | inr new ↦ subst (λ (z : View). IsGuest wanted n (e ∷ v.lent) z) new.1 (inl refl)
+          | inr new ↦ subst (λ (z : View). IsGuest wanted queue n (e ∷ v.lent) z) new.1 (inl refl)
         ];
         apart = λ i j f g at at' same. elim (snoc_cases front (Right e) i (Right f) at) [
           | inl old ↦ elim (snoc_cases front (Right e) j (Right g) at') [
@@ -116,16 +113,19 @@ module _ {P : Type 0} (wanted : P → Bool) (n : ℕ) where
           omega (arith, some_there, head, unlent)
 
   -- A right to the entry that was named.
-  pub splits_right : (id : ℕ) (v : DeviceView) (e : Entry) → Splits (Ring wanted n) id (Device (set_stage v (device.Naming e))) (Device (lent_after v e)) (Right e)
+  pub splits_right : (id : ℕ) (v : DeviceView) (e : Entry) → Splits (Ring wanted queue n) id (Device (set_stage v (device.Naming e))) (Device (lent_after v e)) (Right e)
   splits_right id v e = λ s ring at.
-      let w = at_device wanted n s id (set_stage v (device.Naming e)) ring at in
+      let w = at_device wanted queue n s id (set_stage v (device.Naming e)) ring at in
       let r = w.ring in
-      let next : IsRing wanted n (record { words = s.words; homes = s.homes; views = set s.views 1 (Device (lent_after v e)) ++ Right e ∷ [] }) w.driver (lent_after v e) w.coming w.going = record {
+      let next : IsRing wanted queue n (record { words = s.words; homes = s.homes; views = set s.views 1 (Device (lent_after v e)) ++ Right e ∷ [] }) w.driver (lent_after v e) w.coming w.going = record {
         words = r.words;
         homes = r.homes;
         sent = r.sent;
         back = r.back;
         ordered = r.ordered;
+        queued = r.queued;
+        bounded = r.bounded;
+        device_queue = r.device_queue;
         shared = r.shared;
         once = r.once;
         below = r.below;
@@ -155,20 +155,23 @@ module _ {P : Type 0} (wanted : P → Bool) (n : ℕ) where
       rw w.id_is (inr (w.driver, lent_after v e, w.coming, w.going, next))
 
   -- The table as it is made keeps the rule, and so does the cut into two ends.
-  pub opens : Ring wanted n (opening (replicate (2 + 4 * n) 0) (replicate n None) Start)
+  pub opens : Ring wanted queue n (opening (replicate (2 + 4 * n) 0) (replicate n None) (Start queue))
   opens = inl (record { words = refl; homes = all_home n None; views = refl })
 
-  fresh_ring : (s : State (Option (CargoData P)) View) (id : ℕ) → IsNew wanted n s → id ≡ 0
-      → IsRing wanted n (record { words = s.words; homes = s.homes; views = set s.views id (Driver new_driver) ++ Device new_device ∷ [] }) new_driver new_device [] []
+  fresh_ring : (s : State (Option (CargoData P)) View) (id : ℕ) → IsNew wanted queue n s → id ≡ 0
+      → IsRing wanted queue n (record { words = s.words; homes = s.homes; views = set s.views id (Driver new_driver) ++ Device (new_device queue) ∷ [] }) new_driver (new_device queue) [] []
   fresh_ring s id fresh id_is =
       let word : (i : ℕ) → word_at s.words i ≡ 0 = λ i. ap (λ (ws : List ℕ). get_or ws i 0) fresh.words ∙ zeros (2 + 4 * n) i in
-      let two : set s.views id (Driver new_driver) ++ Device new_device ∷ [] ≡ Driver new_driver ∷ Device new_device ∷ [] = rw (fresh.views, id_is) refl in
+      let two : set s.views id (Driver new_driver) ++ Device (new_device queue) ∷ [] ≡ Driver new_driver ∷ Device (new_device queue) ∷ [] = rw (fresh.views, id_is) refl in
       record {
         words = ap length fresh.words ∙ length-replicate (2 + 4 * n) 0;
         homes = ap length fresh.homes ∙ length-replicate n (some None);
         sent = refl;
         back = refl;
         ordered = tt;
+        queued = tt;
+        bounded = omega arith;
+        device_queue = refl;
         shared = λ f. refl;
         once = λ h. omega arith;
         below = λ h is_there. omega arith;
@@ -190,42 +193,42 @@ module _ {P : Type 0} (wanted : P → Bool) (n : ℕ) where
         device_knows = tt;
         matched = λ f. refl;
         lent_once = λ h. omega arith;
-        seated = subst (λ (vs : List View). AreSeated wanted n vs new_driver new_device) (sym two) two_seats;
+        seated = subst (λ (vs : List View). AreSeated wanted queue n vs new_driver (new_device queue)) (sym two) two_seats;
       }
     where
-      no_right : (i : ℕ) (w : View) → 1 < i → get_elem? (Driver new_driver ∷ Device new_device ∷ []) i ≡ some w → ⊥
+      no_right : (i : ℕ) (w : View) → 1 < i → get_elem? (Driver new_driver ∷ Device (new_device queue) ∷ []) i ≡ some w → ⊥
       no_right zero w late at = omega arith
       no_right (suc zero) w late at = omega arith
       no_right (suc (suc i)) w late at = some-ne-none w (sym at)
 
-      two_seats : AreSeated wanted n (Driver new_driver ∷ Device new_device ∷ []) new_driver new_device
+      two_seats : AreSeated wanted queue n (Driver new_driver ∷ Device (new_device queue) ∷ []) new_driver (new_device queue)
       two_seats = record { driver_at = refl; device_at = refl; guests = λ i w late at. absurd (no_right i w late at); apart = λ i j e f at at' same. apart_there i j e f at at' }
         where
-          apart_there : (i j : ℕ) (e f : Entry) → get_elem? (Driver new_driver ∷ Device new_device ∷ []) i ≡ some (Right e) → get_elem? (Driver new_driver ∷ Device new_device ∷ []) j ≡ some (Right f) → i ≡ j
+          apart_there : (i j : ℕ) (e f : Entry) → get_elem? (Driver new_driver ∷ Device (new_device queue) ∷ []) i ≡ some (Right e) → get_elem? (Driver new_driver ∷ Device (new_device queue) ∷ []) j ≡ some (Right f) → i ≡ j
           apart_there zero j e f at at' = (let both : Driver new_driver ≡ Right e = some-injective (Driver new_driver) (Right e) at in absurd (cc))
-          apart_there (suc zero) j e f at at' = (let both : Device new_device ≡ Right e = some-injective (Device new_device) (Right e) at in absurd (cc))
+          apart_there (suc zero) j e f at at' = (let both : Device (new_device queue) ≡ Right e = some-injective (Device (new_device queue)) (Right e) at in absurd (cc))
           apart_there (suc (suc i)) j e f at at' = absurd (some-ne-none (Right e) (sym at))
 
-  first_seat : (views : List View) (id : ℕ) (w : View) → views ≡ Start ∷ [] → get_elem? views id ≡ some w → id ≡ 0
+  first_seat : (views : List View) (id : ℕ) (w : View) → views ≡ (Start queue) ∷ [] → get_elem? views id ≡ some w → id ≡ 0
   first_seat views zero w e at = refl
   first_seat views (suc i) w e at = absurd (some-ne-none w (sym (subst (λ (vs : List View). get_elem? vs (suc i) ≡ some w) e at)))
 
-  pub splits_start : (id : ℕ) → Splits (Ring wanted n) id Start (Driver new_driver) (Device new_device)
-  splits_start id s (inl fresh) at = inr (new_driver, new_device, [], [], fresh_ring s id fresh (first_seat s.views id Start fresh.views at))
-  splits_start zero s (inr r) at = (let both : some (Driver r.0) ≡ some Start = sym r.4.seated.driver_at ∙ at in absurd (cc))
-  splits_start (suc zero) s (inr r) at = (let both : some (Device r.1) ≡ some Start = sym r.4.seated.device_at ∙ at in absurd (cc))
-  splits_start (suc (suc i)) s (inr r) at = absurd (r.4.seated.guests (suc (suc i)) Start (omega arith) at)
+  pub splits_start : (id : ℕ) → Splits (Ring wanted queue n) id (Start queue) (Driver new_driver) (Device (new_device queue))
+  splits_start id s (inl fresh) at = inr (new_driver, (new_device queue), [], [], fresh_ring s id fresh (first_seat s.views id (Start queue) fresh.views at))
+  splits_start zero s (inr r) at = (let both : some (Driver r.0) ≡ some (Start queue) = sym r.4.seated.driver_at ∙ at in absurd (cc))
+  splits_start (suc zero) s (inr r) at = (let both : some (Device r.1) ≡ some (Start queue) = sym r.4.seated.device_at ∙ at in absurd (cc))
+  splits_start (suc (suc i)) s (inr r) at = absurd (r.4.seated.guests (suc (suc i)) (Start queue) (omega arith) at)
 
   -- After a right was taken in, a load tells that it was lent.
   pub settles_returned : (slots id i : ℕ) (v : DeviceView) (e : Entry) (old : List Entry)
-      → Allows (Ring wanted n) slots id (Device (set_stage v (device.Returned e old)), []) i (λ k. k) (λ found me. (me ≡ (Device (set_stage v device.Resting), [])) × Has e old)
+      → Allows (Ring wanted queue n) slots id (Device (set_stage v (device.Returned e old)), []) i (λ k. k) (λ found me. (me ≡ (Device (set_stage v device.Resting), [])) × Has e old)
   settles_returned slots id i v e old = λ s ring many at bound.
-      let w = at_device wanted n s id (set_stage v (device.Returned e old)) ring at in
-      let next = moves wanted n s w.driver (set_stage v (device.Returned e old)) v.looks v.seen device.Resting w.coming w.going i w.ring (λ h no. no) tt in
+      let w = at_device wanted queue n s id (set_stage v (device.Returned e old)) ring at in
+      let next = moves wanted queue n s w.driver (set_stage v (device.Returned e old)) v.looks v.seen device.Resting w.coming w.going i w.ring (λ h no. no) tt in
       (Device (set_stage v device.Resting), keeps, tt, rw w.id_is (inr (w.driver, set_stage v device.Resting, w.coming, w.going, next)), (refl, w.ring.device_knows))
 
-  seated_back : (views : List View) (d : DriverView) (v : DeviceView) (other : ℕ) (e : Entry) → AreSeated wanted n views d (set_stage v device.Resting) → get_elem? views other ≡ some (Right e)
-      → AreSeated wanted n (set (set views 1 (Device (returned_after v e))) other Spent) d (returned_after v e)
+  seated_back : (views : List View) (d : DriverView) (v : DeviceView) (other : ℕ) (e : Entry) → AreSeated wanted queue n views d (set_stage v device.Resting) → get_elem? views other ≡ some (Right e)
+      → AreSeated wanted queue n (set (set views 1 (Device (returned_after v e))) other Spent) d (returned_after v e)
   seated_back views d v other e seated at_other =
       let front : List View = set views 1 (Device (returned_after v e)) in
       let late : 1 < other = (right_at views d (set_stage v device.Resting) other e seated at_other).0 in
@@ -233,7 +236,7 @@ module _ {P : Type 0} (wanted : P → Bool) (n : ℕ) where
         driver_at = set_else front other 0 Spent (λ same. omega arith) ∙ set_else views 1 0 (Device (returned_after v e)) (λ same. omega arith) ∙ seated.driver_at;
         device_at = set_else front other 1 Spent (λ same. omega arith) ∙ set_here views 1 (Device (returned_after v e)) (within views 1 (Device (set_stage v device.Resting)) seated.device_at);
         guests = λ i w past at. elim (at_set front other i Spent w at) [
-          | inl same ↦ subst (λ (z : View). IsGuest wanted n (without (head_of e) v.lent) z) same.1 tt
+          | inl same ↦ subst (λ (z : View). IsGuest wanted queue n (without (head_of e) v.lent) z) same.1 tt
           | inr else_there ↦ guest_less i w past else_there.0 (sym (set_else views 1 i (Device (returned_after v e)) (λ same. omega arith)) ∙ else_there.1)
         ];
         apart = λ i j f g at at' same. seated.apart i j f g (still i f at) (still j g at') same;
@@ -242,26 +245,29 @@ module _ {P : Type 0} (wanted : P → Bool) (n : ℕ) where
       still : (i : ℕ) (f : Entry) → get_elem? (set (set views 1 (Device (returned_after v e))) other Spent) i ≡ some (Right f) → get_elem? views i ≡ some (Right f)
       still i f at = elim (at_set (set views 1 (Device (returned_after v e))) other i Spent (Right f) at) [ inl same ↦ absurd (cc) | inr else_there ↦ moved views (returned_after v e) i f else_there.1 ]
 
-      guest_less : (i : ℕ) (w : View) → 1 < i → i ≢ other → get_elem? views i ≡ some w → IsGuest wanted n (without (head_of e) v.lent) w
-      guest_less i Start past apart at = seated.guests i Start past at
+      guest_less : (i : ℕ) (w : View) → 1 < i → i ≢ other → get_elem? views i ≡ some w → IsGuest wanted queue n (without (head_of e) v.lent) w
+      guest_less i (Start q) past apart at = seated.guests i (Start q) past at
       guest_less i (Driver x) past apart at = seated.guests i (Driver x) past at
       guest_less i (Device x) past apart at = seated.guests i (Device x) past at
       guest_less i (Right f) past apart at = has_without f (head_of e) v.lent (λ same. apart (seated.apart i other f e at at_other same)) (seated.guests i (Right f) past at)
       guest_less i Spent past apart at = tt
 
   -- A right is taken in.
-  pub joins_right : (id other : ℕ) (v : DeviceView) (e : Entry) → Joins (Ring wanted n) id (Device (set_stage v device.Resting)) other (Right e) (Device (returned_after v e)) Spent
+  pub joins_right : (id other : ℕ) (v : DeviceView) (e : Entry) → Joins (Ring wanted queue n) id (Device (set_stage v device.Resting)) other (Right e) (Device (returned_after v e)) Spent
   joins_right id other v e = λ s ring at apart at'.
-      let w = at_device wanted n s id (set_stage v device.Resting) ring at in
+      let w = at_device wanted queue n s id (set_stage v device.Resting) ring at in
       let r = w.ring in
       let back : get_elem? (set s.views 1 (Device (returned_after v e))) other ≡ some (Right e) = subst (λ (k : ℕ). get_elem? (set s.views k (Device (returned_after v e))) other ≡ some (Right e)) w.id_is at' in
       let there = moved s.views (returned_after v e) other e back in
-      let next : IsRing wanted n (record { words = s.words; homes = s.homes; views = set (set s.views 1 (Device (returned_after v e))) other Spent }) w.driver (returned_after v e) w.coming w.going = record {
+      let next : IsRing wanted queue n (record { words = s.words; homes = s.homes; views = set (set s.views 1 (Device (returned_after v e))) other Spent }) w.driver (returned_after v e) w.coming w.going = record {
         words = r.words;
         homes = r.homes;
         sent = r.sent;
         back = r.back;
         ordered = r.ordered;
+        queued = r.queued;
+        bounded = r.bounded;
+        device_queue = r.device_queue;
         shared = r.shared;
         once = r.once;
         below = r.below;

@@ -10,6 +10,7 @@ use Rattle.vg_ring.specs.declared.views.DeviceView.{DeviceView}
 use Rattle.vg_ring.specs.declared.views.View.{View}
 use Rattle.vg_ring.specs.declared.views.View.TheVariants.{Start, Driver, Device, Right}
 use Rattle.vg_ring.specs.Cargo.{CargoData}
+use Rattle.vg_wire.specs.declared.request.Queue.{Queue}
 use Rattle.vg_ring.specs.Rule.{IsGuest, AreSeated, IsRing, Ring}
 
 -- some seat is there
@@ -18,12 +19,12 @@ within [] i a e = absurd (some-ne-none a (sym e))
 within (x ∷ xs) zero a e = omega arith
 within (x ∷ xs) (suc i) a e = let rest = within xs i a e in omega (arith, rest)
 
-module _ {P : Type 0} (wanted : P → Bool) (n : ℕ) where
-  new_start : (views : List View) (id : ℕ) (w : View) → views ≡ Start ∷ [] → get_elem? views id ≡ some w → w ≡ Start
+module _ {P : Type 0} (wanted : P → Bool) (queue : Queue) (n : ℕ) where
+  new_start : (views : List View) (id : ℕ) (w : View) → views ≡ Start queue ∷ [] → get_elem? views id ≡ some w → w ≡ Start queue
   new_start views id w e at = go id (subst (λ (vs : List View). get_elem? vs id ≡ some w) e at)
     where
-      go : (id : ℕ) → get_elem? (Start ∷ []) id ≡ some w → w ≡ Start
-      go zero here = sym (some-injective Start w here)
+      go : (id : ℕ) → get_elem? (Start queue ∷ []) id ≡ some w → w ≡ Start queue
+      go zero here = sym (some-injective (Start queue) w here)
       go (suc i) here = absurd (some-ne-none w (sym here))
 
   -- a seat with a driver's view is the driver's
@@ -32,19 +33,19 @@ module _ {P : Type 0} (wanted : P → Bool) (n : ℕ) where
     pub device : DeviceView
     pub coming : List Entry
     pub going : List Answer
-    pub ring : IsRing wanted n s d device coming going
+    pub ring : IsRing wanted queue n s d device coming going
 
-  pub at_driver : (s : State (Option (CargoData P)) View) (id : ℕ) (d : DriverView) → Ring wanted n s → get_elem? s.views id ≡ some (Driver d) → IsAtDriver s id d
+  pub at_driver : (s : State (Option (CargoData P)) View) (id : ℕ) (d : DriverView) → Ring wanted queue n s → get_elem? s.views id ≡ some (Driver d) → IsAtDriver s id d
   at_driver s id d (inl fresh) at = (let same = new_start s.views id (Driver d) fresh.views at in absurd (cc))
   at_driver s zero d (inr r) at =
       let both : some (Driver r.0) ≡ some (Driver d) = sym r.4.seated.driver_at ∙ at in
       let same : r.0 ≡ d = cc in
-      record { id_is = refl; device = r.1; coming = r.2; going = r.3; ring = subst (λ (z : DriverView). IsRing wanted n s z r.1 r.2 r.3) same r.4 }
+      record { id_is = refl; device = r.1; coming = r.2; going = r.3; ring = subst (λ (z : DriverView). IsRing wanted queue n s z r.1 r.2 r.3) same r.4 }
   at_driver s (suc zero) d (inr r) at = (let both : some (Device r.1) ≡ some (Driver d) = sym r.4.seated.device_at ∙ at in absurd (cc))
   at_driver s (suc (suc i)) d (inr r) at = absurd (r.4.seated.guests (suc (suc i)) (Driver d) (omega arith) at)
 
   -- the driver's seat has another view
-  pub seated_driver : (views : List View) (d d' : DriverView) (v : DeviceView) → AreSeated wanted n views d v → AreSeated wanted n (set views 0 (Driver d')) d' v
+  pub seated_driver : (views : List View) (d d' : DriverView) (v : DeviceView) → AreSeated wanted queue n views d v → AreSeated wanted queue n (set views 0 (Driver d')) d' v
   seated_driver views d d' v seated = record {
     driver_at = set_here views 0 (Driver d') (within views 0 (Driver d) seated.driver_at);
     device_at = set_else views 0 1 (Driver d') (λ e. omega arith) ∙ seated.device_at;
@@ -61,23 +62,23 @@ module _ {P : Type 0} (wanted : P → Bool) (n : ℕ) where
     pub driver : DriverView
     pub coming : List Entry
     pub going : List Answer
-    pub ring : IsRing wanted n s driver v coming going
+    pub ring : IsRing wanted queue n s driver v coming going
 
-  pub at_device : (s : State (Option (CargoData P)) View) (id : ℕ) (v : DeviceView) → Ring wanted n s → get_elem? s.views id ≡ some (Device v) → IsAtDevice s id v
+  pub at_device : (s : State (Option (CargoData P)) View) (id : ℕ) (v : DeviceView) → Ring wanted queue n s → get_elem? s.views id ≡ some (Device v) → IsAtDevice s id v
   at_device s id v (inl fresh) at = (let same = new_start s.views id (Device v) fresh.views at in absurd (cc))
   at_device s zero v (inr r) at = (let both : some (Driver r.0) ≡ some (Device v) = sym r.4.seated.driver_at ∙ at in absurd (cc))
   at_device s (suc zero) v (inr r) at =
       let both : some (Device r.1) ≡ some (Device v) = sym r.4.seated.device_at ∙ at in
       let same : r.1 ≡ v = cc in
-      record { id_is = refl; driver = r.0; coming = r.2; going = r.3; ring = subst (λ (z : DeviceView). IsRing wanted n s r.0 z r.2 r.3) same r.4 }
+      record { id_is = refl; driver = r.0; coming = r.2; going = r.3; ring = subst (λ (z : DeviceView). IsRing wanted queue n s r.0 z r.2 r.3) same r.4 }
   at_device s (suc (suc i)) v (inr r) at = absurd (r.4.seated.guests (suc (suc i)) (Device v) (omega arith) at)
 
   -- the device's seat has another view, with the same rights outside
-  pub seated_device : (views : List View) (d : DriverView) (v v' : DeviceView) → v'.lent ≡ v.lent → AreSeated wanted n views d v → AreSeated wanted n (set views 1 (Device v')) d v'
+  pub seated_device : (views : List View) (d : DriverView) (v v' : DeviceView) → v'.lent ≡ v.lent → AreSeated wanted queue n views d v → AreSeated wanted queue n (set views 1 (Device v')) d v'
   seated_device views d v v' lent seated = record {
     driver_at = set_else views 1 0 (Device v') (λ e. omega arith) ∙ seated.driver_at;
     device_at = set_here views 1 (Device v') (within views 1 (Device v) seated.device_at);
-    guests = λ i w late at. subst (λ (es : List Entry). IsGuest wanted n es w) (sym lent) (seated.guests i w late (sym (set_else views 1 i (Device v') (λ e. omega arith)) ∙ at));
+    guests = λ i w late at. subst (λ (es : List Entry). IsGuest wanted queue n es w) (sym lent) (seated.guests i w late (sym (set_else views 1 i (Device v') (λ e. omega arith)) ∙ at));
     apart = λ i j e f at at' same. seated.apart i j e f (moved i e at) (moved j f at') same;
   }
     where

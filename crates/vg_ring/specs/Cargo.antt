@@ -1,6 +1,6 @@
 use Rattle.std.specs.Prelude.{◌≡◌, ℕ, ◌+◌, ◌*◌, ◌^◌, ◌≤◌, List, length, take}
 use Rattle.vg_chain.specs.declared.shape.Shape.{Shape}
-use Rattle.vg_chain.specs.Made.{AreTables}
+use Rattle.vg_chain.specs.Made.{AreTables, IsMeasured}
 use Rattle.vg_wire.specs.declared.request.Queue.{Queue}
 use Rattle.vg_wire.specs.declared.request.Queue.TheVariants.{Control, Cursor}
 
@@ -33,6 +33,13 @@ pub record IsParcel (p : ParcelData) : Type 0 where
   pub response : length p.response ≤ p.room
   pub lane : IsLane p.queue p.lane
   pub tables : AreTables p.shape (length p.request) p.room (base_of p.queue p.head) p.tables
+
+-- Where a parcel's request and room lie.
+pub record IsExtent (p : ParcelData) (b n r : ℕ) : Type 0 where
+  pub base : b ≡ base_of p.queue p.head
+  pub request : n ≡ length p.request
+  pub room : r ≡ p.room
+  pub measured : IsMeasured n r b
 
 -- A parcel with the pass that goes with it.
 pub record CargoData (P : Type 0) : Type 0 where

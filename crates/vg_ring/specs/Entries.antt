@@ -1,11 +1,13 @@
 use Rattle.std.specs.Prelude.{◌≡◌, ℕ, ◌+◌, ◌==◌, ◌⊎◌, Bool, true, false, List, [], ◌∷◌, ◌++◌, map, length, slice_index, if◌then◌else◌}
 use Rattle.vg_chain.specs.declared.descriptor.Descriptor.{Descriptor}
-use Rattle.vg_chain.specs.Made.{made}
+use Rattle.vg_chain.specs.Made.{made, IsCount, IsNeeded}
 use Rattle.vg_ring.specs.declared.views.Entry.{Entry}
 use Rattle.vg_ring.specs.declared.views.Answer.{Answer}
 use Rattle.vg_ring.specs.declared.views.Stored.{Stored}
 use Rattle.vg_ring.specs.Cargo.{CargoData, base_of}
-use Rattle.vg_ring.specs.Words.{rest_word}
+use Rattle.vg_chain.specs.declared.shape.Shape.TheVariants.{Plain}
+use Rattle.vg_wire.specs.declared.request.Queue.TheVariants.{Control}
+use Rattle.vg_ring.specs.Words.{rest_word, descriptor_from}
 
 -- The head's place is the first one.
 abbrev pub head_of : Entry → ℕ
@@ -68,11 +70,27 @@ published_as places cargo = record {
   room = cargo.parcel.room;
 }
 
+-- The descriptors that an entry has in the ring of a queue of size n.
+abbrev pub ring_of : ℕ → Entry → List Descriptor
+ring_of n e = (made e.shape (length e.request) e.room (base_of e.queue (head_of e)) n e.places).ring
+
+-- Each descriptor is the one that its two words stand for.
+abbrev pub AreBack : List Descriptor → Type 0
+AreBack [] = Unit {0}
+AreBack (d ∷ more) = (descriptor_from d.addr (rest_word d) ≡ d) × AreBack more
+
+-- An entry has as many places as its shape needs.
+pub record IsWhole (n : ℕ) (e : Entry) : Type 0 where
+  pub count : IsCount e.shape
+  pub needed : IsNeeded e.shape (length e.request) e.room (length e.places)
+  pub back : AreBack (ring_of n e)
+
 -- A cargo that is an entry's, as it is fetched, and as it is completed with an answer.
-pub record IsFresh {P : Type 0} (wanted : P → Bool) (e : Entry) (cargo : CargoData P) : Type 0 where
+pub record IsFresh {P : Type 0} (wanted : P → Bool) (n : ℕ) (e : Entry) (cargo : CargoData P) : Type 0 where
   pub entry : published_as e.places cargo ≡ e
   pub head_is : cargo.parcel.head ≡ head_of e
   pub wanted_is : wanted cargo.pass ≡ true
+  pub whole : IsWhole n e
 
 pub record IsDone {P : Type 0} (wanted : P → Bool) (a : Answer) (cargo : CargoData P) : Type 0 where
   pub entry : published_as a.entry.places cargo ≡ a.entry
@@ -99,3 +117,15 @@ without place (e ∷ more) = if head_of e == place then more else (e ∷ without
 abbrev pub Has : Entry → List Entry → Type 0
 Has e [] = ⊥
 Has e (f ∷ more) = (f ≡ e) ⊎ Has e more
+
+-- The first entry whose head is there.
+abbrev pub no_entry : Entry
+no_entry = record { places = []; queue = Control; lane = 0; ordinal = 0; shape = Plain; request = []; room = 0 }
+
+abbrev pub held_at : ℕ → List Entry → Entry
+held_at place [] = no_entry
+held_at place (e ∷ more) = if head_of e == place then e else held_at place more
+
+-- The answer that a cargo is for an entry.
+abbrev pub answer_with : {P : Type 0} → Entry → ℕ → CargoData P → Answer
+answer_with e len cargo = record { entry = e; len = len; response = cargo.parcel.response }

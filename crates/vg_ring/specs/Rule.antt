@@ -1,4 +1,4 @@
-use Rattle.std.specs.Prelude.{◌≡◌, ℕ, suc, ◌+◌, ◌*◌, ◌%◌, ◌<◌, ◌≤◌, ◌⊎◌, Bool, Option, Some, None, List, [], ◌∷◌, ◌++◌, length, map, slice_index, replicate, ◌==◌, if◌then◌else◌}
+use Rattle.std.specs.Prelude.{◌≡◌, ℕ, suc, ◌+◌, ◌*◌, ◌%◌, ◌^◌, ◌<◌, ◌≤◌, ◌⊎◌, Bool, Option, Some, None, List, [], ◌∷◌, ◌++◌, length, map, slice_index, replicate, ◌==◌, if◌then◌else◌}
 use mathlib.Core.Option.{some, none}
 use lib.ListN.{get_elem?}
 use Rattle.atomic_table.specs.Table.{State}
@@ -14,6 +14,7 @@ use Rattle.vg_ring.specs.declared.views.DeviceView.{DeviceView}
 use Rattle.vg_ring.specs.declared.views.View.{View}
 use Rattle.vg_ring.specs.declared.views.View.TheVariants.{Start, Driver, Device, Right, Spent}
 use Rattle.vg_ring.specs.Cargo.{CargoData}
+use Rattle.vg_wire.specs.declared.request.Queue.{Queue}
 use Rattle.vg_ring.specs.Words.{addr_place, rest_place, available_place, used_place, used_word}
 use Rattle.vg_ring.specs.Entries.{head_of, entries, without, Has, weigh, uses, spread, heads, times, stored_of, IsFresh, IsDone, InOrder}
 
@@ -45,19 +46,24 @@ abbrev pub Returns : ℕ → List ℕ → ℕ → List Answer → Type 0
 Returns n words k [] = Unit {0}
 Returns n words k (a ∷ more) = (word_at words (used_place n (k % n)) ≡ used_word (head_of a.entry) a.len) × Returns n words (suc k) more
 
+-- Each entry is of this queue.
+abbrev pub AreOf : Queue → List Entry → Type 0
+AreOf queue [] = Unit {0}
+AreOf queue (e ∷ more) = (e.queue ≡ queue) × AreOf queue more
+
 -- Each entry has a head.
 abbrev pub HaveHeads : List Entry → Type 0
 HaveHeads [] = Unit {0}
 HaveHeads (e ∷ more) = (0 < length e.places) × HaveHeads more
 
-module _ {P : Type 0} (wanted : P → Bool) (n : ℕ) where
+module _ {P : Type 0} (wanted : P → Bool) (queue : Queue) (n : ℕ) where
   abbrev pub Homes : Type 0
   Homes = List (mathlib.Core.Option.Option (Option (CargoData P)))
 
   -- The cargo of each entry is at home in the slot of its head.
   abbrev pub Wait : Homes → List Entry → Type 0
   Wait homes [] = Unit {0}
-  Wait homes (e ∷ more) = ((cargo : CargoData P) × (get_elem? homes (head_of e) ≡ some (some (Some cargo))) × IsFresh wanted e cargo) × Wait homes more
+  Wait homes (e ∷ more) = ((cargo : CargoData P) × (get_elem? homes (head_of e) ≡ some (some (Some cargo))) × IsFresh wanted n e cargo) × Wait homes more
 
   abbrev pub Lie : Homes → List Answer → Type 0
   Lie homes [] = Unit {0}
@@ -111,7 +117,7 @@ module _ {P : Type 0} (wanted : P → Bool) (n : ℕ) where
 
   -- What the seats from the third on know.
   abbrev pub IsGuest : List Entry → View → Type 0
-  IsGuest lent Start = ⊥
+  IsGuest lent (Start q) = ⊥
   IsGuest lent (Driver d) = ⊥
   IsGuest lent (Device v) = ⊥
   IsGuest lent (Right e) = Has e lent
@@ -130,6 +136,9 @@ module _ {P : Type 0} (wanted : P → Bool) (n : ℕ) where
     pub sent : d.published ≡ v.fetched ++ coming
     pub back : v.completed ≡ d.reaped ++ going
     pub ordered : InOrder [] d.published
+    pub queued : AreOf queue d.published
+    pub bounded : length d.published < 2 ^ 63
+    pub device_queue : v.queue ≡ queue
     pub shared : (f : Entry → ℕ) → weigh f d.outs ≡ weigh f coming + weigh f v.held + weigh f (entries going)
     pub once : (h : ℕ) → uses h d.outs ≤ 1
     pub below : (h : ℕ) → 0 < uses h d.outs → h < n
@@ -157,7 +166,7 @@ module _ {P : Type 0} (wanted : P → Bool) (n : ℕ) where
   pub record IsNew (s : State (Option (CargoData P)) View) : Type 0 where
     pub words : s.words ≡ replicate (2 + 4 * n) 0
     pub homes : s.homes ≡ replicate n (some None)
-    pub views : s.views ≡ Start ∷ []
+    pub views : s.views ≡ Start queue ∷ []
 
   abbrev pub Ring : State (Option (CargoData P)) View → Type 0
   Ring s = IsNew s ⊎ ((d : DriverView) × (v : DeviceView) × (coming : List Entry) × (going : List Answer) × IsRing s d v coming going)
@@ -197,5 +206,5 @@ returned_after v e = record v { lent = without (head_of e) v.lent; stage = devic
 abbrev pub new_driver : DriverView
 new_driver = record { published = []; reaped = []; outs = []; looks = 0; seen = 0; stage = driver.Resting }
 
-abbrev pub new_device : DeviceView
-new_device = record { fetched = []; completed = []; held = []; lent = []; looks = 0; seen = 0; stage = device.Resting }
+abbrev pub new_device : Queue → DeviceView
+new_device queue = record { queue = queue; fetched = []; completed = []; held = []; lent = []; looks = 0; seen = 0; stage = device.Resting }

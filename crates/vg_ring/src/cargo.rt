@@ -1,11 +1,14 @@
 //! What goes over a ring: a request with its room, and the pass that goes with it.
 
 ghost use Rattle.std.specs.Prelude.{◌≡◌, length, take, min};
+ghost use Rattle.vg_ring.specs.Cargo.{IsLane, IsExtent, base_of};
+ghost use Rattle.vg_chain.specs.Made.{AreTables};
 
 use crate::parcel::{Parcel, Tag};
 use crate::tagged::Tagged;
 use std::marker::Model;
 use std::mem;
+use vg_chain::{Extent, Parts};
 
 /// A parcel and its pass, which has the parcel's tag.
 #[derive(Drop)]
@@ -40,8 +43,22 @@ impl<P: Tagged> Cargo<P> {
     pub fn tag(&self) -> Tag
         ensures tag { (result.lane ≡ self.now.parcel.lane) × (result.ordinal ≡ self.now.parcel.ordinal) }
         ensures pass { P.tag_of self.now.pass ≡ (result.lane, result.ordinal) }
+        ensures lane { IsLane self.now.parcel.queue result.lane }
     {
         self.parcel.tag()
+    }
+
+    pub(crate) fn extent(&self) -> Extent
+        ensures { IsExtent self.now.parcel result.base result.request result.room }
+    {
+        self.parcel.extent()
+    }
+
+    pub(crate) fn parts(&self) -> Parts
+        ensures extent { IsExtent self.now.parcel result.base result.request result.room }
+        ensures tables { AreTables self.now.parcel.shape (length self.now.parcel.request) self.now.parcel.room (base_of self.now.parcel.queue self.now.parcel.head) result.tables.now }
+    {
+        self.parcel.parts()
     }
 
     /// The request's bytes.

@@ -1,15 +1,20 @@
 //! The driver's steps.
 
-ghost use Rattle.std.specs.Prelude.{◌≡◌, ◌+◌, ◌*◌, ◌<◌, [], ◌∷◌, ◌++◌};
-ghost use Rattle.vg_ring.specs.Plays.{driver_of, writing, written_by};
-ghost use Rattle.vg_ring.specs.Entries.{times, uses};
-ghost use Rattle.vg_ring.specs.Rule.{places_of};
+ghost use Rattle.std.specs.Prelude.{◌≡◌, ◌+◌, ◌*◌, ◌%◌, ◌<◌, [], ◌∷◌, ◌++◌, length, ℕ, ◌≤◌, slice_index};
+ghost use Rattle.vg_ring.specs.declared.views.View.TheVariants.{Driver};
+ghost use Rattle.vg_ring.specs.Plays.{driver_of, laying, writing, written_by, laid, resting_driver, newer_driver};
+ghost use Rattle.vg_ring.specs.Entries.{times, uses, stored_at, published_as, AreBack};
+ghost use Rattle.vg_ring.specs.Rule.{staged, places_of, published_after, looked_by_driver};
+ghost use Rattle.vg_chain.specs.Made.{made, IsCount, IsMeasured, IsNeeded};
+ghost use Rattle.vg_ring.specs.Tells.{IsOffer, HasReaped};
 ghost use Rattle.vg_ring.specs.Words as layout;
 
-use crate::law::{Line, Pass, StoresAddress, StoresRest};
+use crate::cargo::Cargo;
+use crate::law::{Line, Pass};
+use crate::plays::{LooksAtUsed, Offers, Publishes, Reaps, Settles, StoresAddress, StoresRest};
 use crate::tagged::Tagged;
-use crate::words::rest_word;
-use vg_chain::Descriptor;
+use crate::words::{available_word, rest_word, used_element_word, used_of};
+use vg_chain::{Descriptor, Extent, Shape};
 
 /// Stores a descriptor at a place.
 pub(crate) fn store_descriptor<P: Tagged>(
@@ -19,10 +24,11 @@ pub(crate) fn store_descriptor<P: Tagged>(
     descriptor: Descriptor,
 )
     requires line { (pass.old.table_id ≡ line.now.shared.table_id) × (line.now.shared.table_id.words ≡ 2 + 4 * line.now.shared.key.count) }
-    requires view { pass.old.me ≡ (writing pass.old.me.0 (written_by pass.old.me.0), []) }
+    requires view { pass.old.me ≡ (laying pass.old.me.0, []) }
     requires place { place < line.now.shared.key.count }
     requires free { (uses place (driver_of pass.old.me.0).outs ≡ 0) × (times place (places_of (written_by pass.old.me.0)) ≡ 0) }
     ensures line { (pass.new.table_id ≡ pass.old.table_id) × (pass.new.id ≡ pass.old.id) }
+    ensures back { layout.descriptor_from descriptor.addr (layout.rest_word descriptor) ≡ descriptor }
     ensures view { pass.new.me ≡ (writing pass.old.me.0 (written_by pass.old.me.0 ++ record { place = place; addr = descriptor.addr; rest = layout.rest_word descriptor } ∷ []), []) }
 {
     let at = 2 + 2 * place as usize;
@@ -30,4 +36,96 @@ pub(crate) fn store_descriptor<P: Tagged>(
         .store::<StoresAddress>(pass, at, descriptor.addr);
     line.shared
         .store::<StoresRest>(pass, at + 1, rest_word(descriptor));
+}
+
+/// The place at `at`, or 0 past the last.
+fn place_at(places: &[u16], at: usize) -> u16
+    ensures { result ≡ slice_index places.now at }
+{
+    if at < places.len() { places[at] } else { 0 }
+}
+
+/// Stores the descriptors that a shape has in the ring, one at each of these places.
+pub(crate) fn lay<P: Tagged>(
+    line: &Line<P>,
+    pass: &mut Pass<P>,
+    size: u16,
+    shape: Shape,
+    extent: &Extent,
+    places: &[u16],
+)
+    requires line { (pass.old.table_id ≡ line.now.shared.table_id) × (line.now.shared.table_id.words ≡ 2 + 4 * size) × (line.now.shared.key.count ≡ size) }
+    requires view { pass.old.me ≡ (resting_driver pass.old.me.0, []) }
+    requires shape { IsCount shape × IsMeasured extent.now.request extent.now.room extent.now.base }
+    requires needed { IsNeeded shape extent.now.request extent.now.room (length places.now) }
+    requires few { length places.now < 65536 }
+    requires free { (p : ℕ) → times p places.now + uses p (driver_of pass.old.me.0).outs ≤ 1 }
+    requires below { (p : ℕ) → 0 < times p places.now → p < size }
+    ensures line { (pass.new.table_id ≡ pass.old.table_id) × (pass.new.id ≡ pass.old.id) }
+    ensures back { AreBack (made shape extent.now.request extent.now.room extent.now.base size places.now).ring }
+    ensures view { pass.new.me ≡ (Driver (staged (driver_of pass.old.me.0) (laid (stored_at places.now (made shape extent.now.request extent.now.room extent.now.base size places.now).ring))), []) }
+{
+    for at in 0..places.len() {
+        let head = place_at(places, 0);
+        let next = place_at(places, at + 1);
+        let descriptor = shape.descriptor(extent, size, head, at as u16, next);
+        store_descriptor(line, pass, place_at(places, at), descriptor.unwrap());
+    }
+}
+
+/// Publishes a cargo whose descriptors were stored: its element, then the index. So many were published before.
+pub(crate) fn offer<P: Tagged>(
+    line: &Line<P>,
+    pass: &mut Pass<P>,
+    size: u16,
+    published: u64,
+    head: u16,
+    cargo: Cargo<P>,
+)
+    requires line { (pass.old.table_id ≡ line.now.shared.table_id) × (line.now.shared.table_id.words ≡ 2 + 4 * size) × (line.now.shared.key.count ≡ size) }
+    requires size { 0 < size }
+    requires view { pass.old.me ≡ (writing pass.old.me.0 (written_by pass.old.me.0), []) }
+    requires count { published ≡ length (driver_of pass.old.me.0).published }
+    requires offer { IsOffer P.is_wanted line.now.shared.key.queue size (driver_of pass.old.me.0) (written_by pass.old.me.0) head cargo }
+    ensures line { (pass.new.table_id ≡ pass.old.table_id) × (pass.new.id ≡ pass.old.id) }
+    ensures view { pass.new.me ≡ (Driver (published_after (driver_of pass.old.me.0) (published_as (places_of (written_by pass.old.me.0)) cargo)), []) }
+{
+    let element = available_word(size, published);
+    line.shared.store::<Offers>(pass, element, u64::from(head));
+    let _none = line.shared.exchange(pass, head as usize, Some(cargo));
+    line.shared
+        .store::<Publishes>(pass, 0, (published + 1) % 65536);
+}
+
+/// Loads the used index.
+pub(crate) fn look_at_used<P: Tagged>(line: &Line<P>, pass: &mut Pass<P>) -> u64
+    requires line { (pass.old.table_id ≡ line.now.shared.table_id) × (line.now.shared.table_id.words ≡ 2 + 4 * line.now.shared.key.count) }
+    requires view { pass.old.me ≡ (resting_driver pass.old.me.0, []) }
+    ensures line { (pass.new.table_id ≡ pass.old.table_id) × (pass.new.id ≡ pass.old.id) }
+    ensures view { pass.new.me ≡ (Driver (looked_by_driver (driver_of pass.old.me.0) result), []) }
+{
+    line.shared.load::<LooksAtUsed>(pass, 1)
+}
+
+/// Loads the used element, and takes the cargo from the slot of its head. So many were reaped before.
+pub(crate) fn take_answer<P: Tagged>(
+    line: &Line<P>,
+    pass: &mut Pass<P>,
+    size: u16,
+    reaped: u64,
+) -> (u16, u32, Cargo<P>)
+    requires line { (pass.old.table_id ≡ line.now.shared.table_id) × (line.now.shared.table_id.words ≡ 2 + 4 * size) × (line.now.shared.table_id.slots ≡ size) × (line.now.shared.key.count ≡ size) }
+    requires size { 0 < size }
+    requires view { pass.old.me ≡ (newer_driver pass.old.me.0, []) }
+    requires count { reaped ≡ length (driver_of pass.old.me.0).reaped }
+    ensures line { (pass.new.table_id ≡ pass.old.table_id) × (pass.new.id ≡ pass.old.id) }
+    ensures reaped { HasReaped P.is_wanted size (driver_of pass.old.me.0) result.0 result.1 result.2 pass.new.me }
+{
+    let element = used_element_word(size, reaped);
+    let word = line.shared.load::<Reaps>(pass, element);
+    let (head, len) = used_of(word);
+    let slot = line.shared.exchange(pass, head as usize, None);
+    line.shared.load::<Settles>(pass, 0);
+    let cargo = slot.unwrap();
+    (head, len, cargo)
 }

@@ -4,10 +4,12 @@ ghost use Rattle.std.specs.Prelude.{◌≡◌, ◌+◌, ◌*◌, ◌<◌, ◌≤
 ghost use Rattle.vg_ring.specs.declared.views.View.TheVariants.{Driver, Device};
 ghost use Rattle.vg_ring.specs.Rule.{new_driver, new_device};
 
-use crate::law::{CutsEnds, Line, Pass, Size};
+use crate::law::{Line, Pass, Size};
+use crate::plays::CutsEnds;
 use crate::tagged::Tagged;
 use atomic_table::Table;
 use std::alloc::{AllocError, Global};
+use vg_wire::Queue;
 
 /// As many words, all of them 0.
 fn zero_words(alloc: Global, count: usize) -> Result<Vec<u64>, AllocError>
@@ -19,18 +21,19 @@ fn zero_words(alloc: Global, count: usize) -> Result<Vec<u64>, AllocError>
 /// The table of a ring of this size, and the seats of its two ends.
 pub(crate) fn make_line<P: Tagged>(
     alloc: Global,
+    queue: Queue,
     count: u16,
 ) -> Result<(Line<P>, Pass<P>, Pass<P>), AllocError>
-    ensures table { IfOk result (λ t. (t.0.shared.table_id.words ≡ 2 + 4 * count) × (t.0.shared.table_id.slots ≡ count) × (t.0.shared.key.count ≡ count)) }
+    ensures table { IfOk result (λ t. (t.0.shared.table_id.words ≡ 2 + 4 * count) × (t.0.shared.table_id.slots ≡ count) × (t.0.shared.key ≡ record { queue = queue; count = count })) }
     ensures seats { IfOk result (λ t. (t.1.table_id ≡ t.0.shared.table_id) × (t.2.table_id ≡ t.0.shared.table_id)) }
-    ensures views { IfOk result (λ t. (t.1.me ≡ (Driver new_driver, [])) × (t.2.me ≡ (Device new_device, []))) }
+    ensures views { IfOk result (λ t. (t.1.me ≡ (Driver new_driver, [])) × (t.2.me ≡ (Device (new_device queue), []))) }
 {
     let words = zero_words(alloc, 2 + 4 * count as usize)?;
     let (line, mut driver) = Table::vacant(
         alloc,
         words.as_slice(),
         count as usize,
-        &Size { count },
+        &Size { queue, count },
     )?;
     let device = line.shared.split_seat::<CutsEnds>(&mut driver);
     Ok((line, driver, device))

@@ -2,13 +2,13 @@
 
 ghost use Rattle.std.specs.Prelude.{◌≡◌, ◌+◌, ◌≤◌, ◌^◌, [], length, take, min, IfOk};
 ghost use Rattle.vg_chain.specs.Made.{IsCount, AreTables};
-ghost use Rattle.vg_ring.specs.Cargo.{IsLane};
+ghost use Rattle.vg_ring.specs.Cargo.{IsLane, IsExtent};
 ghost use Rattle.vg_ring.specs.Cargo as cargo;
 
 use std::alloc::{AllocError, Global};
 use std::marker::Model;
 use std::snapshot::Snapshot;
-use vg_chain::{Extent, Shape};
+use vg_chain::{Extent, Parts, Shape};
 use vg_wire::Queue;
 
 /// The lane of a request and its number in that lane.
@@ -110,9 +110,39 @@ impl Parcel {
         })
     }
 
+    /// Where the request and its room lie.
+    pub(crate) fn extent(&self) -> Extent
+        ensures { IsExtent self.now result.base result.request result.room }
+    {
+        Extent {
+            base: base_of(self.queue, self.head),
+            request: self.request.len() as u32,
+            room: self.room.len() as u32,
+        }
+    }
+
+    /// Where its parts lie, with the bytes of its tables.
+    pub(crate) fn parts(&self) -> Parts
+        ensures extent { IsExtent self.now result.base result.request result.room }
+        ensures tables { AreTables self.now.shape (length self.now.request) self.now.room (cargo.base_of self.now.queue self.now.head) result.tables.now }
+    {
+        let Extent {
+            base,
+            request,
+            room,
+        } = self.extent();
+        Parts {
+            base,
+            request,
+            room,
+            tables: self.tables.as_slice(),
+        }
+    }
+
     /// The lane and the ordinal.
     pub fn tag(&self) -> Tag
-        ensures { (result.lane ≡ self.now.lane) × (result.ordinal ≡ self.now.ordinal) }
+        ensures tag { (result.lane ≡ self.now.lane) × (result.ordinal ≡ self.now.ordinal) }
+        ensures lane { IsLane self.now.queue result.lane }
     {
         self.tag
     }

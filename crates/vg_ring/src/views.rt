@@ -95,6 +95,8 @@ pub enum DeviceStage {
 
 /// What the device's end knows.
 pub struct DeviceView {
+    /// The queue whose end it is.
+    pub queue: Queue,
     pub fetched: LinkedList<Entry>,
     pub completed: LinkedList<Answer>,
     /// Those fetched that aren't completed, in any order.
@@ -109,8 +111,8 @@ pub struct DeviceView {
 
 /// What a seat of the ring's table knows.
 pub enum View {
-    /// The first seat, before there are two ends.
-    Start,
+    /// The first seat, before there are two ends of this queue.
+    Start(Queue),
     Driver(DriverView),
     Device(DeviceView),
     /// A right to this entry.

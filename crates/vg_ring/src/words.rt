@@ -40,7 +40,8 @@ pub(crate) fn used_word(head: u16, len: u32) -> u64
 /// The head and the length that such a word has.
 pub(crate) fn used_of(word: u64) -> (u16, u32)
     requires { word % 2 ^ 32 < 2 ^ 16 }
-    ensures { layout.used_word result.0 result.1 ≡ word }
+    ensures word { layout.used_word result.0 result.1 ≡ word }
+    ensures small { result.0 < 2 ^ 16 }
 {
     ((word % 0x1_0000_0000) as u16, (word / 0x1_0000_0000) as u32)
 }
@@ -51,3 +52,21 @@ pub fn words_are_bytes()
     ensures descriptors { (n : ℕ) (words : List ℕ) → ((i : ℕ) → slice_index words i < 2 ^ 64) → (image_of n words).descriptors ≡ table_bytes (table_from n words) }
     ensures used { (head len : ℕ) → head < 2 ^ 16 → len < 2 ^ 32 → le 8 (layout.used_word head len) ≡ le 4 head ++ le 4 len }
 {}
+
+/// The word of an available element, by how many cargoes were published before.
+pub(crate) fn available_word(size: u16, count: u64) -> usize
+    requires { 0 < size }
+    ensures place { result ≡ layout.available_place size (count % size) }
+    ensures small { result < 2 + 4 * size }
+{
+    2 + 2 * size as usize + (count % u64::from(size)) as usize
+}
+
+/// The word of a used element, by how many cargoes were completed before.
+pub(crate) fn used_element_word(size: u16, count: u64) -> usize
+    requires { 0 < size }
+    ensures place { result ≡ layout.used_place size (count % size) }
+    ensures small { result < 2 + 4 * size }
+{
+    2 + 3 * size as usize + (count % u64::from(size)) as usize
+}
