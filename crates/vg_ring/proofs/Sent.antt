@@ -50,7 +50,7 @@ table_send X V K T Z gt ga s z f = let O = table.the_type X V K T Z gt ga in
     recorded_send _ _ _ O.to_one (struct_send (shape O) (shared_send X V K T gt s, (search sendable, (search sendable, (right_send _ Z ga f, (right_send X Z ga f, (z, tt)))))))
 
 module _ (P N : RattleType) (gp : Tagged.Ghosts P.Denot) (gn : Naming.Ghosts N.Denot) (p : IsSend P) (n : IsSend N) where
-  cargo_send : IsSend (cargo.the_row P gp)
+  pub cargo_send : IsSend (cargo.the_row P gp)
   cargo_send = search (sendable, crosses) depth 20
 
   slot_send : IsSend (option.the_row (cargo.the_row P gp))
