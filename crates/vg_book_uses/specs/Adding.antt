@@ -1,5 +1,5 @@
 -- What clients that add leave in the history.
-use Rattle.std.specs.Prelude.{◌≡◌, ◌⊎◌, ℕ, ◌+◌, ◌<◌, ◌≤◌, All, List, [], ◌∷◌, ◌++◌, length, map, Option, Result, Ok}
+use Rattle.std.specs.Prelude.{◌≡◌, ℕ, ◌+◌, ◌<◌, ◌≤◌, All, List, [], ◌∷◌, ◌++◌, length, map, Option, Result, Ok}
 use mathlib.Core.List.{IsPrefix}
 use Rattle.vg_history.specs.declared.machine.Machine.{Ghosts}
 use Rattle.vg_history.specs.declared.entry.Entry.{Entry}
@@ -88,9 +88,10 @@ module _ (g : Ghosts Counter Counter Act ℕ Request ℕ ℕ) where
     pub once : EachOnce H
     pub ordered : Ordered g H
 
-  -- A client that has made no call yet.
-  pub record IsNew (first : Option Counter) (c : Cl) : Type 0 where
+  -- A client that holds this, and has made no call yet.
+  pub record IsNew (first : Option Counter) (held : ℕ) (c : Cl) : Type 0 where
     pub used : c.account.used ≡ 0
+    pub holds : c.account.holds ≡ held
     pub mine : c.account.mine ≡ []
     pub out : c.account.out ≡ []
     pub spent : c.account.spent ≡ []
@@ -98,6 +99,6 @@ module _ (g : Ghosts Counter Counter Act ℕ Request ℕ ℕ) where
     pub is_known : IsKnown c
 
   -- New clients with the numbers 1 to `count`.
-  pub record AreNew (first : Option Counter) (count : ℕ) (cs : List Cl) : Type 0 where
+  pub record AreNew (first : Option Counter) (held count : ℕ) (cs : List Cl) : Type 0 where
     pub numbers : map number_of cs ≡ upto count
-    pub new : All (IsNew first) cs
+    pub new : All (IsNew first held) cs

@@ -63,7 +63,7 @@ fn adders<'a, B: Naming>(
     requires first { (root.old.given ≡ 0) × (root.old.accounts ≡ []) × (root.old.lanes ≡ []) }
     requires count { count < 2 ^ 32 - 1 }
     ensures root { OnOk result (IsRootWith count root.old root.new) }
-    ensures clients { IfOk result (λ v. AreNew ⟦<Counter as Machine>⟧ root.old.start count (map (λ job. job.client) v.items)) }
+    ensures clients { IfOk result (λ v. AreNew ⟦<Counter as Machine>⟧ root.old.start 0 count (map (λ job. job.client) v.items)) }
     ensures times { IfOk result (λ v. All (λ job. job.times ≡ times) v.items) }
 {
     let mut jobs = Vec::new(alloc);

@@ -4,6 +4,9 @@
 mod add;
 mod counter;
 mod crew;
+mod desk;
+mod meet;
+mod share;
 #[cfg(test)]
 mod tests;
 mod walk;
@@ -11,4 +14,7 @@ mod walk;
 pub use add::{add_times, all_add};
 pub use counter::{Act, Counter, Request};
 pub use crew::{Job, all, each};
+pub use desk::{Desk, ask, serve};
+pub use meet::{Post, both_meet};
+pub use share::run_all;
 pub use walk::command;

@@ -1,11 +1,12 @@
 use denote.Param.Send.{IsSend, sendable, param_send}
 use Rattle.std.proofs.Crossing.{crosses}
 use Rattle.vg_book.proofs.Sent.{client_send, book_sync}
-use Rattle.std.proofs.Common.{ap, ◌∙◌, ◌++◌}
+use Rattle.std.proofs.Common.{◌≡◌, ap, ◌∙◌, ◌++◌, arith}
 use Rattle.std.specs.Prelude.{map}
 use Rattle.vg_book_uses.specs.contracts.counter.CounterMachine.TheImpl as counter
 use Rattle.vg_book_uses.specs.Adding.{account_of, IsNew}
-use Rattle.vg_book_uses.proofs.AddLemmas.{of_map, with_nothing_out, all_joined, have_all_added}
+use Rattle.vg_book_uses.proofs.CrewLemmas.{of_map, with_nothing_out, all_joined}
+use Rattle.vg_book_uses.proofs.AddLemmas.{Gave, same, idle, have_all_added}
 use Rattle.vg_book_uses.proofs.add.all_add.Lts as lts
 use Rattle.vg_book_uses.proofs.add.all_add.Given.{Over}
 use Rattle.vg_book_uses.proofs.add.all_add.Goals as goal
@@ -23,19 +24,27 @@ pub each-requires-send-J : goal.each-requires-send-J
 each-requires-send-J g c κs = λ _. param_send _ _ (job_send g κs)
 
 pub each-requires-after_bounds : goal.each-requires-after_bounds
-each-requires-after_bounds g c = λ κs _ k d lt. (of_map (IsNew counter.ghosts _) (λ job. job.client) c.in-Ok-adders.jobs.items c.in-Ok-adders.ensures.clients.new k d lt).is_known
+each-requires-after_bounds g c = λ κs _ k d lt. (of_map (IsNew counter.ghosts _ 0) (λ job. job.client) c.in-Ok-adders.jobs.items c.in-Ok-adders.ensures.clients.new k d lt).is_known
 
 pub join_all-requires : goal.join_all-requires
-join_all-requires g c = with_nothing_out counter.ghosts (λ job. job.client) (λ job. job.times) c.args.times _ c.in-Ok-adders.jobs.items c.in-Ok-each.clients.items c.in-Ok-each.ensures (of_map (IsNew counter.ghosts _) (λ job. job.client) c.in-Ok-adders.jobs.items c.in-Ok-adders.ensures.clients.new)
+join_all-requires g c =
+    let n = counter.ghosts in
+    with_nothing_out n (λ job. job.client) 0 (λ job. job.times ≡ c.args.times) (Gave n (λ job. job.client) (λ job. job.times) c.args.times)
+    (same n (λ job. job.client) (λ job. job.times) c.args.times) (idle n (λ job. job.client) (λ job. job.times) c.args.times)
+    _ c.in-Ok-adders.jobs.items c.in-Ok-each.clients.items c.in-Ok-each.ensures (of_map (IsNew n _ 0) (λ job. job.client) c.in-Ok-adders.jobs.items c.in-Ok-adders.ensures.clients.new)
 
 pub close-requires : goal.close-requires
 close-requires g c =
+    let n = counter.ghosts in
     let start = c.in-Ok-adders.ensures in
     let all = c.in_ok-join_all.ensures in
-    all_joined counter.ghosts (λ job. job.client) (λ job. job.times) c.args.times _ c.args.count c.in-Ok-adders.jobs.items all.taken.0 start.clients start.times c.in-Ok-each.clients.items c.in-Ok-each.ensures all.taken.1 c.join_all.new.root
+    let none : c.join_all.new.root.lanes_made ≡ 0 = all.lanes_made ∙ (start.root.lanes_made ∙ (ap (λ r. r.lanes_made) c.in-Ok.ensures.root ∙ c.requires.book.1)) in
+    all_joined n (λ job. job.client) 0 (λ job. job.times ≡ c.args.times) (Gave n (λ job. job.client) (λ job. job.times) c.args.times)
+    (same n (λ job. job.client) (λ job. job.times) c.args.times) (idle n (λ job. job.client) (λ job. job.times) c.args.times)
+    _ c.args.count c.in-Ok-adders.jobs.items all.taken.0 start.clients start.times c.in-Ok-each.clients.items c.in-Ok-each.ensures all.taken.1 c.join_all.new.root
     (all.given ∙ start.root.given)
-    (all.lanes_made ∙ (start.root.lanes_made ∙ (ap (λ r. r.lanes_made) c.in-Ok.ensures.root ∙ c.requires.book.1)))
     (all.taken.2 ∙ ap (λ l. l ++ map account_of all.taken.0) start.root.accounts)
+    (λ l lt. absurd (omega (arith, none, lt)))
 
 pub returns-clause-added : goal.returns-clause-added
 returns-clause-added g c =

@@ -1,5 +1,5 @@
 use Rattle.vg_book_uses.specs.contracts.counter.CounterMachine.TheImpl as counter
-use Rattle.vg_book_uses.proofs.AddLemmas.{taken_more}
+use Rattle.vg_book_uses.proofs.CrewLemmas.{taken_more}
 use Rattle.vg_book_uses.proofs.add.join_all.Goals as goal
 
 pub loop-client-preserved : goal.loop-client-preserved

@@ -1,5 +1,5 @@
 use Rattle.vg_book_uses.proofs.tests.two_threads_make_a_thousand_acts_each.Given as goal
 
 -- The book that was just opened.
-abbrev pub ghosts-two_add : goal.ghosts-two_add
-ghosts-two_add g a = record { table = a.opened.table }
+abbrev pub ghosts-adds : goal.ghosts-adds
+ghosts-adds g a = record { table = a.opened.table }
