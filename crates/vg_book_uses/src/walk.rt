@@ -1,13 +1,15 @@
 //! One client, one lane and their calls, one after another.
 
 ghost use Rattle.std.specs.Prelude.{◌≡◌, ◌+◌, ◌-◌, ◌^◌, ◌<◌, ◌≤◌, length};
+ghost use Rattle.vg_book_uses.specs.Desks.{HasAsked, HasWorked};
 
 use crate::counter::{Counter, Request};
 use std::alloc::Global;
 use std::sync::Wait;
 use vg_book::{Book, ClientToken, LaneToken, Naming, Ran};
+use vg_history::Machine;
 
-/// A command that goes out, is run, and comes back.
+/// A command that goes out, is run, and comes back: its reply, or none where there was no memory to run it.
 pub fn command<B: Naming, R: Wait>(
     rt: &R,
     alloc: Global,
@@ -15,13 +17,12 @@ pub fn command<B: Naming, R: Wait>(
     client: &mut ClientToken<Counter, B>,
     lane: &mut LaneToken<Counter, B>,
     n: u64,
-)
+) -> Option<u64>
     requires allowed { n ≤ client.old.account.holds }
     requires last { (client.old.account.used < 2 ^ 63 - 1) × (lane.old.count < 2 ^ 63) }
-    ensures number { client.new.account.number ≡ client.old.account.number }
-    ensures holds { client.new.account.holds ≡ client.old.account.holds }
+    ensures asked { HasAsked ⟦<Counter as Machine>⟧ client.old lane.old.lane n client.new result }
     ensures out { length client.new.account.out ≡ length client.old.account.out }
-    ensures lane { lane.new.lane ≡ lane.old.lane }
+    ensures lane { HasWorked ⟦<Counter as Machine>⟧ lane.old lane.new result }
 {
     let request = Request {
         lane: lane.lane(),
@@ -30,9 +31,10 @@ pub fn command<B: Naming, R: Wait>(
     };
     let pass = client.pass(book, request);
     match lane.run(rt, alloc, book, pass) {
-        Ran::Done(done) => {
-            client.take_back(book, done);
+        Ran::Done(done) => Some(client.take_back(book, done).1),
+        Ran::Unrun(pass) => {
+            client.take_unrun(book, pass);
+            None
         }
-        Ran::Unrun(pass) => client.take_unrun(book, pass),
     }
 }

@@ -11,3 +11,4 @@ pub mod RemoveLemmas
 pub mod BackingLemmas
 pub mod ResourceLemmas
 pub mod PixelLemmas
+pub mod GrowingLemmas

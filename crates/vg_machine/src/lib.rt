@@ -9,6 +9,7 @@ mod cells;
 mod codes;
 mod commands;
 mod display;
+mod growing;
 mod history;
 mod holds;
 mod lane;
@@ -22,6 +23,7 @@ mod share;
 
 pub use act::{Act, ActReply, What};
 pub use display::Display;
+pub use growing::holds_only_grow;
 pub use history::{Entry, Reply, Request};
 pub use holds::{Holds, denied};
 pub use lane::lane_of;

@@ -1,0 +1,134 @@
+-- Clients that are made for jobs, one each, and what the jobs give is taken in.
+use Rattle.std.proofs.Common.{◌≡◌, ℕ, zero, suc, ◌+◌, ◌<◌, ◌≤◌, inl, inr, List, [], ◌∷◌, ◌++◌, map, refl, ap, sym, subst, ◌∙◌, arith, append_assoc, add-one, Option}
+use Rattle.std.specs.Prelude.{All, Result, Ok, Err, IfOk}
+use Rattle.std.proofs.lemmas.List.{map-append}
+use Rattle.std.proofs.lemmas.List.Elements.{All-append, All-nil}
+use Rattle.vg_history.specs.declared.machine.Machine.{Ghosts}
+use Rattle.vg_history.specs.Lists.{Has, upto}
+use Rattle.vg_history.proofs.ListLemmas.{has_map, map_has, has_upto}
+use Rattle.vg_book.specs.declared.board.Counted.{Counted}
+use Rattle.vg_book.specs.declared.held.NoMemory.{NoMemory}
+use Rattle.vg_book.specs.Kept.{IsHistory}
+use Rattle.vg_book.specs.Tokens.{AllJoined, MakesClient, TakesIn}
+use Rattle.vg_book_uses.specs.declared.counter.Act.{Act}
+use Rattle.vg_book_uses.specs.declared.counter.Counter.{Counter}
+use Rattle.vg_book_uses.specs.declared.counter.Request.{Request}
+use Rattle.vg_book_uses.specs.Jobs.{AllGive}
+use Rattle.vg_book_uses.specs.Adding.{E, Cl, Ro, number_of, account_of, AreNew, HasTakenAll, IsNew, IsRootWith}
+
+pub all_one : {X : Type 0} (P : X → Type 0) (x : X) → P x → All P (x ∷ [])
+all_one P x h zero d lt = h
+all_one P x h (suc k) d lt = absurd (omega arith)
+
+pub of_map : {X Y : Type 0} (P : Y → Type 0) (f : X → Y) (xs : List X) → All P (map f xs) → All (λ x. P (f x)) xs
+of_map P f [] h k d lt = absurd (omega arith)
+of_map P f (x ∷ xs) h zero d lt = h 0 (f d) (omega arith)
+of_map P f (x ∷ xs) h (suc k) d lt = of_map P f xs (λ i e l. h (suc i) e (omega arith)) k d (omega arith)
+
+if_ok : {T F : Type 0} (r : Result T F) (P Q : T → Type 0) → IfOk r P → ((v : T) → P v → Q v) → IfOk r Q
+if_ok (Ok v) P Q p f = f v p
+if_ok (Err e) P Q p f = tt
+
+upto_more : (n : ℕ) → upto n ++ (n + 1) ∷ [] ≡ upto (n + 1)
+upto_more n = rw add-one refl
+
+module _ (g : Ghosts Counter Counter Act ℕ Request ℕ ℕ) where
+  module _ {X : Type 0} (client : X → Cl) (held : ℕ) (Fits : X → Type 0) where
+    -- So many new clients were made, for jobs that have them.
+    abbrev pub IsMade : ℕ → Ro → Ro → List X → Type 0
+    IsMade n r s js = IsRootWith n r s × AreNew g r.start held n (map client js) × All Fits js
+
+    pub made_none : (r : Ro) → (r.given ≡ 0) × (r.accounts ≡ []) × (r.lanes ≡ []) → (js : List X) → js ≡ [] → IsMade 0 r r js
+    made_none r first js e = subst (λ (xs : List X). IsMade 0 r r xs) (sym e) (
+      record { given = first.0; accounts = first.1; lanes = first.2; lanes_made = refl; start = refl },
+      record { numbers = refl; new = All-nil _ },
+      All-nil _,
+    )
+
+    pub made_more : (n : ℕ) (r s t : Ro) (c : Cl) (js ks : List X) (j : X) → IsMade n r s js → MakesClient g s held t c → client j ≡ c → Fits j → ks ≡ js ++ j ∷ [] → IsMade (n + 1) r t ks
+    made_more n r s t c js ks j h m is fits e =
+        let root = h.0 in
+        let number : c.account.number ≡ n + 1 = ap (λ x. x.account.number) m.client ∙ ap (λ k. k + 1) root.given in
+        let numbers : map number_of (map client (js ++ j ∷ [])) ≡ upto (n + 1) =
+        ap (map number_of) (map-append client js (j ∷ [])) ∙ (map-append number_of (map client js) (client j ∷ [])
+        ∙ (ap (λ ns. ns ++ number_of (client j) ∷ []) h.1.numbers ∙ (ap (λ k. upto n ++ k ∷ []) (ap number_of is ∙ number) ∙ upto_more n))) in
+        let starts = m.start ∙ sym (ap (λ x. x.start) m.client) in
+        let sees = sym (ap (λ x. x.seen) m.client) in
+        let new : IsNew g r.start held c = record {
+          used = ap (λ x. x.account.used) m.client;
+          holds = ap (λ x. x.account.holds) m.client;
+          mine = ap (λ x. x.account.mine) m.client;
+          out = ap (λ x. x.account.out) m.client;
+          spent = ap (λ x. x.account.spent) m.client;
+          start = ap (λ x. x.start) m.client ∙ root.start;
+          is_known = record { history = subst (λ (x : Option Counter × List E). IsHistory g x.0 x.1) (λ i. (starts i, sees i)) m.history; known = m.known };
+        } in
+        let root' : IsRootWith (n + 1) r t = record {
+          given = m.given ∙ ap (λ k. k + 1) root.given;
+          accounts = m.accounts ∙ root.accounts;
+          lanes = m.lanes ∙ root.lanes;
+          lanes_made = m.lanes_made ∙ root.lanes_made;
+          start = m.start ∙ root.start;
+        } in
+        let all : All (IsNew g r.start held) (map client (js ++ j ∷ [])) =
+        subst (λ (xs : List Cl). All (IsNew g r.start held) xs) (sym (map-append client js (j ∷ [])))
+        (All-append (IsNew g r.start held) (map client js) (client j ∷ []) h.1.new (all_one (IsNew g r.start held) (client j) (subst (λ x. IsNew g r.start held x) (sym is) new))) in
+        subst (λ (xs : List X). IsMade (n + 1) r t xs) (sym e) (root', record { numbers = numbers; new = all }, All-append Fits js (j ∷ []) h.2 (all_one Fits j fits))
+
+    -- Each job gives its client, with the same number and nothing outstanding.
+    module _ (Gave : X → Cl → Type 0) (same : (j : X) (c : Cl) → Gave j c → c.account.number ≡ (client j).account.number)
+        (idle : (first : Option Counter) (j : X) (c : Cl) → IsNew g first held (client j) → Gave j c → c.account.out ≡ []) where
+      abbrev pub Gives : X → Result Cl NoMemory → Type 0
+      Gives j result = IfOk result (Gave j)
+
+      pub with_nothing_out : (first : Option Counter) (js : List X) (ds : List (Result Cl NoMemory)) → AllGive Gives js ds → All (λ j. IsNew g first held (client j)) js → All (λ d. IfOk d (λ c. c.account.out ≡ [])) ds
+      with_nothing_out first js [] h new k d lt = absurd (omega arith)
+      with_nothing_out first [] (x ∷ ds) h new k d lt = absurd h
+      with_nothing_out first (j ∷ js) (x ∷ ds) h new zero d lt = if_ok x (Gave j) (λ c. c.account.out ≡ []) h.0 (λ c a. idle first j c (new 0 j (omega arith)) a)
+      with_nothing_out first (j ∷ js) (x ∷ ds) h new (suc k) d lt = with_nothing_out first js ds h.1 (λ i y l. new (suc i) y (omega arith)) k d (omega arith)
+
+      same_numbers : (js : List X) (cs : List Cl) → AllGive Gives js (map Ok cs) → map number_of cs ≡ map number_of (map client js)
+      same_numbers [] [] h = refl
+      same_numbers [] (c ∷ cs) h = absurd h
+      same_numbers (j ∷ js) [] h = absurd h
+      same_numbers (j ∷ js) (c ∷ cs) h = λ i. same j c h.0 i ∷ same_numbers js cs h.1 i
+
+      -- The job that gave a client.
+      giver : (first : Option Counter) (js : List X) (cs : List Cl) → AllGive Gives js (map Ok cs) → All (λ j. IsNew g first held (client j)) js → All Fits js
+          → (c : Cl) → Has cs c → (j : X) × IsNew g first held (client j) × Fits j × Gave j c
+      giver first js [] h new fits c at = absurd at
+      giver first [] (d ∷ cs) h new fits c at = absurd h
+      giver first (j ∷ js) (d ∷ cs) h new fits c (inl e) = (j, new 0 j (omega arith), fits 0 j (omega arith), subst (λ x. Gave j x) e h.0)
+      giver first (j ∷ js) (d ∷ cs) h new fits c (inr at) = giver first js cs h.1 (λ i y l. new (suc i) y (omega arith)) (λ i y l. fits (suc i) y (omega arith)) c at
+
+      module _ (first : Option Counter) (count : ℕ) (js : List X) (cs : List Cl) (new : AreNew g first held count (map client js)) (fits : All Fits js)
+          (ds : List (Result Cl NoMemory)) (gave : AllGive Gives js ds) (all_ok : ds ≡ map Ok cs) where
+        gives : AllGive Gives js (map Ok cs)
+        gives = subst (λ (xs : List (Result Cl NoMemory)). AllGive Gives js xs) all_ok gave
+
+        -- The client with this number, and its job.
+        pub found : (n : ℕ) → 0 < n → n ≤ count → (c : Cl) × Has cs c × (c.account.number ≡ n) × ((j : X) × IsNew g first held (client j) × Fits j × Gave j c)
+        found n low high =
+            let c = map_has number_of cs n (subst (λ (ns : List ℕ). Has ns n) (sym (same_numbers js cs gives ∙ new.numbers)) (has_upto count n low high)) in
+            (c.0, c.1, c.2, giver first js cs gives (of_map (IsNew g first held) client js new.new) fits c.0 c.1)
+
+        pub all_joined : (r : Ro) → r.given ≡ count → r.accounts ≡ map account_of cs → ((l : ℕ) → l < r.lanes_made → (x : Counted) × Has r.lanes x × (x.lane ≡ l)) → AllJoined g r
+        all_joined r given accounts lanes = record {
+          clients = λ n low high.
+              let c = found n low (omega arith) in
+              (c.0.account, subst (λ as'. Has as' c.0.account) (sym accounts) (has_map account_of cs c.0 c.1), c.2);
+          lanes = lanes;
+        }
+
+  pub taken_more : (r s t : Ro) (ys : List (Result Cl NoMemory)) (y : Result Cl NoMemory) (c : Cl) → HasTakenAll r ys s → y ≡ Ok c → TakesIn g s c.seen t → t.accounts ≡ s.accounts ++ c.account ∷ [] → t.lanes ≡ s.lanes → HasTakenAll r (ys ++ y ∷ []) t
+  taken_more r s t ys y c h e takes accounts lanes = record {
+    given = takes.given ∙ h.given;
+    lanes = lanes ∙ h.lanes;
+    lanes_made = takes.lanes_made ∙ h.lanes_made;
+    start = takes.start ∙ h.start;
+    taken = (
+      h.taken.0 ++ c ∷ [],
+      ap (λ l. l ++ y ∷ []) h.taken.1 ∙ (ap (λ z. map Ok h.taken.0 ++ z ∷ []) e ∙ sym (map-append Ok h.taken.0 (c ∷ []))),
+      accounts ∙ (ap (λ l. l ++ c.account ∷ []) h.taken.2 ∙ (append_assoc r.accounts (map account_of h.taken.0) (c.account ∷ []) ∙ ap (λ l. r.accounts ++ l) (sym (map-append account_of h.taken.0 (c ∷ []))))),
+    );
+  }

@@ -1,0 +1,7 @@
+use Rattle.std.proofs.Common.{◌≡◌, ◌<◌, length}
+use Rattle.vg_book_uses.specs.contracts.counter.CounterMachine.TheImpl as counter
+use Rattle.vg_book_uses.proofs.CrewLemmas.{IsMade}
+use Rattle.vg_book_uses.proofs.share.askers.Given as goal
+
+abbrev pub invariant-loop-made : goal.invariant-loop-made
+invariant-loop-made g l = IsMade counter.ghosts (λ job. job.client) 1 (λ job. (job.rounds ≡ l.rounds) × (0 < length job.desks.now)) l._made l.initial.root l.root l.jobs.items
