@@ -4,11 +4,11 @@ use Rattle.std.specs.Prelude.{◌||◌, ◌&&◌, not, nat_le, if◌then◌else�
 use Rattle.std.proofs.lemmas.List.Folds.{list_any-append}
 use Rattle.std.specs.List.{list_any}
 use Rattle.vg_wire.specs.declared.header.Header.{Header}
-use Rattle.vg_wire.specs.declared.request.Command.{Command}
-use Rattle.vg_wire.specs.declared.request.Command.TheVariants.{TwoD}
+use Rattle.vg_wire_ext.specs.declared.command.Command.{Command}
+use Rattle.vg_wire_ext.specs.declared.command.Command.TheVariants.{TwoD}
 use Rattle.vg_wire.specs.declared.request.Malformed.{Malformed}
 use Rattle.vg_wire.specs.declared.request.Queue.{Queue}
-use Rattle.vg_wire.specs.Request.{request_of}
+use Rattle.vg_wire_ext.specs.Request.{request_of}
 use Rattle.vg_machine.specs.declared.act.Act.{Act}
 use Rattle.vg_machine.specs.declared.act.Act.TheVariants.{Enter, Reserve, Store, Load, Release, Free, Take, Drop, Denied, Leave}
 use Rattle.vg_machine.specs.declared.act.ActReply.{ActReply}
@@ -17,7 +17,7 @@ use Rattle.vg_machine.specs.declared.act.What.{What}
 use Rattle.vg_machine.specs.declared.act.What.TheVariants.{Name, Resource, Scanout}
 use Rattle.vg_machine.specs.declared.holds.Holds.{Holds}
 use Rattle.vg_machine.specs.Order.{gives_up}
-use Rattle.vg_machine.specs.Holds.{Allowed, denied_request, first_denied, has_key, has_number, is_allowed, is_creating, is_number, names_of, update}
+use Rattle.vg_machine.specs.Holds.{Allowed, denied_command, denied_request, first_denied, has_key, has_number, is_allowed, is_creating, is_number, names_of, update}
 
 false_is_true : false ≡ true → ⊥
 false_is_true e = absurd (cc e)
@@ -58,8 +58,12 @@ none_denied h k more creating (what ∷ whats) e =
     let a = allowed_first (is_allowed h creating what) what (first_denied h creating whats) e in
     denies_none (is_allowed k creating what) what (first_denied k creating whats) (more creating what a.0) (none_denied h k more creating whats a.1)
 
+still_command : (h k : Holds) → IsMore h k → (command : Command) → denied_command h command ≡ None → denied_command k command ≡ None
+still_command h k more (TwoD command) e = none_denied h k more (is_creating command) (names_of command) e
+still_command h k more command e = refl
+
 still_none : (h k : Holds) → IsMore h k → (read : Result (Header × Command) Malformed) → denied_request h read ≡ None → denied_request k read ≡ None
-still_none h k more (Ok (header, TwoD command)) e = none_denied h k more (is_creating command) (names_of command) e
+still_none h k more (Ok (header, command)) e = still_command h k more command e
 still_none h k more (Err malformed) e = refl
 
 more_buffers : (h : Holds) (pair : ℕ × List ℕ) → IsMore h (record h { buffers = h.buffers ++ pair ∷ [] })
