@@ -5,7 +5,6 @@ use Rattle.vg_wire.specs.declared.header.Header.{Header}
 use Rattle.vg_wire_ext.specs.declared.command.Command.{Command}
 use Rattle.vg_wire_ext.specs.declared.command.Command.TheVariants.{TwoD, CapsetInfo, Capset, Edid, AssignUuid, CreateBlob, SetScanoutBlob, CtxCreate, CtxDestroy, CtxAttach, CtxDetach, Submit, UpdateCursor, MoveCursor}
 use Rattle.vg_wire.specs.declared.request.Malformed.{Malformed}
-use Rattle.vg_wire.specs.declared.request.Queue.{Queue}
 use Rattle.vg_wire.specs.declared.two_d.Command2d.{Command2d}
 use Rattle.vg_wire.specs.declared.two_d.Command2d.TheVariants.{DisplayInfo, Create2d, Unref, SetScanout, Flush, Transfer, Attach, Detach}
 use Rattle.vg_wire_ext.specs.Request.{request_of}
@@ -79,10 +78,6 @@ command-like state (MoveCursor scanout x y) = like-itself state
 answer_of-like : (state : State) (read : Result (Header × Command) Malformed) → IsLike state (answer_of state read).0
 answer_of-like state (Ok (header, command)) = command-like state command
 answer_of-like state (Err malformed) = like-itself state
-
--- a request keeps the setup
-pub step-setup : (state new : State) (queue : Queue) (bytes answer : List ℕ) (room : ℕ) → ◌≡◌ {A = State × List ℕ} (new, answer) (step state queue bytes room) → new.setup ≡ state.setup
-step-setup state new queue bytes answer room made = ap (λ (done : State × List ℕ). done.0.setup) made ∙ (answer_of-like state (request_of queue bytes)).setup
 
 shaped-setup : (shape : Shape) (state : State) (request : Request) → (shaped_step shape state request).0.setup ≡ state.setup
 shaped-setup Plain state request = (answer_of-like state (request_of request.queue request.bytes)).setup

@@ -37,6 +37,9 @@ lane request counts is long = omega (arith, is, long, lane-small request.queue r
 counted : (counts : List ℕ) (lane x : ℕ) → lane < length counts → x ≡ get_or counts lane x → slice_set counts lane (x + 1) ≡ slice_set counts lane (get_or counts lane 0 + 1)
 counted counts lane x within is = ap (λ (n : ℕ). slice_set counts lane (n + 1)) (at_place counts lane x within is)
 
+pub index_mut-requires : goal.index_mut-requires
+index_mut-requires c = omega (arith, lane c.args.request c.self.inside.counts.items c.requires.next.lane c.self.invariant.lanes, c.self.inside.counts.ok)
+
 pub overflow_add-index_mut : goal.overflow_add-index_mut
 overflow_add-index_mut c =
     let request = c.args.request in
