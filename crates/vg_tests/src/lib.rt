@@ -24,3 +24,5 @@ mod script;
 mod shown;
 #[cfg(test)]
 mod wire;
+#[cfg(test)]
+mod wire_ext;

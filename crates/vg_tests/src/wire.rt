@@ -8,9 +8,7 @@ use std::process::Abort;
 use std::test::Fail;
 use vg_formats::{MemEntry, Rect};
 use vg_wire::{Command2d, Entries, Header, Malformed, Modes, Queue, read_2d, read_header};
-use vg_wire_ext::{
-    Command, Response, read_request, read_response, write_request, write_response,
-};
+use vg_wire_ext::{Command, Response, read_request, read_response, write_request, write_response};
 
 /// A header whose fields all differ, as the layout has it, with padding 0.
 const SPELLED: [u8; 24] = [

@@ -16,6 +16,3 @@ pub use command::Command;
 pub use laws::{a_request_or_a_refusal, each_refusal};
 pub use request::{read_request, write_request};
 pub use response::{Response, read_response, write_response};
-
-#[cfg(test)]
-mod tests;

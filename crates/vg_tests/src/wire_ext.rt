@@ -4,12 +4,12 @@
 ghost use Rattle.std.specs.Prelude.{◌≡◌};
 ghost use Rattle.vg_wire_ext.specs.Commands.{command_kind, FitsEntries};
 
-use crate::{Command, Response, read_request, read_response, write_request, write_response};
 use std::alloc::{AllocError, Global};
 use std::process::Abort;
 use std::test::Fail;
 use vg_formats::{MemEntry, Rect};
 use vg_wire::{Command2d, Entries, Header, Malformed, Queue};
+use vg_wire_ext::{Command, Response, read_request, read_response, write_request, write_response};
 
 fn header(kind: u32) -> Header
     ensures { result.kind ≡ kind }
