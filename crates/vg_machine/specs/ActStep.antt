@@ -12,7 +12,7 @@ use Rattle.vg_pages.specs.Memory.{after_taking}
 use Rattle.vg_machine.specs.Cells.{loaded, repeated, stored}
 use Rattle.vg_machine.specs.Resource.{resource_at}
 use Rattle.vg_machine.specs.Scanout.{binding_at}
-use Rattle.vg_machine.specs.Share.{buffer_at, drop_refusal, free_refusal, freed, given_back, has_holder, is_leased, leased, new_pages, pages_at, place_refusal, release_refusal, released, reserve_refusal, take_refusal, unleased, with_buffer, with_left}
+use Rattle.vg_machine.specs.Share.{drop_refusal, free_refusal, freed, given_back, has_holder, is_leased, leased, new_pages, pages_at, place_refusal, release_refusal, released, reserve_refusal, take_refusal, unleased, with_buffer, with_left}
 use Rattle.vg_machine.specs.State.{State, counted}
 
 -- An act whose refusal is this: the display stays as it was, or becomes `next`.

@@ -1,6 +1,5 @@
 use Rattle.std.specs.Prelude.{◌≡◌, true, ℕ, ◌+◌, ◌*◌, ◌≤◌, ◌<◌, List, [], length, replicate, Option, Some, None}
 use Rattle.std.specs.List.{All}
-use Rattle.std.specs.Map.{values_of}
 use Rattle.vg_formats.specs.declared.entry.MemEntry.{MemEntry}
 use Rattle.vg_pages.specs.Memory.{Memory, fresh_memory}
 use Rattle.vg_machine.specs.declared.resource.Resource.{Resource}

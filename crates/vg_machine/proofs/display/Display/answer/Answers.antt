@@ -1,5 +1,4 @@
-use Rattle.std.proofs.Common.{rules, ◌≡◌, ◌≢◌, Result, Ok, Err, OnErr}
-use Rattle.vg_wire_ext.specs.declared.response.Response.TheVariants as responses
+use Rattle.std.proofs.Common.{rules, ◌≡◌, Result, Ok, Err, OnErr}
 use Rattle.vg_wire_ext.specs.Request.{request_of}
 use Rattle.vg_machine.specs.Step.{answer_of}
 use Rattle.vg_machine.proofs.KeepLemmas.{kept-given}

@@ -1,7 +1,6 @@
 use Rattle.std.proofs.Common.{rules, ◌≡◌, ◌∙◌, ◌<◌, ◌^◌, ℕ, List, ap, arith}
 use Rattle.vg_wire_ext.specs.Request.{request_of}
 use Rattle.vg_machine.specs.State.{State}
-use Rattle.vg_machine.specs.Step.{answer_of}
 use Rattle.vg_machine.proofs.KeepLemmas.{counted-keeps, entries-answer}
 use Rattle.vg_machine.proofs.display.Display.command.Goals as goal
 

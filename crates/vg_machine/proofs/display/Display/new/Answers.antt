@@ -1,6 +1,5 @@
-use Rattle.std.proofs.Common.{◌≡◌, ◌∙◌, ap, sym, length, arith}
+use Rattle.std.proofs.Common.{arith}
 use Rattle.std.proofs.lemmas.List.{length-replicate}
-use Rattle.vg_machine.specs.Setup.{IsSetup}
 use Rattle.vg_machine.proofs.ShareLemmas.{shares-fresh}
 use Rattle.vg_machine.proofs.BoundLemmas.{none-showing}
 use Rattle.vg_machine.proofs.display.Display.new.Goals as goal

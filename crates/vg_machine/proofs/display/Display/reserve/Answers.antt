@@ -1,4 +1,4 @@
-use Rattle.std.proofs.Common.{rules, refl, sym, ◌∙◌}
+use Rattle.std.proofs.Common.{rules, refl, ◌∙◌}
 use Rattle.vg_machine.proofs.ActLemmas.{fits-reserved, held-kept, popped}
 use Rattle.vg_machine.proofs.display.Display.reserve.Goals as goal
 use Rattle.vg_machine.proofs.display.Display.reserve.Goals.{in-Ok-Ok, in-Ok-Err, in-Err}
