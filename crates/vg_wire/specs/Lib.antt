@@ -1,4 +1,5 @@
 pub mod Numbers
+pub mod Kinds
 pub mod Header
 pub mod Rect
 pub mod Entries

@@ -2,6 +2,7 @@ use Rattle.std.specs.Prelude.{ℕ, Bool, ◌&&◌, ◌+◌, ◌*◌, ◌^◌, �
 use Rattle.std.specs.List.{All}
 use Rattle.vg_wire.specs.declared.two_d.Command2d.{Command2d}
 use Rattle.vg_wire.specs.declared.two_d.Command2d.TheVariants.{DisplayInfo, Create2d, Unref, SetScanout, Flush, Transfer, Attach, Detach}
+use Rattle.vg_wire.specs.Kinds.{GET_DISPLAY_INFO, RESOURCE_ATTACH_BACKING, RESOURCE_CREATE_2D, RESOURCE_DETACH_BACKING, RESOURCE_FLUSH, RESOURCE_UNREF, SET_SCANOUT, TRANSFER_TO_HOST_2D}
 use Rattle.vg_wire.specs.Numbers.{number_at, le32, le64}
 use Rattle.vg_wire.specs.Rect.{rect_at, rect_bytes, IsRect}
 use Rattle.vg_wire.specs.Entries.{entries_at, entries_bytes, IsEntry}
@@ -47,32 +48,32 @@ whole size body command = if nat_le size (length body) then Some command else No
 
 -- The kinds of the 2D commands.
 abbrev pub is_2d : ℕ → Bool
-is_2d kind = nat_le 0x0100 kind && nat_le kind 0x0107
+is_2d kind = nat_le GET_DISPLAY_INFO kind && nat_le kind RESOURCE_DETACH_BACKING
 
 -- The command that a kind and the bytes after the header spell. Each row has the kind, how many bytes the fields take, and
 -- the fields. None: no 2D command's kind, or fewer bytes.
 unfoldable pub two_d_of : ℕ → List ℕ → Option Command2d
 two_d_of kind body =
-    if kind == 0x0100 then whole 0 body DisplayInfo
-    else if kind == 0x0101 then whole 16 body (create_2d body)
-    else if kind == 0x0102 then whole 8 body (unref body)
-    else if kind == 0x0103 then whole 24 body (set_scanout body)
-    else if kind == 0x0104 then whole 24 body (flush body)
-    else if kind == 0x0105 then whole 32 body (transfer body)
-    else if kind == 0x0106 then whole (attach_size body) body (attach body)
-    else if kind == 0x0107 then whole 8 body (detach body)
+    if kind == GET_DISPLAY_INFO then whole 0 body DisplayInfo
+    else if kind == RESOURCE_CREATE_2D then whole 16 body (create_2d body)
+    else if kind == RESOURCE_UNREF then whole 8 body (unref body)
+    else if kind == SET_SCANOUT then whole 24 body (set_scanout body)
+    else if kind == RESOURCE_FLUSH then whole 24 body (flush body)
+    else if kind == TRANSFER_TO_HOST_2D then whole 32 body (transfer body)
+    else if kind == RESOURCE_ATTACH_BACKING then whole (attach_size body) body (attach body)
+    else if kind == RESOURCE_DETACH_BACKING then whole 8 body (detach body)
     else None
 
 -- The kind of a command.
 abbrev pub kind_of_2d : Command2d → ℕ
-kind_of_2d DisplayInfo = 0x0100
-kind_of_2d (Create2d resource format width height) = 0x0101
-kind_of_2d (Unref resource) = 0x0102
-kind_of_2d (SetScanout rect scanout resource) = 0x0103
-kind_of_2d (Flush rect resource) = 0x0104
-kind_of_2d (Transfer rect offset resource) = 0x0105
-kind_of_2d (Attach resource entries) = 0x0106
-kind_of_2d (Detach resource) = 0x0107
+kind_of_2d DisplayInfo = GET_DISPLAY_INFO
+kind_of_2d (Create2d resource format width height) = RESOURCE_CREATE_2D
+kind_of_2d (Unref resource) = RESOURCE_UNREF
+kind_of_2d (SetScanout rect scanout resource) = SET_SCANOUT
+kind_of_2d (Flush rect resource) = RESOURCE_FLUSH
+kind_of_2d (Transfer rect offset resource) = TRANSFER_TO_HOST_2D
+kind_of_2d (Attach resource entries) = RESOURCE_ATTACH_BACKING
+kind_of_2d (Detach resource) = RESOURCE_DETACH_BACKING
 
 -- A command's fields, after the header, with padding 0.
 abbrev pub body_of_2d : Command2d → List ℕ

@@ -7,6 +7,7 @@
 mod entries;
 mod fields;
 mod header;
+pub mod kinds;
 mod laws;
 mod modes;
 mod rect;

@@ -9,6 +9,7 @@ ghost use Rattle.vg_wire.specs.TwoD as layout;
 use crate::entries::{Entries, put_entries, read_entries};
 use crate::fields::{put_u32, put_u64, u32_at, u64_at};
 use crate::header::Header;
+use crate::kinds::{GET_DISPLAY_INFO, RESOURCE_ATTACH_BACKING, RESOURCE_CREATE_2D, RESOURCE_DETACH_BACKING, RESOURCE_FLUSH, RESOURCE_UNREF, SET_SCANOUT, TRANSFER_TO_HOST_2D};
 use crate::rect::{put_rect, rect_at};
 use std::alloc::{AllocError, Global};
 use vg_formats::{MemEntry, Rect};
@@ -176,14 +177,14 @@ impl Command2d {
         ensures { result ≡ layout.kind_of_2d self.now }
     {
         match self {
-            Command2d::DisplayInfo => 0x0100,
-            Command2d::Create2d { .. } => 0x0101,
-            Command2d::Unref { .. } => 0x0102,
-            Command2d::SetScanout { .. } => 0x0103,
-            Command2d::Flush { .. } => 0x0104,
-            Command2d::Transfer { .. } => 0x0105,
-            Command2d::Attach { .. } => 0x0106,
-            Command2d::Detach { .. } => 0x0107,
+            Command2d::DisplayInfo => GET_DISPLAY_INFO,
+            Command2d::Create2d { .. } => RESOURCE_CREATE_2D,
+            Command2d::Unref { .. } => RESOURCE_UNREF,
+            Command2d::SetScanout { .. } => SET_SCANOUT,
+            Command2d::Flush { .. } => RESOURCE_FLUSH,
+            Command2d::Transfer { .. } => TRANSFER_TO_HOST_2D,
+            Command2d::Attach { .. } => RESOURCE_ATTACH_BACKING,
+            Command2d::Detach { .. } => RESOURCE_DETACH_BACKING,
         }
     }
 }
@@ -192,7 +193,7 @@ impl Command2d {
 pub fn is_2d(kind: u32) -> bool
     ensures { result ≡ layout.is_2d kind }
 {
-    (0x0100..=0x0107).contains(&kind)
+    (GET_DISPLAY_INFO..=RESOURCE_DETACH_BACKING).contains(&kind)
 }
 
 /// The 2D command of this header's kind, whose fields are at the front of `body`, the bytes after
@@ -205,14 +206,14 @@ pub fn read_2d(alloc: Global, header: &Header, body: &[u8]) -> Result<Option<Com
     ensures count { IfOk result (λ command. IfSome command FitsCount) }
 {
     match header.kind {
-        0x0100 => Ok(Some(Command2d::DisplayInfo)),
-        0x0101 => Ok(read_create_2d(body)),
-        0x0102 => Ok(read_unref(body)),
-        0x0103 => Ok(read_set_scanout(body)),
-        0x0104 => Ok(read_flush(body)),
-        0x0105 => Ok(read_transfer(body)),
-        0x0106 => read_attach(alloc, body),
-        0x0107 => Ok(read_detach(body)),
+        GET_DISPLAY_INFO => Ok(Some(Command2d::DisplayInfo)),
+        RESOURCE_CREATE_2D => Ok(read_create_2d(body)),
+        RESOURCE_UNREF => Ok(read_unref(body)),
+        SET_SCANOUT => Ok(read_set_scanout(body)),
+        RESOURCE_FLUSH => Ok(read_flush(body)),
+        TRANSFER_TO_HOST_2D => Ok(read_transfer(body)),
+        RESOURCE_ATTACH_BACKING => read_attach(alloc, body),
+        RESOURCE_DETACH_BACKING => Ok(read_detach(body)),
         _ => Ok(None),
     }
 }

@@ -4,6 +4,7 @@ use Rattle.std.specs.List.{All}
 use Rattle.vg_wire.specs.Numbers.{number_at, le32, le64}
 use Rattle.vg_wire.specs.Rect.{rect_at, rect_bytes, IsRect}
 use Rattle.vg_wire.specs.Entries.{entries_at, entries_bytes, IsEntry}
+use Rattle.vg_wire.specs.Kinds.{CTX_ATTACH_RESOURCE, CTX_CREATE, CTX_DESTROY, CTX_DETACH_RESOURCE, GET_CAPSET, GET_CAPSET_INFO, GET_EDID, MOVE_CURSOR, RESOURCE_ASSIGN_UUID, RESOURCE_CREATE_BLOB, SET_SCANOUT_BLOB, SUBMIT_3D, UPDATE_CURSOR}
 use Rattle.vg_wire.specs.TwoD.{whole, is_2d, two_d_of, kind_of_2d, body_of_2d, FitsCount, IsCommand2d}
 use Rattle.vg_wire_ext.specs.declared.command.Command.{Command}
 use Rattle.vg_wire_ext.specs.declared.command.Command.TheVariants.{TwoD, CapsetInfo, Capset, Edid, AssignUuid, CreateBlob, SetScanoutBlob, CtxCreate, CtxDestroy, CtxAttach, CtxDetach, Submit, UpdateCursor, MoveCursor}
@@ -86,19 +87,19 @@ row n read = Some (record { size = λ body. n; fields = read })
 -- The row of each kind, beside those of the 2D commands (VIRTIO 1.2, 5.7.6.7, enum virtio_gpu_ctrl_type).
 unfoldable pub row_of : ℕ → Option Row
 row_of kind =
-    if kind == 0x0108 then row 8 capset_info
-    else if kind == 0x0109 then row 8 capset
-    else if kind == 0x010a then row 8 edid
-    else if kind == 0x010b then row 8 assign_uuid
-    else if kind == 0x010c then Some (record { size = create_blob_size; fields = create_blob })
-    else if kind == 0x010d then row 72 set_scanout_blob
-    else if kind == 0x0200 then row 72 ctx_create
-    else if kind == 0x0201 then row 0 ctx_destroy
-    else if kind == 0x0202 then row 8 ctx_attach
-    else if kind == 0x0203 then row 8 ctx_detach
-    else if kind == 0x0207 then row 8 submit
-    else if kind == 0x0300 then row 32 update_cursor
-    else if kind == 0x0301 then row 32 move_cursor
+    if kind == GET_CAPSET_INFO then row 8 capset_info
+    else if kind == GET_CAPSET then row 8 capset
+    else if kind == GET_EDID then row 8 edid
+    else if kind == RESOURCE_ASSIGN_UUID then row 8 assign_uuid
+    else if kind == RESOURCE_CREATE_BLOB then Some (record { size = create_blob_size; fields = create_blob })
+    else if kind == SET_SCANOUT_BLOB then row 72 set_scanout_blob
+    else if kind == CTX_CREATE then row 72 ctx_create
+    else if kind == CTX_DESTROY then row 0 ctx_destroy
+    else if kind == CTX_ATTACH_RESOURCE then row 8 ctx_attach
+    else if kind == CTX_DETACH_RESOURCE then row 8 ctx_detach
+    else if kind == SUBMIT_3D then row 8 submit
+    else if kind == UPDATE_CURSOR then row 32 update_cursor
+    else if kind == MOVE_CURSOR then row 32 move_cursor
     else None
 
 -- What a row makes of the bytes after the header: None where they are fewer than its fields take.
@@ -117,19 +118,19 @@ command_of kind body = if is_2d kind then option_map TwoD (two_d_of kind body) e
 -- The kind of a command.
 abbrev pub command_kind : Command → ℕ
 command_kind (TwoD command) = kind_of_2d command
-command_kind (CapsetInfo index) = 0x0108
-command_kind (Capset id version) = 0x0109
-command_kind (Edid scanout) = 0x010a
-command_kind (AssignUuid resource) = 0x010b
-command_kind (CreateBlob resource mem flags blob_id size entries) = 0x010c
-command_kind (SetScanoutBlob rect scanout resource width height format stride offset) = 0x010d
-command_kind (CtxCreate nlen context_init name) = 0x0200
-command_kind CtxDestroy = 0x0201
-command_kind (CtxAttach resource) = 0x0202
-command_kind (CtxDetach resource) = 0x0203
-command_kind (Submit size) = 0x0207
-command_kind (UpdateCursor scanout x y resource hot_x hot_y) = 0x0300
-command_kind (MoveCursor scanout x y) = 0x0301
+command_kind (CapsetInfo index) = GET_CAPSET_INFO
+command_kind (Capset id version) = GET_CAPSET
+command_kind (Edid scanout) = GET_EDID
+command_kind (AssignUuid resource) = RESOURCE_ASSIGN_UUID
+command_kind (CreateBlob resource mem flags blob_id size entries) = RESOURCE_CREATE_BLOB
+command_kind (SetScanoutBlob rect scanout resource width height format stride offset) = SET_SCANOUT_BLOB
+command_kind (CtxCreate nlen context_init name) = CTX_CREATE
+command_kind CtxDestroy = CTX_DESTROY
+command_kind (CtxAttach resource) = CTX_ATTACH_RESOURCE
+command_kind (CtxDetach resource) = CTX_DETACH_RESOURCE
+command_kind (Submit size) = SUBMIT_3D
+command_kind (UpdateCursor scanout x y resource hot_x hot_y) = UPDATE_CURSOR
+command_kind (MoveCursor scanout x y) = MOVE_CURSOR
 
 -- A command's fields, after the header, with padding 0. What isn't looked at is 0 too: the strides and offsets of planes 1 to
 -- 3, and all that follows the position of a MOVE_CURSOR.

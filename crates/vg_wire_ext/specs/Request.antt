@@ -5,14 +5,15 @@ use Rattle.vg_wire.specs.declared.request.Queue.TheVariants.{Control, Cursor}
 use Rattle.vg_wire.specs.declared.request.Malformed.{Malformed}
 use Rattle.vg_wire.specs.declared.request.Malformed.TheVariants.{ShortHeader, UnknownKind, WrongQueue, ShortBody}
 use Rattle.vg_wire.specs.Header.{header_of, header_bytes}
+use Rattle.vg_wire.specs.Kinds as kinds
 use Rattle.vg_wire_ext.specs.declared.command.Command.{Command}
 use Rattle.vg_wire_ext.specs.declared.command.Command.TheVariants.{UpdateCursor, MoveCursor}
 use Rattle.vg_wire_ext.specs.Commands.{is_known, command_of, command_body}
 
 -- Kinds from 0x0300 on are the cursor queue's (VIRTIO 1.2, 5.7.6.10), the others the control queue's.
 abbrev pub is_queue_of : ℕ → Queue → Bool
-is_queue_of kind Control = nat_lt kind 0x0300
-is_queue_of kind Cursor = nat_le 0x0300 kind
+is_queue_of kind Control = nat_lt kind kinds.UPDATE_CURSOR
+is_queue_of kind Cursor = nat_le kinds.UPDATE_CURSOR kind
 
 -- The queue that a command belongs to.
 abbrev pub queue_of : Command → Queue

@@ -1,5 +1,6 @@
 use Rattle.std.specs.Prelude.{◌≡◌, ◌≤◌, ◌<◌, ◌^◌, ◌==◌, ◌&&◌, ℕ, List, [], ◌++◌, length, take, drop, replicate, nat_le, if◌then◌else◌, Option, Some, None}
 use Rattle.vg_wire.specs.declared.header.Header.{Header}
+use Rattle.vg_wire.specs.Kinds.{ERR_INVALID_PARAMETER, ERR_UNSPEC, OK_DISPLAY_INFO, OK_EDID, OK_NODATA, OK_RESOURCE_UUID}
 use Rattle.vg_wire.specs.Numbers.{le32}
 use Rattle.vg_wire.specs.Header.{header_bytes}
 use Rattle.vg_wire.specs.Modes.{IsModes, AllFit, modes_bytes, slots_of, trimmed}
@@ -8,10 +9,10 @@ use Rattle.vg_wire_ext.specs.declared.response.Response.TheVariants.{Nodata, Dis
 
 -- The kind that a response's header has (VIRTIO 1.2, 5.7.6.7, enum virtio_gpu_ctrl_type): an error's code is its kind.
 abbrev pub response_kind : Response → ℕ
-response_kind Nodata = 0x1100
-response_kind (DisplayInfo modes) = 0x1101
-response_kind (Edid block) = 0x1104
-response_kind (Uuid bytes) = 0x1105
+response_kind Nodata = OK_NODATA
+response_kind (DisplayInfo modes) = OK_DISPLAY_INFO
+response_kind (Edid block) = OK_EDID
+response_kind (Uuid bytes) = OK_RESOURCE_UUID
 response_kind (Error code) = code
 
 -- struct virtio_gpu_resp_edid: size, padding, edid[1024], of which the block takes 128
@@ -36,7 +37,7 @@ IsResponse Nodata = Unit {0}
 IsResponse (DisplayInfo modes) = IsModes modes
 IsResponse (Edid block) = Unit {0}
 IsResponse (Uuid bytes) = Unit {0}
-IsResponse (Error code) = (0x1200 ≤ code) × (code ≤ 0x1205)
+IsResponse (Error code) = (ERR_UNSPEC ≤ code) × (code ≤ ERR_INVALID_PARAMETER)
 
 -- A response whose numbers fit their bytes, and whose block and bytes are as many as they are, as each value of the type does.
 abbrev pub FitsResponse : Response → Type 0
@@ -55,9 +56,9 @@ pub record Spells (header : Header) (response : Response) (bytes : List ℕ) : T
 -- The response whose fields stand at their places behind a header of this kind.
 abbrev pub body_of : ℕ → List ℕ → Option Response
 body_of kind bytes =
-    if kind == 0x1100 then Some Nodata
-    else if kind == 0x1101 && length bytes == 408 then Some (DisplayInfo (trimmed (slots_of bytes)))
-    else if kind == 0x1104 && length bytes == 1056 then Some (Edid (take 128 (drop 32 bytes)))
-    else if kind == 0x1105 && length bytes == 40 then Some (Uuid (take 16 (drop 24 bytes)))
-    else if nat_le 0x1200 kind && nat_le kind 0x1205 then Some (Error kind)
+    if kind == OK_NODATA then Some Nodata
+    else if kind == OK_DISPLAY_INFO && length bytes == 408 then Some (DisplayInfo (trimmed (slots_of bytes)))
+    else if kind == OK_EDID && length bytes == 1056 then Some (Edid (take 128 (drop 32 bytes)))
+    else if kind == OK_RESOURCE_UUID && length bytes == 40 then Some (Uuid (take 16 (drop 24 bytes)))
+    else if nat_le ERR_UNSPEC kind && nat_le kind ERR_INVALID_PARAMETER then Some (Error kind)
     else None

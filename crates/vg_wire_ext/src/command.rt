@@ -1,6 +1,14 @@
 //! The commands (VIRTIO 1.2, 5.7.6.7 to 5.7.6.10).
 
+ghost use Rattle.std.specs.Prelude.{◌≡◌};
+ghost use Rattle.vg_wire_ext.specs.Commands.{command_kind};
+
 use vg_formats::Rect;
+use vg_wire::kinds::{
+    CTX_ATTACH_RESOURCE, CTX_CREATE, CTX_DESTROY, CTX_DETACH_RESOURCE, GET_CAPSET, GET_CAPSET_INFO,
+    GET_EDID, MOVE_CURSOR, RESOURCE_ASSIGN_UUID, RESOURCE_CREATE_BLOB, SET_SCANOUT_BLOB, SUBMIT_3D,
+    UPDATE_CURSOR,
+};
 use vg_wire::{Command2d, Entries};
 
 /// A command, without its header.
@@ -83,4 +91,28 @@ pub enum Command {
         x: i32,
         y: i32,
     },
+}
+
+impl Command {
+    /// The kind of the command's header.
+    pub fn kind(&self) -> u32
+        ensures { result ≡ command_kind self.now }
+    {
+        match self {
+            Command::TwoD(command) => command.kind(),
+            Command::CapsetInfo { .. } => GET_CAPSET_INFO,
+            Command::Capset { .. } => GET_CAPSET,
+            Command::Edid { .. } => GET_EDID,
+            Command::AssignUuid { .. } => RESOURCE_ASSIGN_UUID,
+            Command::CreateBlob { .. } => RESOURCE_CREATE_BLOB,
+            Command::SetScanoutBlob { .. } => SET_SCANOUT_BLOB,
+            Command::CtxCreate { .. } => CTX_CREATE,
+            Command::CtxDestroy => CTX_DESTROY,
+            Command::CtxAttach { .. } => CTX_ATTACH_RESOURCE,
+            Command::CtxDetach { .. } => CTX_DETACH_RESOURCE,
+            Command::Submit { .. } => SUBMIT_3D,
+            Command::UpdateCursor { .. } => UPDATE_CURSOR,
+            Command::MoveCursor { .. } => MOVE_CURSOR,
+        }
+    }
 }

@@ -9,6 +9,7 @@ ghost use Rattle.vg_wire_ext.specs.Commands.{by_row, command_of, row_of, FitsEnt
 use crate::command::Command;
 use crate::fields::i32_at;
 use std::alloc::{AllocError, Global};
+use vg_wire::kinds::{CTX_ATTACH_RESOURCE, CTX_CREATE, CTX_DESTROY, CTX_DETACH_RESOURCE, GET_CAPSET, GET_CAPSET_INFO, GET_EDID, MOVE_CURSOR, RESOURCE_ASSIGN_UUID, RESOURCE_CREATE_BLOB, SET_SCANOUT_BLOB, SUBMIT_3D, UPDATE_CURSOR};
 use vg_wire::{Header, is_2d, read_2d, read_entries, rect_at, u32_at, u64_at};
 
 /// GET_CAPSET_INFO: eight bytes.
@@ -214,19 +215,19 @@ fn read_by_row(alloc: Global, kind: u32, body: &[u8]) -> Result<Option<Command>,
     ensures count { IfOk result (λ command. IfSome command FitsEntries) }
 {
     match kind {
-        0x0108 => Ok(read_capset_info(body)),
-        0x0109 => Ok(read_capset(body)),
-        0x010a => Ok(read_edid(body)),
-        0x010b => Ok(read_assign_uuid(body)),
-        0x010c => read_create_blob(alloc, body),
-        0x010d => Ok(read_set_scanout_blob(body)),
-        0x0200 => Ok(read_ctx_create(body)),
-        0x0201 => Ok(Some(Command::CtxDestroy)),
-        0x0202 => Ok(read_ctx_attach(body)),
-        0x0203 => Ok(read_ctx_detach(body)),
-        0x0207 => Ok(read_submit(body)),
-        0x0300 => Ok(read_update_cursor(body)),
-        0x0301 => Ok(read_move_cursor(body)),
+        GET_CAPSET_INFO => Ok(read_capset_info(body)),
+        GET_CAPSET => Ok(read_capset(body)),
+        GET_EDID => Ok(read_edid(body)),
+        RESOURCE_ASSIGN_UUID => Ok(read_assign_uuid(body)),
+        RESOURCE_CREATE_BLOB => read_create_blob(alloc, body),
+        SET_SCANOUT_BLOB => Ok(read_set_scanout_blob(body)),
+        CTX_CREATE => Ok(read_ctx_create(body)),
+        CTX_DESTROY => Ok(Some(Command::CtxDestroy)),
+        CTX_ATTACH_RESOURCE => Ok(read_ctx_attach(body)),
+        CTX_DETACH_RESOURCE => Ok(read_ctx_detach(body)),
+        SUBMIT_3D => Ok(read_submit(body)),
+        UPDATE_CURSOR => Ok(read_update_cursor(body)),
+        MOVE_CURSOR => Ok(read_move_cursor(body)),
         _ => Ok(None),
     }
 }
@@ -237,9 +238,9 @@ fn has_row(kind: u32) -> bool
     ensures { result ≡ is_some (row_of kind) }
 {
     match kind {
-        0x0108 | 0x0109 | 0x010a | 0x010b | 0x010c | 0x010d => true,
-        0x0200 | 0x0201 | 0x0202 | 0x0203 | 0x0207 => true,
-        0x0300 | 0x0301 => true,
+        GET_CAPSET_INFO | GET_CAPSET | GET_EDID | RESOURCE_ASSIGN_UUID | RESOURCE_CREATE_BLOB | SET_SCANOUT_BLOB => true,
+        CTX_CREATE | CTX_DESTROY | CTX_ATTACH_RESOURCE | CTX_DETACH_RESOURCE | SUBMIT_3D => true,
+        UPDATE_CURSOR | MOVE_CURSOR => true,
         _ => false,
     }
 }

@@ -9,6 +9,7 @@ use crate::command::Command;
 use crate::read::{is_known, read_command};
 use crate::write::{put_command, size_of};
 use std::alloc::{AllocError, Global};
+use vg_wire::kinds::UPDATE_CURSOR;
 use vg_wire::{Header, Malformed, Queue, put_header, read_header};
 
 /// Whether commands of this kind go on this queue.
@@ -16,8 +17,8 @@ fn is_queue_of(kind: u32, queue: Queue) -> bool
     ensures { result ≡ Request.is_queue_of kind queue }
 {
     match queue {
-        Queue::Control => kind < 0x0300,
-        Queue::Cursor => kind >= 0x0300,
+        Queue::Control => kind < UPDATE_CURSOR,
+        Queue::Cursor => kind >= UPDATE_CURSOR,
     }
 }
 

@@ -8,6 +8,7 @@ ghost use Rattle.vg_wire_ext.specs.Response as spelling;
 ghost use Rattle.vg_wire_ext.specs.Response.{FitsResponse, IsResponse, Spells, response_bytes, response_body, response_kind};
 
 use std::alloc::{AllocError, Global};
+use vg_wire::kinds::{ERR_INVALID_PARAMETER, ERR_UNSPEC, OK_DISPLAY_INFO, OK_EDID, OK_NODATA, OK_RESOURCE_UUID};
 use vg_wire::{Header, Modes, put_header, put_modes, put_u32, read_header, read_modes};
 
 /// A response, without its header.
@@ -23,6 +24,21 @@ pub enum Response {
     Uuid { bytes: [u8; 16] },
     /// An error, whose code 0x1200 to 0x1205 is its kind.
     Error { code: u32 },
+}
+
+impl Response {
+    /// The kind of the response's header.
+    pub fn kind(&self) -> u32
+        ensures { result ≡ response_kind self.now }
+    {
+        match self {
+            Response::Nodata => OK_NODATA,
+            Response::DisplayInfo { .. } => OK_DISPLAY_INFO,
+            Response::Edid { .. } => OK_EDID,
+            Response::Uuid { .. } => OK_RESOURCE_UUID,
+            Response::Error { code } => *code,
+        }
+    }
 }
 
 /// Adds the fields of OK_EDID: the size of the block, the block, and zeros up to 1,024 bytes.
@@ -102,22 +118,22 @@ fn read_body(alloc: Global, kind: u32, bytes: &[u8]) -> Result<Option<Response>,
     ensures value { IfOk result (λ response. response ≡ spelling.body_of kind bytes.now) }
     ensures memory { OnErr result (IsSome (spelling.body_of kind bytes.now)) }
 {
-    if kind == 0x1100 {
+    if kind == OK_NODATA {
         return Ok(Some(Response::Nodata));
     }
-    if kind == 0x1101 && bytes.len() == 408 {
+    if kind == OK_DISPLAY_INFO && bytes.len() == 408 {
         let modes = read_modes(alloc, bytes)?;
         return Ok(Some(Response::DisplayInfo { modes }));
     }
-    if kind == 0x1104 && bytes.len() == 1056 {
+    if kind == OK_EDID && bytes.len() == 1056 {
         let block = read_block(bytes);
         return Ok(Some(Response::Edid { block }));
     }
-    if kind == 0x1105 && bytes.len() == 40 {
+    if kind == OK_RESOURCE_UUID && bytes.len() == 40 {
         let bytes = read_uuid(bytes);
         return Ok(Some(Response::Uuid { bytes }));
     }
-    if (0x1200..=0x1205).contains(&kind) {
+    if (ERR_UNSPEC..=ERR_INVALID_PARAMETER).contains(&kind) {
         return Ok(Some(Response::Error { code: kind }));
     }
     Ok(None)
