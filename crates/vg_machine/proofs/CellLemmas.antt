@@ -1,5 +1,5 @@
 -- A buffer's bytes in guest memory, piece by piece.
-use Rattle.std.proofs.Common.{◌≡◌, ◌≢◌, ℕ, ◌+◌, ◌-◌, ◌*◌, ◌/◌, ◌%◌, ◌<◌, ◌≤◌, ◌==◌, ◌&&◌, Bool, true, cond, nat_le, nat_lt, List, [], ◌++◌, length, get_or, slice_index, take, drop, append_assoc, sym, ap, ◌∙◌, refl, inl, inr, arith}
+use Rattle.std.proofs.Common.{◌≡◌, ◌≢◌, ℕ, zero, suc, append-nil, ◌+◌, ◌-◌, ◌*◌, ◌/◌, ◌%◌, ◌<◌, ◌≤◌, ◌==◌, ◌&&◌, Bool, true, cond, nat_le, nat_lt, List, [], ◌++◌, length, get_or, slice_index, take, drop, append_assoc, sym, ap, ◌∙◌, refl, inl, inr, arith}
 use Rattle.std.specs.List.{AllPairs, position_or_len}
 use Rattle.std.proofs.lemmas.Bool.{cases_lt, eq-eqb, ne_eqb}
 use Rattle.std.proofs.lemmas.Bool.Decides.{nat_tests}
@@ -36,6 +36,24 @@ repeated_more bytes i =
           let at : k % n ≡ k - n * i = ap (λ p. p % n) split ∙ mod-mul-add i n (k - n * i) below in
           get_or-append_right so_far bytes (n * i) k 0 size high ∙ ap (λ p. slice_index bytes p) (sym at)
     ])
+
+-- the bytes so many times, and then more times
+pub repeated_append : (bytes : List ℕ) (m n : ℕ) → repeated bytes m ++ repeated bytes n ≡ repeated bytes (m + n)
+repeated_append bytes m zero =
+    ap (λ xs. repeated bytes m ++ xs) (sym (repeated_none bytes 0 (omega arith))) ∙ append-nil (repeated bytes m) ∙ ap (repeated bytes) (omega arith)
+repeated_append bytes m (suc n) =
+    let last : repeated bytes n ++ bytes ≡ repeated bytes (suc n) = repeated_more bytes n ∙ ap (repeated bytes) (omega arith) in
+    ap (λ xs. repeated bytes m ++ xs) (sym last) ∙ sym (append_assoc (repeated bytes m) (repeated bytes n) bytes)
+    ∙ ap (λ xs. xs ++ bytes) (repeated_append bytes m n) ∙ repeated_more bytes (m + n) ∙ ap (repeated bytes) (omega arith)
+
+-- a block of so many times, so many times
+pub repeated_block : (bytes : List ℕ) (m n : ℕ) → repeated (repeated bytes m) n ≡ repeated bytes (m * n)
+repeated_block bytes m zero =
+    sym (repeated_none (repeated bytes m) 0 (omega arith)) ∙ repeated_none bytes 0 (omega arith) ∙ ap (repeated bytes) (omega arith)
+repeated_block bytes m (suc n) =
+    let block = repeated bytes m in
+    let last : repeated block n ++ block ≡ repeated block (suc n) = repeated_more block n ∙ ap (repeated block) (omega arith) in
+    sym last ∙ ap (λ xs. xs ++ block) (repeated_block bytes m n) ∙ repeated_append bytes (m * n) m ∙ ap (repeated bytes) (grind (arith))
 
 pub stored_none : (pages : List ℕ) (offset : ℕ) (bytes : List ℕ) → bytes ≡ stored pages offset [] bytes
 unfolding stored

@@ -1,6 +1,6 @@
 //! The bytes of a buffer, which are spread over its guest pages.
 
-ghost use Rattle.std.specs.Prelude.{◌≡◌, ◌+◌, ◌-◌, ◌*◌, ◌%◌, ◌≤◌, ◌<◌, IfOk, length, ◌^◌};
+ghost use Rattle.std.specs.Prelude.{◌≡◌, ◌+◌, ◌-◌, ◌*◌, ◌%◌, ◌≤◌, ◌<◌, ◌++◌, IfOk, OnOk, length, ◌^◌};
 ghost use Rattle.vg_pages.specs.Memory.{AreGivable};
 ghost use Rattle.vg_machine.specs.Cells.{loaded, pages_of, place_in_memory, repeated, stored};
 
@@ -24,11 +24,24 @@ pub(crate) fn repeated(alloc: Global, bytes: &[u8], times: u32) -> Result<Vec<u8
     if bytes.is_empty() {
         return Ok(Vec::new(alloc));
     }
+    // Few bytes are first made a block of about a page, so that they aren't copied one turn at a time.
+    let turns = times.min((PAGE_BYTES / bytes.len()) as u32).max(1);
+    let mut block = Vec::new(alloc);
+    put_each(&mut block, bytes, turns)?;
     let mut piece = Vec::with_capacity(alloc, bytes.len() * times as usize)?;
+    put_each(&mut piece, block.as_slice(), times / turns)?;
+    put_each(&mut piece, bytes, times % turns)?;
+    Ok(piece)
+}
+
+/// Adds these bytes, so many times.
+fn put_each(piece: &mut Vec<u8>, bytes: &[u8], times: u32) -> Result<(), AllocError>
+    ensures { OnOk result (piece.new.items ≡ piece.old.items ++ repeated bytes.now times) }
+{
     for _turn in 0..times {
         piece.extend_from_slice(bytes)?;
     }
-    Ok(piece)
+    Ok(())
 }
 
 /// Writes `piece` into the buffer with these pages, from `offset` on.
