@@ -1,8 +1,6 @@
 -- A script of at most one client has at most one legal history.
-use Rattle.std.proofs.Common.{◌≡◌, ◌+◌, ◌≤◌, ◌∙◌, sym, ap, refl, subst, arith, ℕ, zero, suc, Bool, true, false, List, [], ◌∷◌, ◌++◌, length, map, append_assoc, Option, Some, None, Result, Ok, Err}
+use Rattle.std.proofs.Common.{◌≡◌, ◌+◌, ◌≤◌, ◌∙◌, sym, ap, refl, subst, arith, ℕ, zero, suc, Bool, true, false, List, [], ◌∷◌, ◌++◌, count_by, length, map, append_assoc, Option, Some, None, Result, Ok, Err}
 use Rattle.std.specs.List.{AllByRecursion, range_with_len}
-use Rattle.vg_wire.specs.declared.two_d.Command2d.{Command2d}
-use Rattle.vg_wire_ext.specs.declared.command.Command.TheVariants.{TwoD}
 use Rattle.vg_machine.specs.declared.setup.Setup.{Setup}
 use Rattle.vg_machine.specs.declared.act.Act.{Act}
 use Rattle.vg_machine.specs.declared.act.Act.TheVariants.{Enter, Leave, Denied}
@@ -12,21 +10,21 @@ use Rattle.vg_machine.specs.declared.act.What.{What}
 use Rattle.vg_machine.specs.declared.history.Entry.{Entry}
 use Rattle.vg_machine.specs.declared.history.Entry.TheVariants as entries
 use Rattle.vg_machine.specs.declared.history.Reply.{Reply}
+use Rattle.vg_machine.specs.declared.history.Request.{Request}
 use Rattle.vg_machine.specs.declared.holds.Holds.{Holds}
-use Rattle.vg_machine.specs.Holds.{denied_command}
+use Rattle.vg_machine.specs.Holds.{denied_of}
 use Rattle.vg_machine.specs.State.{State, start}
 use Rattle.vg_machine.specs.Replay.{AgreesFrom, HasReply, after, request_step}
-use Rattle.vg_machine.specs.Order.{AreInOrder, LaneOrder, Sound, by_call, call_of, client_of, of_client}
+use Rattle.vg_machine.specs.Order.{AreInOrder, LaneOrder, Sound, by_call, call_of, client_of, is_of_lane, of_client}
 use Rattle.vg_script.specs.declared.types.Line.{Line}
 use Rattle.vg_run.specs.declared.task.Deed.{Deed}
 use Rattle.vg_run.specs.declared.task.Deed.TheVariants as deeds
 use Rattle.vg_run.specs.declared.task.Task.{Task}
-use Rattle.vg_run.specs.declared.task.Way.{Way}
 use Rattle.vg_run.specs.Calls.{AreInPlace, Follows, GivesAll, GivesCalls, GivesTasks, IsAsked, IsDone, Plays, call_of_step, learned, newest, no_refs, refs_after}
 use Rattle.vg_run.specs.Known.{Known, first_known}
 use Rattle.vg_run.specs.Legal.{FollowAll}
 use Rattle.vg_run.specs.Given.{given_of, left_after}
-use Rattle.vg_run.specs.Requests.{request_by}
+use Rattle.vg_run.specs.Requests.{denied_by, raw_request, request_by}
 use Rattle.vg_run.specs.Tasks.{end_tasks, tasks_of}
 use Rattle.vg_run.proofs.OrderLemmas.{by_call-in_place, of_client-all}
 
@@ -70,16 +68,22 @@ same_act state before k client act call call' reply reply' one other =
     let answer : reply ≡ reply' = one.reply ∙ sym other.reply in
     ap (λ (n : ℕ). entries.Act client n act reply) number ∙ ap (λ (r : ActReply). entries.Act client call' act r) answer
 
-same_command : (state : State) (before : List Entry) (k client : ℕ) (way : Way) (command : Command2d) (call call' ordinal ordinal' : ℕ) (reply reply' : Reply)
-    → Stood state before k (entries.Command client call (request_by way ordinal command) reply) → Stood state before k (entries.Command client call' (request_by way ordinal' command) reply')
-    → entries.Command client call (request_by way ordinal command) reply ≡ entries.Command client call' (request_by way ordinal' command) reply'
-same_command state before k client way command call call' ordinal ordinal' reply reply' one other =
+-- requests that differ by their ordinals alone, and each has the ordinal that it is given
+record AreByOrdinal (request : ℕ → Request) : Type 0 where
+  lane : (m n : ℕ) → (request m).lane ≡ (request n).lane
+  ordinal : (n : ℕ) → (request n).ordinal ≡ n
+
+same_command : (state : State) (before : List Entry) (k client : ℕ) (request : ℕ → Request) (call call' ordinal ordinal' : ℕ) (reply reply' : Reply) → AreByOrdinal request
+    → Stood state before k (entries.Command client call (request ordinal) reply) → Stood state before k (entries.Command client call' (request ordinal') reply')
+    → entries.Command client call (request ordinal) reply ≡ entries.Command client call' (request ordinal') reply'
+same_command state before k client request call call' ordinal ordinal' reply reply' by one other =
     let number : call ≡ call' = one.number ∙ sym other.number in
-    let place : ordinal ≡ ordinal' = one.lane.1 ∙ sym other.lane.1 in
-    let answer : reply ≡ reply' = one.reply ∙ ap (λ (n : ℕ). (request_step state (request_by way n command)).1) place ∙ sym other.reply in
-    ap (λ (n : ℕ). entries.Command client n (request_by way ordinal command) reply) number
-    ∙ ap (λ (n : ℕ). entries.Command client call' (request_by way n command) reply) place
-    ∙ ap (λ (r : Reply). entries.Command client call' (request_by way ordinal' command) r) answer
+    let place : ordinal ≡ ordinal' =
+    sym (by.ordinal ordinal) ∙ one.lane.1 ∙ ap (λ (n : ℕ). count_by (is_of_lane n) before + 1) (by.lane ordinal ordinal') ∙ sym other.lane.1 ∙ by.ordinal ordinal' in
+    let answer : reply ≡ reply' = one.reply ∙ ap (λ (n : ℕ). (request_step state (request n)).1) place ∙ sym other.reply in
+    ap (λ (n : ℕ). entries.Command client n (request ordinal) reply) number
+    ∙ ap (λ (n : ℕ). entries.Command client call' (request n) reply) place
+    ∙ ap (λ (r : Reply). entries.Command client call' (request ordinal') r) answer
 
 acts_same : (state : State) (before : List Entry) (k client : ℕ) (act : Act) (call call' : ℕ) (reply reply' : ActReply) (e e' : Entry) → e ≡ entries.Act client call act reply → e' ≡ entries.Act client call' act reply'
     → Stood state before k e → Stood state before k e' → e ≡ e'
@@ -87,23 +91,26 @@ acts_same state before k client act call call' reply reply' e e' is is' one othe
     let At : Entry → Type 0 = λ x. Stood state before k x in
     is ∙ same_act state before k client act call call' reply reply' (subst At is one) (subst At is' other) ∙ sym is'
 
-commands_same : (state : State) (before : List Entry) (k client : ℕ) (way : Way) (command : Command2d) (call call' ordinal ordinal' : ℕ) (reply reply' : Reply) (e e' : Entry)
-    → e ≡ entries.Command client call (request_by way ordinal command) reply → e' ≡ entries.Command client call' (request_by way ordinal' command) reply'
+commands_same : (state : State) (before : List Entry) (k client : ℕ) (request : ℕ → Request) (call call' ordinal ordinal' : ℕ) (reply reply' : Reply) (e e' : Entry) → AreByOrdinal request
+    → e ≡ entries.Command client call (request ordinal) reply → e' ≡ entries.Command client call' (request ordinal') reply'
     → Stood state before k e → Stood state before k e' → e ≡ e'
-commands_same state before k client way command call call' ordinal ordinal' reply reply' e e' is is' one other =
+commands_same state before k client request call call' ordinal ordinal' reply reply' e e' by is is' one other =
     let At : Entry → Type 0 = λ x. Stood state before k x in
-    is ∙ same_command state before k client way command call call' ordinal ordinal' reply reply' (subst At is one) (subst At is' other) ∙ sym is'
+    is ∙ same_command state before k client request call call' ordinal ordinal' reply reply' by (subst At is one) (subst At is' other) ∙ sym is'
 
 -- the entry of a task is determined
-same_asked : (state : State) (before : List Entry) (k client : ℕ) (denied : Option What) (way : Way) (command : Command2d) (e e' : Entry) → IsAsked client denied way command e → IsAsked client denied way command e'
+same_asked : (state : State) (before : List Entry) (k client : ℕ) (denied : Option What) (request : ℕ → Request) (e e' : Entry) → AreByOrdinal request → IsAsked client denied request e → IsAsked client denied request e'
     → Stood state before k e → Stood state before k e' → e ≡ e'
-same_asked state before k client (Some what) way command e e' is is' one other = acts_same state before k client (Denied what) is.0 is'.0 is.1 is'.1 e e' is.2 is'.2 one other
-same_asked state before k client None way command e e' is is' one other = commands_same state before k client way command is.0 is'.0 is.1 is'.1 is.2 is'.2 e e' is.3 is'.3 one other
+same_asked state before k client (Some what) request e e' by is is' one other = acts_same state before k client (Denied what) is.0 is'.0 is.1 is'.1 e e' is.2 is'.2 one other
+same_asked state before k client None request e e' by is is' one other = commands_same state before k client request is.0 is'.0 is.1 is'.1 is.2 is'.2 e e' by is.3 is'.3 one other
 
 same_done : (state : State) (before : List Entry) (k client : ℕ) (holds : Holds) (deed : Deed) (e e' : Entry) → IsDone client holds deed e → IsDone client holds deed e'
     → Stood state before k e → Stood state before k e' → e ≡ e'
 same_done state before k client holds (deeds.Act act) e e' is is' one other = acts_same state before k client act is.0 is'.0 is.1 is'.1 e e' is.2 is'.2 one other
-same_done state before k client holds (deeds.Command way command) e e' is is' one other = same_asked state before k client (denied_command holds (TwoD command)) way command e e' is is' one other
+same_done state before k client holds (deeds.Command way command) e e' is is' one other =
+    same_asked state before k client (denied_by holds way command) (request_by way command) e e' (record { lane = λ m n. refl; ordinal = λ n. refl }) is is' one other
+same_done state before k client holds (deeds.Raw queue room shape bytes) e e' is is' one other =
+    same_asked state before k client (denied_of holds queue bytes) (raw_request queue room shape bytes) e e' (record { lane = λ m n. refl; ordinal = λ n. refl }) is is' one other
 
 -- two fronts are one, what is known after them is one, and what is left behind them stands behind the same
 record Same (f f' : List Entry) (K K' : Known) (r r' : List Entry) : Type 0 where

@@ -10,12 +10,10 @@ use Rattle.vg_machine.specs.declared.act.ActReply.TheVariants as act_replies
 use Rattle.vg_machine.specs.declared.history.Entry.TheVariants.{Act, Command}
 use Rattle.vg_machine.specs.declared.history.Reply.{Reply}
 use Rattle.vg_machine.specs.declared.history.Request.{Request}
-use Rattle.vg_wire_ext.specs.declared.command.Command.TheVariants.{TwoD}
-use Rattle.vg_wire.specs.declared.two_d.Command2d.{Command2d}
 use Rattle.vg_machine.specs.declared.act.What.{What}
 use Rattle.vg_machine.specs.declared.history.Entry.{Entry}
 use Rattle.vg_machine.specs.declared.holds.Holds.{Holds}
-use Rattle.vg_machine.specs.Holds.{Deniable, denied_command}
+use Rattle.vg_machine.specs.Holds.{Deniable}
 use Rattle.vg_machine.specs.Order.{is_leave, updated}
 use Rattle.vg_run.specs.declared.client.Client.{Client}
 use Rattle.vg_run.specs.declared.given.Given.{Given}
@@ -26,13 +24,12 @@ use Rattle.vg_run.specs.declared.task.Change.TheVariants.{NewBuffer, EndOfName, 
 use Rattle.vg_run.specs.declared.task.Deed.{Deed}
 use Rattle.vg_run.specs.declared.task.Deed.TheVariants as deeds
 use Rattle.vg_run.specs.declared.task.Task.{Task}
-use Rattle.vg_run.specs.declared.task.Way.{Way}
-use Rattle.vg_run.specs.Calls.{IsAsked, IsBegun, IsDone, IsEntryOf, IsFrontOf, Plays, learned, names_after, names_reserved, shows_after}
+use Rattle.vg_run.specs.Calls.{IsAsked, IsBegun, IsDone, IsEntryOf, IsFrontOf, IsFrontOfAsked, Plays, learned, names_after, names_reserved, shows_after}
 use Rattle.vg_run.specs.Client.{HasAdded, HasDone, HasGoneOn, IsFewPages, IsFitPlan, IsPlanOf, IsReady, IsSmall, known, planned, weight_of, weights}
 use Rattle.vg_run.specs.Given.{follow_ups, given_of, goes_on, is_accepted, left_after, tells_denial}
 use Rattle.vg_run.specs.Known.{Known}
 use Rattle.vg_run.specs.Names.{NamesState, is_generation, without_name}
-use Rattle.vg_run.specs.Requests.{IsFit, request_by}
+use Rattle.vg_run.specs.Requests.{IsFit}
 use Rattle.vg_run.specs.Table.{page_entry}
 use Rattle.vg_run.specs.Session.{Course, IsActive, IsAdded, IsPresent, leaves, mine_of}
 use Rattle.vg_run.proofs.HoldsLemmas.{updated-kept}
@@ -67,9 +64,9 @@ follow-few change given = omega arith
 follow-fit : (change : Change) (given : Given) → IsFewPages given → AllByRecursion IsFit (follow_ups change given)
 follow-fit (NewBuffer width height format) (givens.Act (act_replies.Reserved key pages)) few =
     let same : length (map page_entry pages) ≡ length pages = simp length-map in
-    (((tt, tt), tt), (((tt, omega (arith, same, few)), tt), tt))
+    (((tt, tt, refl), tt), (((tt, omega (arith, same, few), refl), tt), tt))
 follow-fit (NewBuffer width height format) given few = tt
-follow-fit (EndOfName generation key) (givens.Act act_replies.Last) few = (((tt, tt), tt), ((tt, tt), tt))
+follow-fit (EndOfName generation key) (givens.Act act_replies.Last) few = (((tt, tt, refl), tt), ((tt, tt), tt))
 follow-fit (EndOfName generation key) given few = tt
 follow-fit change given few = tt
 
@@ -355,26 +352,42 @@ pub map_err : {T E : Type 0} {A B : Type 0} (r : Result T E) → (A → B) → O
 map_err (Ok x) f a = tt
 map_err (Err e) f a = f a
 
--- a denial that stands, or nothing, is what a command begins with that is denied
-pub begun-denied : (old new : Course) (client client' : Client) (way : Way) (command : Command2d) (what : What) → denied_command client.account.holds (TwoD command) ≡ Some what
+-- a denial that stands, or nothing, is what a request begins with that is denied
+pub begun-denied : (old new : Course) (client client' : Client) (requests : ℕ → Request) (denied : Option What) (what : What) → denied ≡ Some what
     → (mine : List Entry) × ((mine ≡ []) ⊎ ((reply : ActReply) × (mine ≡ Act client.account.number (client.account.used + 1) (acts.Denied what) reply ∷ []))) × HasAdded old client mine new client'
-    → (mine : List Entry) × IsBegun client.account.number client.account.holds (deeds.Command way command) mine × HasAdded old client mine new client'
-begun-denied old new client client' way command what denied (mine, inl none, added) = (mine, inl none, added)
-begun-denied old new client client' way command what denied (mine, inr (reply, is), added) =
+    → (mine : List Entry) × IsFrontOfAsked client.account.number denied requests mine × HasAdded old client mine new client'
+begun-denied old new client client' requests denied what is_denied (mine, inl none, added) = (mine, inl none, added)
+begun-denied old new client client' requests denied what is_denied (mine, inr (reply, is), added) =
     let entry : Entry = Act client.account.number (client.account.used + 1) (acts.Denied what) reply in
-    let P : Option What → Type 0 = λ d. IsAsked client.account.number d way command entry in
-    (mine, inr (entry, subst P (sym denied) (client.account.used + 1, reply, refl), is), added)
+    let P : Option What → Type 0 = λ d. IsAsked client.account.number d requests entry in
+    (mine, inr (entry, subst P (sym is_denied) (client.account.used + 1, reply, refl), is), added)
 
--- and a command that was asked
-pub begun-asked : (old new : Course) (client client' : Client) (way : Way) (command : Command2d) (ordinal : ℕ) (request : Request) → denied_command client.account.holds (TwoD command) ≡ None → request ≡ request_by way ordinal command
+-- and one that was asked
+pub begun-asked : (old new : Course) (client client' : Client) (request : Request) (denied : Option What) → denied ≡ None
     → (mine : List Entry) × ((mine ≡ []) ⊎ ((reply : Reply) × (mine ≡ Command client.account.number (client.account.used + 1) request reply ∷ []))) × HasAdded old client mine new client'
-    → (mine : List Entry) × IsBegun client.account.number client.account.holds (deeds.Command way command) mine × HasAdded old client mine new client'
-begun-asked old new client client' way command ordinal request denied made (mine, inl none, added) = (mine, inl none, added)
-begun-asked old new client client' way command ordinal request denied made (mine, inr (reply, is), added) =
+    → (mine : List Entry) × IsFrontOfAsked client.account.number denied (λ _. request) mine × HasAdded old client mine new client'
+begun-asked old new client client' request denied is_asked (mine, inl none, added) = (mine, inl none, added)
+begun-asked old new client client' request denied is_asked (mine, inr (reply, is), added) =
     let entry : Entry = Command client.account.number (client.account.used + 1) request reply in
-    let P : Option What → Type 0 = λ d. IsAsked client.account.number d way command entry in
-    let same : entry ≡ Command client.account.number (client.account.used + 1) (request_by way ordinal command) reply = ap (λ (r : Request). Command client.account.number (client.account.used + 1) r reply) made in
-    (mine, inr (entry, subst P (sym denied) (client.account.used + 1, ordinal, reply, same), is), added)
+    let P : Option What → Type 0 = λ d. IsAsked client.account.number d (λ _. request) entry in
+    (mine, inr (entry, subst P (sym is_asked) (client.account.used + 1, 0, reply, refl), is), added)
+
+-- what was asked as this request was asked as one of those that differ by their ordinals
+pub asked-as : (client ordinal : ℕ) (denied denied' : Option What) (request : Request) (requests : ℕ → Request) (entry : Entry) → denied ≡ denied' → request ≡ requests ordinal
+    → IsAsked client denied (λ _. request) entry → IsAsked client denied' requests entry
+asked-as client ordinal (Some what) denied' request requests entry same made asked =
+    let P : Option What → Type 0 = λ d. IsAsked client d requests entry in
+    subst P same (asked.0, asked.1, asked.2)
+asked-as client ordinal None denied' request requests entry same made asked =
+    let P : Option What → Type 0 = λ d. IsAsked client d requests entry in
+    subst P same (asked.0, ordinal, asked.2, asked.3 ∙ ap (λ (r : Request). Command client asked.0 r asked.2) made)
+
+pub front-as : (old new : Course) (client client' : Client) (ordinal : ℕ) (denied denied' : Option What) (request : Request) (requests : ℕ → Request) → denied ≡ denied' → request ≡ requests ordinal
+    → (mine : List Entry) × IsFrontOfAsked client.account.number denied (λ _. request) mine × HasAdded old client mine new client'
+    → (mine : List Entry) × IsFrontOfAsked client.account.number denied' requests mine × HasAdded old client mine new client'
+front-as old new client client' ordinal denied denied' request requests same made (mine, inl none, added) = (mine, inl none, added)
+front-as old new client client' ordinal denied denied' request requests same made (mine, inr (entry, asked, is), added) =
+    (mine, inr (entry, asked-as client.account.number ordinal denied denied' request requests entry same made asked, is), added)
 
 -- nothing stands yet
 pub begun-none : (course : Course) (client : Client) (deed : Deed) → (mine : List Entry) × IsBegun client.account.number client.account.holds deed mine × HasAdded course client mine course client

@@ -109,28 +109,6 @@ some_more text n xs i j x d a b c old pending first second place within is_read 
     ∙ ap (λ ys. old ++ ys) (sym (numbered_append text n (take (i + 1) xs) (drop (i + 1) xs)) ∙ ap (numbered text n) (take-append-drop (i + 1) xs)) in
     subst (PrintedSome a c) whole (some_longer a c _ _ front)
 
--- A frame: its line with all that waits, its pixels, and a line end for later.
-pub frame_printed : (a b c : Option (List ℕ)) (old buffer pixels pending : List ℕ) (n : ℕ) (frame : Frame) → buffer ≡ old ++ frame_line n frame → Takes a b buffer → pixels ≡ frame.pixels → Takes b c pixels → pending ≡ codes "\n" → Printed a c (old ++ frame_text n frame) pending
-frame_printed a b c old buffer pixels pending n frame is_buffer first is_pixels second is_pending =
-    record {
-      front = buffer ++ pixels;
-      taken = takes_both a b c _ _ first second;
-      whole = rw (is_buffer, is_pixels, is_pending) (simp append_assoc);
-    }
-
--- A front of its line.
-pub frame_line_some : (a b : Option (List ℕ)) (old buffer : List ℕ) (n : ℕ) (frame : Frame) → buffer ≡ old ++ frame_line n frame → TakesSome a b buffer → PrintedSome a b (old ++ frame_text n frame)
-frame_line_some a b old buffer n frame is_buffer some =
-    let whole : buffer ++ (frame.pixels ++ codes "\n") ≡ old ++ frame_text n frame = rw is_buffer (simp append_assoc) in
-    subst (PrintedSome a b) whole (some_longer a b buffer _ (some_taken a b buffer some))
-
--- A front of its pixels.
-pub frame_pixels_some : (a b c : Option (List ℕ)) (old buffer pixels : List ℕ) (n : ℕ) (frame : Frame) → buffer ≡ old ++ frame_line n frame → Takes a b buffer → pixels ≡ frame.pixels → TakesSome b c pixels → PrintedSome a c (old ++ frame_text n frame)
-frame_pixels_some a b c old buffer pixels n frame is_buffer first is_pixels some =
-    let whole : buffer ++ pixels ++ codes "\n" ≡ old ++ frame_text n frame = rw (is_buffer, is_pixels) (simp append_assoc) in
-    subst (PrintedSome a c) whole
-    (some_longer a c _ _ (some_then a b c buffer [] pixels (printed_all a b buffer first) (some_taken b c pixels some)))
-
 -- A text that is put behind what is pending.
 pub printed_put : (a b : Option (List ℕ)) (text pending more pending' : List ℕ) → Printed a b text pending → pending' ≡ pending ++ more → Printed a b (text ++ more) pending'
 printed_put a b text pending more pending' first is_put =
@@ -139,3 +117,27 @@ printed_put a b text pending more pending' first is_put =
       taken = first.taken;
       whole = ap (λ ys. first.front ++ ys) is_put ∙ sym (append_assoc first.front pending more) ∙ ap (λ ys. ys ++ more) first.whole;
     }
+
+-- Pixels that are handed on from where they stand, behind what waited.
+pub pixels_printed : (a b c : Option (List ℕ)) (buffer pixels pending : List ℕ) → Takes a b buffer → Takes b c pixels → pending ≡ [] → Printed a c (buffer ++ pixels) pending
+pixels_printed a b c buffer pixels pending first second none =
+    let P : List ℕ → Type 0 = λ ys. Printed a c (buffer ++ pixels) ys in
+    subst P (sym none) (printed_all a c (buffer ++ pixels) (takes_both a b c buffer pixels first second))
+
+-- A front of them.
+pub pixels_some : (a b c : Option (List ℕ)) (buffer pixels : List ℕ) → Takes a b buffer → TakesSome b c pixels → PrintedSome a c (buffer ++ pixels)
+pixels_some a b c buffer pixels first some = some_then a b c buffer [] pixels (printed_all a b buffer first) (some_taken b c pixels some)
+
+-- A frame: its line, its pixels, and a line end.
+frame_whole : (old buffer pixels : List ℕ) (n : ℕ) (frame : Frame) → buffer ≡ old ++ frame_line n frame → pixels ≡ frame.pixels → (buffer ++ pixels) ++ codes "\n" ≡ old ++ frame_text n frame
+frame_whole old buffer pixels n frame is_buffer is_pixels = rw (is_buffer, is_pixels) (simp append_assoc)
+
+pub frame_printed : (a b : Option (List ℕ)) (old buffer pixels pending pending' : List ℕ) (n : ℕ) (frame : Frame) → buffer ≡ old ++ frame_line n frame → pixels ≡ frame.pixels → Printed a b (buffer ++ pixels) pending → pending' ≡ pending ++ codes "\n"
+    → Printed a b (old ++ frame_text n frame) pending'
+frame_printed a b old buffer pixels pending pending' n frame is_buffer is_pixels printed is_put =
+    subst (λ ys. Printed a b ys pending') (frame_whole old buffer pixels n frame is_buffer is_pixels) (printed_put a b (buffer ++ pixels) pending (codes "\n") pending' printed is_put)
+
+-- A front of it.
+pub frame_some : (a b : Option (List ℕ)) (old buffer pixels : List ℕ) (n : ℕ) (frame : Frame) → buffer ≡ old ++ frame_line n frame → pixels ≡ frame.pixels → PrintedSome a b (buffer ++ pixels) → PrintedSome a b (old ++ frame_text n frame)
+frame_some a b old buffer pixels n frame is_buffer is_pixels some =
+    subst (PrintedSome a b) (frame_whole old buffer pixels n frame is_buffer is_pixels) (some_longer a b (buffer ++ pixels) (codes "\n") some)

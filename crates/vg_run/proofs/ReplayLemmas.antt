@@ -1,15 +1,16 @@
-use Rattle.std.proofs.Common.{◌≡◌, ◌+◌, ◌*◌, ◌==◌, ap, refl, ℕ, Bool, true, false, cond, length, Option, Some, None, List, [], ◌∷◌, ◌++◌, count_by, Result, Ok, Err}
+use Rattle.std.proofs.Common.{◌≡◌, ◌+◌, ◌*◌, ◌==◌, ap, refl, ℕ, Bool, true, false, cond, length, drop, Option, Some, None, List, [], ◌∷◌, ◌++◌, count_by}
 use Rattle.std.specs.Prelude.{is_some}
 use Rattle.std.specs.List.{fold}
-use Rattle.vg_wire.specs.declared.header.Header.{Header}
 use Rattle.vg_wire_ext.specs.declared.command.Command.{Command}
 use Rattle.vg_wire_ext.specs.declared.command.Command.TheVariants.{TwoD, CapsetInfo, Capset, Edid, AssignUuid, CreateBlob, SetScanoutBlob, CtxCreate, CtxDestroy, CtxAttach, CtxDetach, Submit, UpdateCursor, MoveCursor}
-use Rattle.vg_wire.specs.declared.request.Malformed.{Malformed}
+use Rattle.vg_wire.specs.declared.request.Queue.{Queue}
+use Rattle.vg_wire.specs.Header.{header_of}
 use Rattle.vg_wire.specs.declared.two_d.Command2d.{Command2d}
 use Rattle.vg_wire.specs.declared.two_d.Command2d.TheVariants.{DisplayInfo, Create2d, Unref, SetScanout, Flush, Transfer, Attach, Detach}
-use Rattle.vg_wire_ext.specs.Request.{request_of}
-use Rattle.vg_machine.specs.declared.shape.Shape.{Shape}
-use Rattle.vg_machine.specs.declared.shape.Shape.TheVariants.{Plain, Indirect}
+use Rattle.vg_wire_ext.specs.Commands.{command_of}
+use Rattle.vg_wire_ext.specs.declared.response.Response.{Response}
+use Rattle.vg_chain.specs.declared.shape.Shape.{Shape}
+use Rattle.vg_chain.specs.declared.shape.Shape.TheVariants.{Plain, Pieces, Indirect, Mixed, Bad}
 use Rattle.vg_formats.specs.declared.rect.Rect.{Rect}
 use Rattle.vg_machine.specs.declared.act.Act.{Act}
 use Rattle.vg_machine.specs.declared.act.Act.TheVariants.{Enter, Reserve, Store, Load, Release, Free, Take, Drop, Denied, Leave}
@@ -23,9 +24,9 @@ use Rattle.vg_machine.specs.Share.{drop_refusal, free_refusal, place_refusal, re
 use Rattle.vg_machine.specs.declared.history.Entry.{Entry}
 use Rattle.vg_machine.specs.declared.history.Entry.TheVariants as entries
 use Rattle.vg_machine.specs.declared.history.Request.{Request}
-use Rattle.vg_machine.specs.declared.history.Reply.TheVariants as replies
 use Rattle.vg_machine.specs.State.{State, counted}
-use Rattle.vg_machine.specs.Step.{answer_of, answered_by, command_step, step, two_d_step, with_shown}
+use Rattle.vg_machine.specs.Refusals.{refusal_of}
+use Rattle.vg_machine.specs.Step.{answer_of, answered_with, command_step, ran, refused_or_ran, request_refusals, two_d_step, with_shown}
 use Rattle.vg_machine.specs.Replay.{AgreesFrom, HasReply, after, replay_from, shaped_step}
 
 -- the same setup, and as many entries
@@ -36,9 +37,9 @@ pub record IsLike (old new : State) : Type 0 where
 like-itself : (state : State) → IsLike state state
 like-itself state = record { setup = refl; entries = refl }
 
-like-answered : (refusal : Option ℕ) (state next : State) → IsLike state next → IsLike state (answered_by refusal state next).0
-like-answered (Some code) state next like = like-itself state
-like-answered None state next like = like
+like-answered : (refusal : Option ℕ) (state next : State) (response : Response) → IsLike state next → IsLike state (answered_with refusal state next response).0
+like-answered (Some code) state next response like = like-itself state
+like-answered None state next response like = like
 
 like-scanout : (b : Bool) (state one : State) (other : State) → IsLike state one → IsLike state other → IsLike state (cond b one other)
 like-scanout true state one other first second = first
@@ -50,21 +51,21 @@ like-shown state rect scanout id (Some resource) = record { setup = refl; entrie
 
 two_d-like : (state : State) (command : Command2d) → IsLike state (two_d_step state command).0
 two_d-like state DisplayInfo = like-itself state
-two_d-like state (Create2d resource format width height) = like-answered _ state _ (record { setup = refl; entries = refl })
-two_d-like state (Unref resource) = like-answered _ state _ (record { setup = refl; entries = refl })
+two_d-like state (Create2d resource format width height) = like-answered _ state _ _ (record { setup = refl; entries = refl })
+two_d-like state (Unref resource) = like-answered _ state _ _ (record { setup = refl; entries = refl })
 two_d-like state (SetScanout rect scanout resource) =
-    like-answered _ state _ (like-scanout (resource == 0) state _ _ (record { setup = refl; entries = refl }) (like-shown state rect scanout resource (resource_at resource state.resources)))
-two_d-like state (Flush rect resource) = like-answered _ state _ (record { setup = refl; entries = refl })
-two_d-like state (Transfer rect offset resource) = like-answered _ state _ (record { setup = refl; entries = refl })
-two_d-like state (Attach resource entries) = like-answered _ state _ (record { setup = refl; entries = refl })
-two_d-like state (Detach resource) = like-answered _ state _ (record { setup = refl; entries = refl })
+    like-answered _ state _ _ (like-scanout (resource == 0) state _ _ (record { setup = refl; entries = refl }) (like-shown state rect scanout resource (resource_at resource state.resources)))
+two_d-like state (Flush rect resource) = like-answered _ state _ _ (record { setup = refl; entries = refl })
+two_d-like state (Transfer rect offset resource) = like-answered _ state _ _ (record { setup = refl; entries = refl })
+two_d-like state (Attach resource entries) = like-answered _ state _ _ (record { setup = refl; entries = refl })
+two_d-like state (Detach resource) = like-answered _ state _ _ (record { setup = refl; entries = refl })
 
 command-like : (state : State) (command : Command) → IsLike state (command_step state command).0
 command-like state (TwoD command) = two_d-like state command
 command-like state (CapsetInfo index) = like-itself state
 command-like state (Capset id version) = like-itself state
-command-like state (Edid scanout) = like-itself state
-command-like state (AssignUuid resource) = like-itself state
+command-like state (Edid scanout) = like-answered _ state state _ (like-itself state)
+command-like state (AssignUuid resource) = like-answered _ state _ _ (record { setup = refl; entries = refl })
 command-like state (CreateBlob resource mem flags blob_id size entries) = like-itself state
 command-like state (SetScanoutBlob rect scanout resource width height format stride offset) = like-itself state
 command-like state (CtxCreate nlen context_init name) = like-itself state
@@ -72,20 +73,27 @@ command-like state CtxDestroy = like-itself state
 command-like state (CtxAttach resource) = like-itself state
 command-like state (CtxDetach resource) = like-itself state
 command-like state (Submit size) = like-itself state
-command-like state (UpdateCursor scanout x y resource hot_x hot_y) = like-itself state
+command-like state (UpdateCursor scanout x y resource hot_x hot_y) = like-answered _ state _ _ (record { setup = refl; entries = refl })
 command-like state (MoveCursor scanout x y) = like-itself state
 
-answer_of-like : (state : State) (read : Result (Header × Command) Malformed) → IsLike state (answer_of state read).0
-answer_of-like state (Ok (header, command)) = command-like state command
-answer_of-like state (Err malformed) = like-itself state
+ran-like : (state : State) (command : Option Command) → IsLike state (ran state command).0
+ran-like state (Some command) = command-like state command
+ran-like state None = like-itself state
 
-shaped-setup : (shape : Shape) (state : State) (request : Request) → (shaped_step shape state request).0.setup ≡ state.setup
-shaped-setup Plain state request = (answer_of-like state (request_of request.queue request.bytes)).setup
-shaped-setup Indirect state request = (answer_of-like state (request_of request.queue request.bytes)).setup
+refused-like : (refusal : Option ℕ) (state : State) (command : Option Command) → IsLike state (refused_or_ran refusal state command).0
+refused-like (Some code) state command = like-itself state
+refused-like None state command = ran-like state command
 
-shaped-entries : (shape : Shape) (state : State) (request : Request) → (shaped_step shape state request).0.entries ≡ state.entries + 1
-shaped-entries Plain state request = ap (λ n. n + 1) (answer_of-like state (request_of request.queue request.bytes)).entries
-shaped-entries Indirect state request = ap (λ n. n + 1) (answer_of-like state (request_of request.queue request.bytes)).entries
+answer_of-like : (state : State) (queue : Queue) (bytes : List ℕ) → IsLike state (answer_of state queue bytes).0
+answer_of-like state queue bytes = refused-like (refusal_of (request_refusals state.setup queue bytes)) state (command_of (header_of bytes).kind (drop 24 bytes))
+
+-- an entry more, by a request of any shape
+shaped-like : (shape : Shape) (state : State) (request : Request) → IsLike (counted state) (shaped_step shape state request).0
+shaped-like Plain state request = answer_of-like (counted state) request.queue request.bytes
+shaped-like (Pieces n) state request = answer_of-like (counted state) request.queue request.bytes
+shaped-like Indirect state request = answer_of-like (counted state) request.queue request.bytes
+shaped-like Mixed state request = answer_of-like (counted state) request.queue request.bytes
+shaped-like (Bad fault) state request = like-itself (counted state)
 
 -- an act that is refused or not
 like-replied : (refusal : Option ShareRefusal) (state next : State) (reply : ActReply) → IsLike state next → IsLike state (replied_by refusal state next reply).0
@@ -104,19 +112,14 @@ effect-like state client (Drop scanout) = like-replied (drop_refusal client scan
 effect-like state client (Denied what) = like-itself state
 effect-like state client Leave = record { setup = refl; entries = refl }
 
--- a request runs as its bytes say
-pub shaped-plain : (shape : Shape) (state : State) (request : Request) → shaped_step shape state request ≡ ((step state request.queue request.bytes request.room).0, replies.Response (step state request.queue request.bytes request.room).1)
-shaped-plain Plain state request = refl
-shaped-plain Indirect state request = refl
-
 -- no entry changes the setup, and each is counted
 pub after-setup : (state : State) (entry : Entry) → (after state entry).setup ≡ state.setup
 after-setup state (entries.Act client call act reply) = (effect-like (counted state) client act).setup
-after-setup state (entries.Command client call request reply) = shaped-setup request.shape state request
+after-setup state (entries.Command client call request reply) = (shaped-like request.shape state request).setup
 
 pub after-entries : (state : State) (entry : Entry) → (after state entry).entries ≡ state.entries + 1
 after-entries state (entries.Act client call act reply) = (effect-like (counted state) client act).entries
-after-entries state (entries.Command client call request reply) = shaped-entries request.shape state request
+after-entries state (entries.Command client call request reply) = (shaped-like request.shape state request).entries
 
 pub replay_from-more : (state : State) (H : List Entry) (entry : Entry) → replay_from state (H ++ entry ∷ []) ≡ after (replay_from state H) entry
 replay_from-more state [] entry = refl

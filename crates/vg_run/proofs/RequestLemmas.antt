@@ -1,5 +1,5 @@
 -- The lane of a request, by the header that is read from it.
-use Rattle.std.proofs.Common.{◌≡◌, ◌∙◌, not, nat_le, nat_lt, ap, refl, arith, ℕ, Bool, true, false, cond, List, length, drop, Option, Some, None, Result, Ok, Err}
+use Rattle.std.proofs.Common.{◌≡◌, ◌+◌, ◌∙◌, not, nat_le, nat_lt, ap, refl, arith, ℕ, Bool, true, false, cond, List, length, drop, Option, Some, None, Result, Ok, Err}
 use Rattle.std.specs.Prelude.{ok_or, option_map}
 use Rattle.std.proofs.lemmas.Bool.Decides.{nat_tests}
 use Rattle.vg_wire.specs.declared.header.Header.{Header}
@@ -12,8 +12,8 @@ use Rattle.vg_wire_ext.specs.Commands.{command_of, is_known}
 use Rattle.vg_wire_ext.specs.Request.{is_queue_of, request_after, request_of}
 use Rattle.vg_machine.specs.Lane.{lane_of, lane_of_header}
 use Rattle.vg_run.specs.declared.task.Way.{Way}
-use Rattle.vg_run.specs.declared.task.Way.TheVariants.{Control as OnControl, Timeline}
-use Rattle.vg_run.specs.Requests.{IsWay, header_by, lane_by}
+use Rattle.vg_run.specs.declared.task.Way.TheVariants.{Control as OnControl, Timeline, Cursor}
+use Rattle.vg_run.specs.Requests.{IsWay, header_by, lane_by, queue_by}
 
 -- what is answered of a header, by the tests of its kind and the command that was found
 abbrev judged : Bool → Bool → Header → Option Command → Result (Header × Command) Malformed
@@ -37,12 +37,11 @@ read-lane bytes header command e = by_test (nat_lt (length bytes) 24) refl e
         let long : nat_le 24 (length bytes) ≡ true = grind (arith, nat_tests, is) in
         rw long (ap lane_of_header (after-header (header_of bytes) header (drop 24 bytes) command e))
 
-way-lane : (way : Way) (kind ordinal : ℕ) → IsWay way → lane_of_header (header_by way kind ordinal) ≡ lane_by way
-way-lane (OnControl context) kind ordinal is = refl
-way-lane (Timeline context ring) kind ordinal is =
-    let small : nat_le ring 63 ≡ true = grind (arith, nat_tests, is) in
-    rw small refl
-
 -- the lane of a command that goes a way
-pub request-lane : (way : Way) (kind ordinal : ℕ) (bytes : List ℕ) (command : Command) → IsWay way → request_of Control bytes ≡ Ok (header_by way kind ordinal, command) → lane_of Control bytes ≡ lane_by way
-request-lane way kind ordinal bytes command is reads = read-lane bytes (header_by way kind ordinal) command reads ∙ way-lane way kind ordinal is
+pub request-lane : (way : Way) (kind ordinal : ℕ) (bytes : List ℕ) (command : Command) → IsWay way → request_of (queue_by way) bytes ≡ Ok (header_by way kind ordinal, command) → lane_of (queue_by way) bytes ≡ lane_by way
+request-lane (OnControl context) kind ordinal bytes command is reads = read-lane bytes (header_by (OnControl context) kind ordinal) command reads
+request-lane (Timeline context ring) kind ordinal bytes command is reads =
+    let small : nat_le ring 63 ≡ true = grind (arith, nat_tests, is) in
+    let lane : lane_of_header (header_by (Timeline context ring) kind ordinal) ≡ 1 + ring = rw small refl in
+    read-lane bytes (header_by (Timeline context ring) kind ordinal) command reads ∙ lane
+request-lane Cursor kind ordinal bytes command is reads = refl

@@ -151,7 +151,7 @@ act-allowed course account act reply may =
 -- a request that may be the client's next stands in order, and is allowed
 pub command-in_order : (course : Course) (account : Account) (request : Request) (reply : Reply) → MayAsk course account request → IsInOrder course.history (Command account.number (account.used + 1) request reply)
 command-in_order course account request reply may =
-    in_order course.history account.used (Command account.number (account.used + 1) request reply) may.active.account_is.numbers may.active.present refl (may.lane, may.ordinal) (λ none. absurd (omega (arith, may.active.begun, none)))
+    in_order course.history account.used (Command account.number (account.used + 1) request reply) may.active.account_is.numbers may.active.present refl (may.next.lane, may.next.ordinal) (λ none. absurd (omega (arith, may.active.begun, none)))
 
 pub command-allowed : (course : Course) (account : Account) (request : Request) (reply : Reply) → MayAsk course account request → IsAllowed (holds_of course.setup account.number course.history) (Command account.number (account.used + 1) request reply)
 command-allowed course account request reply may =

@@ -1,11 +1,11 @@
 -- A script within its limits gives a setup.
 use Rattle.std.proofs.Common.{refl, arith, ℕ, List, [], ◌∷◌}
-use Rattle.std.specs.List.{AllByRecursion}
+use Rattle.std.specs.List.{AllByRecursion, list_any}
 use Rattle.std.proofs.lemmas.List.Elements.{recursion_from_All}
 use Rattle.vg_machine.specs.Setup.{AreDisplays, IsSetup}
 use Rattle.vg_script.specs.declared.types.Script.{Script}
 use Rattle.vg_script.specs.Limits.{DisplayInLimits, ScriptInLimits}
-use Rattle.vg_run.specs.Setup.{setup_of}
+use Rattle.vg_run.specs.Setup.{is_blob, is_context, is_edid, is_uuid, setup_of}
 
 by-recursion : (displays : List (ℕ × ℕ)) → AllByRecursion DisplayInLimits displays → AreDisplays displays
 by-recursion [] all = tt
@@ -18,6 +18,12 @@ displays-in script limits = record {
   displays = by-recursion script.displays (recursion_from_All DisplayInLimits script.displays limits.sizes);
   one_page = limits.pages.0;
   pages = limits.pages.1;
-  accepted = refl;
+  accepted = record {
+    edid = list_any is_edid script.without;
+    uuid = list_any is_uuid script.without;
+    blob = list_any is_blob script.without;
+    context = list_any is_context script.without;
+    left = refl;
+  };
   clients = omega (arith, limits.clients);
 }

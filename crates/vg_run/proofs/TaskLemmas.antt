@@ -1,5 +1,5 @@
 -- The tasks of the longer calls: how they grow, how few they are, and that they fit.
-use Rattle.std.proofs.Common.{◌≡◌, ◌+◌, ◌-◌, ◌*◌, ◌<◌, ◌≤◌, ◌∙◌, sym, ap, arith, ℕ, zero, suc, Bool, true, false, cond, List, [], ◌∷◌, ◌++◌, length, map, drop, append_assoc, Option}
+use Rattle.std.proofs.Common.{◌≡◌, ◌+◌, ◌-◌, ◌*◌, ◌<◌, ◌≤◌, ◌∙◌, sym, ap, refl, arith, ℕ, zero, suc, Bool, true, false, cond, List, [], ◌∷◌, ◌++◌, length, map, drop, append_assoc, Option}
 use Rattle.std.specs.List.{AllByRecursion}
 use Rattle.vg_machine.specs.Holds.{has_number}
 use Rattle.vg_run.specs.declared.names.Held.{Held}
@@ -37,7 +37,7 @@ clear-fit key n [] = tt
 clear-fit key n (shown ∷ more) = by_test (is_shown key shown) (clear-fit key (n + 1) more)
   where
     by_test : (b : Bool) → AllByRecursion IsFit (clear_tasks key (n + 1) more) → AllByRecursion IsFit (cond b (clear_task n ∷ []) [] ++ clear_tasks key (n + 1) more)
-    by_test true fit = (((tt, tt), tt), fit)
+    by_test true fit = (((tt, tt, refl), tt), fit)
     by_test false fit = fit
 
 pub clear-few : (key n : ℕ) (shows : List (Option ℕ)) → weights (clear_tasks key n shows) ≤ length shows
@@ -53,14 +53,14 @@ leases-fit leased n zero = tt
 leases-fit leased n (suc count) = by_test (has_number n leased) (leases-fit leased (n + 1) count)
   where
     by_test : (b : Bool) → AllByRecursion IsFit (leases_back leased (n + 1) count) → AllByRecursion IsFit (cond b (give_back n) [] ++ leases_back leased (n + 1) count)
-    by_test true fit = (((tt, tt), tt), ((tt, tt), fit))
+    by_test true fit = (((tt, tt, refl), tt), (((tt, tt, refl), tt), ((tt, tt), fit)))
     by_test false fit = fit
 
-leases-few : (leased : List ℕ) (n count : ℕ) → weights (leases_back leased n count) ≤ 2 * count
+leases-few : (leased : List ℕ) (n count : ℕ) → weights (leases_back leased n count) ≤ 3 * count
 leases-few leased n zero = omega arith
 leases-few leased n (suc count) = by_test (has_number n leased) (leases-few leased (n + 1) count)
   where
-    by_test : (b : Bool) → weights (leases_back leased (n + 1) count) ≤ 2 * count → weights (cond b (give_back n) [] ++ leases_back leased (n + 1) count) ≤ 2 * suc count
+    by_test : (b : Bool) → weights (leases_back leased (n + 1) count) ≤ 3 * count → weights (cond b (give_back n) [] ++ leases_back leased (n + 1) count) ≤ 3 * suc count
     by_test true few = omega arith
     by_test false few = omega arith
 
@@ -75,7 +75,7 @@ releases-few (held ∷ more) = let few = releases-few more in omega arith
 pub end-fit : (leased : List ℕ) (count : ℕ) (current : List Held) → AllByRecursion IsFit (leases_back leased 0 count ++ map release_task current)
 end-fit leased count current = fit-append (leases_back leased 0 count) (map release_task current) (leases-fit leased 0 count) (releases-fit current)
 
-pub end-few : (leased : List ℕ) (count : ℕ) (current : List Held) → weights (leases_back leased 0 count ++ map release_task current) ≤ 2 * count + 3 * length current
+pub end-few : (leased : List ℕ) (count : ℕ) (current : List Held) → weights (leases_back leased 0 count ++ map release_task current) ≤ 3 * count + 3 * length current
 end-few leased count current =
     let one = leases-few leased 0 count in
     let other = releases-few current in

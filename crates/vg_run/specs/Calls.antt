@@ -2,8 +2,11 @@
 use Rattle.std.specs.Prelude.{◌≡◌, ◌⊎◌, ◌<◌, ◌==◌, ℕ, Bool, true, false, List, [], ◌∷◌, ◌++◌, length, map, bytes_eq, slice_set, if◌then◌else◌, Option, Some, None, Result, Ok, Err}
 use Rattle.std.specs.List.{range_with_len, AllByRecursion}
 use Rattle.vg_formats.specs.declared.rect.Rect.{Rect}
-use Rattle.vg_wire_ext.specs.declared.command.Command.TheVariants.{TwoD}
-use Rattle.vg_wire.specs.declared.two_d.Command2d.{Command2d}
+use Rattle.vg_wire.specs.declared.request.Queue.{Queue}
+use Rattle.vg_wire.specs.declared.request.Queue.TheVariants as queues
+use Rattle.vg_chain.specs.declared.shape.Shape.{Shape}
+use Rattle.vg_chain.specs.declared.shape.Shape.TheVariants as shapes
+use Rattle.vg_chain.specs.declared.chain.ChainFault.TheVariants as faults
 use Rattle.vg_machine.specs.declared.act.Act.TheVariants.{Enter, Leave, Denied}
 use Rattle.vg_machine.specs.declared.act.ActReply.{ActReply}
 use Rattle.vg_machine.specs.declared.act.ActReply.TheVariants as act_replies
@@ -11,14 +14,17 @@ use Rattle.vg_machine.specs.declared.act.What.{What}
 use Rattle.vg_machine.specs.declared.history.Entry.{Entry}
 use Rattle.vg_machine.specs.declared.history.Entry.TheVariants as entries
 use Rattle.vg_machine.specs.declared.history.Reply.{Reply}
+use Rattle.vg_machine.specs.declared.history.Request.{Request}
 use Rattle.vg_machine.specs.declared.holds.Holds.{Holds}
 use Rattle.vg_machine.specs.declared.setup.Setup.{Setup}
-use Rattle.vg_machine.specs.Holds.{denied_command}
+use Rattle.vg_machine.specs.Holds.{denied_of}
 use Rattle.vg_machine.specs.Order.{by_call, call_of, of_client, updated}
 use Rattle.vg_script.specs.declared.types.Area.{Area}
 use Rattle.vg_script.specs.declared.types.Line.{Line}
 use Rattle.vg_script.specs.declared.types.Step.{Step}
 use Rattle.vg_script.specs.declared.types.Step.TheVariants as steps
+use Rattle.vg_script.specs.declared.types.RawShape.{RawShape}
+use Rattle.vg_script.specs.declared.types.RawShape.TheVariants as raw
 use Rattle.vg_run.specs.declared.call.Call.{Call}
 use Rattle.vg_run.specs.declared.call.Call.TheVariants as calls
 use Rattle.vg_run.specs.declared.given.Given.{Given}
@@ -29,25 +35,29 @@ use Rattle.vg_run.specs.declared.task.Change.TheVariants.{NewBuffer, EndOfName, 
 use Rattle.vg_run.specs.declared.task.Deed.{Deed}
 use Rattle.vg_run.specs.declared.task.Deed.TheVariants as deeds
 use Rattle.vg_run.specs.declared.task.Task.{Task}
-use Rattle.vg_run.specs.declared.task.Way.{Way}
 use Rattle.vg_run.specs.Given.{given_of, is_accepted, left_after}
 use Rattle.vg_run.specs.Known.{Known, first_known}
 use Rattle.vg_run.specs.Names.{NamesState, with_name, without_name}
-use Rattle.vg_run.specs.Requests.{request_by}
+use Rattle.vg_run.specs.Requests.{denied_by, raw_request, request_by}
 use Rattle.vg_run.specs.Tasks.{end_tasks, tasks_of}
 
--- A command is asked of the device, or denied to its client for the first thing that it names and that isn't allowed.
-abbrev pub IsAsked : ℕ → Option What → Way → Command2d → Entry → Type 0
-IsAsked client (Some what) way command entry = (call : ℕ) × (reply : ActReply) × (entry ≡ entries.Act client call (Denied what) reply)
-IsAsked client None way command entry =
-    (call ordinal : ℕ) × (reply : Reply) × (entry ≡ entries.Command client call (request_by way ordinal command) reply)
+-- A request is asked of the device, with some ordinal, or denied to its client for the first thing that it names and that isn't
+-- allowed.
+abbrev pub IsAsked : ℕ → Option What → (ℕ → Request) → Entry → Type 0
+IsAsked client (Some what) request entry = (call : ℕ) × (reply : ActReply) × (entry ≡ entries.Act client call (Denied what) reply)
+IsAsked client None request entry = (call ordinal : ℕ) × (reply : Reply) × (entry ≡ entries.Command client call (request ordinal) reply)
 
 -- The entry that a client with these holds gives for a task.
 abbrev pub IsDone : ℕ → Holds → Deed → Entry → Type 0
 IsDone client holds (deeds.Act act) entry = (call : ℕ) × (reply : ActReply) × (entry ≡ entries.Act client call act reply)
-IsDone client holds (deeds.Command way command) entry = IsAsked client (denied_command holds (TwoD command)) way command entry
+IsDone client holds (deeds.Command way command) entry = IsAsked client (denied_by holds way command) (request_by way command) entry
+IsDone client holds (deeds.Raw queue room shape bytes) entry = IsAsked client (denied_of holds queue bytes) (raw_request queue room shape bytes) entry
 
--- What it gives where memory lacked: that entry, or none.
+-- What was asked where memory lacked: that entry, or none.
+abbrev pub IsFrontOfAsked : ℕ → Option What → (ℕ → Request) → List Entry → Type 0
+IsFrontOfAsked client denied request mine = (mine ≡ []) ⊎ ((entry : Entry) × IsAsked client denied request entry × (mine ≡ entry ∷ []))
+
+-- What a task gives where memory lacked: its entry, or none.
 abbrev pub IsBegun : ℕ → Holds → Deed → List Entry → Type 0
 IsBegun client holds deed mine = (mine ≡ []) ⊎ ((entry : Entry) × IsDone client holds deed entry × (mine ≡ entry ∷ []))
 
@@ -122,9 +132,27 @@ ref_of refs name = record { index = 0; generation = refs name }
 abbrev pub rect_of : Area → Rect
 rect_of area = record { x = area.x; y = area.y; width = area.width; height = area.height }
 
+-- The queue and the layout that a line of raw bytes names.
+abbrev pub queue_called : Bool → Queue
+queue_called cursor = if cursor then queues.Cursor else queues.Control
+
+abbrev pub shape_called : RawShape → Shape
+shape_called raw.Plain = shapes.Plain
+shape_called (raw.Pieces n) = shapes.Pieces n
+shape_called raw.Indirect = shapes.Indirect
+shape_called raw.Mixed = shapes.Mixed
+shape_called raw.Index = shapes.Bad faults.Index
+shape_called raw.Loop = shapes.Bad faults.Loop
+shape_called raw.Nested = shapes.Bad faults.Nested
+shape_called raw.NextIndirect = shapes.Bad faults.NextWithIndirect
+shape_called raw.TableLength = shapes.Bad faults.TableLength
+shape_called raw.Order = shapes.Bad faults.Order
+shape_called raw.Range = shapes.Bad faults.Range
+
 -- The call that a line makes.
 abbrev pub call_of_step : (List ℕ → ℕ) → Step → Call
 call_of_step refs steps.Info = calls.Info
+call_of_step refs (steps.Edid scanout) = calls.Edid scanout
 call_of_step refs (steps.Buffer name width height format) = calls.Buffer width height format
 call_of_step refs (steps.Store name offset bytes times) = calls.Store (ref_of refs name) offset bytes times
 call_of_step refs (steps.Load name offset n) = calls.Load (ref_of refs name) offset n
@@ -135,6 +163,8 @@ call_of_step refs (steps.Drop scanout) = calls.Drop scanout
 call_of_step refs (steps.Hide scanout) = calls.Hide scanout
 call_of_step refs (steps.Show scanout name area) = calls.Show scanout (ref_of refs name) (rect_of area)
 call_of_step refs (steps.Flip scanout name) = calls.Flip scanout (ref_of refs name)
+call_of_step refs (steps.Uuid name) = calls.Uuid (ref_of refs name)
+call_of_step refs (steps.Raw cursor room shape bytes) = calls.Raw (queue_called cursor) room (shape_called shape) bytes
 call_of_step refs (steps.Close name) = calls.Close (ref_of refs name)
 
 -- The generation of the name that a call made, if it made one.

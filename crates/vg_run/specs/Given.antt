@@ -3,6 +3,7 @@ use Rattle.std.specs.Prelude.{ℕ, ◌==◌, Bool, true, false, not, nat_le, ◌
 use Rattle.vg_wire.specs.declared.request.Queue.{Queue}
 use Rattle.vg_wire.specs.declared.request.Queue.TheVariants.{Control, Cursor}
 use Rattle.vg_wire.specs.Header.{header_of}
+use Rattle.vg_wire.specs.Kinds.{OK_DISPLAY_INFO, OK_EDID, OK_NODATA, OK_RESOURCE_UUID}
 use Rattle.vg_machine.specs.declared.act.Act.{Act}
 use Rattle.vg_machine.specs.declared.act.Act.TheVariants as acts
 use Rattle.vg_machine.specs.declared.act.ActReply.{ActReply}
@@ -10,7 +11,7 @@ use Rattle.vg_machine.specs.declared.act.ActReply.TheVariants as act_replies
 use Rattle.vg_machine.specs.declared.history.Entry.{Entry}
 use Rattle.vg_machine.specs.declared.history.Entry.TheVariants as entries
 use Rattle.vg_machine.specs.declared.history.Reply.{Reply}
-use Rattle.vg_machine.specs.declared.history.Reply.TheVariants.{Response}
+use Rattle.vg_machine.specs.declared.history.Reply.TheVariants.{Fault, Response}
 use Rattle.vg_run.specs.declared.given.Given.{Given}
 use Rattle.vg_run.specs.declared.given.Given.TheVariants as givens
 use Rattle.vg_run.specs.declared.task.Change.{Change}
@@ -32,10 +33,11 @@ given_of (entries.Command client call request reply) = givens.Command request.qu
 
 -- A response is accepted where its kind is one of the OK ones (VIRTIO 1.2, 5.7.6.7, enum virtio_gpu_ctrl_type).
 abbrev pub is_ok_kind : ℕ → Bool
-is_ok_kind kind = kind == 0x1100 || kind == 0x1101
+is_ok_kind kind = kind == OK_NODATA || kind == OK_DISPLAY_INFO || kind == OK_EDID || kind == OK_RESOURCE_UUID
 
 abbrev pub is_ok_reply : Reply → Bool
 is_ok_reply (Response bytes) = nat_le 24 (length bytes) && is_ok_kind (header_of bytes).kind
+is_ok_reply (Fault fault) = false
 
 -- A cursor command has no response, and counts as accepted.
 abbrev pub is_ok : Queue → Reply → Bool

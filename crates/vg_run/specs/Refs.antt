@@ -29,6 +29,7 @@ unplaced (calls.Send name rect) = calls.Send (without_place name) rect
 unplaced (calls.Flush name rect) = calls.Flush (without_place name) rect
 unplaced (calls.Show scanout name rect) = calls.Show scanout (without_place name) rect
 unplaced (calls.Flip scanout name) = calls.Flip scanout (without_place name)
+unplaced (calls.Uuid name) = calls.Uuid (without_place name)
 unplaced (calls.Close name) = calls.Close (without_place name)
 unplaced call = call
 

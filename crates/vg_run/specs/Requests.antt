@@ -1,61 +1,97 @@
 -- The request of a command: by the way that it goes, and its ordinal on its lane.
-use Rattle.std.specs.Prelude.{ℕ, ◌+◌, ◌^◌, ◌<◌, ◌≤◌, nat_lt, if◌then◌else◌, length}
+use Rattle.std.specs.Prelude.{◌≡◌, ℕ, ◌+◌, ◌^◌, ◌<◌, ◌≤◌, nat_lt, if◌then◌else◌, List, length, Option, Result, Ok}
 use Rattle.vg_wire.specs.declared.header.Header.{Header}
+use Rattle.vg_wire.specs.declared.request.Queue.{Queue}
 use Rattle.vg_wire.specs.declared.request.Queue.TheVariants as queues
-use Rattle.vg_wire_ext.specs.declared.command.Command.TheVariants.{TwoD}
-use Rattle.vg_wire.specs.declared.two_d.Command2d.{Command2d}
 use Rattle.vg_wire.specs.declared.two_d.Command2d.TheVariants as commands
-use Rattle.vg_wire_ext.specs.Request.{request_bytes}
-use Rattle.vg_wire.specs.TwoD.{FitsCount, kind_of_2d}
+use Rattle.vg_wire_ext.specs.declared.command.Command.{Command}
+use Rattle.vg_wire_ext.specs.declared.command.Command.TheVariants.{TwoD, Edid, AssignUuid, CreateBlob}
+use Rattle.vg_wire_ext.specs.Commands.{FitsEntries, command_kind}
+use Rattle.vg_wire_ext.specs.Request.{queue_of, request_bytes}
+use Rattle.vg_chain.specs.declared.shape.Shape.{Shape}
+use Rattle.vg_chain.specs.declared.shape.Shape.TheVariants.{Plain, Indirect}
 use Rattle.vg_machine.specs.declared.act.Act as the_act
 use Rattle.vg_machine.specs.declared.act.Act.TheVariants as acts
+use Rattle.vg_machine.specs.declared.act.What.{What}
 use Rattle.vg_machine.specs.declared.history.Request.{Request}
-use Rattle.vg_machine.specs.declared.shape.Shape.{Shape}
-use Rattle.vg_machine.specs.declared.shape.Shape.TheVariants.{Plain, Indirect}
+use Rattle.vg_machine.specs.declared.holds.Holds.{Holds}
+use Rattle.vg_machine.specs.Holds.{denied_of, denied_request}
+use Rattle.vg_machine.specs.Lane.{lane_of}
 use Rattle.vg_run.specs.declared.task.Change.{Change}
 use Rattle.vg_run.specs.declared.task.Change.TheVariants.{NewBuffer}
 use Rattle.vg_run.specs.declared.task.Deed.{Deed}
 use Rattle.vg_run.specs.declared.task.Deed.TheVariants as deeds
 use Rattle.vg_run.specs.declared.task.Task.{Task}
 use Rattle.vg_run.specs.declared.task.Way.{Way}
-use Rattle.vg_run.specs.declared.task.Way.TheVariants.{Control, Timeline}
+use Rattle.vg_run.specs.declared.task.Way.TheVariants.{Control, Timeline, Cursor}
 
--- A command that waits for its response has a fence, whose id is its ordinal; on a timeline it has a ring index beside it
--- (VIRTIO 1.2, 5.7.6.7, FLAG_FENCE 1 and FLAG_INFO_RING_IDX 2).
+-- A command on the control queue has a fence, whose id is its ordinal; on a timeline it has a ring index beside it (VIRTIO 1.2,
+-- 5.7.6.7, FLAG_FENCE 1 and FLAG_INFO_RING_IDX 2). One on the cursor queue has neither.
 abbrev pub header_by : Way → ℕ → ℕ → Header
 header_by (Control context) kind ordinal = record { kind = kind; flags = 1; fence_id = ordinal; ctx_id = context; ring_idx = 0 }
 header_by (Timeline context ring) kind ordinal = record { kind = kind; flags = 3; fence_id = ordinal; ctx_id = context; ring_idx = ring }
+header_by Cursor kind ordinal = record { kind = kind; flags = 0; fence_id = 0; ctx_id = 0; ring_idx = 0 }
 
--- Lane 0 holds the commands without a ring index, and lane 1 + r those of ring index r.
+-- The queue of each way.
+abbrev pub queue_by : Way → Queue
+queue_by Cursor = queues.Cursor
+queue_by way = queues.Control
+
+-- Lane 0 holds the control queue's commands without a ring index, lane 1 + r those of ring index r, and lane 65 the cursor queue's.
 abbrev pub lane_by : Way → ℕ
 lane_by (Control context) = 0
 lane_by (Timeline context ring) = 1 + ring
+lane_by Cursor = 65
 
--- How many bytes there are for the response: the display information has 408, and any other 24.
-abbrev pub room_of : Command2d → ℕ
-room_of commands.DisplayInfo = 408
-room_of command = 24
+-- How many bytes there are for the response: as many as it has where it is accepted, which on the cursor queue is none.
+abbrev pub room_on : Queue → Command → ℕ
+room_on queues.Cursor command = 0
+room_on queues.Control (TwoD commands.DisplayInfo) = 408
+room_on queues.Control (Edid scanout) = 1056
+room_on queues.Control (AssignUuid resource) = 40
+room_on queues.Control command = 24
 
 -- A request with more than eight entries is laid out in a table of its own.
-abbrev pub shape_of : Command2d → Shape
-shape_of (commands.Attach resource entries) = if nat_lt 8 (length entries) then Indirect else Plain
+abbrev pub shape_of : Command → Shape
+shape_of (TwoD (commands.Attach resource entries)) = if nat_lt 8 (length entries) then Indirect else Plain
+shape_of (CreateBlob resource mem flags blob_id size entries) = if nat_lt 8 (length entries) then Indirect else Plain
 shape_of command = Plain
 
--- The request of a command that waits for its response.
-abbrev pub request_by : Way → ℕ → Command2d → Request
-request_by way ordinal command = record {
-  queue = queues.Control;
+-- The request of a command that goes a way, as its ordinal is.
+abbrev pub request_by : Way → Command → ℕ → Request
+request_by way command ordinal = record {
+  queue = queue_by way;
   lane = lane_by way;
   ordinal = ordinal;
-  room = room_of command;
+  room = room_on (queue_by way) command;
   shape = shape_of command;
-  bytes = request_bytes (header_by way (kind_of_2d command) ordinal) (TwoD command);
+  bytes = request_bytes (header_by way (command_kind command) ordinal) command;
 }
+
+-- The request of these bytes, as they are, and as its ordinal is.
+abbrev pub raw_request : Queue → ℕ → Shape → List ℕ → ℕ → Request
+raw_request queue room shape bytes ordinal = record {
+  queue = queue;
+  lane = lane_of queue bytes;
+  ordinal = ordinal;
+  room = room;
+  shape = shape;
+  bytes = bytes;
+}
+
+-- What a client with these holds is denied of a command that goes a way: no ordinal is looked at.
+abbrev pub denied_by : Holds → Way → Command → Option What
+denied_by holds way command = denied_request holds (Ok (header_by way (command_kind command) 0, command))
 
 -- There are 64 timelines.
 abbrev pub IsWay : Way → Type 0
 IsWay (Control context) = Unit {0}
 IsWay (Timeline context ring) = ring < 64
+IsWay Cursor = Unit {0}
+
+-- A command that can go this way: the way's queue is the command's.
+abbrev pub MayGo : Way → Command → Type 0
+MayGo way command = IsWay way × FitsEntries command × (queue_by way ≡ queue_of command)
 
 -- The bytes of a buffer that is reserved fit their number.
 abbrev pub HasFewBytes : the_act.Act → Type 0
@@ -68,7 +104,8 @@ IsFitDeed (deeds.Act acts.Enter) = ⊥
 IsFitDeed (deeds.Act acts.Leave) = ⊥
 IsFitDeed (deeds.Act (acts.Denied what)) = ⊥
 IsFitDeed (deeds.Act act) = HasFewBytes act
-IsFitDeed (deeds.Command way command) = IsWay way × FitsCount command
+IsFitDeed (deeds.Command way command) = MayGo way command
+IsFitDeed (deeds.Raw queue room shape bytes) = Unit {0}
 
 -- A buffer is no larger than a display.
 abbrev pub IsFitChange : Change → Type 0

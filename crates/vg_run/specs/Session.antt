@@ -77,11 +77,15 @@ pub record MayAct (course : Course) (account : Account) (act : the_act.Act) : Ty
   pub present : IsPresent course account
   pub denied : MayBeDenied account.holds act
 
+-- The request is the next of its lane.
+pub record IsNextOfLane (course : Course) (request : Request) : Type 0 where
+  pub lane : request.lane ≡ lane_of request.queue request.bytes
+  pub ordinal : request.ordinal ≡ count_by (is_of_lane request.lane) course.history + 1
+
 -- The request may be the client's next: it is the next of its lane, and allowed.
 pub record MayAsk (course : Course) (account : Account) (request : Request) : Type 0 where
   pub active : IsActive course account
-  pub lane : request.lane ≡ lane_of request.queue request.bytes
-  pub ordinal : request.ordinal ≡ count_by (is_of_lane request.lane) course.history + 1
+  pub next : IsNextOfLane course request
   pub allowed : Allowed account.holds request.queue request.bytes
 
 -- A client's account with one number more.

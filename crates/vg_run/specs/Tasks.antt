@@ -11,7 +11,7 @@ use Rattle.vg_run.specs.declared.names.NameRef.{NameRef}
 use Rattle.vg_run.specs.declared.task.Task.{Task}
 use Rattle.vg_run.specs.Known.{Known}
 use Rattle.vg_run.specs.Names.{found}
-use Rattle.vg_run.specs.Table.{clear_task, drop_task, flush_task, hide_task, info_task, load_task, release_task, reserve_task, send_task, show_task, store_task, take_task}
+use Rattle.vg_run.specs.Table.{clear_task, drop_task, edid_task, flush_task, hide_cursor_task, hide_task, info_task, load_task, raw_task, release_task, reserve_task, send_task, show_task, store_task, take_task, uuid_task}
 
 -- The tasks of a call on a name: where the name isn't current the call is denied for it.
 abbrev pub if_current : Option Held → (Held → List Task) → Result (List Task) What
@@ -28,9 +28,9 @@ whole_of held = record { x = 0; y = 0; width = held.width; height = held.height 
 abbrev pub flip_tasks : ℕ → Held → List Task
 flip_tasks scanout held = send_task held (whole_of held) ∷ show_task scanout held.key (whole_of held) ∷ flush_task held.key (whole_of held) ∷ []
 
--- A scanout is disabled before its lease ends.
+-- A scanout is disabled, and its cursor hidden, before its lease ends.
 abbrev pub give_back : ℕ → List Task
-give_back scanout = clear_task scanout ∷ drop_task scanout ∷ []
+give_back scanout = clear_task scanout ∷ hide_cursor_task scanout ∷ drop_task scanout ∷ []
 
 abbrev pub drop_tasks : Known → ℕ → Result (List Task) What
 drop_tasks known scanout = if has_number scanout known.holds.scanouts then Ok (give_back scanout) else Err (Scanout scanout)
@@ -51,6 +51,7 @@ close_tasks known held = clear_tasks held.key 0 known.shows ++ release_task held
 -- of a lease that there isn't.
 abbrev pub tasks_of : Known → Call → Result (List Task) What
 tasks_of known calls.Info = Ok (info_task ∷ [])
+tasks_of known (calls.Edid scanout) = Ok (edid_task scanout ∷ [])
 tasks_of known (calls.Buffer width height format) = Ok (reserve_task width height format ∷ [])
 tasks_of known (calls.Store name offset bytes times) = with_held known name (λ held. store_task held.key offset bytes times ∷ [])
 tasks_of known (calls.Load name offset n) = with_held known name (λ held. load_task held.key offset n ∷ [])
@@ -61,6 +62,8 @@ tasks_of known (calls.Drop scanout) = drop_tasks known scanout
 tasks_of known (calls.Hide scanout) = Ok (hide_task scanout ∷ [])
 tasks_of known (calls.Show scanout name rect) = with_held known name (λ held. show_task scanout held.key rect ∷ [])
 tasks_of known (calls.Flip scanout name) = with_held known name (flip_tasks scanout)
+tasks_of known (calls.Uuid name) = with_held known name (λ held. uuid_task held.key ∷ [])
+tasks_of known (calls.Raw queue room shape bytes) = Ok (raw_task queue room shape bytes ∷ [])
 tasks_of known (calls.Close name) = with_held known name (close_tasks known)
 
 -- The leased ones of so many scanouts from this one on are given back, rising.

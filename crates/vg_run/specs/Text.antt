@@ -1,9 +1,11 @@
-use Rattle.std.specs.Prelude.{ℕ, ◌+◌, List, [], ◌∷◌, ◌++◌, length, codes, decimal}
+use Rattle.std.specs.Prelude.{ℕ, ◌+◌, ◌==◌, if◌then◌else◌, List, [], ◌∷◌, ◌++◌, bit_and, length, codes, decimal}
 use Rattle.hex.specs.Hex.{encode_lower}
 use Rattle.vg_machine.specs.declared.setup.Setup.{Setup}
 use Rattle.vg_machine.specs.declared.scanout.Frame.{Frame}
-use Rattle.vg_machine.specs.declared.shape.Shape.{Shape}
-use Rattle.vg_machine.specs.declared.shape.Shape.TheVariants.{Plain, Indirect}
+use Rattle.vg_chain.specs.declared.chain.ChainFault.{ChainFault}
+use Rattle.vg_chain.specs.declared.chain.ChainFault.TheVariants.{Index, Loop, Nested, NextWithIndirect, TableLength, Order, Range}
+use Rattle.vg_chain.specs.declared.shape.Shape.{Shape}
+use Rattle.vg_chain.specs.declared.shape.Shape.TheVariants.{Plain, Pieces, Indirect, Mixed, Bad}
 use Rattle.vg_machine.specs.declared.act.Act.{Act}
 use Rattle.vg_machine.specs.declared.act.Act.TheVariants.{Enter, Reserve, Store, Load, Release, Free, Take, Drop, Denied, Leave}
 use Rattle.vg_machine.specs.declared.act.What.{What}
@@ -16,7 +18,7 @@ use Rattle.vg_machine.specs.declared.history.Entry.{Entry}
 use Rattle.vg_machine.specs.declared.history.Entry.TheVariants as entries
 use Rattle.vg_machine.specs.declared.history.Request.{Request}
 use Rattle.vg_machine.specs.declared.history.Reply.{Reply}
-use Rattle.vg_machine.specs.declared.history.Reply.TheVariants.{Response}
+use Rattle.vg_machine.specs.declared.history.Reply.TheVariants.{Fault, Response}
 use Rattle.vg_run.specs.declared.journal.Journal.{Journal}
 
 -- The texts of things one after another, each with its number.
@@ -33,6 +35,8 @@ abbrev pub what_text : What → List ℕ
 what_text whats.Name = codes "name"
 what_text (whats.Resource n) = codes "resource " ++ decimal n
 what_text (whats.Scanout n) = codes "scanout " ++ decimal n
+what_text (whats.Context n) = codes "context " ++ decimal n
+what_text (whats.Page n) = codes "page " ++ decimal n
 
 -- `reserve W H F B`
 unfoldable pub reserve_text : ℕ → ℕ → ℕ → ℕ → List ℕ
@@ -90,12 +94,26 @@ act_reply_text act_replies.Kept = codes "kept"
 act_reply_text act_replies.Last = codes "last"
 act_reply_text (act_replies.Refused refusal) = refusal_text refusal
 
+-- A chain's fault, by the layout that has it.
+abbrev pub fault_text : ChainFault → List ℕ
+fault_text Index = codes "index"
+fault_text Loop = codes "loop"
+fault_text Nested = codes "nested"
+fault_text NextWithIndirect = codes "nextindirect"
+fault_text TableLength = codes "tablelength"
+fault_text Order = codes "order"
+fault_text Range = codes "range"
+
 abbrev pub shape_text : Shape → List ℕ
 shape_text Plain = codes "plain"
+shape_text (Pieces n) = codes "pieces" ++ decimal n
 shape_text Indirect = codes "indirect"
+shape_text Mixed = codes "mixed"
+shape_text (Bad fault) = fault_text fault
 
 abbrev pub reply_text : Reply → List ℕ
 reply_text (Response bytes) = hex_text bytes
+reply_text (Fault fault) = codes "fault " ++ fault_text fault
 
 -- `LANE ORDINAL ROOM SHAPE HEX`
 unfoldable pub request_text : Request → List ℕ
@@ -103,7 +121,7 @@ request_text request =
     decimal request.lane ++ codes " " ++ decimal request.ordinal ++ codes " " ++ decimal request.room ++ codes " "
     ++ shape_text request.shape ++ codes " " ++ hex_text request.bytes
 
--- `N C K act TEXT = REPLY` and `N C K cmd LANE ORDINAL ROOM SHAPE HEX = HEX`
+-- `N C K act TEXT = REPLY`, and `N C K cmd LANE ORDINAL ROOM SHAPE HEX = HEX` or `.. = fault SHAPE`
 unfoldable pub entry_line : ℕ → Entry → List ℕ
 entry_line n (entries.Act client call act reply) =
     decimal n ++ codes " " ++ decimal client ++ codes " " ++ decimal call ++ codes " act " ++ act_text act ++ codes " = " ++ act_reply_text reply ++ codes "\n"
@@ -128,11 +146,21 @@ frame_text n frame = frame_line n frame ++ frame.pixels ++ codes "\n"
 unfoldable pub title_text : List ℕ
 title_text = codes "vgpu-journal 1\n"
 
--- The lines before the entries: the title, the displays from 0, the pages and the clients.
+-- `without F`, where a feature's bit isn't accepted.
+unfoldable pub without_line : ℕ → ℕ → List ℕ → List ℕ
+without_line accepted bit name = if bit_and accepted bit == 0 then codes "without " ++ name ++ codes "\n" else []
+
+-- The features that are left out: EDID, UUIDs, blobs and contexts.
+unfoldable pub without_text : ℕ → List ℕ
+without_text accepted =
+    without_line accepted 2 (codes "edid") ++ without_line accepted 4 (codes "uuid") ++ without_line accepted 8 (codes "blob")
+    ++ without_line accepted 1 (codes "context")
+
+-- The lines before the entries: the title, the displays from 0, the pages, the features that are left out, and the clients.
 unfoldable pub head_text : Setup → List ℕ
 head_text setup =
     title_text ++ numbered display_line 0 setup.displays ++ codes "memory " ++ decimal setup.pages ++ codes "\n"
-    ++ codes "clients " ++ decimal setup.clients ++ codes "\n"
+    ++ without_text setup.accepted ++ codes "clients " ++ decimal setup.clients ++ codes "\n"
 
 -- `rings A B` and `frames M`
 unfoldable pub counts_text : ℕ → ℕ → ℕ → List ℕ

@@ -1,14 +1,20 @@
 //! The calls of a client.
 
 use crate::names::NameRef;
+use vg_chain::Shape;
 use vg_formats::Rect;
 use vg_list::Seq;
+use vg_wire::Queue;
 
 /// A call of a client. Offsets and lengths are in bytes, rectangles in pixels.
 #[derive(Debug, Drop)]
 pub(crate) enum Call {
     /// Asks for the display information.
     Info,
+    /// Asks for the EDID block of a display.
+    Edid {
+        scanout: u32,
+    },
     /// Makes a buffer of pixels, with a resource that has its pages as its backing.
     Buffer {
         width: u32,
@@ -60,6 +66,17 @@ pub(crate) enum Call {
     Flip {
         scanout: u32,
         name: NameRef,
+    },
+    /// Asks for the UUID of a buffer's resource.
+    Uuid {
+        name: NameRef,
+    },
+    /// Asks these bytes of the device, as they are.
+    Raw {
+        queue: Queue,
+        room: u32,
+        shape: Shape,
+        bytes: Seq<u8>,
     },
     /// Gives a buffer up.
     Close {

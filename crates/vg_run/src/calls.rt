@@ -3,6 +3,7 @@
 ghost use Rattle.std.specs.Prelude.{◌≡◌, ◌≤◌, ◌<◌, ◌+◌, ◌-◌, ◌^◌, List, length, IfOk, OnErr, OnOk};
 ghost use Rattle.vg_machine.specs.declared.history.Entry.{Entry as Entries};
 ghost use Rattle.vg_script.specs.Limits.{StepInLimits};
+ghost use Rattle.vg_chain.specs.declared.shape.Shape.TheVariants as shapes;
 ghost use Rattle.vg_run.specs.Calls as calls;
 ghost use Rattle.vg_run.specs.Calls.{Begins, Gives, newest, refs_after};
 ghost use Rattle.vg_run.specs.Client.{HasAdded, HasGoneOn, IsReady, known};
@@ -14,9 +15,11 @@ use crate::names::NameRef;
 use crate::refs::{Refs, bind, ref_of};
 use crate::session::Session;
 use std::alloc::{AllocError, Global};
+use vg_chain::{ChainFault, Shape};
 use vg_formats::Rect;
 use vg_list::Seq;
-use vg_script::{Area, Step};
+use vg_script::{Area, RawShape, Step};
+use vg_wire::Queue;
 
 /// Makes the call of a line, and gives the name of a buffer to what the call made.
 pub(crate) fn run_line<'a>(
@@ -81,6 +84,42 @@ fn rect_of(area: Area) -> Rect
     }
 }
 
+/// The queue that a line of raw bytes names.
+fn queue_called(cursor: bool) -> Queue
+    ensures { result ≡ calls.queue_called cursor }
+{
+    if cursor {
+        Queue::Cursor
+    } else {
+        Queue::Control
+    }
+}
+
+/// The layout that a line of raw bytes names.
+fn shape_called(shape: RawShape) -> Shape
+    ensures { result ≡ calls.shape_called shape }
+{
+    match shape {
+        RawShape::Plain => Shape::Plain,
+        RawShape::Pieces { n } => Shape::Pieces { n },
+        RawShape::Indirect => Shape::Indirect,
+        RawShape::Mixed => Shape::Mixed,
+        RawShape::Index => bad(ChainFault::Index),
+        RawShape::Loop => bad(ChainFault::Loop),
+        RawShape::Nested => bad(ChainFault::Nested),
+        RawShape::NextIndirect => bad(ChainFault::NextWithIndirect),
+        RawShape::TableLength => bad(ChainFault::TableLength),
+        RawShape::Order => bad(ChainFault::Order),
+        RawShape::Range => bad(ChainFault::Range),
+    }
+}
+
+fn bad(fault: ChainFault) -> Shape
+    ensures { result ≡ shapes.Bad fault }
+{
+    Shape::Bad { fault }
+}
+
 /// The call that a line makes.
 fn call_of(alloc: Global, refs: &Refs, step: &Step) -> Result<Call, AllocError>
     ensures same { IfOk result (λ call. unplaced call ≡ calls.call_of_step (refs_of refs.now) step.now) }
@@ -88,6 +127,7 @@ fn call_of(alloc: Global, refs: &Refs, step: &Step) -> Result<Call, AllocError>
 {
     Ok(match step {
         Step::Info => Call::Info,
+        Step::Edid { scanout } => Call::Edid { scanout: *scanout },
         Step::Buffer {
             width,
             height,
@@ -141,6 +181,20 @@ fn call_of(alloc: Global, refs: &Refs, step: &Step) -> Result<Call, AllocError>
         Step::Flip { scanout, name } => Call::Flip {
             scanout: *scanout,
             name: ref_of(refs, name.as_slice()),
+        },
+        Step::Uuid { name } => Call::Uuid {
+            name: ref_of(refs, name.as_slice()),
+        },
+        Step::Raw {
+            cursor,
+            room,
+            shape,
+            bytes,
+        } => Call::Raw {
+            queue: queue_called(*cursor),
+            room: *room,
+            shape: shape_called(*shape),
+            bytes: Seq::from_vec(bytes.as_slice().to_vec(alloc)?),
         },
         Step::Close { name } => Call::Close {
             name: ref_of(refs, name.as_slice()),

@@ -8,6 +8,7 @@ use crate::task::{Change, Task, act_task, attach_task, create_task, unref_task};
 use std::alloc::{AllocError, Global};
 use std::collections::VecDeque;
 use vg_machine::{Act, ActReply, Reply};
+use vg_wire::kinds::{OK_DISPLAY_INFO, OK_EDID, OK_NODATA, OK_RESOURCE_UUID};
 use vg_wire::{Queue, read_header};
 
 /// What a task was answered.
@@ -54,10 +55,18 @@ fn is_ok_reply(reply: &Reply) -> bool
 {
     match reply {
         Reply::Response { bytes } => match read_header(bytes.as_slice()) {
-            Some(header) => header.kind == 0x1100 || header.kind == 0x1101,
+            Some(header) => is_ok_kind(header.kind),
             None => false,
         },
+        Reply::Fault { .. } => false,
     }
+}
+
+/// Whether a response of this kind is one of the OK ones.
+fn is_ok_kind(kind: u32) -> bool
+    ensures { result ≡ answers.is_ok_kind kind }
+{
+    kind == OK_NODATA || kind == OK_DISPLAY_INFO || kind == OK_EDID || kind == OK_RESOURCE_UUID
 }
 
 /// Whether the call goes on whatever the response is.

@@ -2,17 +2,16 @@
 
 ghost use Rattle.std.specs.Prelude.{◌≡◌, ◌⊎◌, ◌<◌, ◌≤◌, ◌-◌, ◌+◌, ◌^◌, ◌∷◌, [], List, length, false, if◌then◌else◌, IfOk, OnErr, OnOk};
 ghost use Rattle.std.specs.List.{AllByRecursion};
-ghost use Rattle.vg_wire.specs.TwoD.{FitsCount};
-ghost use Rattle.vg_wire_ext.specs.declared.command.Command.TheVariants as commands;
-ghost use Rattle.vg_machine.specs.Holds.{Deniable, denied_command};
+ghost use Rattle.vg_machine.specs.Holds.{Deniable, denied_of};
 ghost use Rattle.vg_machine.specs.declared.act.ActReply.{ActReply as ActReplies};
 ghost use Rattle.vg_machine.specs.declared.history.Entry.{Entry as Entries};
 ghost use Rattle.vg_machine.specs.declared.history.Entry.TheVariants as entries;
 ghost use Rattle.vg_machine.specs.declared.history.Reply.{Reply as Replies};
-ghost use Rattle.vg_run.specs.Calls.{IsAsked, IsBegun, IsDenial, IsDone, IsFrontOf, Plays};
+ghost use Rattle.vg_run.specs.Calls.{IsAsked, IsBegun, IsDenial, IsDone, IsFrontOf, IsFrontOfAsked, Plays};
 ghost use Rattle.vg_run.specs.Client.{HasAdded, HasDone, HasGoneOn, IsFewPages, IsReady, known, weights};
-ghost use Rattle.vg_run.specs.Requests.{HasFewBytes, IsFit, IsFitDeed, IsWay};
-ghost use Rattle.vg_run.specs.Session.{IsActive, MayAct, MayAsk, leaves};
+ghost use Rattle.vg_run.specs.Requests.{HasFewBytes, IsFit, IsFitDeed, MayGo, denied_by};
+ghost use Rattle.vg_run.specs.Requests as requests;
+ghost use Rattle.vg_run.specs.Session.{IsActive, IsNextOfLane, MayAct, MayAsk, leaves};
 ghost use Rattle.vg_run.specs.Given.{tells_denial};
 ghost use Rattle.vg_run.specs.declared.given.Given.TheVariants as givens;
 ghost use Rattle.vg_run.specs.declared.task.Deed.TheVariants as deeds;
@@ -20,13 +19,16 @@ ghost use Rattle.vg_run.specs.declared.task.Deed.TheVariants as deeds;
 use crate::client::Client;
 use crate::given::{Given, leave_tasks};
 use crate::learn::learn;
-use crate::request::{lane_by, request_by};
+use crate::request::{lane_by, raw_request, request_by};
 use crate::session::Session;
 use crate::task::{Deed, Task, Way};
 use std::alloc::{AllocError, Global};
 use std::collections::VecDeque;
-use vg_machine::{Act, ActReply, Request, What, denied};
-use vg_wire::{Command2d, Queue};
+use vg_chain::Shape;
+use vg_list::Seq;
+use vg_machine::{Act, ActReply, Request, What, denied, lane_of};
+use vg_wire::Queue;
+use vg_wire_ext::Command;
 
 /// Does these tasks, and what follows from them, one after another. A call that stops does so after its first task that
 /// isn't accepted.
@@ -79,6 +81,12 @@ fn make(
     match deed {
         Deed::Act { act } => make_act(alloc, session, client, act),
         Deed::Command { way, command } => make_command(alloc, session, client, way, command),
+        Deed::Raw {
+            queue,
+            room,
+            shape,
+            bytes,
+        } => make_raw(alloc, session, client, queue, room, shape, bytes),
     }
 }
 
@@ -132,14 +140,13 @@ fn make_command(
     session: &mut Session,
     client: &mut Client,
     way: Way,
-    command: Command2d,
+    command: Command,
 ) -> Result<Given, AllocError>
     requires active { IsActive session.old client.old.account }
-    requires way { IsWay way }
-    requires fit { FitsCount command }
+    requires may { MayGo way command }
     requires room { length session.old.history < 2 ^ 31 - 1 }
     ensures done { IfOk result (λ given. (entry : Entries)
-        × IsAsked client.old.account.number (denied_command client.old.account.holds (commands.TwoD command)) way command entry
+        × IsAsked client.old.account.number (denied_by client.old.account.holds way command) (requests.request_by way command) entry
         × HasDone session.old client.old entry given session.new client.new
         × IsFewPages given) }
     ensures begun { OnErr result ((mine : List Entries)
@@ -148,10 +155,56 @@ fn make_command(
 {
     let ordinal = session.next_ordinal(lane_by(way));
     let request = request_by(alloc, way, ordinal, command)?;
+    ask(alloc, session, client, request)
+}
+
+/// Asks bytes of the device as they are, or tells that the client may not.
+fn make_raw(
+    alloc: Global,
+    session: &mut Session,
+    client: &mut Client,
+    queue: Queue,
+    room: u32,
+    shape: Shape,
+    bytes: Seq<u8>,
+) -> Result<Given, AllocError>
+    requires active { IsActive session.old client.old.account }
+    requires room { length session.old.history < 2 ^ 31 - 1 }
+    ensures done { IfOk result (λ given. (entry : Entries)
+        × IsAsked client.old.account.number (denied_of client.old.account.holds queue bytes) (requests.raw_request queue room shape bytes) entry
+        × HasDone session.old client.old entry given session.new client.new
+        × IsFewPages given) }
+    ensures begun { OnErr result ((mine : List Entries)
+        × IsBegun client.old.account.number client.old.account.holds (deeds.Raw queue room shape bytes) mine
+        × HasAdded session.old client.old mine session.new client.new) }
+{
+    let ordinal = session.next_ordinal(lane_of(queue, bytes.as_slice()));
+    let request = raw_request(queue, ordinal, room, shape, bytes);
+    ask(alloc, session, client, request)
+}
+
+/// Asks a request of the device that is the next of its lane, or tells that the client may not.
+fn ask(
+    alloc: Global,
+    session: &mut Session,
+    client: &mut Client,
+    request: Request,
+) -> Result<Given, AllocError>
+    requires active { IsActive session.old client.old.account }
+    requires next { IsNextOfLane session.old request }
+    requires room { length session.old.history < 2 ^ 31 - 1 }
+    ensures done { IfOk result (λ given. (entry : Entries)
+        × IsAsked client.old.account.number (denied_of client.old.account.holds request.queue request.bytes) (λ _. request) entry
+        × HasDone session.old client.old entry given session.new client.new
+        × IsFewPages given) }
+    ensures begun { OnErr result ((mine : List Entries)
+        × IsFrontOfAsked client.old.account.number (denied_of client.old.account.holds request.queue request.bytes) (λ _. request) mine
+        × HasAdded session.old client.old mine session.new client.new) }
+{
     match denied(
         alloc,
         &client.account.holds,
-        Queue::Control,
+        request.queue,
         request.bytes.as_slice(),
     )? {
         Some(what) => make_act(alloc, session, client, Act::Denied { what }),

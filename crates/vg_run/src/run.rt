@@ -1,6 +1,6 @@
 //! A script's run, from its first client to its journal.
 
-ghost use Rattle.std.specs.Prelude.{◌≡◌, ◌≤◌, ◌<◌, ◌+◌, [], All, length, count_by, IfOk, OnOk};
+ghost use Rattle.std.specs.Prelude.{◌≡◌, ◌≤◌, ◌<◌, ◌+◌, [], All, if◌then◌else◌, length, count_by, IfOk, OnOk};
 ghost use Rattle.vg_machine.specs.Setup.{IsSetup};
 ghost use Rattle.vg_script.specs.Limits.{ClientInLimits, ScriptInLimits};
 ghost use Rattle.vg_run.specs.Calls.{Follows};
@@ -17,7 +17,7 @@ use std::alloc::{AllocError, Global};
 use std::collections::BTreeMap;
 use vg_list::Seq;
 use vg_machine::{Entry, Setup};
-use vg_script::{Line, Script};
+use vg_script::{Feature, Line, Script};
 use vg_wire::Queue;
 
 /// Runs a script on a display of its own.
@@ -48,9 +48,52 @@ fn setup_of(alloc: Global, script: &Script) -> Result<Setup, AllocError>
     Ok(Setup {
         displays: Seq::from_vec(script.displays.as_slice().to_vec(alloc)?),
         pages: script.pages,
-        accepted: 0x11000001f,
+        accepted: accepted_of(script.without.as_slice()),
         clients: script.clients.len() as u32,
     })
+}
+
+/// The features that are accepted where a script leaves these out (VIRTIO 1.2, 5.7.3).
+fn accepted_of(without: &[Feature]) -> u64
+    ensures { result ≡ setups.accepted_of without.now }
+{
+    let edid = without.iter().any(|feature| is_edid(feature));
+    let uuid = without.iter().any(|feature| is_uuid(feature));
+    let blob = without.iter().any(|feature| is_blob(feature));
+    let context = without.iter().any(|feature| is_context(feature));
+    0x11000001f - left_out(edid, 2) - left_out(uuid, 4) - left_out(blob, 8) - left_out(context, 17)
+}
+
+fn is_edid(feature: &Feature) -> bool
+    ensures { result ≡ setups.is_edid feature.now }
+{
+    matches!(feature, Feature::Edid)
+}
+
+fn is_uuid(feature: &Feature) -> bool
+    ensures { result ≡ setups.is_uuid feature.now }
+{
+    matches!(feature, Feature::Uuid)
+}
+
+fn is_blob(feature: &Feature) -> bool
+    ensures { result ≡ setups.is_blob feature.now }
+{
+    matches!(feature, Feature::Blob)
+}
+
+fn is_context(feature: &Feature) -> bool
+    ensures { result ≡ setups.is_context feature.now }
+{
+    matches!(feature, Feature::Context)
+}
+
+/// These bits, where their feature is left out.
+fn left_out(out: bool, bits: u64) -> u64
+    ensures value { result ≡ (if out then bits else 0) }
+    ensures at_most { result ≤ bits }
+{
+    if out { bits } else { 0 }
 }
 
 /// Runs the clients, of whom there is one at most.

@@ -103,7 +103,7 @@ impl Session {
         let reply = self
             .display
             .act(alloc, account.number, &mut account.holds, &act)?;
-        let copy = copy_of(&reply);
+        let copy = copy_of_answer(&reply);
         account.used += 1;
         let entry = Entry::Act {
             client: account.number,
@@ -131,28 +131,18 @@ impl Session {
             ⊎ ((reply : Replies) × IsAddedCommand self.old account.old request reply self.new account.new)) }
     {
         self.history.reserve(1)?;
-        let bytes = self.display.command(
-            alloc,
-            request.queue,
-            request.bytes.as_slice(),
-            request.room,
-        )?;
-        let copy = copy_bytes(alloc, bytes.as_slice());
+        let reply = self.display.request(alloc, &request)?;
+        let copy = copy_of_reply(alloc, &reply);
         self.counts[request.lane as usize] += 1;
         account.used += 1;
         let entry = Entry::Command {
             client: account.number,
             call: account.used,
             request,
-            reply: Reply::Response {
-                bytes: Seq::from_vec(bytes),
-            },
+            reply,
         };
         self.history.push(entry).unwrap();
-        let reply = Reply::Response {
-            bytes: Seq::from_vec(copy?),
-        };
-        Ok((self.history.len() as u64, reply))
+        Ok((self.history.len() as u64, copy?))
     }
 
     /// The history and the frames.
@@ -171,18 +161,23 @@ impl Session {
     }
 }
 
-/// A copy of a reply.
-fn copy_of(reply: &ActReply) -> Result<ActReply, AllocError>
+/// A copy of what an act was answered.
+fn copy_of_answer(reply: &ActReply) -> Result<ActReply, AllocError>
     ensures { IfOk result (λ copy. copy ≡ reply.now) }
 {
     reply.clone()
 }
 
-/// A copy of bytes.
-fn copy_bytes(alloc: Global, bytes: &[u8]) -> Result<Vec<u8>, AllocError>
-    ensures { IfOk result (λ copy. copy.items ≡ bytes.now) }
+/// A copy of what a command was answered.
+fn copy_of_reply(alloc: Global, reply: &Reply) -> Result<Reply, AllocError>
+    ensures { IfOk result (λ copy. copy ≡ reply.now) }
 {
-    bytes.to_vec(alloc)
+    match reply {
+        Reply::Response { bytes } => Ok(Reply::Response {
+            bytes: Seq::from_vec(bytes.as_slice().to_vec(alloc)?),
+        }),
+        Reply::Fault { fault } => Ok(Reply::Fault { fault: *fault }),
+    }
 }
 
 /// No command of any lane.

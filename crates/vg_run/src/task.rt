@@ -2,17 +2,18 @@
 
 ghost use Rattle.std.specs.Prelude.{◌≡◌, ◌≤◌, ◌<◌, ◌^◌, map, length, IfOk};
 ghost use Rattle.vg_machine.specs.declared.act.Act.TheVariants as acts;
-ghost use Rattle.vg_wire.specs.declared.two_d.Command2d.TheVariants as commands;
 ghost use Rattle.vg_run.specs.Table as table;
 ghost use Rattle.vg_run.specs.Table.{no_rect, page_entry};
 
 use crate::names::Held;
 use std::alloc::{AllocError, Global};
+use vg_chain::Shape;
 use vg_formats::{MemEntry, Rect};
 use vg_list::Seq;
 use vg_machine::Act;
 use vg_pages::{PAGE_BYTES, page_address};
-use vg_wire::Command2d;
+use vg_wire::{Command2d, Queue};
+use vg_wire_ext::Command;
 
 /// A task of a call: what is done, which gives one entry, and what the answer changes.
 #[derive(Debug, Drop)]
@@ -25,8 +26,14 @@ pub(crate) struct Task {
 #[derive(Debug, Drop)]
 pub(crate) enum Deed {
     Act { act: Act },
-    /// A command that waits for its response.
-    Command { way: Way, command: Command2d },
+    Command { way: Way, command: Command },
+    /// Bytes for a queue, as they are, with so many bytes for the response.
+    Raw {
+        queue: Queue,
+        room: u32,
+        shape: Shape,
+        bytes: Seq<u8>,
+    },
 }
 
 /// The way that a command goes to the device.
@@ -36,6 +43,8 @@ pub(crate) enum Way {
     Control { context: u32 },
     /// The control queue, on a timeline of a context, ring index 0 to 63.
     Timeline { context: u32, ring: u8 },
+    /// The cursor queue.
+    Cursor,
 }
 
 /// What the answer to a task changes, for its client and for the rest of the call.
@@ -74,7 +83,7 @@ pub(crate) fn act_task(act: Act) -> Task
 }
 
 /// A command for no context, with what its response changes.
-pub(crate) fn control_task(command: Command2d, change: Change) -> Task
+fn control_task(command: Command, change: Change) -> Task
     ensures { result ≡ table.control_task command change }
 {
     Task {
@@ -86,11 +95,54 @@ pub(crate) fn control_task(command: Command2d, change: Change) -> Task
     }
 }
 
+/// A 2D command for no context, with what its response changes.
+fn two_d_task(command: Command2d, change: Change) -> Task
+    ensures { result ≡ table.two_d_task command change }
+{
+    control_task(Command::TwoD(command), change)
+}
+
 /// GET_DISPLAY_INFO
 pub(crate) fn info_task() -> Task
     ensures { result ≡ table.info_task }
 {
-    control_task(Command2d::DisplayInfo, Change::Nothing)
+    two_d_task(Command2d::DisplayInfo, Change::Nothing)
+}
+
+/// GET_EDID
+pub(crate) fn edid_task(scanout: u32) -> Task
+    ensures { result ≡ table.edid_task scanout }
+{
+    control_task(Command::Edid { scanout }, Change::Nothing)
+}
+
+/// RESOURCE_ASSIGN_UUID
+pub(crate) fn uuid_task(key: u32) -> Task
+    ensures { result ≡ table.uuid_task key }
+{
+    control_task(Command::AssignUuid { resource: key }, Change::Nothing)
+}
+
+/// Bytes as they are.
+pub(crate) fn raw_task(
+    alloc: Global,
+    queue: Queue,
+    room: u32,
+    shape: Shape,
+    bytes: &[u8],
+) -> Result<Task, AllocError>
+    ensures { IfOk result (λ task. task ≡ table.raw_task queue room shape bytes.now) }
+{
+    let bytes = Seq::from_vec(bytes.to_vec(alloc)?);
+    Ok(Task {
+        deed: Deed::Raw {
+            queue,
+            room,
+            shape,
+            bytes,
+        },
+        change: Change::Nothing,
+    })
 }
 
 /// Takes guest pages for a buffer of pixels of four bytes.
@@ -126,7 +178,7 @@ pub(crate) fn create_task(key: u32, width: u32, height: u32, format: u32) -> Tas
         width,
         height,
     };
-    control_task(command, Change::Nothing)
+    two_d_task(command, Change::Nothing)
 }
 
 /// RESOURCE_ATTACH_BACKING with an entry for each page.
@@ -138,7 +190,7 @@ pub(crate) fn attach_task(alloc: Global, key: u32, pages: &[u32]) -> Result<Task
         resource: key,
         entries: Seq::from_vec(entries),
     };
-    Ok(control_task(command, Change::Nothing))
+    Ok(two_d_task(command, Change::Nothing))
 }
 
 /// An entry for each page.
@@ -187,7 +239,7 @@ pub(crate) fn send_task(held: Held, rect: Rect) -> Task
         offset: 4 * pixel,
         resource: held.key,
     };
-    control_task(command, Change::Nothing)
+    two_d_task(command, Change::Nothing)
 }
 
 /// RESOURCE_FLUSH
@@ -198,7 +250,7 @@ pub(crate) fn flush_task(key: u32, rect: Rect) -> Task
         rect,
         resource: key,
     };
-    control_task(command, Change::Nothing)
+    two_d_task(command, Change::Nothing)
 }
 
 /// SET_SCANOUT of a part of a buffer.
@@ -211,7 +263,7 @@ pub(crate) fn show_task(scanout: u32, key: u32, rect: Rect) -> Task
         resource: key,
     };
     let key = Some(key);
-    control_task(command, Change::Shows { scanout, key })
+    two_d_task(command, Change::Shows { scanout, key })
 }
 
 /// SET_SCANOUT that disables a scanout, with what it changes.
@@ -229,7 +281,7 @@ fn disable(scanout: u32, change: Change) -> Task
         scanout,
         resource: 0,
     };
-    control_task(command, change)
+    two_d_task(command, change)
 }
 
 /// Disables a scanout, for good.
@@ -244,6 +296,26 @@ pub(crate) fn clear_task(scanout: u32) -> Task
     ensures { result ≡ table.clear_task scanout }
 {
     disable(scanout, Change::Nothing)
+}
+
+/// UPDATE_CURSOR that hides a scanout's cursor, before the scanout is given up.
+pub(crate) fn hide_cursor_task(scanout: u32) -> Task
+    ensures { result ≡ table.hide_cursor_task scanout }
+{
+    Task {
+        deed: Deed::Command {
+            way: Way::Cursor,
+            command: Command::UpdateCursor {
+                scanout,
+                x: 0,
+                y: 0,
+                resource: 0,
+                hot_x: 0,
+                hot_y: 0,
+            },
+        },
+        change: Change::Nothing,
+    }
 }
 
 /// Ends a lease.
@@ -277,5 +349,5 @@ pub(crate) fn release_task(held: Held) -> Task
 pub(crate) fn unref_task(key: u32) -> Task
     ensures { result ≡ table.unref_task key }
 {
-    control_task(Command2d::Unref { resource: key }, Change::GoesOn)
+    two_d_task(Command2d::Unref { resource: key }, Change::GoesOn)
 }

@@ -14,8 +14,8 @@ use crate::call::Call;
 use crate::client::Client;
 use crate::names::{Held, NameRef};
 use crate::task::{
-    Task, act_task, clear_task, drop_task, flush_task, hide_task, info_task, release_task,
-    reserve_task, send_task, show_task, store_task,
+    Task, act_task, clear_task, drop_task, edid_task, flush_task, hide_cursor_task, hide_task,
+    info_task, raw_task, release_task, reserve_task, send_task, show_task, store_task, uuid_task,
 };
 use std::alloc::{AllocError, Global};
 use vg_formats::Rect;
@@ -34,6 +34,7 @@ pub(crate) fn tasks_of(
 {
     match call {
         Call::Info => one(alloc, info_task()),
+        Call::Edid { scanout } => one(alloc, edid_task(*scanout)),
         Call::Buffer {
             width,
             height,
@@ -61,6 +62,16 @@ pub(crate) fn tasks_of(
             rect,
         } => show_tasks(alloc, client, *scanout, *name, *rect),
         Call::Flip { scanout, name } => flip_tasks(alloc, client, *scanout, *name),
+        Call::Uuid { name } => uuid_tasks(alloc, client, *name),
+        Call::Raw {
+            queue,
+            room,
+            shape,
+            bytes,
+        } => one(
+            alloc,
+            raw_task(alloc, *queue, *room, *shape, bytes.as_slice())?,
+        ),
         Call::Close { name } => close_tasks(alloc, client, *name),
     }
 }
@@ -211,7 +222,10 @@ fn drop_tasks(
     ensures denied { IfOk result (λ done. IfErr done (MayDeny client.now.account.holds)) }
 {
     if is_leased(client, scanout) {
-        Ok(Ok(vec![in alloc; clear_task(scanout), drop_task(scanout)]?))
+        let hide = hide_cursor_task(scanout);
+        Ok(Ok(
+            vec![in alloc; clear_task(scanout), hide, drop_task(scanout)]?,
+        ))
     } else {
         Ok(Err(What::Scanout { n: scanout }))
     }
@@ -222,6 +236,20 @@ fn is_leased(client: &Client, scanout: u32) -> bool
     ensures { result ≡ has_number scanout client.now.account.holds.scanouts }
 {
     client.account.holds.scanouts.as_slice().contains(&scanout)
+}
+
+fn uuid_tasks(
+    alloc: Global,
+    client: &Client,
+    name: NameRef,
+) -> Result<Result<Vec<Task>, What>, AllocError>
+    ensures plans { Plans (with_held (known client.now) name (λ held. table.uuid_task held.key ∷ [])) result }
+    ensures denied { IfOk result (λ done. IfErr done (λ what. what ≡ whats.Name)) }
+{
+    match client.names.find(name.generation) {
+        Some(held) => one(alloc, uuid_task(held.key)),
+        None => Ok(Err(What::Name)),
+    }
 }
 
 fn close_tasks(
@@ -293,7 +321,7 @@ fn is_shown(key: u32, shown: Option<u32>) -> bool
 pub(crate) fn end_tasks(alloc: Global, client: &Client) -> Result<Vec<Task>, AllocError>
     ensures tasks { IfOk result (λ tasks. tasks.items ≡ plan.end_tasks (known client.now)) }
     ensures fit { IfOk result (λ tasks. AllByRecursion IsFit tasks.items) }
-    ensures few { IfOk result (λ tasks. weights tasks.items ≤ 2 * client.now.account.holds.displays + 3 * length client.now.names.current) }
+    ensures few { IfOk result (λ tasks. weights tasks.items ≤ 3 * client.now.account.holds.displays + 3 * length client.now.names.current) }
 {
     let mut tasks = give_back_each(alloc, client)?;
     let current = client.names.current(alloc)?;
@@ -319,6 +347,7 @@ fn give_back_leased(tasks: &mut Vec<Task>, client: &Client, scanout: u32) -> Res
 {
     if is_leased(client, scanout) {
         tasks.push(clear_task(scanout))?;
+        tasks.push(hide_cursor_task(scanout))?;
         tasks.push(drop_task(scanout))?;
     }
     Ok(())

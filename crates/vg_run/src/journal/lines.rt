@@ -1,12 +1,13 @@
 //! The lines of a journal, each into a buffer of bytes.
 
 ghost use Rattle.std.specs.Prelude.{◌≡◌, ◌++◌, codes, decimal, OnOk};
-ghost use Rattle.vg_run.specs.Text.{numbered, hex_text, act_text, act_reply_text, comma_text, load_text, pages_text, refusal_text, reserve_text, reserved_text, shape_text, store_text, what_text, reply_text, request_text, entry_line, display_line, frame_line, title_text, head_text, counts_text};
+ghost use Rattle.vg_run.specs.Text.{numbered, hex_text, act_text, act_reply_text, comma_text, fault_text, load_text, pages_text, refusal_text, reserve_text, reserved_text, shape_text, store_text, what_text, reply_text, request_text, entry_line, display_line, frame_line, title_text, head_text, counts_text, without_line, without_text};
 ghost use Rattle.vg_machine.specs.declared.history.Entry.TheVariants as entries;
 
 use itoa::Buffer;
 use std::alloc::AllocError;
-use vg_machine::{Act, ActReply, Entry, Frame, Reply, Request, Setup, Shape, ShareRefusal, What};
+use vg_chain::{ChainFault, Shape};
+use vg_machine::{Act, ActReply, Entry, Frame, Reply, Request, Setup, ShareRefusal, What};
 
 /// Adds bytes as they are.
 pub(super) fn put(out: &mut Vec<u8>, bytes: &[u8]) -> Result<(), AllocError>
@@ -50,6 +51,8 @@ fn put_what(out: &mut Vec<u8>, what: &What) -> Result<(), AllocError>
         What::Name => put(out, b"name"),
         What::Resource { n } => put_numbered(out, b"resource ", *n),
         What::Scanout { n } => put_numbered(out, b"scanout ", *n),
+        What::Context { n } => put_numbered(out, b"context ", *n),
+        What::Page { n } => put_numbered(out, b"page ", *n),
     }
 }
 
@@ -206,13 +209,38 @@ fn put_act_reply(out: &mut Vec<u8>, reply: &ActReply) -> Result<(), AllocError>
     }
 }
 
+/// Adds a chain's fault, by the layout that has it.
+fn put_fault(out: &mut Vec<u8>, fault: ChainFault) -> Result<(), AllocError>
+    ensures { OnOk result (out.new.items ≡ out.old.items ++ fault_text fault) }
+{
+    match fault {
+        ChainFault::Index => put(out, b"index"),
+        ChainFault::Loop => put(out, b"loop"),
+        ChainFault::Nested => put(out, b"nested"),
+        ChainFault::NextWithIndirect => put(out, b"nextindirect"),
+        ChainFault::TableLength => put(out, b"tablelength"),
+        ChainFault::Order => put(out, b"order"),
+        ChainFault::Range => put(out, b"range"),
+    }
+}
+
 fn put_shape(out: &mut Vec<u8>, shape: &Shape) -> Result<(), AllocError>
     ensures { OnOk result (out.new.items ≡ out.old.items ++ shape_text shape.now) }
 {
     match shape {
         Shape::Plain => put(out, b"plain"),
+        Shape::Pieces { n } => put_numbered(out, b"pieces", u32::from(*n)),
         Shape::Indirect => put(out, b"indirect"),
+        Shape::Mixed => put(out, b"mixed"),
+        Shape::Bad { fault } => put_fault(out, *fault),
     }
+}
+
+fn put_fault_reply(out: &mut Vec<u8>, fault: ChainFault) -> Result<(), AllocError>
+    ensures { OnOk result (out.new.items ≡ out.old.items ++ (codes "fault " ++ fault_text fault)) }
+{
+    put(out, b"fault ")?;
+    put_fault(out, fault)
 }
 
 fn put_reply(out: &mut Vec<u8>, reply: &Reply) -> Result<(), AllocError>
@@ -220,6 +248,7 @@ fn put_reply(out: &mut Vec<u8>, reply: &Reply) -> Result<(), AllocError>
 {
     match reply {
         Reply::Response { bytes } => put_hex(out, bytes.as_slice()),
+        Reply::Fault { fault } => put_fault_reply(out, *fault),
     }
 }
 
@@ -374,6 +403,35 @@ fn put_title(out: &mut Vec<u8>) -> Result<(), AllocError>
     put(out, b"vgpu-journal 1\n")
 }
 
+/// Adds the line of a feature, where its bit isn't accepted.
+#[tactic(auto, unfolding(crate::specs::Text::without_line))]
+fn put_left_out(
+    out: &mut Vec<u8>,
+    accepted: u64,
+    bit: u64,
+    name: &[u8],
+) -> Result<(), AllocError>
+    ensures { OnOk result (out.new.items ≡ out.old.items ++ without_line accepted bit name.now) }
+{
+    if accepted & bit != 0 {
+        return Ok(());
+    }
+    put(out, b"without ")?;
+    put(out, name)?;
+    put(out, b"\n")
+}
+
+/// Adds the lines of the features that are left out.
+#[tactic(auto, unfolding(crate::specs::Text::without_text))]
+fn put_without(out: &mut Vec<u8>, accepted: u64) -> Result<(), AllocError>
+    ensures { OnOk result (out.new.items ≡ out.old.items ++ without_text accepted) }
+{
+    put_left_out(out, accepted, 2, b"edid")?;
+    put_left_out(out, accepted, 4, b"uuid")?;
+    put_left_out(out, accepted, 8, b"blob")?;
+    put_left_out(out, accepted, 1, b"context")
+}
+
 /// Adds the lines before the entries.
 #[tactic(auto, unfolding(crate::specs::Text::head_text))]
 pub(super) fn put_head(out: &mut Vec<u8>, setup: &Setup) -> Result<(), AllocError>
@@ -383,7 +441,9 @@ pub(super) fn put_head(out: &mut Vec<u8>, setup: &Setup) -> Result<(), AllocErro
     put_displays(out, setup.displays.as_slice())?;
     put(out, b"memory ")?;
     put_number(out, u64::from(setup.pages))?;
-    put(out, b"\nclients ")?;
+    put(out, b"\n")?;
+    put_without(out, setup.accepted)?;
+    put(out, b"clients ")?;
     put_number(out, u64::from(setup.clients))?;
     put(out, b"\n")
 }

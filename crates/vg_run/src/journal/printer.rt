@@ -93,7 +93,31 @@ fn print_entry<K: Sink>(
     Ok(())
 }
 
-// The pixels go to the sink from where they stand.
+// Pixels that are a piece of their own go to the sink from where they stand, and fewer through the buffer.
+fn print_pixels<K: Sink>(
+    sink: &mut K,
+    buffer: &mut Vec<u8>,
+    pixels: &[u8],
+) -> Result<(), PrintError>
+    ensures ok { OnOk result (
+        Printed (K.held sink.old) (K.held sink.new) (buffer.old.items ++ pixels.now) buffer.new.items) }
+    ensures some { OnErr result (
+        PrintedSome (K.held sink.old) (K.held sink.new) (buffer.old.items ++ pixels.now)) }
+    ensures cause { IsErrOf result PrintError.Fault → Rose (K.faults sink.old) (K.faults sink.new) }
+    ensures same { OnOk result (K.faults sink.new ≡ K.faults sink.old) }
+    ensures same_memory { IsErrOf result PrintError.Memory → K.faults sink.new ≡ K.faults sink.old }
+    ensures count { K.faults sink.old ≤ K.faults sink.new }
+{
+    if pixels.len() < PIECE {
+        put(buffer, pixels)?;
+        hand_on_piece(sink, buffer)?;
+        return Ok(());
+    }
+    hand_on(sink, buffer)?;
+    write_all(sink, pixels)?;
+    Ok(())
+}
+
 fn print_frame<K: Sink>(
     sink: &mut K,
     buffer: &mut Vec<u8>,
@@ -112,8 +136,7 @@ fn print_frame<K: Sink>(
     ensures count { K.faults sink.old ≤ K.faults sink.new }
 {
     put_frame(buffer, number, frame)?;
-    hand_on(sink, buffer)?;
-    write_all(sink, frame.pixels.as_slice())?;
+    print_pixels(sink, buffer, frame.pixels.as_slice())?;
     put(buffer, b"\n")?;
     Ok(())
 }

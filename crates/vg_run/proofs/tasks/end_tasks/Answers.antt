@@ -21,5 +21,5 @@ returns-clause-few c =
     let client = c.args.client.now in
     let made : c.release_each.new.tasks.items ≡ leases_back client.account.holds.scanouts 0 client.account.holds.displays ++ map release_task client.names.current =
     rw (c.in_ok-release_each.ensures, c.in_ok-tasks.ensures, c.as_slice.ensures.value, c.in_ok-current.ensures) refl in
-    let Few : List Task → Type 0 = λ xs. weights xs ≤ 2 * client.account.holds.displays + 3 * length client.names.current in
+    let Few : List Task → Type 0 = λ xs. weights xs ≤ 3 * client.account.holds.displays + 3 * length client.names.current in
     subst Few (sym made) (end-few client.account.holds.scanouts client.account.holds.displays client.names.current)

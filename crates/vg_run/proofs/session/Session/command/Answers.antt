@@ -1,26 +1,12 @@
 use Rattle.std.proofs.Common.{◌≡◌, ◌<◌, ◌∙◌, ◌+◌, ◌++◌, ◌∷◌, [], sym, ap, refl, subst, inr, arith, ℕ, List, get_or, length, slice_set}
 use Rattle.vg_machine.specs.declared.history.Entry.{Entry}
 use Rattle.vg_machine.specs.declared.history.Request.{Request}
-use Rattle.vg_machine.specs.declared.history.Reply.{Reply}
-use Rattle.vg_machine.specs.declared.history.Reply.TheVariants.{Response}
-use Rattle.vg_machine.specs.State.{State}
-use Rattle.vg_machine.specs.Step.{step}
-use Rattle.vg_machine.specs.Replay.{request_step}
 use Rattle.vg_machine.specs.Lane.{lane_of}
 use Rattle.vg_machine.specs.Order.{is_of_lane}
 use Rattle.vg_run.specs.Session.{Course, IsCourse}
 use Rattle.vg_run.proofs.PrintingLemmas.{on_err}
-use Rattle.vg_run.proofs.ReplayLemmas.{shaped-plain}
 use Rattle.vg_run.proofs.SessionLemmas.{at_place, command-added, command-course, count-few, few-used, lane-small}
 use Rattle.vg_run.proofs.session.Session.command.Goals as goal
-
--- what the display did and answered is the step of the request
-done : (display new : State) (request : Request) (passed answer reply : List ℕ) → passed ≡ request.bytes → reply ≡ answer → (new, answer) ≡ step display request.queue passed request.room
-    → ◌≡◌ {A = State × Reply} (new, Response reply) (request_step display request)
-done display new request passed answer reply same kept made =
-    ap (λ (bytes : List ℕ). (new, Response bytes)) kept
-    ∙ ap (λ (p : State × List ℕ). (p.0, Response p.1)) (made ∙ ap (λ (bytes : List ℕ). step display request.queue bytes request.room) same)
-    ∙ sym (shaped-plain request.shape display request)
 
 -- the history with the entry
 grown : (H H1 H2 : List Entry) (entry : Entry) → H2 ≡ H1 ++ entry ∷ [] → H1 ≡ H → H2 ≡ H ++ entry ∷ []
@@ -38,14 +24,14 @@ counted : (counts : List ℕ) (lane x : ℕ) → lane < length counts → x ≡ 
 counted counts lane x within is = ap (λ (n : ℕ). slice_set counts lane (n + 1)) (at_place counts lane x within is)
 
 pub index_mut-requires : goal.index_mut-requires
-index_mut-requires c = omega (arith, lane c.args.request c.self.inside.counts.items c.requires.next.lane c.self.invariant.lanes, c.self.inside.counts.ok)
+index_mut-requires c = omega (arith, lane c.args.request c.self.inside.counts.items c.requires.next.next.lane c.self.invariant.lanes, c.self.inside.counts.ok)
 
 pub overflow_add-index_mut : goal.overflow_add-index_mut
 overflow_add-index_mut c =
     let request = c.args.request in
     let counts = c.self.inside.counts.items in
-    let is = at_place counts request.lane c.index_mut.result.now (lane request counts c.requires.next.lane c.self.invariant.lanes) c.index_mut.ensures.value in
-    let within = lane request counts c.requires.next.lane c.self.invariant.lanes in
+    let is = at_place counts request.lane c.index_mut.result.now (lane request counts c.requires.next.next.lane c.self.invariant.lanes) c.index_mut.ensures.value in
+    let within = lane request counts c.requires.next.next.lane c.self.invariant.lanes in
     let counted_is = c.self.invariant.ordinals request.lane (omega (arith, within, c.self.invariant.lanes)) in
     let few = count-few (is_of_lane request.lane) c.self.inside.history.items in
     omega (arith, is, counted_is, few, c.requires.room, ap (λ (k : Course). length k.history) c.self.view_is)
@@ -55,21 +41,19 @@ invariant_of-self-in_err-copy c =
     let request = c.args.request in
     let counts = c.self.inside.counts.items in
     let pushed = rw c.unwrap.ensures at c.push.ensures.items in
-    let made = done c.self.inside.display c.command.new.self c.args.request c.as_slice.result.now c.in_ok-bytes.bytes.items c.from_vec.result c.as_slice.ensures c.from_vec.ensures c.in_ok-bytes.ensures.step in
-    let within = lane request counts c.requires.next.lane c.self.invariant.lanes in
-    let P : List ℕ → Type 0 = λ xs. IsCourse c.command.new.self c.push.new.self.items c.self.inside.clients xs in
+    let within = lane request counts c.requires.next.next.lane c.self.invariant.lanes in
+    let P : List ℕ → Type 0 = λ xs. IsCourse c.request.new.self c.push.new.self.items c.self.inside.clients xs in
     subst P (sym (counted counts request.lane c.index_mut.result.now within c.index_mut.ensures.value))
-    (command-course c.args.self.now c.self.inside.clients c.self.inside.display c.command.new.self c.self.inside.history.items c.push.new.self.items counts c.args.account.now request (Response c.from_vec.result)
-    (sym c.self.view_is) c.self.invariant c.requires.next (omega (arith, within, c.self.invariant.lanes)) made (grown _ _ _ _ pushed c.reserve.ensures.items))
+    (command-course c.args.self.now c.self.inside.clients c.self.inside.display c.request.new.self c.self.inside.history.items c.push.new.self.items counts c.args.account.now request c.in_ok-reply.reply
+    (sym c.self.view_is) c.self.invariant c.requires.next (omega (arith, within, c.self.invariant.lanes)) c.in_ok-reply.ensures.step (grown _ _ _ _ pushed c.reserve.ensures.items))
 
 pub returns-in_err-copy-clause-err : goal.returns-in_err-copy-clause-err
 returns-in_err-copy-clause-err c =
     let pushed = rw c.unwrap.ensures at c.push.ensures.items in
-    let made = done c.self.inside.display c.command.new.self c.args.request c.as_slice.result.now c.in_ok-bytes.bytes.items c.from_vec.result c.as_slice.ensures c.from_vec.ensures c.in_ok-bytes.ensures.step in
     on_err _ (inr (
-      Response c.from_vec.result,
-      command-added c.args.self.now _ c.self.inside.clients c.self.inside.display c.command.new.self c.self.inside.history.items c.push.new.self.items c.self.inside.counts.items c.args.account.now _ c.args.request (Response c.from_vec.result)
-          (sym c.self.view_is) c.self.invariant c.requires.next made (grown _ _ _ _ pushed c.reserve.ensures.items) refl refl,
+      c.in_ok-reply.reply,
+      command-added c.args.self.now _ c.self.inside.clients c.self.inside.display c.request.new.self c.self.inside.history.items c.push.new.self.items c.self.inside.counts.items c.args.account.now _ c.args.request c.in_ok-reply.reply
+          (sym c.self.view_is) c.self.invariant c.requires.next c.in_ok-reply.ensures.step (grown _ _ _ _ pushed c.reserve.ensures.items) refl refl,
     ))
 
 pub invariant_of-self-2 : goal.invariant_of-self-2
@@ -77,17 +61,15 @@ invariant_of-self-2 c =
     let request = c.args.request in
     let counts = c.self.inside.counts.items in
     let pushed = rw c.unwrap.ensures at c.push.ensures.items in
-    let made = done c.self.inside.display c.command.new.self c.args.request c.as_slice.result.now c.in_ok-bytes.bytes.items c.from_vec.result c.as_slice.ensures c.from_vec.ensures c.in_ok-bytes.ensures.step in
-    let within = lane request counts c.requires.next.lane c.self.invariant.lanes in
-    let P : List ℕ → Type 0 = λ xs. IsCourse c.command.new.self c.push.new.self.items c.self.inside.clients xs in
+    let within = lane request counts c.requires.next.next.lane c.self.invariant.lanes in
+    let P : List ℕ → Type 0 = λ xs. IsCourse c.request.new.self c.push.new.self.items c.self.inside.clients xs in
     subst P (sym (counted counts request.lane c.index_mut.result.now within c.index_mut.ensures.value))
-    (command-course c.args.self.now c.self.inside.clients c.self.inside.display c.command.new.self c.self.inside.history.items c.push.new.self.items counts c.args.account.now request (Response c.from_vec.result)
-    (sym c.self.view_is) c.self.invariant c.requires.next (omega (arith, within, c.self.invariant.lanes)) made (grown _ _ _ _ pushed c.reserve.ensures.items))
+    (command-course c.args.self.now c.self.inside.clients c.self.inside.display c.request.new.self c.self.inside.history.items c.push.new.self.items counts c.args.account.now request c.in_ok-reply.reply
+    (sym c.self.view_is) c.self.invariant c.requires.next (omega (arith, within, c.self.invariant.lanes)) c.in_ok-reply.ensures.step (grown _ _ _ _ pushed c.reserve.ensures.items))
 
 pub returns-clause-added : goal.returns-clause-added
 returns-clause-added c =
     let pushed = rw c.unwrap.ensures at c.push.ensures.items in
-    let made = done c.self.inside.display c.command.new.self c.args.request c.as_slice.result.now c.in_ok-bytes.bytes.items c.from_vec.result c.as_slice.ensures c.from_vec.ensures c.in_ok-bytes.ensures.step in
-    rw (c.from_vec-2.ensures ∙ c.in_ok-copy.ensures ∙ c.as_slice-2.ensures.value ∙ sym c.from_vec.ensures)
-    (command-added c.args.self.now _ c.self.inside.clients c.self.inside.display c.command.new.self c.self.inside.history.items c.push.new.self.items c.self.inside.counts.items c.args.account.now _ c.args.request (Response c.from_vec.result)
-    (sym c.self.view_is) c.self.invariant c.requires.next made (grown _ _ _ _ pushed c.reserve.ensures.items) refl refl)
+    rw c.in_ok-copy.ensures
+    (command-added c.args.self.now _ c.self.inside.clients c.self.inside.display c.request.new.self c.self.inside.history.items c.push.new.self.items c.self.inside.counts.items c.args.account.now _ c.args.request c.in_ok-reply.reply
+    (sym c.self.view_is) c.self.invariant c.requires.next c.in_ok-reply.ensures.step (grown _ _ _ _ pushed c.reserve.ensures.items) refl refl)
