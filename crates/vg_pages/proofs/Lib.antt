@@ -1,2 +1,3 @@
 pub mod FreePages
 pub mod Marked
+pub mod Padded

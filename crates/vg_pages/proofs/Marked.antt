@@ -3,7 +3,7 @@ use Rattle.std.proofs.Common.{◌≡◌, ◌≢◌, ℕ, ◌+◌, ◌*◌, ◌/�
 use Rattle.std.specs.List.{All, range_with_len}
 use Rattle.std.proofs.lemmas.Bool.{cases_lt, eq-eqb, ne_eqb, or_right}
 use Rattle.std.proofs.lemmas.List.Elements.{All-take, filter_passes}
-use Rattle.std.proofs.lemmas.List.{get_or_past, get_or_default, take_at, length-take, length-drop, length-replicate, get_or-replicate}
+use Rattle.std.proofs.lemmas.List.{append_assoc, drop-drop, get_or_past, get_or_default, take_at, length-replicate, get_or-replicate}
 use Rattle.std.proofs.lemmas.Option.{slice_get_cases, get_or_from_slice_get}
 use Rattle.std.proofs.lemmas.List.Folds.{list_any_more, list_any-from_Any}
 use borrow.Rule.Slice.PartMut.{put_mid}
@@ -75,7 +75,7 @@ marked-same pages now taken page was =
     slice_get-tabulate (λ place. cond (is_among pages place) now (slice_index_or taken place now)) (length taken) page (inside_from_slice_get taken page now was)
     ∙ ap Some (elim (is_among pages page) as (λ b. cond b now (slice_index_or taken page now) ≡ now) [ true ↦ refl | false ↦ get_or_from_slice_get taken page now now was ])
 
-length-marked : (pages : List ℕ) (now : Bool) (taken : List Bool) → length (marked pages now taken) ≡ length taken
+pub length-marked : (pages : List ℕ) (now : Bool) (taken : List Bool) → length (marked pages now taken) ≡ length taken
 unfolding marked
 length-marked pages now taken = length-tabulate (λ page. cond (is_among pages page) now (slice_index_or taken page now)) (length taken)
 
@@ -149,15 +149,10 @@ unfolding zeroed
 length-zeroed pages bytes = length-tabulate (λ place. cond (is_among pages (place / 4096)) 0 (get_or bytes place 0)) (length bytes)
 
 -- the page at place i is filled with zeros
-pub zeroed-page : (pages bytes part : List ℕ) (i start size : ℕ) → i < length pages → start ≡ get_or pages i 0 * 4096 → start + 4096 ≤ length bytes → size ≡ 4096 → part ≡ replicate (length (take size (drop start (zeroed (take i pages) bytes)))) 0 → put_mid start size (zeroed (take i pages) bytes) part ≡ zeroed (take (i + 1) pages) bytes
-zeroed-page pages bytes part i start size within from inside whole filled =
+pub zeroed-next : (pages bytes : List ℕ) (i start : ℕ) → i < length pages → start ≡ get_or pages i 0 * 4096 → start + 4096 ≤ length bytes
+    → (take start (zeroed (take i pages) bytes) ++ replicate 4096 0) ++ drop (start + 4096) (zeroed (take i pages) bytes) ≡ zeroed (take (i + 1) pages) bytes
+zeroed-next pages bytes i start within from inside =
     let now = zeroed (take i pages) bytes in
-    let room = length (take size (drop start now)) in
-    let all : room ≡ 4096 =
-    omega (arith, length-take size (drop start now), length-drop start now, length-zeroed (take i pages) bytes, whole, inside)
-    in
-    let long : length part ≡ 4096 = ap length filled ∙ length-replicate room 0 ∙ all in
-    let zeros : (k : ℕ) → k < 4096 → get_or part k 0 ≡ 0 =
-    λ k low. ap (λ xs. get_or xs k 0) filled ∙ get_or-replicate room k 0 0 (omega (arith, all, low))
-    in
-    ap (λ m. put_mid start m now part) whole ∙ zeroed_more pages bytes part i start within from inside long zeros
+    append_assoc (take start now) (replicate 4096 0) (drop (start + 4096) now)
+    ∙ ap (λ rest. take start now ++ (replicate 4096 0 ++ rest)) (sym (drop-drop 4096 start now))
+    ∙ zeroed_more pages bytes (replicate 4096 0) i start within from inside (length-replicate {A = ℕ} 4096 0) (λ k low. get_or-replicate 4096 k 0 0 low)

@@ -26,6 +26,10 @@ fresh_memory count = record { bytes = replicate (4096 * count) 0; taken = replic
 abbrev pub Holds : Memory → ℕ → ℕ → Type 0
 Holds memory addr n = (1048576 ≤ addr) × (addr + n ≤ 1048576 + length memory.bytes)
 
+-- Bytes with as many zeros behind them as make this many in all.
+abbrev pub padded : ℕ → List ℕ → List ℕ
+padded size bytes = bytes ++ replicate (size - length bytes) 0
+
 -- The n bytes of memory from this address on.
 abbrev pub bytes_at : List ℕ → ℕ → ℕ → List ℕ
 bytes_at bytes addr n = take n (drop (addr - 1048576) bytes)

@@ -4,6 +4,7 @@ ghost use Rattle.std.specs.Prelude.{◌≡◌, ◌+◌, ◌*◌, ◌<◌, ◌≤
 ghost use Rattle.vg_pages.specs.Memory.{free_pages, marked, zeroed};
 
 use crate::PAGE_BYTES;
+use crate::lazy::LazyBytes;
 use std::alloc::{AllocError, Global};
 
 /// How many pages are free.
@@ -49,12 +50,11 @@ pub(crate) fn mark(taken: &mut [bool], pages: &[u32], now: bool)
 }
 
 /// Writes zeros over these pages.
-pub(crate) fn zero(bytes: &mut [u8], pages: &[u32])
+pub(crate) fn zero(bytes: &mut LazyBytes, pages: &[u32])
     requires { All (λ page. 4096 * page + 4096 ≤ length bytes.old) pages.now }
     ensures { bytes.new ≡ zeroed pages.now bytes.old }
 {
     for page in pages {
-        let start = *page as usize * PAGE_BYTES;
-        bytes[start..start + PAGE_BYTES].fill(0);
+        bytes.zero(*page as usize * PAGE_BYTES, PAGE_BYTES);
     }
 }

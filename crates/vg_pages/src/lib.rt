@@ -5,6 +5,7 @@ ghost use Rattle.std.specs.Prelude.{◌≡◌};
 ghost use Rattle.vg_pages.specs.Memory as memory_words;
 
 mod flags;
+mod lazy;
 mod memory;
 
 pub use memory::Pages;

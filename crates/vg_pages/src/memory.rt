@@ -4,16 +4,16 @@ ghost use Rattle.std.specs.Prelude.{◌≡◌, ℕ, List, All, ◌<◌, ◌≤�
 ghost use Rattle.vg_pages.specs.Memory.{HasWholePages, fresh_memory, Holds, bytes_at, written_at, free_pages, is_among, marked, after_taking, AreGivable, AreTakeable, page_address};
 
 use crate::flags::{count_free, lowest_free, mark, zero};
+use crate::lazy::LazyBytes;
 use crate::{MEMORY_START, PAGE_BYTES, page_address};
 use std::alloc::{AllocError, Global};
 use std::marker::Model;
-use vg_places::zeros;
 
 /// Guest memory: pages of 4,096 bytes, page p at the address 1,048,576 + 4,096 * p. Addresses and lengths
 /// are in bytes. A clause sees the bytes of all pages as one list, and for each page whether it is taken.
 #[derive(Debug, Drop)]
 pub struct Pages {
-    bytes: Vec<u8>,
+    bytes: LazyBytes,
     taken: Vec<bool>,
 }
 
@@ -22,13 +22,14 @@ impl Model for Pages {
 
     ghost Value = { Memory };
 
-    ghost view = { λ p. record { bytes = p.bytes.items; taken = p.taken.items } };
+    ghost view = { λ p. record { bytes = p.bytes; taken = p.taken.items } };
 
-    ghost invariant = { λ p. HasWholePages (record { bytes = p.bytes.items; taken = p.taken.items }) };
+    ghost invariant = { λ p. HasWholePages (record { bytes = p.bytes; taken = p.taken.items }) };
 }
 
 impl Pages {
-    /// Memory of `count` pages, all of it taken from the allocator here. Its bytes are 0, and no page is taken.
+    /// Memory of `count` pages, all of it taken from the allocator here. Its bytes are 0, and no page is taken. A page that
+    /// is never written costs no time.
     #[tactic(auto, unfolding(crate::specs::Memory::fresh_memory))]
     pub fn new(alloc: Global, count: u32) -> Result<Pages, AllocError>
         requires some { 0 < count }
@@ -37,7 +38,7 @@ impl Pages {
         ensures count { IfOk result (λ memory. length memory.taken ≡ count) }
         ensures pages { IfOk result HasWholePages }
     {
-        let bytes = zeros(alloc, count as usize * PAGE_BYTES)?;
+        let bytes = LazyBytes::new(alloc, count as usize * PAGE_BYTES)?;
         let taken = vec![in alloc; false; count as usize]?;
         Ok(Pages { bytes, taken })
     }
@@ -65,7 +66,7 @@ impl Pages {
         ensures others { (mine : List ℕ) → AreGivable self.old.taken mine → AreGivable self.new.taken mine }
     {
         mark(self.taken.as_mut_slice(), list, true);
-        zero(self.bytes.as_mut_slice(), list);
+        zero(&mut self.bytes, list);
     }
 
     /// Takes the `n` lowest free pages, and zeros them. None where fewer are free.
@@ -134,10 +135,7 @@ impl Pages {
         requires { Holds self.now addr (length out.old) }
         ensures { out.new ≡ bytes_at self.now.bytes addr (length out.old) }
     {
-        let memory = self.bytes.as_slice();
-        let start = (addr - MEMORY_START) as usize;
-        let end = start + out.len();
-        out.copy_from_slice(&memory[start..end]);
+        self.bytes.read((addr - MEMORY_START) as usize, out);
     }
 
     /// Writes `bytes` over memory from the address `addr` on.
@@ -145,9 +143,6 @@ impl Pages {
         requires { Holds self.old addr (length bytes.now) }
         ensures { self.new ≡ record self.old { bytes = written_at self.old.bytes addr bytes.now } }
     {
-        let memory = self.bytes.as_mut_slice();
-        let start = (addr - MEMORY_START) as usize;
-        let end = start + bytes.len();
-        memory[start..end].copy_from_slice(bytes);
+        self.bytes.write((addr - MEMORY_START) as usize, bytes);
     }
 }

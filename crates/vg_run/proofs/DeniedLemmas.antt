@@ -98,6 +98,7 @@ first-not holds command (first ∷ more) what can e = by_test (is_allowed holds 
   where
     Found : What → Type 0
     Found what = (is_allowed holds command what ≡ false) × CanBeNamed holds what
+
     by_test : (b : Bool) → is_allowed holds command first ≡ b → cond b (first_denied holds command more) (Some first) ≡ Some what → (first_denied holds command more ≡ Some what → Found what) → Found what
     by_test true is e rest = rest e
     by_test false is e rest = let same : first ≡ what = cc e in subst Found same (is, can.0)

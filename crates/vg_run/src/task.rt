@@ -25,8 +25,13 @@ pub(crate) struct Task {
 /// What is done for a task.
 #[derive(Debug, Drop)]
 pub(crate) enum Deed {
-    Act { act: Act },
-    Command { way: Way, command: Command },
+    Act {
+        act: Act,
+    },
+    Command {
+        way: Way,
+        command: Command,
+    },
     /// Bytes for a queue, as they are, with so many bytes for the response.
     Raw {
         queue: Queue,

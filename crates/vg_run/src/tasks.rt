@@ -223,9 +223,7 @@ fn drop_tasks(
 {
     if is_leased(client, scanout) {
         let hide = hide_cursor_task(scanout);
-        Ok(Ok(
-            vec![in alloc; clear_task(scanout), hide, drop_task(scanout)]?,
-        ))
+        Ok(Ok(vec![in alloc; clear_task(scanout), hide, drop_task(scanout)]?))
     } else {
         Ok(Err(What::Scanout { n: scanout }))
     }

@@ -405,12 +405,7 @@ fn put_title(out: &mut Vec<u8>) -> Result<(), AllocError>
 
 /// Adds the line of a feature, where its bit isn't accepted.
 #[tactic(auto, unfolding(crate::specs::Text::without_line))]
-fn put_left_out(
-    out: &mut Vec<u8>,
-    accepted: u64,
-    bit: u64,
-    name: &[u8],
-) -> Result<(), AllocError>
+fn put_left_out(out: &mut Vec<u8>, accepted: u64, bit: u64, name: &[u8]) -> Result<(), AllocError>
     ensures { OnOk result (out.new.items ≡ out.old.items ++ without_line accepted bit name.now) }
 {
     if accepted & bit != 0 {

@@ -1,7 +1,7 @@
 -- Pages that are taken may be given back, and what could be given back still may.
-use Rattle.std.proofs.Common.{ap, sym, subst, true, arith}
+use Rattle.std.proofs.Common.{◌≡◌, ap, sym, subst, ◌∙◌, length, true, arith}
 use Rattle.vg_pages.specs.Memory.{AreGivable, AreTakeable}
-use Rattle.vg_pages.proofs.Marked.{givable-taken, givable-after_taking, marked-in_place}
+use Rattle.vg_pages.proofs.Marked.{givable-taken, givable-after_taking, length-marked, length-zeroed, marked-in_place}
 use Rattle.vg_pages.proofs.memory.Pages.take_these.Goals as goal
 
 pub returns-clause-givable : goal.returns-clause-givable
@@ -19,3 +19,12 @@ returns-clause-others c =
     let was = ap (λ memory. memory.taken) (sym c.self.view_is) in
     let flags = marked-in_place pages true old _ c.mark.new.taken c.self.inside.taken.len c.as_mut_slice.ensures.value c.mark.ensures (omega arith) in
     rw flags (λ mine givable. givable-after_taking old mine pages (subst (λ taken. AreGivable taken mine) was givable))
+
+pub invariant_of-self : goal.invariant_of-self
+invariant_of-self c =
+    let old = c.self.inside.taken.items in
+    let pages = c.args.list.now in
+    let flags = marked-in_place pages true old _ c.mark.new.taken c.self.inside.taken.len c.as_mut_slice.ensures.value c.mark.ensures (omega arith) in
+    let taken = ap length flags ∙ length-marked pages true old in
+    let bytes = ap length c.zero.ensures ∙ length-zeroed pages c.self.inside.bytes in
+    (omega (arith, bytes, taken, c.self.invariant.0), omega (arith, taken, c.self.invariant.1), omega (arith, taken, c.self.invariant.2))
