@@ -1,18 +1,18 @@
 -- A line of a client, from the row that its words are.
-use Rattle.std.proofs.Common.{◌≡◌, ℕ, ◌==◌, nat_lt, Bool, true, false, List, length, Option, Some, None, Ok, Err, arith, refl}
+use Rattle.std.proofs.Common.{◌≡◌, ◌==◌, nat_lt, true, false, length, Option, Some, None, Ok, Err, arith, refl}
 use Rattle.std.specs.Prelude.{sum_by, option_map}
 use Rattle.vg_script.specs.declared.kind.Kind.{Kind}
 use Rattle.vg_script.specs.declared.kind.Kind.TheVariants.{Word, Limit}
 use Rattle.vg_script.specs.declared.types.Step.{Step}
-use Rattle.vg_script.specs.Seen.{Seen, add_line}
+use Rattle.vg_script.specs.Seen.{Seen, NameTable, add_line}
 use Rattle.vg_script.specs.Rows.{Row, judged_row}
 use Rattle.vg_script.specs.Grammar.{step_form, settled_form}
 use Rattle.vg_script.specs.Reading.{past_kind}
 
-abbrev pub with_call : Seen → Step → (List ℕ → Bool) → Seen
-with_call seen step after = record seen { clients = add_line seen.clients (record { number = seen.lines; step = step }); defined = after }
+abbrev pub with_call : Seen → Step → NameTable → Seen
+with_call seen step after = record seen { clients = add_line seen.clients (record { number = seen.lines; step = step }); table = after }
 
-pub call_ok : (seen : Seen) (row : Option Row) (step : Step) (after : List ℕ → Bool) → (length seen.clients == 0) ≡ false → nat_lt (sum_by length seen.clients) 100000 ≡ true
+pub call_ok : (seen : Seen) (row : Option Row) (step : Step) (after : NameTable) → (length seen.clients == 0) ≡ false → nat_lt (sum_by length seen.clients) 100000 ≡ true
     → judged_row row ≡ Ok (step, after) → settled_form (option_map (step_form seen) row) ≡ Ok (with_call seen step after)
 unfolding step_form
 call_ok seen None step after begun room h = cc
@@ -24,7 +24,7 @@ unfolding step_form
 call_err seen None kind begun room h = cc
 call_err seen (Some row) kind begun room h = grind arith
 
-pub past_ok : (seen : Seen) (row : Option Row) (step : Step) (after : List ℕ → Bool) → (length seen.clients == 0) ≡ false → nat_lt (sum_by length seen.clients) 100000 ≡ false
+pub past_ok : (seen : Seen) (row : Option Row) (step : Step) (after : NameTable) → (length seen.clients == 0) ≡ false → nat_lt (sum_by length seen.clients) 100000 ≡ false
     → judged_row row ≡ Ok (step, after) → settled_form (option_map (step_form seen) row) ≡ Err Limit
 unfolding step_form
 past_ok seen None step after begun room h = cc

@@ -1,20 +1,27 @@
 -- What the lines give keeps the limits.
-use Rattle.std.proofs.Common.{◌≡◌, ℕ, ◌/◌, ◌==◌, ◌<◌, ◌≤◌, nat_lt, Bool, true, false, List, [], ◌∷◌, ◌++◌, length, Option, Some, None, Result, Ok, Err, if◌then◌else◌, arith, refl, sym, ◌∙◌, subst, length-append, lit≤}
-use Rattle.std.specs.Prelude.{sum_by, All, option_map, unwrap_or, IfOk, bytes_eq, codes, slice_index, IfSome}
+use Rattle.std.proofs.Common.{◌≡◌, ℕ, ◌+◌, ◌/◌, ◌==◌, ◌<◌, ◌≤◌, nat_lt, Bool, true, false, List, [], ◌∷◌, ◌++◌, length, Option, Some, None, Result, Ok, Err, if◌then◌else◌, arith, refl, ap, sym, ◌∙◌, subst, length-append, lit≤}
+use Rattle.std.specs.List.{list_any}
+use Rattle.std.specs.Prelude.{sum_by, count_by, All, option_map, unwrap_or, IfOk, bytes_eq, codes, slice_index, IfSome}
 use Rattle.std.specs.Bool.{⊤}
 use Rattle.std.proofs.lemmas.Bool.Decides.{nat_tests}
+use Rattle.std.proofs.lemmas.List.Sums.{sum_by-append}
 use Rattle.std.proofs.lemmas.List.Elements.{All-nil, All-push, All-cons, All-head}
 use Rattle.vg_script.specs.declared.kind.Kind.{Kind}
 use Rattle.vg_script.specs.declared.kind.Kind.TheVariants.{Word, Limit}
 use Rattle.vg_script.specs.declared.types.Line.{Line}
 use Rattle.vg_script.specs.declared.types.Script.{Script}
 use Rattle.vg_script.specs.declared.types.ScriptFault.{ScriptFault}
-use Rattle.vg_script.specs.Words.{lines_of, words_of, hex_bytes, value}
-use Rattle.vg_script.specs.Seen.{Seen, nothing_seen, add_line}
-use Rattle.vg_script.specs.Rows.{Row, info_row, buffer_row, store_row, load_row, send_row, flush_row, take_row, drop_row, hide_row, show_row, flip_row, close_row, one_word, two_words, three_words, four_words, five_words, six_words, seven_words, step_row}
-use Rattle.vg_script.specs.Grammar.{Form, display_form, memory_form, client_form, step_form, skipped_form, called_form, worded_form, form_of, line_form, one_more, script_of, scan, read_script, Parses}
+use Rattle.vg_script.specs.declared.types.Feature.{Feature}
+use Rattle.vg_script.specs.declared.types.Feature.TheVariants.{Edid, Uuid, Blob, Context}
+use Rattle.vg_script.specs.declared.types.RawShape.{RawShape}
+use Rattle.vg_script.specs.Words.{lines_of, words_of, hex_bytes, value, no_args, one_arg, two_args, three_args, four_args, five_args, six_args}
+use Rattle.vg_script.proofs.Counts.{no_args_give, one_arg_gives, two_args_give, three_args_give, four_args_give, five_args_give, six_args_give}
+use Rattle.vg_script.specs.Features.{feature_of, is_same}
+use Rattle.vg_script.specs.Seen.{Seen, NameTable, nothing_seen, add_line}
+use Rattle.vg_script.specs.Rows.{Row, info_row, edid_row, buffer_row, store_row, load_row, send_row, flush_row, take_row, drop_row, hide_row, show_row, flip_row, uuid_row, close_row, raw_row, request_row, queue_of, shape_of, row_of}
+use Rattle.vg_script.specs.Grammar.{Form, display_form, memory_form, feature_form, without_form, client_form, step_form, skipped_form, called_form, worded_form, form_of, line_form, one_more, script_of, scan, read_script, Parses}
 use Rattle.vg_script.specs.Faults.{fails, given, form_gives, seen_after, AreFaultless, has_fault}
-use Rattle.vg_script.specs.Limits.{IsBetween, StepInLimits, ClientInLimits, DisplayInLimits, ScriptInLimits}
+use Rattle.vg_script.specs.Limits.{IsBetween, ShapeInLimits, StepInLimits, ClientInLimits, DisplayInLimits, ScriptInLimits}
 use Rattle.vg_script.proofs.FaultLaws.{script_to}
 
 -- ---- the rows
@@ -32,85 +39,127 @@ length-hex_bytes [] = refl
 length-hex_bytes (digit ∷ []) = refl
 length-hex_bytes (high ∷ low ∷ more) = let e = length-hex_bytes more in omega (arith, e)
 
-buffer_fits : (n : ℕ) (defined : List ℕ → Bool) (a b c d : List ℕ) → RowFits n (Some (buffer_row defined a b c d))
+info_fits : (n : ℕ) (table : NameTable) → RowFits n (info_row table)
+unfolding info_row
+info_fits n table = λ h. tt
+
+edid_fits : (n : ℕ) (table : NameTable) (scanout : List ℕ) → RowFits n (edid_row table scanout)
+unfolding edid_row
+edid_fits n table scanout = λ h. grind (arith, nat_tests)
+
+buffer_fits : (n : ℕ) (table : NameTable) (name width height format : List ℕ) → RowFits n (buffer_row table name width height format)
 unfolding buffer_row
-buffer_fits n defined a b c d = λ h. grind (arith, nat_tests)
+buffer_fits n table name width height format = λ h. grind (arith, nat_tests)
 
-store_fits : (n : ℕ) (defined : List ℕ → Bool) (a b c d : List ℕ) → RowFits n (Some (store_row defined a b c d))
+store_fits : (n : ℕ) (table : NameTable) (name offset hex times : List ℕ) → RowFits n (store_row table name offset hex times)
 unfolding store_row
-store_fits n defined a b c d = λ h. let e = length-hex_bytes c in grind (arith, nat_tests)
+store_fits n table name offset hex times = λ h. let e = length-hex_bytes hex in grind (arith, nat_tests)
 
-load_fits : (n : ℕ) (defined : List ℕ → Bool) (a b c : List ℕ) → RowFits n (Some (load_row defined a b c))
+load_fits : (n : ℕ) (table : NameTable) (name offset size : List ℕ) → RowFits n (load_row table name offset size)
 unfolding load_row
-load_fits n defined a b c = λ h. grind (arith, nat_tests)
+load_fits n table name offset size = λ h. grind (arith, nat_tests)
 
-take_fits : (n : ℕ) (defined : List ℕ → Bool) (a : List ℕ) → RowFits n (Some (take_row n defined a))
+send_fits : (n : ℕ) (table : NameTable) (name x y width height : List ℕ) → RowFits n (send_row table name x y width height)
+unfolding send_row
+send_fits n table name x y width height = λ h. tt
+
+flush_fits : (n : ℕ) (table : NameTable) (name x y width height : List ℕ) → RowFits n (flush_row table name x y width height)
+unfolding flush_row
+flush_fits n table name x y width height = λ h. tt
+
+take_fits : (n : ℕ) (table : NameTable) (scanout : List ℕ) → RowFits n (take_row n table scanout)
 unfolding take_row
-take_fits n defined a = λ h. grind (arith, nat_tests)
+take_fits n table scanout = λ h. grind (arith, nat_tests)
 
-drop_fits : (n : ℕ) (defined : List ℕ → Bool) (a : List ℕ) → RowFits n (Some (drop_row n defined a))
+drop_fits : (n : ℕ) (table : NameTable) (scanout : List ℕ) → RowFits n (drop_row n table scanout)
 unfolding drop_row
-drop_fits n defined a = λ h. grind (arith, nat_tests)
+drop_fits n table scanout = λ h. grind (arith, nat_tests)
 
-hide_fits : (n : ℕ) (defined : List ℕ → Bool) (a : List ℕ) → RowFits n (Some (hide_row n defined a))
+hide_fits : (n : ℕ) (table : NameTable) (scanout : List ℕ) → RowFits n (hide_row n table scanout)
 unfolding hide_row
-hide_fits n defined a = λ h. grind (arith, nat_tests)
+hide_fits n table scanout = λ h. grind (arith, nat_tests)
 
-flip_fits : (n : ℕ) (defined : List ℕ → Bool) (a b : List ℕ) → RowFits n (Some (flip_row n defined a b))
-unfolding flip_row
-flip_fits n defined a b = λ h. grind (arith, nat_tests)
-
-show_fits : (n : ℕ) (defined : List ℕ → Bool) (a b c d e f : List ℕ) → RowFits n (Some (show_row n defined a b c d e f))
+show_fits : (n : ℕ) (table : NameTable) (scanout name x y width height : List ℕ) → RowFits n (show_row n table scanout name x y width height)
 unfolding show_row
-show_fits n defined a b c d e f = λ h. grind (arith, nat_tests)
+show_fits n table scanout name x y width height = λ h. grind (arith, nat_tests)
 
-one_fits : (n : ℕ) (defined : List ℕ → Bool) (word : List ℕ) → RowFits n (one_word defined word)
-unfolding one_word info_row
-one_fits n defined word = either_fits n (bytes_eq word (codes "info")) (Some (info_row defined)) None (λ h. tt) tt
+flip_fits : (n : ℕ) (table : NameTable) (scanout name : List ℕ) → RowFits n (flip_row n table scanout name)
+unfolding flip_row
+flip_fits n table scanout name = λ h. grind (arith, nat_tests)
 
-two_fits : (n : ℕ) (defined : List ℕ → Bool) (word a : List ℕ) → RowFits n (two_words n defined word a)
-unfolding two_words close_row
-two_fits n defined word a =
-    either_fits n (bytes_eq word (codes "take")) (Some (take_row n defined a)) _ (take_fits n defined a)
-    (either_fits n (bytes_eq word (codes "drop")) (Some (drop_row n defined a)) _ (drop_fits n defined a)
-    (either_fits n (bytes_eq word (codes "hide")) (Some (hide_row n defined a)) _ (hide_fits n defined a)
-    (either_fits n (bytes_eq word (codes "close")) (Some (close_row defined a)) None (λ h. tt) tt)))
+uuid_fits : (n : ℕ) (table : NameTable) (name : List ℕ) → RowFits n (uuid_row table name)
+unfolding uuid_row
+uuid_fits n table name = λ h. tt
 
-three_fits : (n : ℕ) (defined : List ℕ → Bool) (word a b : List ℕ) → RowFits n (three_words n defined word a b)
-unfolding three_words
-three_fits n defined word a b = either_fits n (bytes_eq word (codes "flip")) (Some (flip_row n defined a b)) None (flip_fits n defined a b) tt
+close_fits : (n : ℕ) (table : NameTable) (name : List ℕ) → RowFits n (close_row table name)
+unfolding close_row
+close_fits n table name = λ h. tt
 
-four_fits : (n : ℕ) (defined : List ℕ → Bool) (word a b c : List ℕ) → RowFits n (four_words defined word a b c)
-unfolding four_words
-four_fits n defined word a b c = either_fits n (bytes_eq word (codes "load")) (Some (load_row defined a b c)) None (load_fits n defined a b c) tt
+-- A shape that a word spells has 2 to 8 pieces, if it has pieces.
+abbrev ShapeFits : Option RawShape → Type 0
+ShapeFits None = ⊤
+ShapeFits (Some shape) = ShapeInLimits shape
 
-five_fits : (n : ℕ) (defined : List ℕ → Bool) (word a b c d : List ℕ) → RowFits n (five_words defined word a b c d)
-unfolding five_words
-five_fits n defined word a b c d =
-    either_fits n (bytes_eq word (codes "buffer")) (Some (buffer_row defined a b c d)) _ (buffer_fits n defined a b c d)
-    (either_fits n (bytes_eq word (codes "store")) (Some (store_row defined a b c d)) None (store_fits n defined a b c d) tt)
+either_shape : (b : Bool) (x y : Option RawShape) → ShapeFits x → ShapeFits y → ShapeFits (if b then x else y)
+either_shape true x y p q = p
+either_shape false x y p q = q
 
-six_fits : (n : ℕ) (defined : List ℕ → Bool) (word a b c d e : List ℕ) → RowFits n (six_words defined word a b c d e)
-unfolding six_words send_row flush_row
-six_fits n defined word a b c d e =
-    either_fits n (bytes_eq word (codes "send")) (Some (send_row defined a b c d e)) _ (λ h. tt)
-    (either_fits n (bytes_eq word (codes "flush")) (Some (flush_row defined a b c d e)) None (λ h. tt) tt)
+shape_fits : (word : List ℕ) → ShapeFits (shape_of word)
+unfolding shape_of
+shape_fits word =
+    either_shape (bytes_eq word (codes "plain")) _ _ tt
+    (either_shape (bytes_eq word (codes "pieces2")) _ _ (lit≤ tt, lit≤ tt)
+    (either_shape (bytes_eq word (codes "pieces3")) _ _ (lit≤ tt, lit≤ tt)
+    (either_shape (bytes_eq word (codes "pieces4")) _ _ (lit≤ tt, lit≤ tt)
+    (either_shape (bytes_eq word (codes "pieces5")) _ _ (lit≤ tt, lit≤ tt)
+    (either_shape (bytes_eq word (codes "pieces6")) _ _ (lit≤ tt, lit≤ tt)
+    (either_shape (bytes_eq word (codes "pieces7")) _ _ (lit≤ tt, lit≤ tt)
+    (either_shape (bytes_eq word (codes "pieces8")) _ _ (lit≤ tt, lit≤ tt)
+    (either_shape (bytes_eq word (codes "indirect")) _ _ tt
+    (either_shape (bytes_eq word (codes "mixed")) _ _ tt
+    (either_shape (bytes_eq word (codes "index")) _ _ tt
+    (either_shape (bytes_eq word (codes "loop")) _ _ tt
+    (either_shape (bytes_eq word (codes "nested")) _ _ tt
+    (either_shape (bytes_eq word (codes "nextindirect")) _ _ tt
+    (either_shape (bytes_eq word (codes "tablelength")) _ _ tt
+    (either_shape (bytes_eq word (codes "order")) _ _ tt
+    (either_shape (bytes_eq word (codes "range")) _ _ tt tt))))))))))))))))
 
-seven_fits : (n : ℕ) (defined : List ℕ → Bool) (word a b c d e f : List ℕ) → RowFits n (seven_words n defined word a b c d e f)
-unfolding seven_words
-seven_fits n defined word a b c d e f = either_fits n (bytes_eq word (codes "show")) (Some (show_row n defined a b c d e f)) None (show_fits n defined a b c d e f) tt
+bytes_few : (hex : List ℕ) (nothing : Bool) → length hex / 2 ≤ 4096 → IsBetween 0 4096 (length (if nothing then [] else hex_bytes hex))
+bytes_few hex true few = (lit≤ tt, lit≤ tt)
+bytes_few hex false few = let e = length-hex_bytes hex in (omega arith, omega (arith, e))
 
-step_fits : (n : ℕ) (defined : List ℕ → Bool) (words : List (List ℕ)) → RowFits n (step_row n defined words)
-unfolding step_row
-step_fits n defined [] = tt
-step_fits n defined (word ∷ []) = one_fits n defined word
-step_fits n defined (word ∷ a ∷ []) = two_fits n defined word a
-step_fits n defined (word ∷ a ∷ b ∷ []) = three_fits n defined word a b
-step_fits n defined (word ∷ a ∷ b ∷ c ∷ []) = four_fits n defined word a b c
-step_fits n defined (word ∷ a ∷ b ∷ c ∷ d ∷ []) = five_fits n defined word a b c d
-step_fits n defined (word ∷ a ∷ b ∷ c ∷ d ∷ e ∷ []) = six_fits n defined word a b c d e
-step_fits n defined (word ∷ a ∷ b ∷ c ∷ d ∷ e ∷ f ∷ []) = seven_fits n defined word a b c d e f
-step_fits n defined (word ∷ a ∷ b ∷ c ∷ d ∷ e ∷ f ∷ g ∷ more) = tt
+request_fits : (n : ℕ) (table : NameTable) (queue : Option Bool) (shape : Option RawShape) (room hex : List ℕ) → ShapeFits shape → RowFits n (request_row table queue shape room hex)
+unfolding request_row
+request_fits n table None shape room hex s = tt
+request_fits n table (Some cursor) None room hex s = tt
+request_fits n table (Some cursor) (Some shape) room hex s = λ h.
+    let r : IsBetween 0 8192 (value room) = grind (arith, nat_tests) in
+    let few : length hex / 2 ≤ 4096 = grind (arith, nat_tests) in
+    (r, s, bytes_few hex (bytes_eq hex (codes "-")) few)
+
+raw_fits : (n : ℕ) (table : NameTable) (queue room shape hex : List ℕ) → RowFits n (raw_row table queue room shape hex)
+unfolding raw_row
+raw_fits n table queue room shape hex = request_fits n table (queue_of queue) (shape_of shape) room hex (shape_fits shape)
+
+step_fits : (word : List ℕ) (n : ℕ) (table : NameTable) (args : List (List ℕ)) → RowFits n (row_of word n table args)
+unfolding row_of
+step_fits word n table args =
+    either_fits n (bytes_eq word (codes "info")) (no_args (info_row table) args) _ (no_args_give (RowFits n) tt (info_row table) (info_fits n table) args)
+    (either_fits n (bytes_eq word (codes "edid")) (one_arg (edid_row table) args) _ (one_arg_gives (RowFits n) tt (edid_row table) (edid_fits n table) args)
+    (either_fits n (bytes_eq word (codes "buffer")) (four_args (buffer_row table) args) _ (four_args_give (RowFits n) tt (buffer_row table) (buffer_fits n table) args)
+    (either_fits n (bytes_eq word (codes "store")) (four_args (store_row table) args) _ (four_args_give (RowFits n) tt (store_row table) (store_fits n table) args)
+    (either_fits n (bytes_eq word (codes "load")) (three_args (load_row table) args) _ (three_args_give (RowFits n) tt (load_row table) (load_fits n table) args)
+    (either_fits n (bytes_eq word (codes "send")) (five_args (send_row table) args) _ (five_args_give (RowFits n) tt (send_row table) (send_fits n table) args)
+    (either_fits n (bytes_eq word (codes "flush")) (five_args (flush_row table) args) _ (five_args_give (RowFits n) tt (flush_row table) (flush_fits n table) args)
+    (either_fits n (bytes_eq word (codes "take")) (one_arg (take_row n table) args) _ (one_arg_gives (RowFits n) tt (take_row n table) (take_fits n table) args)
+    (either_fits n (bytes_eq word (codes "drop")) (one_arg (drop_row n table) args) _ (one_arg_gives (RowFits n) tt (drop_row n table) (drop_fits n table) args)
+    (either_fits n (bytes_eq word (codes "hide")) (one_arg (hide_row n table) args) _ (one_arg_gives (RowFits n) tt (hide_row n table) (hide_fits n table) args)
+    (either_fits n (bytes_eq word (codes "show")) (six_args (show_row n table) args) _ (six_args_give (RowFits n) tt (show_row n table) (show_fits n table) args)
+    (either_fits n (bytes_eq word (codes "flip")) (two_args (flip_row n table) args) _ (two_args_give (RowFits n) tt (flip_row n table) (flip_fits n table) args)
+    (either_fits n (bytes_eq word (codes "uuid")) (one_arg (uuid_row table) args) _ (one_arg_gives (RowFits n) tt (uuid_row table) (uuid_fits n table) args)
+    (either_fits n (bytes_eq word (codes "close")) (one_arg (close_row table) args) _ (one_arg_gives (RowFits n) tt (close_row table) (close_fits n table) args)
+    (either_fits n (bytes_eq word (codes "raw")) (four_args (raw_row table) args) _ (four_args_give (RowFits n) tt (raw_row table) (raw_fits n table) args) tt))))))))))))))
 
 -- ---- the forms
 
@@ -119,6 +168,7 @@ record Within (seen : Seen) : Type 0 where
   few : length seen.displays ≤ 16
   sizes : All DisplayInLimits seen.displays
   pages : IfSome seen.pages (IsBetween 1 16384)
+  features : (feature : Feature) → count_by (λ other. is_same other feature) seen.without ≤ 1
   clients : length seen.clients ≤ 1
   lines : sum_by length seen.clients ≤ 100000
   calls : All (ClientInLimits (length seen.displays)) seen.clients
@@ -135,7 +185,7 @@ no_calls : (n : ℕ) (clients : List (List Line)) → (length clients == 0) ≡ 
 no_calls n [] h = All-nil (ClientInLimits n)
 no_calls n (client ∷ more) h = absurd (grind (arith, nat_tests))
 
-display_fits : (seen : Seen) → Within seen → (a b : List ℕ) → FormFits (Some (display_form seen a b))
+display_fits : (seen : Seen) → Within seen → (a b : List ℕ) → FormFits (display_form seen a b)
 unfolding display_form
 display_fits seen w a b = λ place limits.
     let none : (length seen.clients == 0) ≡ true = grind arith in
@@ -145,16 +195,68 @@ display_fits seen w a b = λ place limits.
       few = omega (arith, length-append seen.displays ((value a, value b) ∷ []));
       sizes = All-push DisplayInLimits seen.displays (value a, value b) w.sizes size;
       pages = w.pages;
+      features = w.features;
       clients = w.clients;
       lines = w.lines;
       calls = no_calls _ seen.clients none;
     }
 
-memory_fits : (seen : Seen) → Within seen → (a : List ℕ) → FormFits (Some (memory_form seen a))
+memory_fits : (seen : Seen) → Within seen → (a : List ℕ) → FormFits (memory_form seen a)
 unfolding memory_form
 memory_fits seen w a = λ place limits.
     let size : IsBetween 1 16384 (value a) = grind (arith, nat_tests) in
-    record { few = w.few; sizes = w.sizes; pages = size; clients = w.clients; lines = w.lines; calls = w.calls }
+    record { few = w.few; sizes = w.sizes; pages = size; features = w.features; clients = w.clients; lines = w.lines; calls = w.calls }
+
+-- A feature that isn't among the others stands once behind them.
+same_feature : (a b : Feature) → is_same a b ≡ true → a ≡ b
+same_feature Edid Edid h = refl
+same_feature Uuid Uuid h = refl
+same_feature Blob Blob h = refl
+same_feature Context Context h = refl
+same_feature Edid Uuid h = cc
+same_feature Edid Blob h = cc
+same_feature Edid Context h = cc
+same_feature Uuid Edid h = cc
+same_feature Uuid Blob h = cc
+same_feature Uuid Context h = cc
+same_feature Blob Edid h = cc
+same_feature Blob Uuid h = cc
+same_feature Blob Context h = cc
+same_feature Context Edid h = cc
+same_feature Context Uuid h = cc
+same_feature Context Blob h = cc
+
+none_of : (p : Feature → Bool) (xs : List Feature) → list_any p xs ≡ false → count_by p xs ≡ 0
+none_of p [] h = refl
+none_of p (x ∷ xs) h =
+    let here : p x ≡ false = grind arith in
+    let rest : list_any p xs ≡ false = grind arith in
+    rw here (none_of p xs rest)
+
+count_more : (p : Feature → Bool) (xs : List Feature) (x : Feature) → count_by p (xs ++ x ∷ []) ≡ count_by p xs + (if p x then 1 else 0)
+count_more p xs x = let e = sum_by-append (λ y. if p y then 1 else 0) xs (x ∷ []) in omega (arith, e)
+
+once_more : (feature new : Feature) (xs : List Feature) (b : Bool) → is_same new feature ≡ b → count_by (λ other. is_same other feature) xs ≤ 1 → list_any (λ other. is_same other new) xs ≡ false
+    → count_by (λ other. is_same other feature) (xs ++ new ∷ []) ≤ 1
+once_more feature new xs true e few none =
+    let same = same_feature new feature e in
+    let gone : count_by (λ other. is_same other feature) xs ≡ 0 = none_of (λ other. is_same other feature) xs (ap (λ f. list_any (λ other. is_same other f) xs) (sym same) ∙ none) in
+    let more = count_more (λ other. is_same other feature) xs new in
+    grind (arith, more, gone)
+once_more feature new xs false e few none =
+    let more = count_more (λ other. is_same other feature) xs new in
+    grind (arith, more)
+
+feature_fits : (seen : Seen) → Within seen → (feature : Option Feature) → FormFits (option_map (feature_form seen) feature)
+unfolding feature_form
+feature_fits seen w None = tt
+feature_fits seen w (Some new) = λ place limits.
+    let none : list_any (λ other. is_same other new) seen.without ≡ false = grind arith in
+    record { few = w.few; sizes = w.sizes; pages = w.pages; features = λ feature. once_more feature new seen.without (is_same new feature) refl (w.features feature) none; clients = w.clients; lines = w.lines; calls = w.calls }
+
+without_fits : (seen : Seen) → Within seen → (a : List ℕ) → FormFits (without_form seen a)
+unfolding without_form
+without_fits seen w a = feature_fits seen w (feature_of a)
 
 -- One client more, or one line more.
 begun_within : (n : ℕ) (clients : List (List Line)) → nat_lt (length clients) 1 ≡ true
@@ -170,11 +272,11 @@ added_within n (client ∷ []) line few room calls fits =
     (lit≤ tt, omega (arith, left, length-append client (line ∷ [])), All-cons (ClientInLimits n) (client ++ line ∷ []) [] (All-push (λ l. StepInLimits n l.step) client line (All-head (ClientInLimits n) client [] calls) fits) (All-nil (ClientInLimits n)))
 added_within n (client ∷ next ∷ more) line few room calls fits = absurd (omega arith)
 
-client_fits : (seen : Seen) → Within seen → FormFits (Some (client_form seen))
+client_fits : (seen : Seen) → Within seen → FormFits (client_form seen)
 unfolding client_form
 client_fits seen w = λ place limits.
     let b = begun_within (length seen.displays) seen.clients limits in
-    record { few = w.few; sizes = w.sizes; pages = w.pages; clients = b.0; lines = b.1; calls = b.2 }
+    record { few = w.few; sizes = w.sizes; pages = w.pages; features = w.features; clients = b.0; lines = b.1; calls = b.2 }
 
 row_form_fits : (seen : Seen) → Within seen → (row : Option Row) → RowFits (length seen.displays) row → FormFits (option_map (step_form seen) row)
 unfolding step_form
@@ -183,24 +285,24 @@ row_form_fits seen w (Some row) fits = λ place limits.
     let room : nat_lt (sum_by length seen.clients) 100000 ≡ true = grind arith in
     let own : row.limits ≡ true = grind arith in
     let b = added_within (length seen.displays) seen.clients (record { number = seen.lines; step = row.step }) w.clients room w.calls (fits own) in
-    record { few = w.few; sizes = w.sizes; pages = w.pages; clients = b.0; lines = b.1; calls = b.2 }
+    record { few = w.few; sizes = w.sizes; pages = w.pages; features = w.features; clients = b.0; lines = b.1; calls = b.2 }
 
-called_fits : (seen : Seen) → Within seen → (words : List (List ℕ)) → FormFits (called_form seen words)
+called_fits : (seen : Seen) → Within seen → (word : List ℕ) (args : List (List ℕ)) → FormFits (called_form seen word args)
 unfolding called_form
-called_fits seen w words = row_form_fits seen w (step_row (length seen.displays) seen.defined words) (step_fits (length seen.displays) seen.defined words)
+called_fits seen w word args = row_form_fits seen w (row_of word (length seen.displays) seen.table args) (step_fits word (length seen.displays) seen.table args)
 
-worded_fits : (seen : Seen) → Within seen → (words : List (List ℕ)) → FormFits (worded_form seen words)
+worded_fits : (seen : Seen) → Within seen → (word : List ℕ) (args : List (List ℕ)) → FormFits (worded_form seen word args)
 unfolding worded_form
-worded_fits seen w [] = called_fits seen w []
-worded_fits seen w (word ∷ []) = either_form (bytes_eq word (codes "client")) (Some (client_form seen)) _ (client_fits seen w) (called_fits seen w (word ∷ []))
-worded_fits seen w (word ∷ a ∷ []) = either_form (bytes_eq word (codes "memory")) (Some (memory_form seen a)) _ (memory_fits seen w a) (called_fits seen w (word ∷ a ∷ []))
-worded_fits seen w (word ∷ a ∷ b ∷ []) = either_form (bytes_eq word (codes "display")) (Some (display_form seen a b)) _ (display_fits seen w a b) (called_fits seen w (word ∷ a ∷ b ∷ []))
-worded_fits seen w (word ∷ a ∷ b ∷ c ∷ more) = called_fits seen w (word ∷ a ∷ b ∷ c ∷ more)
+worded_fits seen w word args =
+    either_form (bytes_eq word (codes "display")) (two_args (display_form seen) args) _ (two_args_give FormFits tt (display_form seen) (display_fits seen w) args)
+    (either_form (bytes_eq word (codes "memory")) (one_arg (memory_form seen) args) _ (one_arg_gives FormFits tt (memory_form seen) (memory_fits seen w) args)
+    (either_form (bytes_eq word (codes "without")) (one_arg (without_form seen) args) _ (one_arg_gives FormFits tt (without_form seen) (without_fits seen w) args)
+    (either_form (bytes_eq word (codes "client")) (no_args (client_form seen) args) _ (no_args_give FormFits tt (client_form seen) (client_fits seen w) args) (called_fits seen w word args))))
 
 form_fits : (seen : Seen) → Within seen → (words : List (List ℕ)) → FormFits (form_of seen words)
 unfolding form_of skipped_form
 form_fits seen w [] = λ place limits. w
-form_fits seen w (word ∷ more) = either_form (slice_index word 0 == 35) (Some (skipped_form seen)) _ (λ place limits. w) (worded_fits seen w (word ∷ more))
+form_fits seen w (word ∷ args) = either_form (slice_index word 0 == 35) (Some (skipped_form seen)) _ (λ place limits. w) (worded_fits seen w word args)
 
 -- ---- the lines
 form_given : (seen : Seen) (form : Option Form) → fails true (λ f. f.place) form ≡ false → fails false (λ f. f.limits) form ≡ false → FormFits form → Within (form_gives seen form)
@@ -208,7 +310,7 @@ form_given seen None place limits fits = absurd (cc)
 form_given seen (Some form) place limits fits = fits (grind arith) (grind arith)
 
 one_within : (seen : Seen) → Within seen → Within (one_more seen)
-one_within seen w = record { few = w.few; sizes = w.sizes; pages = w.pages; clients = w.clients; lines = w.lines; calls = w.calls }
+one_within seen w = record { few = w.few; sizes = w.sizes; pages = w.pages; features = w.features; clients = w.clients; lines = w.lines; calls = w.calls }
 
 line_within : (seen : Seen) (line : List ℕ) → Within seen → ((kind : Kind) → has_fault kind seen line ≡ false) → Within (given seen line)
 unfolding line_form
@@ -219,7 +321,7 @@ lines_within seen [] w none = w
 lines_within seen (line ∷ more) w none = lines_within (given seen line) more (line_within seen line w none.0) none.1
 
 nothing_within : Within nothing_seen
-nothing_within = record { few = lit≤ tt; sizes = All-nil DisplayInLimits; pages = tt; clients = lit≤ tt; lines = lit≤ tt; calls = All-nil (ClientInLimits 0) }
+nothing_within = record { few = lit≤ tt; sizes = All-nil DisplayInLimits; pages = tt; features = λ feature. lit≤ tt; clients = lit≤ tt; lines = lit≤ tt; calls = All-nil (ClientInLimits 0) }
 
 pages_within : (pages : Option ℕ) → IfSome pages (IsBetween 1 16384) → IsBetween 1 16384 (unwrap_or pages 4096)
 pages_within None w = (lit≤ tt, lit≤ tt)
@@ -230,6 +332,7 @@ made_within seen w some = record {
   count = (omega arith, w.few);
   sizes = w.sizes;
   pages = pages_within seen.pages w.pages;
+  features = w.features;
   clients = w.clients;
   lines = w.lines;
   calls = w.calls;

@@ -5,10 +5,13 @@ use Rattle.std.specs.Bool.{⊤}
 use Rattle.std.specs.List.{before_first, after_first}
 use Rattle.vg_script.specs.declared.kind.Kind.{Kind}
 use Rattle.vg_script.specs.declared.kind.Kind.TheVariants.{Text}
-use Rattle.vg_script.specs.Words.{lines_of, words_of, is_text}
+use Rattle.vg_script.specs.declared.types.Feature.{Feature}
+use Rattle.vg_script.specs.Words.{lines_of, words_of, is_text, no_args, one_arg, two_args}
+use Rattle.vg_script.proofs.Counts.{no_args_give, one_arg_gives, two_args_give}
 use Rattle.vg_script.specs.Seen.{Seen}
-use Rattle.vg_script.specs.Rows.{Row, step_row}
-use Rattle.vg_script.specs.Grammar.{Form, display_form, memory_form, client_form, step_form, skipped_form, called_form, worded_form, form_of, line_form, one_more, settled, settled_form, after_line, fault_at, scan}
+use Rattle.vg_script.specs.Features.{feature_of}
+use Rattle.vg_script.specs.Rows.{Row, row_of}
+use Rattle.vg_script.specs.Grammar.{Form, display_form, memory_form, feature_form, without_form, client_form, step_form, skipped_form, called_form, worded_form, form_of, line_form, one_more, settled, settled_form, after_line, fault_at, scan}
 use Rattle.vg_script.proofs.Cuts.{lines_of-first}
 
 -- What a form gives has as many lines.
@@ -25,22 +28,43 @@ unfolding step_form
 row_has seen None = tt
 row_has seen (Some row) = refl
 
-called_has : (seen : Seen) (words : List (List ℕ)) → HasLines seen.lines (called_form seen words)
+called_has : (seen : Seen) (word : List ℕ) (args : List (List ℕ)) → HasLines seen.lines (called_form seen word args)
 unfolding called_form
-called_has seen words = row_has seen (step_row (length seen.displays) seen.defined words)
+called_has seen word args = row_has seen (row_of word (length seen.displays) seen.table args)
 
-worded_has : (seen : Seen) (words : List (List ℕ)) → HasLines seen.lines (worded_form seen words)
-unfolding worded_form display_form memory_form client_form
-worded_has seen [] = called_has seen []
-worded_has seen (word ∷ []) = either_has _ (bytes_eq word (codes "client")) (Some (client_form seen)) _ refl (called_has seen (word ∷ []))
-worded_has seen (word ∷ a ∷ []) = either_has _ (bytes_eq word (codes "memory")) (Some (memory_form seen a)) _ refl (called_has seen (word ∷ a ∷ []))
-worded_has seen (word ∷ a ∷ b ∷ []) = either_has _ (bytes_eq word (codes "display")) (Some (display_form seen a b)) _ refl (called_has seen (word ∷ a ∷ b ∷ []))
-worded_has seen (word ∷ a ∷ b ∷ c ∷ more) = called_has seen (word ∷ a ∷ b ∷ c ∷ more)
+display_has : (seen : Seen) (width height : List ℕ) → HasLines seen.lines (display_form seen width height)
+unfolding display_form
+display_has seen width height = refl
+
+memory_has : (seen : Seen) (pages : List ℕ) → HasLines seen.lines (memory_form seen pages)
+unfolding memory_form
+memory_has seen pages = refl
+
+feature_has : (seen : Seen) (feature : Option Feature) → HasLines seen.lines (option_map (feature_form seen) feature)
+unfolding feature_form
+feature_has seen None = tt
+feature_has seen (Some feature) = refl
+
+without_has : (seen : Seen) (feature : List ℕ) → HasLines seen.lines (without_form seen feature)
+unfolding without_form
+without_has seen feature = feature_has seen (feature_of feature)
+
+client_has : (seen : Seen) → HasLines seen.lines (client_form seen)
+unfolding client_form
+client_has seen = refl
+
+worded_has : (seen : Seen) (word : List ℕ) (args : List (List ℕ)) → HasLines seen.lines (worded_form seen word args)
+unfolding worded_form
+worded_has seen word args =
+    either_has _ (bytes_eq word (codes "display")) (two_args (display_form seen) args) _ (two_args_give (HasLines seen.lines) tt (display_form seen) (display_has seen) args)
+    (either_has _ (bytes_eq word (codes "memory")) (one_arg (memory_form seen) args) _ (one_arg_gives (HasLines seen.lines) tt (memory_form seen) (memory_has seen) args)
+    (either_has _ (bytes_eq word (codes "without")) (one_arg (without_form seen) args) _ (one_arg_gives (HasLines seen.lines) tt (without_form seen) (without_has seen) args)
+    (either_has _ (bytes_eq word (codes "client")) (no_args (client_form seen) args) _ (no_args_give (HasLines seen.lines) tt (client_form seen) (client_has seen) args) (called_has seen word args))))
 
 pub form_has : (seen : Seen) (words : List (List ℕ)) → HasLines seen.lines (form_of seen words)
 unfolding form_of skipped_form
 form_has seen [] = refl
-form_has seen (word ∷ more) = either_has _ (slice_index word 0 == 35) (Some (skipped_form seen)) _ refl (worded_has seen (word ∷ more))
+form_has seen (word ∷ args) = either_has _ (slice_index word 0 == 35) (Some (skipped_form seen)) _ refl (worded_has seen word args)
 
 settled_is : (form : Form) (next : Seen) → settled form ≡ Ok next → form.gives ≡ next
 settled_is form next h = grind arith

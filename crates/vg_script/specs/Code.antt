@@ -1,18 +1,20 @@
 -- How the code's values stand for those of the other modules here.
-use Rattle.std.specs.Prelude.{◌≡◌, ℕ, Bool, true, false, List, Result, Ok, Err}
+use Rattle.std.specs.Prelude.{◌≡◌, ℕ, Bool, true, false, List, Option, Some, None, Result, Ok, Err}
 use Rattle.std.specs.Bool.{⊤}
-use Rattle.std.specs.BTreeSet.{BTreeSet, contains_by}
+use Rattle.std.specs.BTreeMap.{BTreeMap, get_by}
 use Rattle.std.specs.Cmp.Lexicographic.{slice_cmp}
 use Rattle.std.specs.Ordering.{nat_cmp}
 use denote.Ref.{Bor}
 use Rattle.vg_script.specs.declared.kind.Kind.{Kind}
 use Rattle.vg_script.specs.declared.kind.Stop.{Stop}
 use Rattle.vg_script.specs.declared.kind.Stop.TheVariants.{Memory, Fault}
+use Rattle.vg_script.specs.declared.names.NameKind.{NameKind}
 use Rattle.vg_script.specs.declared.types.Step.{Step}
+use Rattle.vg_script.specs.Seen.{NameTable}
 
--- Whether a set of names has these bytes.
-abbrev pub defined : BTreeSet (Bor (List ℕ)) → List ℕ → Bool
-defined names q = contains_by (λ k. slice_cmp nat_cmp q k.now) names
+-- The table of the names that a map has.
+abbrev pub table_of : BTreeMap (Bor (List ℕ)) NameKind → NameTable
+table_of names q = get_by (λ k. slice_cmp nat_cmp q k.now) names
 
 -- A test was passed, or the answer is a fault of this kind.
 abbrev pub Passes : {X : Type 0} → Bool → Kind → Result X Kind → Type 0
@@ -24,9 +26,14 @@ abbrev pub Reads : {X : Type 0} → Bool → X → Kind → Result X Kind → Ty
 Reads test value kind (Ok x) = (test ≡ true) × (x ≡ value)
 Reads test value kind (Err k) = (k ≡ kind) × (test ≡ false)
 
+-- There is such a value and the answer is it, or there is none and the answer is a fault of this kind.
+abbrev pub Finds : {X : Type 0} → Option X → Kind → Result X Kind → Type 0
+Finds option kind (Ok x) = option ≡ Some x
+Finds option kind (Err k) = (k ≡ kind) × (option ≡ None)
+
 -- What the reading of a line gave, where memory may be wanting: the call and the names after it, or the
 -- kind of the fault.
-abbrev pub Agrees : (List ℕ → Bool) → Result Step Stop → Result (Step × (List ℕ → Bool)) Kind → Type 0
+abbrev pub Agrees : NameTable → Result Step Stop → Result (Step × NameTable) Kind → Type 0
 Agrees after (Ok step) judged = judged ≡ Ok (step, after)
 Agrees after (Err Memory) judged = ⊤
 Agrees after (Err (Fault kind)) judged = judged ≡ Err kind

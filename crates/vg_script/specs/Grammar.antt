@@ -2,11 +2,14 @@
 use Rattle.std.specs.Prelude.{◌≡◌, ℕ, ◌+◌, ◌==◌, ◌&&◌, not, nat_lt, Bool, true, List, [], ◌∷◌, ◌++◌, length, sum_by, Option, Some, None, is_none, option_map, unwrap_or, Result, Ok, Err, if◌then◌else◌, codes, bytes_eq, slice_index}
 use Rattle.vg_script.specs.declared.kind.Kind.{Kind}
 use Rattle.vg_script.specs.declared.kind.Kind.TheVariants.{Text, Word, Number, Limit, Name}
+use Rattle.std.specs.List.{list_any}
+use Rattle.vg_script.specs.declared.types.Feature.{Feature}
 use Rattle.vg_script.specs.declared.types.Script.{Script}
 use Rattle.vg_script.specs.declared.types.ScriptFault.{ScriptFault}
-use Rattle.vg_script.specs.Words.{lines_of, words_of, is_text, is_number, value, is_within}
+use Rattle.vg_script.specs.Words.{lines_of, words_of, is_text, is_number, value, is_within, no_args, one_arg, two_args}
 use Rattle.vg_script.specs.Seen.{Seen, no_names, add_line, nothing_seen}
-use Rattle.vg_script.specs.Rows.{Row, step_row}
+use Rattle.vg_script.specs.Rows.{Row, row_of}
+use Rattle.vg_script.specs.Features.{feature_of, is_same}
 
 pub record Form : Type 0 where
   -- the line may stand where it stands
@@ -21,34 +24,48 @@ pub record Form : Type 0 where
   pub gives : Seen
 
 -- display W H
-unfoldable pub display_form : Seen → (width height : List ℕ) → Form
-display_form seen width height = record {
-  place = is_none seen.pages && length seen.clients == 0;
+unfoldable pub display_form : Seen → (width height : List ℕ) → Option Form
+display_form seen width height = Some (record {
+  place = is_none seen.pages && length seen.without == 0 && length seen.clients == 0;
   numbers = is_number width && is_number height;
   limits = nat_lt (length seen.displays) 16 && is_within 1 640 width && is_within 1 480 height;
   names = true;
   gives = record seen { displays = seen.displays ++ (value width, value height) ∷ [] };
-}
+})
 
 -- memory P
-unfoldable pub memory_form : Seen → (pages : List ℕ) → Form
-memory_form seen pages = record {
-  place = not (length seen.displays == 0) && is_none seen.pages && length seen.clients == 0;
+unfoldable pub memory_form : Seen → (pages : List ℕ) → Option Form
+memory_form seen pages = Some (record {
+  place = not (length seen.displays == 0) && is_none seen.pages && length seen.without == 0 && length seen.clients == 0;
   numbers = is_number pages;
   limits = is_within 1 16384 pages;
   names = true;
   gives = record seen { pages = Some (value pages) };
+})
+
+-- Leaves out a feature.
+unfoldable pub feature_form : Seen → Feature → Form
+feature_form seen feature = record {
+  place = not (length seen.displays == 0) && length seen.clients == 0;
+  numbers = true;
+  limits = not (list_any (λ other. is_same other feature) seen.without);
+  names = true;
+  gives = record seen { without = seen.without ++ feature ∷ [] };
 }
 
+-- without F
+unfoldable pub without_form : Seen → (feature : List ℕ) → Option Form
+without_form seen feature = option_map (feature_form seen) (feature_of feature)
+
 -- client
-unfoldable pub client_form : Seen → Form
-client_form seen = record {
+unfoldable pub client_form : Seen → Option Form
+client_form seen = Some (record {
   place = not (length seen.displays == 0);
   numbers = true;
   limits = nat_lt (length seen.clients) 1;
   names = true;
-  gives = record seen { clients = seen.clients ++ [] ∷ []; defined = no_names };
-}
+  gives = record seen { clients = seen.clients ++ [] ∷ []; table = no_names };
+})
 
 -- A line of a client. All clients together have at most 100,000 of them.
 unfoldable pub step_form : Seen → Row → Form
@@ -59,7 +76,7 @@ step_form seen row = record {
   names = row.names;
   gives = record seen {
     clients = add_line seen.clients (record { number = seen.lines; step = row.step });
-    defined = row.after;
+    table = row.after;
   };
 }
 
@@ -73,25 +90,21 @@ skipped_form seen = record {
   gives = seen;
 }
 
-unfoldable pub called_form : Seen → List (List ℕ) → Option Form
-called_form seen words = option_map (step_form seen) (step_row (length seen.displays) seen.defined words)
+unfoldable pub called_form : Seen → List ℕ → List (List ℕ) → Option Form
+called_form seen word args = option_map (step_form seen) (row_of word (length seen.displays) seen.table args)
 
--- The line that these words are, if it is one: `seen` counts this line too.
-unfoldable pub worded_form : Seen → List (List ℕ) → Option Form
-worded_form seen (word ∷ []) =
-    if bytes_eq word (codes "client") then Some (client_form seen)
-    else called_form seen (word ∷ [])
-worded_form seen (word ∷ a ∷ []) =
-    if bytes_eq word (codes "memory") then Some (memory_form seen a)
-    else called_form seen (word ∷ a ∷ [])
-worded_form seen (word ∷ a ∷ b ∷ []) =
-    if bytes_eq word (codes "display") then Some (display_form seen a b)
-    else called_form seen (word ∷ a ∷ b ∷ [])
-worded_form seen words = called_form seen words
+-- The line of a word and its arguments, if it is one: `seen` counts this line too.
+unfoldable pub worded_form : Seen → List ℕ → List (List ℕ) → Option Form
+worded_form seen word args =
+    if bytes_eq word (codes "display") then two_args (display_form seen) args
+    else if bytes_eq word (codes "memory") then one_arg (memory_form seen) args
+    else if bytes_eq word (codes "without") then one_arg (without_form seen) args
+    else if bytes_eq word (codes "client") then no_args (client_form seen) args
+    else called_form seen word args
 
 unfoldable pub form_of : Seen → List (List ℕ) → Option Form
 form_of seen [] = Some (skipped_form seen)
-form_of seen (word ∷ more) = if slice_index word 0 == 35 then Some (skipped_form seen) else worded_form seen (word ∷ more)
+form_of seen (word ∷ args) = if slice_index word 0 == 35 then Some (skipped_form seen) else worded_form seen word args
 
 -- One line more.
 abbrev pub one_more : Seen → Seen
@@ -130,7 +143,7 @@ fault_at line kind = record { line = line; kind = kind_code kind }
 
 -- The script of a text that has no fault. It has 4,096 pages where it doesn't say how many.
 abbrev pub script_of : Seen → Script
-script_of seen = record { displays = seen.displays; pages = unwrap_or seen.pages 4096; clients = seen.clients }
+script_of seen = record { displays = seen.displays; pages = unwrap_or seen.pages 4096; without = seen.without; clients = seen.clients }
 
 abbrev pub go_on : ℕ → Result Seen Kind → (Seen → Result Script ScriptFault) → Result Script ScriptFault
 go_on line (Ok seen) more = more seen

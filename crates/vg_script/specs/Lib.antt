@@ -1,4 +1,5 @@
 pub mod Words
+pub mod Features
 pub mod Seen
 pub mod Rows
 pub mod Code

@@ -1,11 +1,15 @@
 -- The limits that each script keeps.
-use Rattle.std.specs.Prelude.{ℕ, ◌*◌, ◌==◌, ◌<◌, ◌≤◌, List, [], ◌∷◌, length, sum_by, All, IsTrue}
+use Rattle.std.specs.Prelude.{ℕ, ◌*◌, ◌==◌, ◌<◌, ◌≤◌, List, [], ◌∷◌, length, sum_by, count_by, All, IsTrue}
 use Rattle.std.specs.Bool.{⊤}
 use Rattle.std.specs.List.{list_any}
+use Rattle.vg_script.specs.declared.types.Feature.{Feature}
 use Rattle.vg_script.specs.declared.types.Line.{Line}
+use Rattle.vg_script.specs.declared.types.RawShape.{RawShape}
+use Rattle.vg_script.specs.declared.types.RawShape.TheVariants.{Pieces}
 use Rattle.vg_script.specs.declared.types.Script.{Script}
 use Rattle.vg_script.specs.declared.types.Step.{Step}
-use Rattle.vg_script.specs.declared.types.Step.TheVariants.{Info, Buffer, Store, Load, Send, Flush, Take, Drop, Hide, Show, Flip, Close}
+use Rattle.vg_script.specs.Features.{is_same}
+use Rattle.vg_script.specs.declared.types.Step.TheVariants.{Info, Edid, Buffer, Store, Load, Send, Flush, Take, Drop, Hide, Show, Flip, Uuid, Close, Raw}
 
 abbrev pub IsBetween : ℕ → ℕ → ℕ → Type 0
 IsBetween low high n = (low ≤ n) × (n ≤ high)
@@ -14,9 +18,15 @@ IsBetween low high n = (low ≤ n) × (n ≤ high)
 abbrev pub IsFormatCode : ℕ → Type 0
 IsFormatCode code = IsTrue (list_any (λ c. code == c) (1 ∷ 2 ∷ 3 ∷ 4 ∷ 67 ∷ 68 ∷ 121 ∷ 134 ∷ []))
 
+-- A request in pieces has 2 to 8 of them.
+abbrev pub ShapeInLimits : RawShape → Type 0
+ShapeInLimits (Pieces n) = IsBetween 2 8 n
+ShapeInLimits shape = ⊤
+
 -- The numbers of a call, where there are so many displays.
 abbrev pub StepInLimits : ℕ → Step → Type 0
 StepInLimits displays Info = ⊤
+StepInLimits displays (Edid scanout) = IsBetween 0 4294967295 scanout
 StepInLimits displays (Buffer name width height format) = IsBetween 1 640 width × IsBetween 1 480 height × IsFormatCode format
 StepInLimits displays (Store name offset bytes times) =
     IsBetween 0 1228799 offset × IsBetween 1 4096 (length bytes) × IsBetween 1 307200 times × (length bytes * times ≤ 1228800)
@@ -28,7 +38,9 @@ StepInLimits displays (Drop scanout) = scanout < displays
 StepInLimits displays (Hide scanout) = scanout < displays
 StepInLimits displays (Show scanout name area) = scanout < displays
 StepInLimits displays (Flip scanout name) = scanout < displays
+StepInLimits displays (Uuid name) = ⊤
 StepInLimits displays (Close name) = ⊤
+StepInLimits displays (Raw cursor room shape bytes) = IsBetween 0 8192 room × ShapeInLimits shape × IsBetween 0 4096 (length bytes)
 
 abbrev pub ClientInLimits : ℕ → List Line → Type 0
 ClientInLimits displays lines = All (λ line. StepInLimits displays line.step) lines
@@ -40,6 +52,7 @@ pub record ScriptInLimits (script : Script) : Type 0 where
   pub count : IsBetween 1 16 (length script.displays)
   pub sizes : All DisplayInLimits script.displays
   pub pages : IsBetween 1 16384 script.pages
+  pub features : (feature : Feature) → count_by (λ other. is_same other feature) script.without ≤ 1
   pub clients : length script.clients ≤ 1
   pub lines : sum_by length script.clients ≤ 100000
   pub calls : All (ClientInLimits (length script.displays)) script.clients

@@ -9,7 +9,7 @@ use Rattle.vg_script.specs.declared.reader.Reader.{Reader}
 use Rattle.vg_script.specs.declared.types.Line.{Line}
 use Rattle.vg_script.specs.declared.types.Step.{Step}
 use Rattle.vg_script.specs.Seen.{Seen}
-use Rattle.vg_script.specs.Code.{defined}
+use Rattle.vg_script.specs.Code.{table_of}
 
 -- The lines of the client, if it has begun.
 abbrev pub clients_of : {A : Type 0} → Option (Vec Line A) → List (List Line)
@@ -17,7 +17,7 @@ clients_of None = []
 clients_of (Some lines) = lines.items ∷ []
 
 abbrev pub seen : Reader → Seen
-seen reader = record { lines = reader.lines; displays = reader.displays.items; pages = reader.pages; clients = clients_of reader.client; defined = defined reader.names }
+seen reader = record { lines = reader.lines; displays = reader.displays.items; pages = reader.pages; without = reader.without.items; clients = clients_of reader.client; table = table_of reader.names }
 
 -- A line was read, where memory may be wanting: what has been seen after it, or the kind of the fault.
 abbrev pub Goes : Seen → Result (Unit {0}) Stop → Result Seen Kind → Type 0

@@ -1,16 +1,19 @@
--- The lines of a client, one definition for each word: what has to hold of how its numbers are spelled, of
--- the limits and of the names, and which call it is. `displays` is how many displays there are, and
--- `defined` says whether a name is defined before the line.
-use Rattle.std.specs.Prelude.{ℕ, ◌*◌, ◌/◌, ◌==◌, ◌&&◌, not, nat_lt, nat_le, Bool, true, List, [], ◌∷◌, length, Option, Some, None, Result, Ok, Err, if◌then◌else◌, codes, bytes_eq}
+-- The lines of a client, one row for each word: what has to hold of how its numbers are spelled, of the limits
+-- and of the names, and which call it is. `displays` is how many displays there are, and `table` has the names
+-- that are defined before the line. A word or a count of arguments that the grammar doesn't know has no row.
+use Rattle.std.specs.Prelude.{ℕ, ◌*◌, ◌/◌, ◌==◌, ◌&&◌, not, nat_lt, nat_le, Bool, true, false, is_none, List, [], ◌∷◌, length, Option, Some, None, Result, Ok, Err, if◌then◌else◌, codes, bytes_eq}
 use Rattle.std.specs.List.{list_any}
 use Rattle.std.specs.Int.{is_in_range}
 use Rattle.vg_script.specs.declared.kind.Kind.{Kind}
 use Rattle.vg_script.specs.declared.kind.Kind.TheVariants.{Word, Number, Limit, Name}
 use Rattle.vg_script.specs.declared.types.Area.{Area}
 use Rattle.vg_script.specs.declared.types.Step.{Step}
-use Rattle.vg_script.specs.declared.types.Step.TheVariants.{Info, Buffer, Store, Load, Send, Flush, Take, Drop, Hide, Show, Flip, Close}
-use Rattle.vg_script.specs.Words.{is_number, value, is_within, is_hex, hex_bytes, is_name}
-use Rattle.vg_script.specs.Seen.{with_name, without_name}
+use Rattle.vg_script.specs.declared.names.NameKind.TheVariants as kinds
+use Rattle.vg_script.specs.declared.types.RawShape.{RawShape}
+use Rattle.vg_script.specs.declared.types.RawShape.TheVariants.{Plain, Pieces, Indirect, Mixed, Index, Loop, Nested, NextIndirect, TableLength, Order, Range}
+use Rattle.vg_script.specs.declared.types.Step.TheVariants.{Info, Edid, Buffer, Store, Load, Send, Flush, Take, Drop, Hide, Show, Flip, Uuid, Close, Raw}
+use Rattle.vg_script.specs.Words.{is_number, value, is_within, is_hex, hex_bytes, is_hex_or_none, bytes_or_none, is_name, no_args, one_arg, two_args, three_args, four_args, five_args, six_args}
+use Rattle.vg_script.specs.Seen.{NameTable, with_name, without_name, is_kind}
 
 pub record Row : Type 0 where
   -- each number and HEX is well spelled
@@ -22,7 +25,7 @@ pub record Row : Type 0 where
   -- the call
   pub step : Step
   -- which names are defined after it
-  pub after : List ℕ → Bool
+  pub after : NameTable
 
 -- Any `u32`.
 abbrev pub is_any : List ℕ → Bool
@@ -47,172 +50,212 @@ abbrev pub area_of : (x y width height : List ℕ) → Area
 area_of x y width height = record { x = value x; y = value y; width = value width; height = value height }
 
 -- info
-unfoldable pub info_row : (List ℕ → Bool) → Row
-info_row defined = record {
+unfoldable pub info_row : NameTable → Option Row
+info_row table = Some (record {
   numbers = true;
   limits = true;
   names = true;
   step = Info;
-  after = defined;
-}
+  after = table;
+})
+
+-- edid S
+unfoldable pub edid_row : NameTable → (scanout : List ℕ) → Option Row
+edid_row table scanout = Some (record {
+  numbers = is_number scanout;
+  limits = is_any scanout;
+  names = true;
+  step = Edid (value scanout);
+  after = table;
+})
 
 -- buffer A W H F
-unfoldable pub buffer_row : (List ℕ → Bool) → (name width height format : List ℕ) → Row
-buffer_row defined name width height format = record {
+unfoldable pub buffer_row : NameTable → (name width height format : List ℕ) → Option Row
+buffer_row table name width height format = Some (record {
   numbers = is_number width && is_number height && is_number format;
   limits = is_within 1 640 width && is_within 1 480 height && is_format format;
-  names = is_name name && not (defined name);
+  names = is_name name && is_none (table name);
   step = Buffer name (value width) (value height) (value format);
-  after = with_name name defined;
-}
+  after = with_name name kinds.Buffer table;
+})
 
 -- store A OFFSET HEX TIMES
-unfoldable pub store_row : (List ℕ → Bool) → (name offset hex times : List ℕ) → Row
-store_row defined name offset hex times = record {
+unfoldable pub store_row : NameTable → (name offset hex times : List ℕ) → Option Row
+store_row table name offset hex times = Some (record {
   numbers = is_number offset && is_hex hex && is_number times;
   limits = is_within 0 1228799 offset && is_in_range 1 4096 (length hex / 2) && is_within 1 307200 times
       && nat_le (length hex / 2 * value times) 1228800;
-  names = defined name;
+  names = is_kind kinds.Buffer (table name);
   step = Store name (value offset) (hex_bytes hex) (value times);
-  after = defined;
-}
+  after = table;
+})
 
 -- load A OFFSET LEN
-unfoldable pub load_row : (List ℕ → Bool) → (name offset size : List ℕ) → Row
-load_row defined name offset size = record {
+unfoldable pub load_row : NameTable → (name offset size : List ℕ) → Option Row
+load_row table name offset size = Some (record {
   numbers = is_number offset && is_number size;
   limits = is_within 0 1228799 offset && is_within 1 1024 size;
-  names = defined name;
+  names = is_kind kinds.Buffer (table name);
   step = Load name (value offset) (value size);
-  after = defined;
-}
+  after = table;
+})
 
 -- send A X Y W H
-unfoldable pub send_row : (List ℕ → Bool) → (name x y width height : List ℕ) → Row
-send_row defined name x y width height = record {
+unfoldable pub send_row : NameTable → (name x y width height : List ℕ) → Option Row
+send_row table name x y width height = Some (record {
   numbers = are_numbers x y width height;
   limits = are_any x y width height;
-  names = defined name;
+  names = is_kind kinds.Buffer (table name);
   step = Send name (area_of x y width height);
-  after = defined;
-}
+  after = table;
+})
 
 -- flush A X Y W H
-unfoldable pub flush_row : (List ℕ → Bool) → (name x y width height : List ℕ) → Row
-flush_row defined name x y width height = record {
+unfoldable pub flush_row : NameTable → (name x y width height : List ℕ) → Option Row
+flush_row table name x y width height = Some (record {
   numbers = are_numbers x y width height;
   limits = are_any x y width height;
-  names = defined name;
+  names = is_kind kinds.Buffer (table name);
   step = Flush name (area_of x y width height);
-  after = defined;
-}
+  after = table;
+})
 
 -- take S
-unfoldable pub take_row : ℕ → (List ℕ → Bool) → (scanout : List ℕ) → Row
-take_row displays defined scanout = record {
+unfoldable pub take_row : ℕ → NameTable → (scanout : List ℕ) → Option Row
+take_row displays table scanout = Some (record {
   numbers = is_number scanout;
   limits = is_scanout displays scanout;
   names = true;
   step = Take (value scanout);
-  after = defined;
-}
+  after = table;
+})
 
 -- drop S
-unfoldable pub drop_row : ℕ → (List ℕ → Bool) → (scanout : List ℕ) → Row
-drop_row displays defined scanout = record {
+unfoldable pub drop_row : ℕ → NameTable → (scanout : List ℕ) → Option Row
+drop_row displays table scanout = Some (record {
   numbers = is_number scanout;
   limits = is_scanout displays scanout;
   names = true;
   step = Drop (value scanout);
-  after = defined;
-}
+  after = table;
+})
 
 -- hide S
-unfoldable pub hide_row : ℕ → (List ℕ → Bool) → (scanout : List ℕ) → Row
-hide_row displays defined scanout = record {
+unfoldable pub hide_row : ℕ → NameTable → (scanout : List ℕ) → Option Row
+hide_row displays table scanout = Some (record {
   numbers = is_number scanout;
   limits = is_scanout displays scanout;
   names = true;
   step = Hide (value scanout);
-  after = defined;
-}
+  after = table;
+})
 
 -- show S A X Y W H
-unfoldable pub show_row : ℕ → (List ℕ → Bool) → (scanout name x y width height : List ℕ) → Row
-show_row displays defined scanout name x y width height = record {
+unfoldable pub show_row : ℕ → NameTable → (scanout name x y width height : List ℕ) → Option Row
+show_row displays table scanout name x y width height = Some (record {
   numbers = is_number scanout && are_numbers x y width height;
   limits = is_scanout displays scanout && are_any x y width height;
-  names = defined name;
+  names = is_kind kinds.Buffer (table name);
   step = Show (value scanout) name (area_of x y width height);
-  after = defined;
-}
+  after = table;
+})
 
 -- flip S A
-unfoldable pub flip_row : ℕ → (List ℕ → Bool) → (scanout name : List ℕ) → Row
-flip_row displays defined scanout name = record {
+unfoldable pub flip_row : ℕ → NameTable → (scanout name : List ℕ) → Option Row
+flip_row displays table scanout name = Some (record {
   numbers = is_number scanout;
   limits = is_scanout displays scanout;
-  names = defined name;
+  names = is_kind kinds.Buffer (table name);
   step = Flip (value scanout) name;
-  after = defined;
-}
+  after = table;
+})
 
--- close A
-unfoldable pub close_row : (List ℕ → Bool) → (name : List ℕ) → Row
-close_row defined name = record {
+-- uuid A
+unfoldable pub uuid_row : NameTable → (name : List ℕ) → Option Row
+uuid_row table name = Some (record {
   numbers = true;
   limits = true;
-  names = defined name;
+  names = is_kind kinds.Buffer (table name);
+  step = Uuid name;
+  after = table;
+})
+
+-- close A
+unfoldable pub close_row : NameTable → (name : List ℕ) → Option Row
+close_row table name = Some (record {
+  numbers = true;
+  limits = true;
+  names = is_kind kinds.Buffer (table name);
   step = Close name;
-  after = without_name name defined;
-}
+  after = without_name name table;
+})
 
--- The lines of a client of one word to seven, by the first of them.
-unfoldable pub one_word : (List ℕ → Bool) → (word : List ℕ) → Option Row
-one_word defined word = if bytes_eq word (codes "info") then Some (info_row defined) else None
-
-unfoldable pub two_words : ℕ → (List ℕ → Bool) → (word a : List ℕ) → Option Row
-two_words displays defined word a =
-    if bytes_eq word (codes "take") then Some (take_row displays defined a)
-    else if bytes_eq word (codes "drop") then Some (drop_row displays defined a)
-    else if bytes_eq word (codes "hide") then Some (hide_row displays defined a)
-    else if bytes_eq word (codes "close") then Some (close_row defined a)
+-- Which queue `control` and `cursor` are: whether it is that of the cursor.
+unfoldable pub queue_of : List ℕ → Option Bool
+queue_of word =
+    if bytes_eq word (codes "control") then Some false
+    else if bytes_eq word (codes "cursor") then Some true
     else None
 
-unfoldable pub three_words : ℕ → (List ℕ → Bool) → (word a b : List ℕ) → Option Row
-three_words displays defined word a b = if bytes_eq word (codes "flip") then Some (flip_row displays defined a b) else None
-
-unfoldable pub four_words : (List ℕ → Bool) → (word a b c : List ℕ) → Option Row
-four_words defined word a b c = if bytes_eq word (codes "load") then Some (load_row defined a b c) else None
-
-unfoldable pub five_words : (List ℕ → Bool) → (word a b c d : List ℕ) → Option Row
-five_words defined word a b c d =
-    if bytes_eq word (codes "buffer") then Some (buffer_row defined a b c d)
-    else if bytes_eq word (codes "store") then Some (store_row defined a b c d)
+-- The shape that a word spells.
+unfoldable pub shape_of : List ℕ → Option RawShape
+shape_of word =
+    if bytes_eq word (codes "plain") then Some Plain
+    else if bytes_eq word (codes "pieces2") then Some (Pieces 2)
+    else if bytes_eq word (codes "pieces3") then Some (Pieces 3)
+    else if bytes_eq word (codes "pieces4") then Some (Pieces 4)
+    else if bytes_eq word (codes "pieces5") then Some (Pieces 5)
+    else if bytes_eq word (codes "pieces6") then Some (Pieces 6)
+    else if bytes_eq word (codes "pieces7") then Some (Pieces 7)
+    else if bytes_eq word (codes "pieces8") then Some (Pieces 8)
+    else if bytes_eq word (codes "indirect") then Some Indirect
+    else if bytes_eq word (codes "mixed") then Some Mixed
+    else if bytes_eq word (codes "index") then Some Index
+    else if bytes_eq word (codes "loop") then Some Loop
+    else if bytes_eq word (codes "nested") then Some Nested
+    else if bytes_eq word (codes "nextindirect") then Some NextIndirect
+    else if bytes_eq word (codes "tablelength") then Some TableLength
+    else if bytes_eq word (codes "order") then Some Order
+    else if bytes_eq word (codes "range") then Some Range
     else None
 
-unfoldable pub six_words : (List ℕ → Bool) → (word a b c d e : List ℕ) → Option Row
-six_words defined word a b c d e =
-    if bytes_eq word (codes "send") then Some (send_row defined a b c d e)
-    else if bytes_eq word (codes "flush") then Some (flush_row defined a b c d e)
+-- A request on that queue in that shape, if there are such.
+unfoldable pub request_row : NameTable → Option Bool → Option RawShape → (room hex : List ℕ) → Option Row
+request_row table (Some cursor) (Some shape) room hex = Some (record {
+  numbers = is_number room && is_hex_or_none hex;
+  limits = is_within 0 8192 room && nat_le (length hex / 2) 4096;
+  names = true;
+  step = Raw cursor (value room) shape (bytes_or_none hex);
+  after = table;
+})
+request_row table queue shape room hex = None
+
+-- raw Q ROOM SHAPE HEX
+unfoldable pub raw_row : NameTable → (queue room shape hex : List ℕ) → Option Row
+raw_row table queue room shape hex = request_row table (queue_of queue) (shape_of shape) room hex
+
+-- The row of a line, by its first word and the arguments behind it.
+unfoldable pub row_of : List ℕ → ℕ → NameTable → List (List ℕ) → Option Row
+row_of word displays table args =
+    if bytes_eq word (codes "info") then no_args (info_row table) args
+    else if bytes_eq word (codes "edid") then one_arg (edid_row table) args
+    else if bytes_eq word (codes "buffer") then four_args (buffer_row table) args
+    else if bytes_eq word (codes "store") then four_args (store_row table) args
+    else if bytes_eq word (codes "load") then three_args (load_row table) args
+    else if bytes_eq word (codes "send") then five_args (send_row table) args
+    else if bytes_eq word (codes "flush") then five_args (flush_row table) args
+    else if bytes_eq word (codes "take") then one_arg (take_row displays table) args
+    else if bytes_eq word (codes "drop") then one_arg (drop_row displays table) args
+    else if bytes_eq word (codes "hide") then one_arg (hide_row displays table) args
+    else if bytes_eq word (codes "show") then six_args (show_row displays table) args
+    else if bytes_eq word (codes "flip") then two_args (flip_row displays table) args
+    else if bytes_eq word (codes "uuid") then one_arg (uuid_row table) args
+    else if bytes_eq word (codes "close") then one_arg (close_row table) args
+    else if bytes_eq word (codes "raw") then four_args (raw_row table) args
     else None
-
-unfoldable pub seven_words : ℕ → (List ℕ → Bool) → (word a b c d e f : List ℕ) → Option Row
-seven_words displays defined word a b c d e f = if bytes_eq word (codes "show") then Some (show_row displays defined a b c d e f) else None
-
--- The line of a client that these words are, if it is one.
-unfoldable pub step_row : ℕ → (List ℕ → Bool) → List (List ℕ) → Option Row
-step_row displays defined (word ∷ []) = one_word defined word
-step_row displays defined (word ∷ a ∷ []) = two_words displays defined word a
-step_row displays defined (word ∷ a ∷ b ∷ []) = three_words displays defined word a b
-step_row displays defined (word ∷ a ∷ b ∷ c ∷ []) = four_words defined word a b c
-step_row displays defined (word ∷ a ∷ b ∷ c ∷ d ∷ []) = five_words defined word a b c d
-step_row displays defined (word ∷ a ∷ b ∷ c ∷ d ∷ e ∷ []) = six_words defined word a b c d e
-step_row displays defined (word ∷ a ∷ b ∷ c ∷ d ∷ e ∷ f ∷ []) = seven_words displays defined word a b c d e f
-step_row displays defined words = None
 
 -- A row's call and the names after it, or the least kind of its faults.
-abbrev pub judged : Row → Result (Step × (List ℕ → Bool)) Kind
+abbrev pub judged : Row → Result (Step × NameTable) Kind
 judged row =
     if not row.numbers then Err Number
     else if not row.limits then Err Limit
@@ -220,6 +263,6 @@ judged row =
     else Ok (row.step, row.after)
 
 -- The same where there may be no row, which is a fault of a word.
-abbrev pub judged_row : Option Row → Result (Step × (List ℕ → Bool)) Kind
+abbrev pub judged_row : Option Row → Result (Step × NameTable) Kind
 judged_row None = Err Word
 judged_row (Some row) = judged row

@@ -1,6 +1,13 @@
 -- What the lines before a line have given.
-use Rattle.std.specs.Prelude.{ℕ, ◌&&◌, ◌||◌, not, Bool, false, List, [], ◌∷◌, ◌++◌, Option, None, bytes_eq}
+use Rattle.std.specs.Prelude.{ℕ, Bool, true, false, List, [], ◌∷◌, ◌++◌, Option, Some, None, if◌then◌else◌, bytes_eq}
+use Rattle.vg_script.specs.declared.names.NameKind.{NameKind}
+use Rattle.vg_script.specs.declared.names.NameKind.TheVariants.{Buffer}
+use Rattle.vg_script.specs.declared.types.Feature.{Feature}
 use Rattle.vg_script.specs.declared.types.Line.{Line}
+
+-- Which names are defined, and of what each is the name.
+abbrev pub NameTable : Type 0
+NameTable = List ℕ → Option NameKind
 
 pub record Seen : Type 0 where
   -- how many lines there were
@@ -9,20 +16,27 @@ pub record Seen : Type 0 where
   pub displays : List (ℕ × ℕ)
   -- how many pages the `memory` line asks for
   pub pages : Option ℕ
+  -- the features that are left out
+  pub without : List Feature
   -- the lines of each client
   pub clients : List (List Line)
-  -- whether a name is defined in the last client
-  pub defined : List ℕ → Bool
+  -- the names that are defined in the last client
+  pub table : NameTable
 
-abbrev pub no_names : List ℕ → Bool
-no_names q = false
+abbrev pub no_names : NameTable
+no_names q = None
 
--- The names with one more, and without one.
-abbrev pub with_name : List ℕ → (List ℕ → Bool) → List ℕ → Bool
-with_name name defined q = bytes_eq name q || defined q
+-- A table with one name more, and without one.
+abbrev pub with_name : List ℕ → NameKind → NameTable → NameTable
+with_name name kind table q = if bytes_eq name q then Some kind else table q
 
-abbrev pub without_name : List ℕ → (List ℕ → Bool) → List ℕ → Bool
-without_name name defined q = not (bytes_eq name q) && defined q
+abbrev pub without_name : List ℕ → NameTable → NameTable
+without_name name table q = if bytes_eq name q then None else table q
+
+-- Whether this is a name of that kind.
+abbrev pub is_kind : NameKind → Option NameKind → Bool
+is_kind Buffer (Some Buffer) = true
+is_kind kind None = false
 
 -- The clients with one more line of the last.
 abbrev pub add_line : List (List Line) → Line → List (List Line)
@@ -32,4 +46,4 @@ add_line (client ∷ next ∷ more) line = client ∷ add_line (next ∷ more) l
 
 -- Before the first line.
 abbrev pub nothing_seen : Seen
-nothing_seen = record { lines = 0; displays = []; pages = None; clients = []; defined = no_names }
+nothing_seen = record { lines = 0; displays = []; pages = None; without = []; clients = []; table = no_names }

@@ -1,5 +1,5 @@
 -- A text's lines, a line's words, and how numbers, HEX and names are spelled.
-use Rattle.std.specs.Prelude.{ℕ, ◌+◌, ◌*◌, ◌%◌, ◌==◌, ◌&&◌, ◌||◌, not, nat_lt, nat_le, Bool, if◌then◌else◌, List, [], ◌∷◌, length, filter, slice_index}
+use Rattle.std.specs.Prelude.{ℕ, ◌+◌, ◌*◌, ◌%◌, ◌==◌, ◌&&◌, ◌||◌, not, nat_lt, nat_le, Bool, if◌then◌else◌, List, [], ◌∷◌, length, filter, slice_index, bytes_eq, codes, Option, None}
 use Rattle.std.specs.Char.{is_ascii_digit, is_ascii_alphabetic, is_ascii_alphanumeric, digit_value}
 use Rattle.std.specs.Int.{is_in_range}
 use Rattle.std.specs.List.{list_all, slice_split}
@@ -49,6 +49,42 @@ hex_bytes [] = []
 hex_bytes (digit ∷ []) = []
 hex_bytes (high ∷ low ∷ more) = (digit_value high * 16 + digit_value low) ∷ hex_bytes more
 
+-- HEX, or `-` where there are no bytes.
+abbrev pub is_hex_or_none : List ℕ → Bool
+is_hex_or_none word = bytes_eq word (codes "-") || is_hex word
+
+abbrev pub bytes_or_none : List ℕ → List ℕ
+bytes_or_none word = if bytes_eq word (codes "-") then [] else hex_bytes word
+
 -- A name is a letter, and at most 15 letters or digits behind it.
 abbrev pub is_name : List ℕ → Bool
 is_name word = is_ascii_alphabetic (slice_index word 0) && list_all is_ascii_alphanumeric word && nat_le (length word) 16
+
+-- What so many arguments give, and nothing where there are others.
+abbrev pub no_args : {X : Type 0} → Option X → List (List ℕ) → Option X
+no_args given [] = given
+no_args given args = None
+
+abbrev pub one_arg : {X : Type 0} → ((a : List ℕ) → Option X) → List (List ℕ) → Option X
+one_arg given (a ∷ []) = given a
+one_arg given args = None
+
+abbrev pub two_args : {X : Type 0} → ((a b : List ℕ) → Option X) → List (List ℕ) → Option X
+two_args given (a ∷ b ∷ []) = given a b
+two_args given args = None
+
+abbrev pub three_args : {X : Type 0} → ((a b c : List ℕ) → Option X) → List (List ℕ) → Option X
+three_args given (a ∷ b ∷ c ∷ []) = given a b c
+three_args given args = None
+
+abbrev pub four_args : {X : Type 0} → ((a b c d : List ℕ) → Option X) → List (List ℕ) → Option X
+four_args given (a ∷ b ∷ c ∷ d ∷ []) = given a b c d
+four_args given args = None
+
+abbrev pub five_args : {X : Type 0} → ((a b c d e : List ℕ) → Option X) → List (List ℕ) → Option X
+five_args given (a ∷ b ∷ c ∷ d ∷ e ∷ []) = given a b c d e
+five_args given args = None
+
+abbrev pub six_args : {X : Type 0} → ((a b c d e f : List ℕ) → Option X) → List (List ℕ) → Option X
+six_args given (a ∷ b ∷ c ∷ d ∷ e ∷ f ∷ []) = given a b c d e f
+six_args given args = None

@@ -3,7 +3,7 @@
 ghost use Rattle.std.specs.Prelude.{◌≡◌, ◌≤◌, ◌∷◌, [], map, length, IfOk, OnOk, ◌++◌};
 ghost use Rattle.vg_script.specs.Seen.{Seen};
 ghost use Rattle.vg_script.specs.Grammar.{called_form, settled_form};
-ghost use Rattle.vg_script.specs.Code.{defined};
+ghost use Rattle.vg_script.specs.Code.{table_of};
 ghost use Rattle.vg_script.specs.Reading.{Goes, past_limit, clients_of};
 
 use crate::kind::{Kind, Stop};
@@ -16,22 +16,23 @@ use vg_list::Seq;
 /// How many lines all clients may have.
 const MOST_LINES: usize = 100_000;
 
-/// Adds the line that these words are.
+/// Adds the line of a word and its arguments.
 pub(crate) fn add_step<'a>(
     alloc: Global,
     lines: &mut Vec<Line>,
     names: &mut Names<'a>,
     displays: usize,
     number: u32,
-    words: &[&'a [u8]],
+    word: &[u8],
+    args: &[&'a [u8]],
 ) -> Result<(), Stop>
     requires { displays ≤ 16 }
     ensures { (seen : Seen) → seen.clients ≡ lines.old.items ∷ [] → seen.lines ≡ number
-        → length seen.displays ≡ displays → seen.defined ≡ defined names.old
-        → Goes (record seen { clients = lines.new.items ∷ []; defined = defined names.new }) result
-        (settled_form (called_form seen (map (λ word. word.now) words.now))) }
+        → length seen.displays ≡ displays → seen.table ≡ table_of names.old
+        → Goes (record seen { clients = lines.new.items ∷ []; table = table_of names.new }) result
+        (settled_form (called_form seen word.now (map (λ arg. arg.now) args.now))) }
 {
-    let read = step_of(alloc, names, displays, words);
+    let read = step_of(alloc, names, displays, word, args);
     if lines.len() >= MOST_LINES {
         return Err(past_limit(read));
     }

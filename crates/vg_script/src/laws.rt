@@ -1,6 +1,7 @@
 //! What holds of the grammar itself: each function here does nothing, and its contract is a law.
 
-ghost use Rattle.std.specs.Prelude.{◌≡◌, ◌⊎◌, ◌↔◌, ℕ, List, true};
+ghost use Rattle.std.specs.Prelude.{◌≡◌, ◌⊎◌, ◌↔◌, ℕ, List, Some};
+ghost use Rattle.vg_script.specs.declared.names.NameKind.TheVariants as kinds;
 ghost use Rattle.vg_script.specs.declared.types.Script.{Script};
 ghost use Rattle.vg_script.specs.Words.{lines_of};
 ghost use Rattle.vg_script.specs.Grammar.{Parses, Faulty};
@@ -34,9 +35,9 @@ pub fn script_limits()
     ensures { (bytes : List ℕ) (script : Script) → Parses bytes script → ScriptInLimits script }
 {}
 
-/// After lines without a fault a name is defined exactly where some line is `buffer` and this name, and no line
+/// After lines without a fault a name is that of a buffer exactly where some line is `buffer` and this name, and no line
 /// behind it is `close` and this name.
 pub fn defined_names()
     ensures { (lines : List (List ℕ)) (name : List ℕ) → AreFaultless nothing_seen lines
-        → (((seen_after nothing_seen lines).defined name ≡ true) ↔ IsDefinedBy lines name) }
+        → (((seen_after nothing_seen lines).table name ≡ Some kinds.Buffer) ↔ IsDefinedBy lines name) }
 {}

@@ -1,7 +1,9 @@
 //! The text of a script, and the script that it says or its first fault.
 #![tactic(auto)]
 
+mod args;
 mod calls;
+mod features;
 mod kind;
 mod laws;
 mod names;
@@ -14,5 +16,6 @@ mod words;
 
 pub use kind::Kind;
 pub use laws::{defined_names, first_fault, script_limits, script_or_fault};
+pub use names::NameKind;
 pub use text::parse;
-pub use types::{Area, Line, Script, ScriptFault, Step};
+pub use types::{Area, Feature, Line, RawShape, Script, ScriptFault, Step};

@@ -2,14 +2,16 @@
 
 ghost use Rattle.std.specs.Prelude.{◌≤◌, length};
 
+use crate::args::with_args;
 use crate::calls::{add_step, clients_of};
+use crate::features::{feature_of, is_among};
 use crate::kind::{Kind, Stop};
 use crate::names::{Names, forget};
 use crate::rows::spelled;
-use crate::types::{Line, Script, ScriptFault};
+use crate::types::{Feature, Line, Script, ScriptFault};
 use crate::words::{is_text, limited, words_of};
 use std::alloc::{AllocError, Global};
-use std::collections::BTreeSet;
+use std::collections::BTreeMap;
 use vg_list::Seq;
 
 /// What the lines so far have given.
@@ -18,6 +20,7 @@ pub(crate) struct Reader<'a> {
     lines: u32,
     displays: Vec<(u32, u32)>,
     pages: Option<u32>,
+    without: Vec<Feature>,
     client: Option<Vec<Line>>,
     names: Names<'a>,
     ghost few: { length displays.items ≤ 16 },
@@ -26,7 +29,7 @@ pub(crate) struct Reader<'a> {
 impl<'a> Reader<'a> {
     ghost use Rattle.std.specs.Prelude.{◌≡◌, ◌+◌, ◌-◌, ◌<◌, ◌^◌, [], ◌∷◌, map, IfOk};
     ghost use Rattle.vg_script.specs.Seen.{Seen, nothing_seen};
-    ghost use Rattle.vg_script.specs.Grammar.{display_form, memory_form, client_form, called_form, worded_form, form_of, settled, settled_form, after_line, scan};
+    ghost use Rattle.vg_script.specs.Grammar.{display_form, memory_form, without_form, client_form, called_form, worded_form, form_of, feature_form, settled, settled_form, after_line, scan};
     ghost use Rattle.vg_script.specs.Reading.{seen, Goes};
 
     pub(crate) fn new(alloc: Global) -> Reader<'a>
@@ -36,8 +39,9 @@ impl<'a> Reader<'a> {
             lines: 0,
             displays: Vec::new(alloc),
             pages: None,
+            without: Vec::new(alloc),
             client: None,
-            names: BTreeSet::new(alloc),
+            names: BTreeMap::new(alloc),
         }
     }
 
@@ -67,48 +71,41 @@ impl<'a> Reader<'a> {
         ensures { Goes (seen self.new) result
             (settled_form (form_of (seen self.old) (map (λ word. word.now) words.now))) }
     {
-        let [first, ..] = words else {
+        let [word, args @ ..] = words else {
             return Ok(());
         };
-        if first.first() == Some(&b'#') {
+        if word.first() == Some(&b'#') {
             return Ok(());
         }
-        self.read_form(alloc, words)
+        self.read_form(alloc, word, args)
     }
 
     #[tactic(auto, unfolding(crate::specs::Grammar::worded_form))]
-    fn read_form(&mut self, alloc: Global, words: &[&'a [u8]]) -> Result<(), Stop>
+    fn read_form(&mut self, alloc: Global, word: &[u8], args: &[&'a [u8]]) -> Result<(), Stop>
         ensures { Goes (seen self.new) result
-            (settled_form (worded_form (seen self.old) (map (λ word. word.now) words.now))) }
+            (settled_form (worded_form (seen self.old) word.now (map (λ arg. arg.now) args.now))) }
     {
-        match words {
-            [word] => {
-                if *word == b"client".as_slice() {
-                    return self.client(alloc);
-                }
-                self.step(alloc, words)
-            }
-            [word, pages] => {
-                if *word == b"memory".as_slice() {
-                    return self.memory(pages);
-                }
-                self.step(alloc, words)
-            }
-            [word, width, height] => {
-                if *word == b"display".as_slice() {
-                    return self.display(width, height);
-                }
-                self.step(alloc, words)
-            }
-            _ => self.step(alloc, words),
+        if word == b"display".as_slice() {
+            return with_args!(args, [width, height] => self.display(width, height));
         }
+        if word == b"memory".as_slice() {
+            return with_args!(args, [pages] => self.memory(pages));
+        }
+        if word == b"without".as_slice() {
+            return with_args!(args, [feature] => self.without(feature));
+        }
+        if word == b"client".as_slice() {
+            return with_args!(args, [] => self.client(alloc));
+        }
+        self.step(alloc, word, args)
     }
 
     #[tactic(auto, unfolding(crate::specs::Grammar::display_form))]
     fn display(&mut self, width: &[u8], height: &[u8]) -> Result<(), Stop>
-        ensures { Goes (seen self.new) result (settled (display_form (seen self.old) width.now height.now)) }
+        ensures { Goes (seen self.new) result
+            (settled_form (display_form (seen self.old) width.now height.now)) }
     {
-        if self.pages.is_some() || self.client.is_some() {
+        if self.pages.is_some() || !self.without.is_empty() || self.client.is_some() {
             return Err(Stop::Fault(Kind::Word));
         }
         spelled(width)?;
@@ -126,9 +123,14 @@ impl<'a> Reader<'a> {
 
     #[tactic(auto, unfolding(crate::specs::Grammar::memory_form))]
     fn memory(&mut self, pages: &[u8]) -> Result<(), Stop>
-        ensures { Goes (seen self.new) result (settled (memory_form (seen self.old) pages.now)) }
+        ensures { Goes (seen self.new) result
+            (settled_form (memory_form (seen self.old) pages.now)) }
     {
-        if self.displays.is_empty() || self.pages.is_some() || self.client.is_some() {
+        if self.displays.is_empty()
+            || self.pages.is_some()
+            || !self.without.is_empty()
+            || self.client.is_some()
+        {
             return Err(Stop::Fault(Kind::Word));
         }
         spelled(pages)?;
@@ -136,9 +138,33 @@ impl<'a> Reader<'a> {
         Ok(())
     }
 
+    #[tactic(auto, unfolding(crate::specs::Grammar::without_form))]
+    fn without(&mut self, word: &[u8]) -> Result<(), Stop>
+        ensures { Goes (seen self.new) result
+            (settled_form (without_form (seen self.old) word.now)) }
+    {
+        let feature = feature_of(word)?;
+        self.leave_out(feature)
+    }
+
+    #[tactic(auto, unfolding(crate::specs::Grammar::feature_form))]
+    fn leave_out(&mut self, feature: Feature) -> Result<(), Stop>
+        ensures { Goes (seen self.new) result (settled (feature_form (seen self.old) feature)) }
+    {
+        if self.displays.is_empty() || self.client.is_some() {
+            return Err(Stop::Fault(Kind::Word));
+        }
+        if is_among(self.without.as_slice(), feature) {
+            return Err(Stop::Fault(Kind::Limit));
+        }
+        self.without.push(feature).map_err(AllocError::from)?;
+        Ok(())
+    }
+
     #[tactic(auto, unfolding(crate::specs::Grammar::client_form))]
     fn client(&mut self, alloc: Global) -> Result<(), Stop>
-        ensures { Goes (seen self.new) result (settled (client_form (seen self.old))) }
+        ensures { Goes (seen self.new) result
+            (settled_form (client_form (seen self.old))) }
     {
         if self.displays.is_empty() {
             return Err(Stop::Fault(Kind::Word));
@@ -151,14 +177,14 @@ impl<'a> Reader<'a> {
         Ok(())
     }
 
-    fn step(&mut self, alloc: Global, words: &[&'a [u8]]) -> Result<(), Stop>
+    fn step(&mut self, alloc: Global, word: &[u8], args: &[&'a [u8]]) -> Result<(), Stop>
         ensures { Goes (seen self.new) result
-            (settled_form (called_form (seen self.old) (map (λ word. word.now) words.now))) }
+            (settled_form (called_form (seen self.old) word.now (map (λ arg. arg.now) args.now))) }
     {
         let displays = self.displays.len();
         let number = self.lines;
         if let Some(lines) = &mut self.client {
-            return add_step(alloc, lines, &mut self.names, displays, number, words);
+            return add_step(alloc, lines, &mut self.names, displays, number, word, args);
         }
         Err(Stop::Fault(Kind::Word))
     }
@@ -173,6 +199,7 @@ impl<'a> Reader<'a> {
             lines,
             displays,
             pages,
+            without,
             client,
             names: _,
         } = self;
@@ -185,6 +212,7 @@ impl<'a> Reader<'a> {
         Ok(Ok(Script {
             displays: Seq::from_vec(displays),
             pages: pages.unwrap_or(4_096),
+            without: Seq::from_vec(without),
             clients: clients_of(alloc, client)?,
         }))
     }

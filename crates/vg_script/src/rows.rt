@@ -1,24 +1,39 @@
 //! The lines of a client, one function for each word.
 
 ghost use Rattle.std.specs.Prelude.{◌≡◌, ◌≤◌, true, IfOk, OnOk};
-ghost use Rattle.vg_script.specs.Words.{is_number, value, is_hex, hex_bytes};
-ghost use Rattle.vg_script.specs.Rows.{judged, is_format, is_scanout, are_numbers, are_any, area_of, info_row, buffer_row, store_row, load_row, send_row, flush_row, take_row, drop_row, hide_row, show_row, flip_row, close_row};
-ghost use Rattle.vg_script.specs.Code.{defined, Agrees, Passes, Reads};
+ghost use Rattle.vg_script.specs.declared.names.NameKind.TheVariants as kinds;
+ghost use Rattle.vg_script.specs.Words.{is_number, value};
+ghost use Rattle.vg_script.specs.Seen.{is_kind};
+ghost use Rattle.vg_script.specs.Rows.{judged_row, is_format, is_scanout, are_numbers, are_any, area_of, queue_of, shape_of, info_row, edid_row, buffer_row, store_row, load_row, send_row, flush_row, take_row, drop_row, hide_row, show_row, flip_row, uuid_row, close_row, raw_row};
+ghost use Rattle.vg_script.specs.Code.{table_of, Agrees, Passes, Reads, Finds};
 
 use crate::kind::{Kind, Stop};
-use crate::names::{Names, define, end, is_defined};
-use crate::types::{Area, Step};
-use crate::words::{hex_bytes, is_hex, is_name, is_number, limited, value};
+use crate::names::{NameKind, Names, define, end, is_defined, is_kind};
+use crate::types::{Area, RawShape, Step};
+use crate::words::{
+    bytes_or_none, hex_bytes, is_hex, is_hex_or_none, is_name, is_number, limited, value,
+};
 use std::alloc::{AllocError, Global};
 use vg_list::Seq;
 
 /// `info`
 #[tactic(auto, unfolding(crate::specs::Rows::info_row))]
 pub(crate) fn info(names: &Names) -> Result<Step, Stop>
-    ensures { Agrees (defined names.now) result
-        (judged (info_row (defined names.now))) }
+    ensures { Agrees (table_of names.now) result
+        (judged_row (info_row (table_of names.now))) }
 {
     Ok(Step::Info)
+}
+
+/// `edid S`
+#[tactic(auto, unfolding(crate::specs::Rows::edid_row))]
+pub(crate) fn edid(names: &Names, scanout: &[u8]) -> Result<Step, Stop>
+    ensures { Agrees (table_of names.now) result
+        (judged_row (edid_row (table_of names.now) scanout.now)) }
+{
+    spelled(scanout)?;
+    let scanout = limited(scanout, 0, u32::MAX)?;
+    Ok(Step::Edid { scanout })
 }
 
 /// `buffer A W H F`
@@ -31,8 +46,8 @@ pub(crate) fn buffer<'a>(
     height: &[u8],
     format: &[u8],
 ) -> Result<Step, Stop>
-    ensures { Agrees (defined names.new) result
-        (judged (buffer_row (defined names.old) name.now width.now height.now format.now)) }
+    ensures { Agrees (table_of names.new) result
+        (judged_row (buffer_row (table_of names.old) name.now width.now height.now format.now)) }
 {
     spelled(width)?;
     spelled(height)?;
@@ -43,7 +58,7 @@ pub(crate) fn buffer<'a>(
     if !is_name(name) || is_defined(names, name) {
         return Err(Stop::Fault(Kind::Name));
     }
-    define(names, name)?;
+    define(names, name, NameKind::Buffer)?;
     let name = owned(alloc, name)?;
     Ok(Step::Buffer {
         name,
@@ -63,8 +78,8 @@ pub(crate) fn store(
     hex: &[u8],
     times: &[u8],
 ) -> Result<Step, Stop>
-    ensures { Agrees (defined names.now) result
-        (judged (store_row (defined names.now) name.now offset.now hex.now times.now)) }
+    ensures { Agrees (table_of names.now) result
+        (judged_row (store_row (table_of names.now) name.now offset.now hex.now times.now)) }
 {
     spelled(offset)?;
     if !is_hex(hex) {
@@ -100,8 +115,8 @@ pub(crate) fn load(
     offset: &[u8],
     size: &[u8],
 ) -> Result<Step, Stop>
-    ensures { Agrees (defined names.now) result
-        (judged (load_row (defined names.now) name.now offset.now size.now)) }
+    ensures { Agrees (table_of names.now) result
+        (judged_row (load_row (table_of names.now) name.now offset.now size.now)) }
 {
     spelled(offset)?;
     spelled(size)?;
@@ -127,8 +142,8 @@ pub(crate) fn send(
     width: &[u8],
     height: &[u8],
 ) -> Result<Step, Stop>
-    ensures { Agrees (defined names.now) result
-        (judged (send_row (defined names.now) name.now x.now y.now width.now height.now)) }
+    ensures { Agrees (table_of names.now) result
+        (judged_row (send_row (table_of names.now) name.now x.now y.now width.now height.now)) }
 {
     all_spelled(x, y, width, height)?;
     let area = area(x, y, width, height)?;
@@ -148,8 +163,8 @@ pub(crate) fn flush(
     width: &[u8],
     height: &[u8],
 ) -> Result<Step, Stop>
-    ensures { Agrees (defined names.now) result
-        (judged (flush_row (defined names.now) name.now x.now y.now width.now height.now)) }
+    ensures { Agrees (table_of names.now) result
+        (judged_row (flush_row (table_of names.now) name.now x.now y.now width.now height.now)) }
 {
     all_spelled(x, y, width, height)?;
     let area = area(x, y, width, height)?;
@@ -162,8 +177,8 @@ pub(crate) fn flush(
 #[tactic(auto, unfolding(crate::specs::Rows::take_row))]
 pub(crate) fn take(names: &Names, displays: usize, scanout: &[u8]) -> Result<Step, Stop>
     requires { displays ≤ 16 }
-    ensures { Agrees (defined names.now) result
-        (judged (take_row displays (defined names.now) scanout.now)) }
+    ensures { Agrees (table_of names.now) result
+        (judged_row (take_row displays (table_of names.now) scanout.now)) }
 {
     spelled(scanout)?;
     let scanout = display(scanout, displays)?;
@@ -174,8 +189,8 @@ pub(crate) fn take(names: &Names, displays: usize, scanout: &[u8]) -> Result<Ste
 #[tactic(auto, unfolding(crate::specs::Rows::drop_row))]
 pub(crate) fn drop_scanout(names: &Names, displays: usize, scanout: &[u8]) -> Result<Step, Stop>
     requires { displays ≤ 16 }
-    ensures { Agrees (defined names.now) result
-        (judged (drop_row displays (defined names.now) scanout.now)) }
+    ensures { Agrees (table_of names.now) result
+        (judged_row (drop_row displays (table_of names.now) scanout.now)) }
 {
     spelled(scanout)?;
     let scanout = display(scanout, displays)?;
@@ -186,8 +201,8 @@ pub(crate) fn drop_scanout(names: &Names, displays: usize, scanout: &[u8]) -> Re
 #[tactic(auto, unfolding(crate::specs::Rows::hide_row))]
 pub(crate) fn hide(names: &Names, displays: usize, scanout: &[u8]) -> Result<Step, Stop>
     requires { displays ≤ 16 }
-    ensures { Agrees (defined names.now) result
-        (judged (hide_row displays (defined names.now) scanout.now)) }
+    ensures { Agrees (table_of names.now) result
+        (judged_row (hide_row displays (table_of names.now) scanout.now)) }
 {
     spelled(scanout)?;
     let scanout = display(scanout, displays)?;
@@ -208,8 +223,8 @@ pub(crate) fn show(
     height: &[u8],
 ) -> Result<Step, Stop>
     requires { displays ≤ 16 }
-    ensures { Agrees (defined names.now) result
-        (judged (show_row displays (defined names.now) scanout.now name.now x.now y.now width.now height.now)) }
+    ensures { Agrees (table_of names.now) result
+        (judged_row (show_row displays (table_of names.now) scanout.now name.now x.now y.now width.now height.now)) }
 {
     spelled(scanout)?;
     all_spelled(x, y, width, height)?;
@@ -234,8 +249,8 @@ pub(crate) fn flip(
     name: &[u8],
 ) -> Result<Step, Stop>
     requires { displays ≤ 16 }
-    ensures { Agrees (defined names.now) result
-        (judged (flip_row displays (defined names.now) scanout.now name.now)) }
+    ensures { Agrees (table_of names.now) result
+        (judged_row (flip_row displays (table_of names.now) scanout.now name.now)) }
 {
     spelled(scanout)?;
     let scanout = display(scanout, displays)?;
@@ -244,16 +259,132 @@ pub(crate) fn flip(
     Ok(Step::Flip { scanout, name })
 }
 
+/// `uuid A`
+#[tactic(auto, unfolding(crate::specs::Rows::uuid_row))]
+pub(crate) fn uuid(alloc: Global, names: &Names, name: &[u8]) -> Result<Step, Stop>
+    ensures { Agrees (table_of names.now) result
+        (judged_row (uuid_row (table_of names.now) name.now)) }
+{
+    known(names, name)?;
+    let name = owned(alloc, name)?;
+    Ok(Step::Uuid { name })
+}
+
 /// `close A`
 #[tactic(auto, unfolding(crate::specs::Rows::close_row))]
 pub(crate) fn close(alloc: Global, names: &mut Names, name: &[u8]) -> Result<Step, Stop>
-    ensures { Agrees (defined names.new) result
-        (judged (close_row (defined names.old) name.now)) }
+    ensures { Agrees (table_of names.new) result
+        (judged_row (close_row (table_of names.old) name.now)) }
 {
     known(names, name)?;
     end(names, name);
     let name = owned(alloc, name)?;
     Ok(Step::Close { name })
+}
+
+/// `raw Q ROOM SHAPE HEX`
+#[tactic(auto, unfolding(crate::specs::Rows::raw_row, crate::specs::Rows::request_row))]
+pub(crate) fn raw(
+    alloc: Global,
+    names: &Names,
+    queue: &[u8],
+    room: &[u8],
+    shape: &[u8],
+    hex: &[u8],
+) -> Result<Step, Stop>
+    ensures { Agrees (table_of names.now) result
+        (judged_row (raw_row (table_of names.now) queue.now room.now shape.now hex.now)) }
+{
+    let cursor = queue_of(queue)?;
+    let shape = shape_of(shape)?;
+    spelled(room)?;
+    if !is_hex_or_none(hex) {
+        return Err(Stop::Fault(Kind::Number));
+    }
+    let room = limited(room, 0, 8_192)?;
+    if hex.len() / 2 > 4_096 {
+        return Err(Stop::Fault(Kind::Limit));
+    }
+    let bytes = bytes_or_none(alloc, hex)?;
+    Ok(Step::Raw {
+        cursor,
+        room,
+        shape,
+        bytes,
+    })
+}
+
+/// Which queue a word is: whether it is that of the cursor.
+#[tactic(auto, unfolding(crate::specs::Rows::queue_of))]
+fn queue_of(word: &[u8]) -> Result<bool, Kind>
+    ensures { Finds (queue_of word.now) Kind.Word result }
+{
+    if word == b"control".as_slice() {
+        return Ok(false);
+    }
+    if word == b"cursor".as_slice() {
+        return Ok(true);
+    }
+    Err(Kind::Word)
+}
+
+/// The shape that a word spells.
+#[tactic(auto, unfolding(crate::specs::Rows::shape_of))]
+fn shape_of(word: &[u8]) -> Result<RawShape, Kind>
+    ensures { Finds (shape_of word.now) Kind.Word result }
+{
+    if word == b"plain".as_slice() {
+        return Ok(RawShape::Plain);
+    }
+    if word == b"pieces2".as_slice() {
+        return Ok(RawShape::Pieces { n: 2 });
+    }
+    if word == b"pieces3".as_slice() {
+        return Ok(RawShape::Pieces { n: 3 });
+    }
+    if word == b"pieces4".as_slice() {
+        return Ok(RawShape::Pieces { n: 4 });
+    }
+    if word == b"pieces5".as_slice() {
+        return Ok(RawShape::Pieces { n: 5 });
+    }
+    if word == b"pieces6".as_slice() {
+        return Ok(RawShape::Pieces { n: 6 });
+    }
+    if word == b"pieces7".as_slice() {
+        return Ok(RawShape::Pieces { n: 7 });
+    }
+    if word == b"pieces8".as_slice() {
+        return Ok(RawShape::Pieces { n: 8 });
+    }
+    if word == b"indirect".as_slice() {
+        return Ok(RawShape::Indirect);
+    }
+    if word == b"mixed".as_slice() {
+        return Ok(RawShape::Mixed);
+    }
+    if word == b"index".as_slice() {
+        return Ok(RawShape::Index);
+    }
+    if word == b"loop".as_slice() {
+        return Ok(RawShape::Loop);
+    }
+    if word == b"nested".as_slice() {
+        return Ok(RawShape::Nested);
+    }
+    if word == b"nextindirect".as_slice() {
+        return Ok(RawShape::NextIndirect);
+    }
+    if word == b"tablelength".as_slice() {
+        return Ok(RawShape::TableLength);
+    }
+    if word == b"order".as_slice() {
+        return Ok(RawShape::Order);
+    }
+    if word == b"range".as_slice() {
+        return Ok(RawShape::Range);
+    }
+    Err(Kind::Word)
 }
 
 /// Refuses a word that is no number.
@@ -321,11 +452,11 @@ fn area(x: &[u8], y: &[u8], width: &[u8], height: &[u8]) -> Result<Area, Kind>
     })
 }
 
-/// Refuses a name that isn't defined.
+/// Refuses a name that isn't that of a buffer.
 fn known(names: &Names, name: &[u8]) -> Result<(), Kind>
-    ensures { Passes (defined names.now name.now) Kind.Name result }
+    ensures { Passes (is_kind kinds.Buffer (table_of names.now name.now)) Kind.Name result }
 {
-    if is_defined(names, name) {
+    if is_kind(names, name, NameKind::Buffer) {
         return Ok(());
     }
     Err(Kind::Name)

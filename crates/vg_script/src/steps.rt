@@ -1,178 +1,89 @@
 //! Which line of a client some words are.
 
 ghost use Rattle.std.specs.Prelude.{◌≤◌, map};
-ghost use Rattle.vg_script.specs.Rows.{judged_row, step_row, one_word, two_words, three_words, four_words, five_words, six_words, seven_words};
-ghost use Rattle.vg_script.specs.Code.{defined, Agrees};
+ghost use Rattle.vg_script.specs.Rows.{judged_row, row_of, store_row, show_row};
+ghost use Rattle.vg_script.specs.Words.{four_args, six_args};
+ghost use Rattle.vg_script.specs.Code.{table_of, Agrees};
 
+use crate::args::with_args;
 use crate::kind::{Kind, Stop};
 use crate::names::Names;
 use crate::rows;
 use crate::types::Step;
 use std::alloc::Global;
 
-/// The call of a client's line, by its first word and how many words there are.
-#[tactic(auto, unfolding(crate::specs::Rows::step_row))]
+/// The call of a client's line, by its first word and the arguments behind it.
+#[tactic(auto, unfolding(crate::specs::Rows::row_of))]
 pub(crate) fn step_of<'a>(
     alloc: Global,
     names: &mut Names<'a>,
     displays: usize,
-    words: &[&'a [u8]],
+    word: &[u8],
+    args: &[&'a [u8]],
 ) -> Result<Step, Stop>
     requires { displays ≤ 16 }
-    ensures { Agrees (defined names.new) result
-        (judged_row (step_row displays (defined names.old) (map (λ word. word.now) words.now))) }
-{
-    match words {
-        [word] => one(names, word),
-        [word, a] => two(alloc, names, displays, word, a),
-        [word, a, b] => three(alloc, names, displays, word, a, b),
-        [word, a, b, c] => four(alloc, names, word, a, b, c),
-        [word, a, b, c, d] => five(alloc, names, word, a, b, c, d),
-        [word, a, b, c, d, e] => six(alloc, names, word, a, b, c, d, e),
-        [word, a, b, c, d, e, f] => seven(alloc, names, displays, word, a, b, c, d, e, f),
-        _ => Err(Stop::Fault(Kind::Word)),
-    }
-}
-
-#[tactic(auto, unfolding(crate::specs::Rows::one_word))]
-fn one(names: &Names, word: &[u8]) -> Result<Step, Stop>
-    ensures { Agrees (defined names.now) result
-        (judged_row (one_word (defined names.now) word.now)) }
+    ensures { Agrees (table_of names.new) result
+        (judged_row (row_of word.now displays (table_of names.old) (map (λ arg. arg.now) args.now))) }
 {
     if word == b"info".as_slice() {
-        return rows::info(names);
+        return with_args!(args, [] => rows::info(names));
     }
-    Err(Stop::Fault(Kind::Word))
-}
-
-#[tactic(auto, unfolding(crate::specs::Rows::two_words))]
-fn two(
-    alloc: Global,
-    names: &mut Names,
-    displays: usize,
-    word: &[u8],
-    a: &[u8],
-) -> Result<Step, Stop>
-    requires { displays ≤ 16 }
-    ensures { Agrees (defined names.new) result
-        (judged_row (two_words displays (defined names.old) word.now a.now)) }
-{
-    if word == b"take".as_slice() {
-        return rows::take(names, displays, a);
+    if word == b"edid".as_slice() {
+        return with_args!(args, [scanout] => rows::edid(names, scanout));
     }
-    if word == b"drop".as_slice() {
-        return rows::drop_scanout(names, displays, a);
-    }
-    if word == b"hide".as_slice() {
-        return rows::hide(names, displays, a);
-    }
-    if word == b"close".as_slice() {
-        return rows::close(alloc, names, a);
-    }
-    Err(Stop::Fault(Kind::Word))
-}
-
-#[tactic(auto, unfolding(crate::specs::Rows::three_words))]
-fn three(
-    alloc: Global,
-    names: &Names,
-    displays: usize,
-    word: &[u8],
-    a: &[u8],
-    b: &[u8],
-) -> Result<Step, Stop>
-    requires { displays ≤ 16 }
-    ensures { Agrees (defined names.now) result
-        (judged_row (three_words displays (defined names.now) word.now a.now b.now)) }
-{
-    if word == b"flip".as_slice() {
-        return rows::flip(alloc, names, displays, a, b);
-    }
-    Err(Stop::Fault(Kind::Word))
-}
-
-#[tactic(auto, unfolding(crate::specs::Rows::four_words))]
-fn four(
-    alloc: Global,
-    names: &Names,
-    word: &[u8],
-    a: &[u8],
-    b: &[u8],
-    c: &[u8],
-) -> Result<Step, Stop>
-    ensures { Agrees (defined names.now) result
-        (judged_row (four_words (defined names.now) word.now a.now b.now c.now)) }
-{
-    if word == b"load".as_slice() {
-        return rows::load(alloc, names, a, b, c);
-    }
-    Err(Stop::Fault(Kind::Word))
-}
-
-#[tactic(auto, unfolding(crate::specs::Rows::five_words))]
-fn five<'a>(
-    alloc: Global,
-    names: &mut Names<'a>,
-    word: &[u8],
-    a: &'a [u8],
-    b: &[u8],
-    c: &[u8],
-    d: &[u8],
-) -> Result<Step, Stop>
-    ensures { Agrees (defined names.new) result
-        (judged_row (five_words (defined names.old) word.now a.now b.now c.now d.now)) }
-{
     if word == b"buffer".as_slice() {
-        return rows::buffer(alloc, names, a, b, c, d);
+        return with_args!(args, [name, width, height, format] => rows::buffer(alloc, names, name, width, height, format));
     }
     if word == b"store".as_slice() {
-        return rows::store(alloc, names, a, b, c, d);
+        return store(alloc, names, args);
     }
-    Err(Stop::Fault(Kind::Word))
-}
-
-#[tactic(auto, unfolding(crate::specs::Rows::six_words))]
-fn six(
-    alloc: Global,
-    names: &Names,
-    word: &[u8],
-    a: &[u8],
-    b: &[u8],
-    c: &[u8],
-    d: &[u8],
-    e: &[u8],
-) -> Result<Step, Stop>
-    ensures { Agrees (defined names.now) result
-        (judged_row (six_words (defined names.now) word.now a.now b.now c.now d.now e.now)) }
-{
+    if word == b"load".as_slice() {
+        return with_args!(args, [name, offset, size] => rows::load(alloc, names, name, offset, size));
+    }
     if word == b"send".as_slice() {
-        return rows::send(alloc, names, a, b, c, d, e);
+        return with_args!(args, [name, x, y, width, height] => rows::send(alloc, names, name, x, y, width, height));
     }
     if word == b"flush".as_slice() {
-        return rows::flush(alloc, names, a, b, c, d, e);
+        return with_args!(args, [name, x, y, width, height] => rows::flush(alloc, names, name, x, y, width, height));
+    }
+    if word == b"take".as_slice() {
+        return with_args!(args, [scanout] => rows::take(names, displays, scanout));
+    }
+    if word == b"drop".as_slice() {
+        return with_args!(args, [scanout] => rows::drop_scanout(names, displays, scanout));
+    }
+    if word == b"hide".as_slice() {
+        return with_args!(args, [scanout] => rows::hide(names, displays, scanout));
+    }
+    if word == b"show".as_slice() {
+        return show(alloc, names, displays, args);
+    }
+    if word == b"flip".as_slice() {
+        return with_args!(args, [scanout, name] => rows::flip(alloc, names, displays, scanout, name));
+    }
+    if word == b"uuid".as_slice() {
+        return with_args!(args, [name] => rows::uuid(alloc, names, name));
+    }
+    if word == b"close".as_slice() {
+        return with_args!(args, [name] => rows::close(alloc, names, name));
+    }
+    if word == b"raw".as_slice() {
+        return with_args!(args, [queue, room, shape, hex] => rows::raw(alloc, names, queue, room, shape, hex));
     }
     Err(Stop::Fault(Kind::Word))
 }
 
-#[tactic(auto, unfolding(crate::specs::Rows::seven_words))]
-fn seven(
-    alloc: Global,
-    names: &Names,
-    displays: usize,
-    word: &[u8],
-    a: &[u8],
-    b: &[u8],
-    c: &[u8],
-    d: &[u8],
-    e: &[u8],
-    f: &[u8],
-) -> Result<Step, Stop>
-    requires { displays ≤ 16 }
-    ensures { Agrees (defined names.now) result
-        (judged_row (seven_words displays (defined names.now) word.now a.now b.now c.now d.now e.now f.now)) }
+fn store(alloc: Global, names: &Names, args: &[&[u8]]) -> Result<Step, Stop>
+    ensures { Agrees (table_of names.now) result
+        (judged_row (four_args (store_row (table_of names.now)) (map (λ arg. arg.now) args.now))) }
 {
-    if word == b"show".as_slice() {
-        return rows::show(alloc, names, displays, a, b, c, d, e, f);
-    }
-    Err(Stop::Fault(Kind::Word))
+    with_args!(args, [name, offset, hex, times] => rows::store(alloc, names, name, offset, hex, times))
+}
+
+fn show(alloc: Global, names: &Names, displays: usize, args: &[&[u8]]) -> Result<Step, Stop>
+    requires { displays ≤ 16 }
+    ensures { Agrees (table_of names.now) result
+        (judged_row (six_args (show_row displays (table_of names.now)) (map (λ arg. arg.now) args.now))) }
+{
+    with_args!(args, [scanout, name, x, y, width, height] => rows::show(alloc, names, displays, scanout, name, x, y, width, height))
 }

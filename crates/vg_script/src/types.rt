@@ -9,8 +9,23 @@ pub struct Script {
     pub displays: Seq<(u32, u32)>,
     /// How many pages of 4,096 bytes the guest has.
     pub pages: u32,
+    /// The features that aren't accepted, in the order of the text, each at most once.
+    pub without: Seq<Feature>,
     /// The lines of each client, in the order of the text.
     pub clients: Seq<Seq<Line>>,
+}
+
+/// A feature of the device that a script can leave out. VIRTIO 1.2, 5.7.3.
+#[derive(Clone, Copy, Debug, PartialEq, Eq)]
+pub enum Feature {
+    /// VIRTIO_GPU_F_EDID
+    Edid,
+    /// VIRTIO_GPU_F_RESOURCE_UUID
+    Uuid,
+    /// VIRTIO_GPU_F_RESOURCE_BLOB
+    Blob,
+    /// VIRTIO_GPU_F_CONTEXT_INIT
+    Context,
 }
 
 /// A line of a client.
@@ -31,11 +46,42 @@ pub struct Area {
     pub height: u32,
 }
 
+/// How the bytes of a raw request, and the room for its response, are laid over descriptors.
+#[derive(Clone, Copy, Debug, PartialEq, Eq)]
+pub enum RawShape {
+    /// One descriptor for the request, one for the response.
+    Plain,
+    /// The request in `n` descriptors, from 2 to 8.
+    Pieces { n: u8 },
+    /// All descriptors in an indirect table.
+    Indirect,
+    /// Direct descriptors, and then an indirect table.
+    Mixed,
+    /// An index outside of the table.
+    Index,
+    /// A chain that comes back to itself.
+    Loop,
+    /// An indirect table in an indirect table.
+    Nested,
+    /// An indirect descriptor that another follows.
+    NextIndirect,
+    /// An indirect table whose length is no whole count of descriptors.
+    TableLength,
+    /// A readable descriptor behind a writable one.
+    Order,
+    /// An address outside of guest memory.
+    Range,
+}
+
 /// A call of a client. A `name` is the bytes of a buffer's name, and a `scanout` counts the displays from 0 on.
 #[derive(Debug, Drop, PartialEq)]
 pub enum Step {
     /// Asks for the display information.
     Info,
+    /// Asks for the EDID of a scanout, whether there is such a display or not.
+    Edid {
+        scanout: u32,
+    },
     /// Makes a buffer of `width` by `height` pixels. `format` is a code of VIRTIO 1.2, 5.7.6.8.
     Buffer {
         name: Seq<u8>,
@@ -89,9 +135,20 @@ pub enum Step {
         scanout: u32,
         name: Seq<u8>,
     },
+    /// Asks for the UUID of a buffer's resource.
+    Uuid {
+        name: Seq<u8>,
+    },
     /// Gives a buffer up, and ends its name.
     Close {
         name: Seq<u8>,
+    },
+    /// Sends `bytes` as a request on the cursor queue or the control queue, with `room` bytes for its response.
+    Raw {
+        cursor: bool,
+        room: u32,
+        shape: RawShape,
+        bytes: Seq<u8>,
     },
 }
 

@@ -5,7 +5,7 @@ ghost use Rattle.std.specs.Int.{is_in_range};
 ghost use Rattle.std.specs.Char.{is_ascii_digit, is_ascii_alphanumeric};
 ghost use Rattle.std.specs.Prelude.{◌≡◌, ◌==◌, ◌+◌, ◌-◌, ◌*◌, ◌^◌, ◌<◌, ◌≤◌, min, true, false, length, map, IfOk, MatchResult};
 ghost use Rattle.vg_script.specs.Code.{Reads};
-ghost use Rattle.vg_script.specs.Words.{is_text, words_of, is_number, value, is_within, is_hex, is_hex_digit, hex_bytes, is_name};
+ghost use Rattle.vg_script.specs.Words.{is_text, words_of, is_number, value, is_within, is_hex, is_hex_digit, hex_bytes, is_hex_or_none, bytes_or_none, is_name};
 
 use crate::kind::Kind;
 use hex::FromHexError;
@@ -151,4 +151,22 @@ pub(crate) fn hex_bytes(alloc: Global, hex: &[u8]) -> Result<Seq<u8>, AllocError
             _ => unreachable!(),
         },
     }
+}
+
+/// Whether a word is HEX, or says that there are no bytes.
+pub(crate) fn is_hex_or_none(word: &[u8]) -> bool
+    ensures { result ≡ is_hex_or_none word.now }
+{
+    word == b"-".as_slice() || is_hex(word)
+}
+
+/// The bytes of HEX, or none.
+pub(crate) fn bytes_or_none(alloc: Global, word: &[u8]) -> Result<Seq<u8>, AllocError>
+    requires { is_hex_or_none word.now ≡ true }
+    ensures { IfOk result (λ bytes. bytes ≡ bytes_or_none word.now) }
+{
+    if word == b"-".as_slice() {
+        return Ok(Seq::from_vec(Vec::new(alloc)));
+    }
+    hex_bytes(alloc, word)
 }

@@ -1,5 +1,5 @@
-use Rattle.vg_script.proofs.NameSets.{defined-ended}
+use Rattle.vg_script.proofs.NameSets.{ended}
 use Rattle.vg_script.proofs.names.end.Goals as goal
 
 pub returns : goal.returns
-returns c = defined-ended c.args.names.now c.remove.new.self c.args.name.now c.remove.ensures.updates
+returns c = ended c.args.names.now c.remove.new.self c.args.name.now c.remove.ensures.updates
