@@ -1,4 +1,4 @@
-"""Reads a journal strictly: tools/frames and tools/check-history stand on it.
+"""Reads a journal strictly: tools/frames, tools/explain and tools/check-history stand on it.
 
 Each byte counts. Where a journal is broken, `Broken` is raised, and the `number` of its `Lines` is that of the line:
 one less is the most whole lines of it with which some journal begins. A frame's raw bytes count as one line.
