@@ -1,11 +1,10 @@
 -- What a request is denied is the first of what it names, part by part, and is something that may be denied.
-use Rattle.std.proofs.Common.{◌≡◌, ◌≢◌, ◌<◌, ◌≤◌, ◌+◌, ◌-◌, ◌*◌, ◌/◌, ◌==◌, ◌^◌, ◌||◌, ◌&&◌, ℕ, zero, suc, Bool, true, false, cond, not, List, [], ◌∷◌, ◌++◌, map, Option, Some, None, Result, Ok, Err, refl, sym, ap, ◌∙◌, subst, arith}
+use Rattle.std.proofs.Common.{◌≡◌, ◌<◌, ◌≤◌, ◌+◌, ◌-◌, ◌*◌, ◌==◌, ◌^◌, ◌||◌, ◌&&◌, ℕ, zero, suc, Bool, true, false, cond, not, List, [], ◌∷◌, ◌++◌, map, Option, Some, None, Result, Ok, Err, refl, sym, ap, ◌∙◌, subst, arith}
 use Rattle.std.specs.Prelude.{IfOk, IfSome, nat_le, option_map, bit_and}
-use Rattle.std.specs.List.{find, list_any, range_with_len, AllByRecursion}
+use Rattle.std.specs.List.{list_any, range_with_len, AllByRecursion}
 use Rattle.std.proofs.lemmas.Bool.Decides.{nat_tests}
 use Rattle.vg_formats.specs.declared.entry.MemEntry.{MemEntry}
 use Rattle.vg_wire.specs.declared.header.Header.{Header}
-use Rattle.vg_wire.specs.declared.request.Malformed.{Malformed}
 use Rattle.vg_wire.specs.declared.two_d.Command2d.{Command2d}
 use Rattle.vg_wire.specs.declared.two_d.Command2d.TheVariants.{DisplayInfo, Create2d, Unref, SetScanout, Flush, Transfer, Attach, Detach}
 use Rattle.vg_wire_ext.specs.declared.command.Command.{Command}
@@ -13,8 +12,8 @@ use Rattle.vg_wire_ext.specs.declared.command.Command.TheVariants.{TwoD, CapsetI
 use Rattle.vg_machine.specs.declared.act.What.{What}
 use Rattle.vg_machine.specs.declared.act.What.TheVariants.{Name, Resource, Scanout, Context, Page}
 use Rattle.vg_machine.specs.declared.holds.Holds.{Holds}
-use Rattle.vg_machine.specs.Foreign.{foreign_page, is_foreign}
-use Rattle.vg_machine.specs.Holds.{Deniable, context_in, denied_command, denied_request, entries_in, first_denied, has_key, has_number, is_allowed, is_allowed_page, is_creating, is_in_memory, is_of_context, is_own_context, key_of, names_in, names_of, names_of_2d, page_of, pages_from_to, pages_in, pages_in_entry}
+use Rattle.vg_machine.specs.Foreign.{foreign_page}
+use Rattle.vg_machine.specs.Holds.{Deniable, context_in, denied_command, entries_in, first_denied, has_key, has_number, is_allowed, is_allowed_page, is_creating, is_in_memory, is_of_context, is_own_context, key_of, names_in, names_of, names_of_2d, page_of, pages_from_to, pages_in, pages_in_entry}
 
 -- what is denied of one part, and else of the rest
 or_denied : Option What → Option What → Option What

@@ -1,17 +1,15 @@
 -- The tables of a client's own pages.
-use Rattle.std.proofs.Common.{◌≡◌, ◌<◌, ◌≤◌, ◌+◌, ◌-◌, ◌==◌, ◌||◌, ◌&&◌, ℕ, zero, suc, Bool, true, false, cond, not, List, [], ◌∷◌, ◌++◌, length, take, drop, replicate, get_or, set, Option, Some, None, Result, Ok, Err, refl, sym, ap, ◌∙◌, subst, arith}
+use Rattle.std.proofs.Common.{◌≡◌, ◌<◌, ◌≤◌, ◌+◌, ◌-◌, ℕ, zero, suc, Bool, true, false, cond, not, List, [], ◌∷◌, length, drop, get_or, Option, Some, None, refl, sym, ap, ◌∙◌, arith}
 use Rattle.std.specs.Prelude.{is_some, option_map}
-use Rattle.std.specs.List.{find, list_any, range_with_len, AllByRecursion}
+use Rattle.std.specs.List.{find, range_with_len, AllByRecursion}
 use Rattle.std.specs.Option.{option_or}
 use Rattle.std.proofs.lemmas.List.{drop_more, drop_all}
 use Rattle.std.proofs.lemmas.List.Folds.{find-append}
 use Rattle.vg_formats.specs.declared.entry.MemEntry.{MemEntry}
-use Rattle.vg_pages.specs.Memory.{is_among}
-use Rattle.vg_machine.specs.declared.act.What.{What}
 use Rattle.vg_machine.specs.declared.act.What.TheVariants.{Page}
 use Rattle.vg_machine.specs.declared.holds.Holds.{Holds}
-use Rattle.vg_machine.specs.Foreign.{AreMarked, AreOwn, AreStarts, between, foreign_page, is_foreign, is_missing}
-use Rattle.vg_machine.specs.Holds.{has_page, is_allowed_page, pages_in, pages_in_entry}
+use Rattle.vg_machine.specs.Foreign.{AreOwn, AreStarts, between, foreign_page, is_foreign, is_missing}
+use Rattle.vg_machine.specs.Holds.{pages_in, pages_in_entry}
 use Rattle.vg_machine.proofs.DeniedLemmas.{below-pages}
 
 -- the starts of runs, as far as the loop has come

@@ -1,4 +1,4 @@
-use Rattle.std.proofs.Common.{rules, ◌∙◌, sym}
+use Rattle.std.proofs.Common.{rules}
 use Rattle.vg_machine.proofs.DeniedLemmas.{page-denied}
 use Rattle.vg_machine.proofs.holds.denied_page.Goals as goal
 

@@ -1,4 +1,4 @@
-use Rattle.std.proofs.Common.{◌≡◌, ◌∙◌, ap, Result, Ok, Err, OnErr}
+use Rattle.std.proofs.Common.{◌∙◌, ap, Result, Ok, Err, OnErr}
 use Rattle.vg_machine.specs.Step.{answered, ran}
 use Rattle.vg_machine.proofs.KeepLemmas.{accepted-is, answered-given, answered-ok, kept-given}
 use Rattle.vg_machine.proofs.display.Display.answer.Goals as goal

@@ -1,5 +1,5 @@
-use Rattle.std.proofs.Common.{rules, ◌≡◌, ◌∙◌, ◌<◌, ◌≤◌, ◌+◌, length, ap, arith}
-use Rattle.vg_machine.specs.Scanout.{ScanoutState, frame_bytes, snap}
+use Rattle.std.proofs.Common.{rules, ◌<◌, ◌≤◌, ◌+◌, length, arith}
+use Rattle.vg_machine.specs.Scanout.{ScanoutState, frame_bytes}
 use Rattle.vg_machine.proofs.SnapLemmas.{snap-made, snap-none, snap-refused}
 use Rattle.vg_machine.proofs.scanout.Scanouts.snap.Goals as goal
 
