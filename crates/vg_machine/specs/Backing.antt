@@ -12,7 +12,7 @@ use Rattle.vg_formats.specs.Pixels.{is_empty, is_inside}
 use Rattle.vg_pages.specs.Memory.{Memory, bytes_at}
 use Rattle.vg_places.specs.declared.rectangles.Area.{Area}
 use Rattle.vg_places.specs.Rectangles.{copied}
-use Rattle.vg_machine.specs.Codes.{ERR_INVALID_PARAMETER, ERR_INVALID_RESOURCE_ID, ERR_UNSPEC}
+use Rattle.vg_wire.specs.Kinds.{ERR_INVALID_PARAMETER, ERR_INVALID_RESOURCE_ID, ERR_UNSPEC}
 use Rattle.vg_machine.specs.Refusals.{refusal_of, unless_refused}
 
 -- The entry lies wholly in guest memory.

@@ -1,5 +1,6 @@
 -- The features that commands need (VIRTIO 1.2, 5.7.3), each by the value of its bit.
 use Rattle.std.specs.Prelude.{◌==◌, ◌&&◌, ◌||◌, ℕ, Bool, true, not, nat_le, if◌then◌else◌, Option, Some, None, bit_and}
+use Rattle.vg_wire.specs.Kinds.{CTX_CREATE, GET_CAPSET, GET_CAPSET_INFO, GET_EDID, RESOURCE_ASSIGN_UUID, RESOURCE_CREATE_BLOB, SET_SCANOUT_BLOB, SUBMIT_3D}
 
 -- bit 0
 abbrev pub VIRGL : ℕ
@@ -33,13 +34,13 @@ has_feature accepted feature = bit_and accepted feature == feature && not (is_to
 -- RESOURCE_BLOB; the other 2D commands and those of cursors need none.
 unfoldable pub feature_of : ℕ → Option ℕ
 feature_of kind =
-    if kind == 0x0108 then Some VIRGL
-    else if kind == 0x0109 then Some VIRGL
-    else if kind == 0x010a then Some EDID
-    else if kind == 0x010b then Some RESOURCE_UUID
-    else if kind == 0x010c then Some RESOURCE_BLOB
-    else if kind == 0x010d then Some RESOURCE_BLOB
-    else if nat_le 0x0200 kind && nat_le kind 0x0207 then Some VIRGL
+    if kind == GET_CAPSET_INFO then Some VIRGL
+    else if kind == GET_CAPSET then Some VIRGL
+    else if kind == GET_EDID then Some EDID
+    else if kind == RESOURCE_ASSIGN_UUID then Some RESOURCE_UUID
+    else if kind == RESOURCE_CREATE_BLOB then Some RESOURCE_BLOB
+    else if kind == SET_SCANOUT_BLOB then Some RESOURCE_BLOB
+    else if nat_le CTX_CREATE kind && nat_le kind SUBMIT_3D then Some VIRGL
     else None
 
 abbrev pub has_needed : ℕ → Option ℕ → Bool

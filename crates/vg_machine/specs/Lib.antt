@@ -1,7 +1,6 @@
 pub mod Setup
 pub mod Features
 pub mod Lane
-pub mod Codes
 pub mod Refusals
 pub mod Lists
 pub mod Resource

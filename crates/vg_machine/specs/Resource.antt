@@ -7,7 +7,7 @@ use Rattle.std.specs.BTreeMap.{insert_entry, is_at}
 use Rattle.vg_formats.specs.declared.format.Format.{Format}
 use Rattle.vg_formats.specs.Formats.{format_of}
 use Rattle.vg_machine.specs.declared.resource.Resource.{Resource}
-use Rattle.vg_machine.specs.Codes.{ERR_INVALID_PARAMETER, ERR_INVALID_RESOURCE_ID, ERR_OUT_OF_MEMORY}
+use Rattle.vg_wire.specs.Kinds.{ERR_INVALID_PARAMETER, ERR_INVALID_RESOURCE_ID, ERR_OUT_OF_MEMORY}
 use Rattle.vg_machine.specs.Refusals.{refusal_of, unless_refused}
 
 abbrev pub resource_at : ℕ → List (ℕ × Resource) → Option Resource

@@ -5,7 +5,7 @@ use Rattle.std.specs.Option.{unwrap_or}
 use Rattle.std.specs.Ordering.{nat_cmp}
 use Rattle.std.specs.Map.{lookup, remove_entry}
 use Rattle.std.specs.BTreeMap.{insert_entry, is_at}
-use Rattle.vg_machine.specs.Codes.{ERR_INVALID_RESOURCE_ID}
+use Rattle.vg_wire.specs.Kinds.{ERR_INVALID_RESOURCE_ID}
 
 -- The resources that have a UUID, by their ids, rising, each with the number of its UUID; and how many UUIDs were given so far.
 pub record UuidState : Type 0 where

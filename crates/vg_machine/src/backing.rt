@@ -7,12 +7,12 @@ ghost use Rattle.vg_formats.specs.Pixels.{is_empty};
 ghost use Rattle.vg_machine.specs.Backing.{are_bad, attach, backing_at, backing_bytes, detach, detached, is_bad, total, transfer, transfer_end, transferred};
 ghost use Rattle.vg_machine.specs.Fits.{AreHeld, ArePlaced, EndsInRange, HasByte, entries_of};
 
-use crate::codes::{ERR_INVALID_PARAMETER, ERR_UNSPEC};
 use std::alloc::{AllocError, Global};
 use std::collections::BTreeMap;
 use std::marker::Model;
 use vg_formats::{MemEntry, Rect};
 use vg_pages::Pages;
+use vg_wire::kinds::{ERR_INVALID_PARAMETER, ERR_UNSPEC};
 
 /// An entry, and how many bytes of the backing stand before it.
 #[derive(Clone, Copy, Debug)]

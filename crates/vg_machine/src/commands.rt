@@ -6,11 +6,11 @@ ghost use Rattle.vg_wire_ext.specs.declared.response.Response.TheVariants as res
 ghost use Rattle.vg_machine.specs.Fits as fit_words;
 ghost use Rattle.vg_machine.specs.Step.{attach_step, create_step, detach_step, flush_step, set_scanout_step, transfer_step, two_d_step, unref_step};
 
-use crate::codes::{ERR_INVALID_PARAMETER, ERR_INVALID_RESOURCE_ID, ERR_INVALID_SCANOUT_ID};
 use crate::display::Display;
 use crate::scanout::Binding;
 use std::alloc::{AllocError, Global};
 use vg_formats::{MemEntry, Rect};
+use vg_wire::kinds::{ERR_INVALID_PARAMETER, ERR_INVALID_RESOURCE_ID, ERR_INVALID_SCANOUT_ID};
 use vg_wire::{Command2d, Modes};
 use vg_wire_ext::Response;
 

@@ -12,7 +12,6 @@ ghost use Rattle.vg_machine.specs.Step.{Keeps, acceptance, answer_header, answer
 
 use crate::act::{Act, ActReply};
 use crate::backing::Backings;
-use crate::codes::ERR_UNSPEC;
 use crate::features::is_usable;
 use crate::history::{Reply, Request};
 use crate::holds::Holds;
@@ -26,6 +25,7 @@ use std::marker::Model;
 use vg_chain::Shape;
 use vg_list::Seq;
 use vg_pages::Pages;
+use vg_wire::kinds::ERR_UNSPEC;
 use vg_wire::{Header, Queue, read_header};
 use vg_wire_ext::{Command, Response, read_request, write_response};
 
@@ -221,19 +221,6 @@ fn copy_of(setup: &Setup) -> Result<Setup, AllocError>
     setup.clone()
 }
 
-/// The kind of a response's header.
-fn kind_of(response: &Response) -> u32
-    ensures { result ≡ response_kind response.now }
-{
-    match response {
-        Response::Nodata => 0x1100,
-        Response::DisplayInfo { .. } => 0x1101,
-        Response::Edid { .. } => 0x1104,
-        Response::Uuid { .. } => 0x1105,
-        Response::Error { code } => *code,
-    }
-}
-
 /// The header of a response to these bytes.
 fn header_of_answer(request: &[u8], kind: u32) -> Header
     ensures { result ≡ answer_header request.now kind }
@@ -276,7 +263,7 @@ fn write_answer(
 ) -> Result<Vec<u8>, AllocError>
     ensures { IfOk result (λ bytes. bytes.items ≡ answered request.now room response.now) }
 {
-    let header = header_of_answer(request, kind_of(response));
+    let header = header_of_answer(request, response.kind());
     let mut bytes = write_response(alloc, &header, response)?;
     bytes.truncate(room as usize);
     Ok(bytes)

@@ -3,6 +3,11 @@
 ghost use Rattle.std.specs.Prelude.{◌≡◌};
 ghost use Rattle.vg_machine.specs.Features as features;
 
+use vg_wire::kinds::{
+    CTX_CREATE, GET_CAPSET, GET_CAPSET_INFO, GET_EDID, RESOURCE_ASSIGN_UUID, RESOURCE_CREATE_BLOB,
+    SET_SCANOUT_BLOB, SUBMIT_3D,
+};
+
 const VIRGL: u64 = 1;
 
 const EDID: u64 = 2;
@@ -29,11 +34,11 @@ fn feature_of(kind: u32) -> Option<u64>
     ensures { result ≡ features.feature_of kind }
 {
     match kind {
-        0x0108 | 0x0109 => Some(VIRGL),
-        0x010a => Some(EDID),
-        0x010b => Some(RESOURCE_UUID),
-        0x010c | 0x010d => Some(RESOURCE_BLOB),
-        0x0200..=0x0207 => Some(VIRGL),
+        GET_CAPSET_INFO | GET_CAPSET => Some(VIRGL),
+        GET_EDID => Some(EDID),
+        RESOURCE_ASSIGN_UUID => Some(RESOURCE_UUID),
+        RESOURCE_CREATE_BLOB | SET_SCANOUT_BLOB => Some(RESOURCE_BLOB),
+        CTX_CREATE..=SUBMIT_3D => Some(VIRGL),
         _ => None,
     }
 }

@@ -6,7 +6,6 @@ mod act;
 mod acts;
 mod backing;
 mod cells;
-mod codes;
 mod commands;
 mod display;
 mod features;

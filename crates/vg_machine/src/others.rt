@@ -4,13 +4,13 @@ ghost use Rattle.std.specs.Prelude.{◌≡◌, ◌<◌, ◌-◌, ◌^◌, IfOk, 
 ghost use Rattle.vg_wire_ext.specs.Commands.{FitsEntries};
 ghost use Rattle.vg_machine.specs.Step.{assign_step, command_step, cursor_step, edid_step};
 
-use crate::codes::{
-    ERR_INVALID_PARAMETER, ERR_INVALID_RESOURCE_ID, ERR_INVALID_SCANOUT_ID, ERR_UNSPEC,
-};
 use crate::commands::response_of;
 use crate::display::Display;
 use std::alloc::{AllocError, Global};
 use vg_edid::edid;
+use vg_wire::kinds::{
+    ERR_INVALID_PARAMETER, ERR_INVALID_RESOURCE_ID, ERR_INVALID_SCANOUT_ID, ERR_UNSPEC,
+};
 use vg_wire_ext::{Command, Response};
 
 impl Display {

@@ -11,7 +11,6 @@ ghost use Rattle.vg_machine.specs.Refusals.{refusal_of};
 ghost use Rattle.vg_formats.specs.Formats.{format_of};
 
 use crate::backing::Backings;
-use crate::codes::{ERR_INVALID_PARAMETER, ERR_INVALID_RESOURCE_ID, ERR_OUT_OF_MEMORY};
 use std::alloc::{AllocError, Global};
 use std::collections::BTreeMap;
 use std::marker::Model;
@@ -19,6 +18,7 @@ use vg_formats::{Format, Rect, pixel_bytes};
 use vg_list::Seq;
 use vg_pages::Pages;
 use vg_places::zeros;
+use vg_wire::kinds::{ERR_INVALID_PARAMETER, ERR_INVALID_RESOURCE_ID, ERR_OUT_OF_MEMORY};
 
 /// How many bytes the pixels of all resources may have.
 pub(crate) const MOST_PIXEL_BYTES: u64 = 134_217_728;

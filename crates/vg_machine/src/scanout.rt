@@ -5,13 +5,13 @@ ghost use Rattle.vg_formats.specs.Pixels.{HasPixels, LiesWithin, common_of};
 ghost use Rattle.vg_machine.specs.Fits.{FitSurface, FitsSurface, IsScreen};
 ghost use Rattle.vg_machine.specs.Scanout.{after_flush, bind, binding_at, flush, frame_of, is_flushed, new_bytes, new_frame, new_frame_bytes, new_frames, pixels_with, snap, unbound, unbound_from, unbound_screen};
 
-use crate::codes::ERR_OUT_OF_MEMORY;
 use std::alloc::{AllocError, Global};
 use std::marker::Model;
 use vg_formats::{Format, Rect, pixel_bytes};
 use vg_list::Seq;
 use vg_places::{Area, zeros};
 use vg_shown::show_rows;
+use vg_wire::kinds::ERR_OUT_OF_MEMORY;
 
 /// How many bytes one screen may have.
 pub(crate) const MOST_SCREEN_BYTES: u64 = 33_554_432;
