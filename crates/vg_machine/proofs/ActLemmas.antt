@@ -1,6 +1,6 @@
 -- What a display keeps over the acts of its clients.
 use Rattle.std.proofs.Common.{◌≡◌, ◌≤◌, ◌<◌, ℕ, ◌+◌, ◌-◌, ◌*◌, Bool, true, false, not, List, [], ◌∷◌, ◌++◌, Option, Some, None, Result, Ok, Err, ap, sym, subst, refl, ◌∙◌, length, take, set, get_or, arith}
-use Rattle.std.specs.Prelude.{IfOk, IfSome, OnErr, OnOk, nat_lt}
+use Rattle.std.specs.Prelude.{IfOk, IfSome, OnErr, OnOk, nat_lt, is_some, if◌then◌else◌}
 use Rattle.std.specs.List.{All}
 use Rattle.std.specs.Ordering.{nat_cmp}
 use Rattle.std.specs.BTreeMap.{is_at}
@@ -18,6 +18,15 @@ use Rattle.vg_machine.specs.Refusals.{refusal_of}
 use Rattle.vg_machine.specs.Cells.{pages_of, repeated, stored}
 use Rattle.vg_machine.specs.Share.{ShareState, SharesPages, buffer_at, freed, given_back, is_holder, leased, pages_at, pages_in, place_refusal, refused_by, released, unleased, with_buffer, with_left}
 use Rattle.vg_machine.specs.Fits.{AreHeld}
+use Rattle.vg_machine.specs.declared.act.Act.{Act}
+use Rattle.vg_machine.specs.declared.act.Act.TheVariants.{Enter, Reserve, Store, Load, Release, Free, Take, Drop, Denied, Leave}
+use Rattle.vg_machine.specs.declared.act.ActReply.{ActReply}
+use Rattle.vg_machine.specs.declared.act.ActReply.TheVariants as act_replies
+use Rattle.vg_machine.specs.Resource.{resource_at}
+use Rattle.vg_machine.specs.Scanout.{binding_at}
+use Rattle.vg_machine.specs.Share.{drop_refusal, free_refusal, has_holder, release_refusal, reserve_refusal, take_refusal}
+use Rattle.vg_machine.specs.State.{State}
+use Rattle.vg_machine.specs.ActStep.{KeepsIfRefused, effect_of, replied_by, shown_at}
 
 -- what clients share, beside guest memory, so many scanouts and so many entries
 pub record ShareFits (memory : Memory) (count entries : ℕ) (share : ShareState) : Type 0 where
@@ -194,3 +203,31 @@ fits-reserved count entries client geometry pages result old new share shared ke
 pub length-repeated : (bytes : List ℕ) (times : ℕ) → length (repeated bytes times) ≡ length bytes * times
 unfolding repeated
 length-repeated bytes times = simp length-map (length-range_with_len 0 (length bytes * times))
+
+-- a refused act has changed nothing
+kept-replied : (refusal : Option ShareRefusal) (state next : State) (reply : ActReply) → KeepsIfRefused reply state next
+    → KeepsIfRefused (replied_by refusal state next reply).1 state (replied_by refusal state next reply).0
+kept-replied (Some refusal) state next reply kept = refl
+kept-replied None state next reply kept = kept
+
+kept-held : (held : Bool) (state next : State) → KeepsIfRefused (if held then act_replies.Kept else act_replies.Last) state next
+kept-held true state next = tt
+kept-held false state next = tt
+
+kept-effect : (state : State) (client : ℕ) (act : Act) → KeepsIfRefused (effect_of state client act).1 state (effect_of state client act).0
+kept-effect state client Enter = tt
+kept-effect state client (Reserve width height format bytes) = kept-replied (reserve_refusal bytes state.memory) state _ _ tt
+kept-effect state client (Store key offset bytes times) = kept-replied (place_refusal client key offset (length bytes * times) state.share) state _ _ tt
+kept-effect state client (Load key offset n) = kept-replied (place_refusal client key offset n state.share) state _ _ tt
+kept-effect state client (Release key) =
+    kept-replied (release_refusal client key (shown_at client key state) state.share) state _ _ (kept-held (has_holder key (released client key state.share)) state _)
+kept-effect state client (Free key) = kept-replied (free_refusal client key (is_some (resource_at key state.resources)) state.share) state _ _ tt
+kept-effect state client (Take scanout) = kept-replied (take_refusal scanout state.share) state _ _ tt
+kept-effect state client (Drop scanout) = kept-replied (drop_refusal client scanout (is_some (binding_at scanout state.scanouts)) state.share) state _ _ tt
+kept-effect state client (Denied what) = tt
+kept-effect state client Leave = tt
+
+pub refused-kept : {E : Type 0} (result : Result ActReply E) (state new : State) (client : ℕ) (act : Act)
+    → IfOk result (λ reply. effect_of state client act ≡ (new, reply)) → IfOk result (λ reply. KeepsIfRefused reply state new)
+refused-kept (Ok reply) state new client act step = subst (λ (done : State × ActReply). KeepsIfRefused done.1 state done.0) step (kept-effect state client act)
+refused-kept (Err error) state new client act step = tt

@@ -7,8 +7,13 @@ pub mod ActLemmas
 pub mod CellLemmas
 pub mod ShareLemmas
 pub mod ScreenLemmas
+pub mod SnapLemmas
+pub mod ShapeLemmas
+pub mod EdidLemmas
 pub mod RemoveLemmas
 pub mod BackingLemmas
 pub mod ResourceLemmas
 pub mod PixelLemmas
 pub mod GrowingLemmas
+pub mod DeniedLemmas
+pub mod ForeignLemmas

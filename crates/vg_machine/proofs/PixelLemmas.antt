@@ -34,7 +34,7 @@ use Rattle.vg_machine.specs.Receive.{receive_refusal, with_received}
 use Rattle.vg_machine.specs.Refusals.{refusal_of}
 use Rattle.vg_machine.specs.Resource.{height_of, resource_at, width_of}
 use Rattle.vg_machine.specs.Scanout.{after_flush, are_too_many, area_of, flushed_pixels, flushed_screen, is_flushed}
-use Rattle.vg_machine.specs.State.{IsConsistent, IsShowing, ShowsResource, State}
+use Rattle.vg_machine.specs.State.{IsConsistent, IsShowing, ShowsResource, State, counted}
 use Rattle.vg_machine.specs.Step.{answered_by, flush_refusals, flush_step, flushed_by, pixels_of, transfer_step}
 use Rattle.vg_machine.proofs.BackingLemmas.{length-backing_bytes}
 use Rattle.vg_machine.proofs.MapLemmas.{set_itself, set_other}
@@ -295,6 +295,20 @@ shows-at rect id state resource known screens is scanout screen at =
           (ap (λ pixels. after_flush id rect pixels (Some screen)) (sym surface) ∙ after),
       shows,
     )
+
+-- a display keeps what it keeps when an entry is counted
+pub consistent-counted : (state : State) → IsConsistent state → IsConsistent (counted state)
+consistent-counted state was = record {
+  setup = was.setup;
+  pages = was.pages;
+  backings = was.backings;
+  screens = was.screens;
+  showing = was.showing;
+  leases = was.leases;
+  share = was.share;
+  reserved = omega (arith, was.reserved);
+  given = omega (arith, was.given);
+}
 
 pub shows-each-pixel : (rect : Rect) (id : ℕ) (state : State) → IsConsistent state → All IsScreen state.scanouts.screens
     → (flush_step state rect id).1 ≡ responses.Nodata → ShowsEachPixel rect id state (flush_step state rect id).0

@@ -6,6 +6,7 @@ ghost use Rattle.vg_formats.specs.declared.rect.Rect.{Rect};
 ghost use Rattle.vg_wire_ext.specs.declared.response.Response.TheVariants as responses;
 ghost use Rattle.vg_wire.specs.declared.two_d.Command2d.TheVariants as commands;
 ghost use Rattle.vg_machine.specs.Pixels.{CopiesEachPixel, ShowsEachPixel};
+ghost use Rattle.vg_machine.specs.State.{counted};
 ghost use Rattle.vg_machine.specs.Step.{two_d_step};
 
 use crate::display::Display;
@@ -15,8 +16,8 @@ impl Display {
     /// resource is the resource's pixel at its point, as the resource's format is shown (blue, green, red, alpha), where the
     /// flushed rectangle covers that point, and is else as before. Rectangles are in pixels of the resource.
     pub fn a_flush_shows_each_pixel(&self)
-        ensures { (rect : Rect) (id : ℕ) → (two_d_step self.now (commands.Flush rect id)).1 ≡ responses.Nodata
-            → ShowsEachPixel rect id self.now (two_d_step self.now (commands.Flush rect id)).0 }
+        ensures { (rect : Rect) (id : ℕ) → (two_d_step (counted self.now) (commands.Flush rect id)).1 ≡ responses.Nodata
+            → ShowsEachPixel rect id self.now (two_d_step (counted self.now) (commands.Flush rect id)).0 }
     {
         let _ = &self.setup;
         self.resources.are_whole();
@@ -27,8 +28,8 @@ impl Display {
     /// column i and row j of the rectangle at (x, y), is the four bytes of the backing from
     /// `offset + 4 * width * j + 4 * i` on, with the resource's width in pixels, and each other pixel is as before.
     pub fn a_transfer_copies_each_pixel(&self)
-        ensures { (rect : Rect) (offset id : ℕ) → (two_d_step self.now (commands.Transfer rect offset id)).1 ≡ responses.Nodata
-            → CopiesEachPixel rect offset id self.now (two_d_step self.now (commands.Transfer rect offset id)).0 }
+        ensures { (rect : Rect) (offset id : ℕ) → (two_d_step (counted self.now) (commands.Transfer rect offset id)).1 ≡ responses.Nodata
+            → CopiesEachPixel rect offset id self.now (two_d_step (counted self.now) (commands.Transfer rect offset id)).0 }
     {
         let _ = &self.setup;
         self.resources.are_whole();

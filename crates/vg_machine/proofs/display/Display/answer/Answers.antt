@@ -1,7 +1,6 @@
-use Rattle.std.proofs.Common.{rules, ◌≡◌, Result, Ok, Err, OnErr}
-use Rattle.vg_wire_ext.specs.Request.{request_of}
-use Rattle.vg_machine.specs.Step.{answer_of}
-use Rattle.vg_machine.proofs.KeepLemmas.{kept-given}
+use Rattle.std.proofs.Common.{◌∙◌, ap, Result, Ok, Err, OnErr}
+use Rattle.vg_machine.specs.Step.{answered, ran}
+use Rattle.vg_machine.proofs.KeepLemmas.{accepted-is, answered-given, answered-ok, kept-given}
 use Rattle.vg_machine.proofs.display.Display.answer.Goals as goal
 
 -- a fact that holds whatever the result is
@@ -9,7 +8,17 @@ on_err : {A E P : Type 0} (outcome : Result A E) → P → OnErr outcome P
 on_err (Ok value) p = tt
 on_err (Err error) p = p
 
-pub returns-in_default-clause-err : goal.returns-in_default-clause-err
-returns-in_default-clause-err c =
-    let step : answer_of c.args.self.now (request_of c.args.queue c.args.request.now) ≡ (c.respond.new.self, c.in_ok-other.other) = search rules in
-    on_err c.write_answer-in_default.result (kept-given c.args.self.now c.respond.new.self (request_of c.args.queue c.args.request.now) c.in_ok-other.other step c.in_default.not-Nodata)
+pub returns-in-Nodata-clause-step : goal.returns-in-Nodata-clause-step
+returns-in-Nodata-clause-step c =
+    let expected = accepted-is c.args.self.now c.run.new.self c.in-Some.command c.in_ok-other.other c.in_ok-other.ensures.step c.in-Nodata.is in
+    answered-given c.args.self.now c.run.new.self c.args.queue c.args.request.now c.args.room _ c.in_ok-other.other c.in_ok-accepted.accepted.items
+    (c.in_ok-command.ensures.answer ∙ ap (ran c.args.self.now) c.in-Some.is) c.in_ok-other.ensures.step
+    (c.in_ok-accepted.ensures ∙ ap (answered c.args.request.now c.args.room) (c.acceptance.ensures ∙ expected))
+
+pub returns : goal.returns
+returns c = record {
+  step =
+      answered-ok c.write_answer-in_default-2.result (λ bytes. bytes.items) c.args.self.now c.run.new.self c.args.queue c.args.request.now c.args.room _ c.in_ok-other.other
+      (c.in_ok-command.ensures.answer ∙ ap (ran c.args.self.now) c.in-Some.is) c.in_ok-other.ensures.step c.write_answer-in_default-2.ensures;
+  err = on_err c.write_answer-in_default-2.result (kept-given c.args.self.now c.run.new.self c.in-Some.command c.in_ok-other.other c.in_ok-other.ensures.step c.in_default-2.not-Nodata c.in_default-2.not-Uuid);
+}

@@ -9,7 +9,7 @@ pub flush-requires : goal.flush-requires
 flush-requires c =
     let s = c.self.inside in
     let surface = c.in-Some.surface.now in
-    rw c.as_slice.ensures (fits-surface s.resources c.args.resource surface s.scanouts.screens (sym c.in-Some.ensures.value) c.in-Some.ensures.whole c.self.invariant.showing)
+    rw c.as_slice-pixels.ensures (fits-surface s.resources c.args.resource surface s.scanouts.screens (sym c.in-Some.ensures.value) c.in-Some.ensures.whole c.self.invariant.showing)
 
 pub invariant_of-self-2 : goal.invariant_of-self-2
 invariant_of-self-2 c =
@@ -25,6 +25,7 @@ invariant_of-self-2 c =
       leases = was.leases;
       share = was.share;
       reserved = was.reserved;
+      given = was.given;
     }
 
 pub returns-clause-step : goal.returns-clause-step
@@ -33,4 +34,4 @@ returns-clause-step c =
     let surface = c.in-Some.surface.now in
     let inside : is_inside c.args.rect.now surface.width surface.height ≡ true = search rules in
     rw (c.response_of.ensures, ← c.self.view_is)
-    (step-flush (record { setup = s.setup; entries = s.entries; memory = s.pages; resources = s.resources; backings = s.backings; scanouts = s.scanouts; share = s.share }) c.args.rect.now c.args.resource surface c.flush.new.self c.in_ok-done.done (sym c.in-Some.ensures.value) inside (rw c.as_slice.ensures at c.in_ok-done.ensures.done))
+    (step-flush (record { setup = s.setup; entries = s.entries; memory = s.pages; resources = s.resources; backings = s.backings; uuids = s.uuids; scanouts = s.scanouts; share = s.share }) c.args.rect.now c.args.resource surface c.flush.new.self c.in_ok-done.done (sym c.in-Some.ensures.value) inside (rw c.as_slice-pixels.ensures at c.in_ok-done.ensures.done))

@@ -16,6 +16,7 @@ invariant_of-self c =
       leases = was.leases;
       share = was.share;
       reserved = was.reserved;
+      given = was.given;
     }
 
 pub invariant_of-self-2 : goal.invariant_of-self-2
@@ -33,6 +34,7 @@ invariant_of-self-2 c =
       leases = was.leases;
       share = was.share;
       reserved = was.reserved;
+      given = rw c.forget.ensures was.given;
     }
 
 pub returns-in-Err : goal.returns-in-Err
@@ -43,4 +45,4 @@ returns-in-Err c =
 pub returns : goal.returns
 returns c =
     let gone = remove-done c.args.resource c.self.inside.resources c.remove.new.self c.remove.result c.remove.ensures c.in_default.is in
-    record { step = rw (← c.self.view_is, c.remove-2.ensures.after, c.unbind_resource.ensures, gone.0, gone.1) refl }
+    record { step = rw (← c.self.view_is, c.remove-2.ensures.after, c.forget.ensures, c.unbind_resource.ensures, gone.0, gone.1) refl }
