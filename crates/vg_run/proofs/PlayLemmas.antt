@@ -1,6 +1,6 @@
 -- What the tasks of a call give, one entry after another.
 use Rattle.std.proofs.Common.{◌≡◌, ◌⊎◌, ◌+◌, ◌<◌, ◌≤◌, ◌∙◌, sym, ap, refl, subst, arith, inl, inr, ℕ, Bool, true, false, cond, not, ◌||◌, List, [], ◌∷◌, ◌++◌, length, map, drop, filter, slice_set, append_assoc, append-nil, length-append, Option, Some, None, Result, Ok, Err, Vec}
-use Rattle.std.specs.Prelude.{IfErr, OnErr}
+use Rattle.std.specs.Prelude.{IfErr, IfOk, OnErr}
 use Rattle.std.specs.List.{AllByRecursion}
 use Rattle.std.proofs.lemmas.List.{length-map, length-set}
 use Rattle.vg_machine.specs.declared.act.Act as the_act
@@ -348,6 +348,10 @@ begun-by old new client client' entry holds (inr (r, is)) = (
   },
 )
 
+pub map_ok : {T E : Type 0} {P Q : T → Type 0} (r : Result T E) → ((x : T) → P x → Q x) → IfOk r P → IfOk r Q
+map_ok (Ok x) f p = f x p
+map_ok (Err e) f p = tt
+
 pub map_err : {T E : Type 0} {A B : Type 0} (r : Result T E) → (A → B) → OnErr r A → OnErr r B
 map_err (Ok x) f a = tt
 map_err (Err e) f a = f a
@@ -381,6 +385,21 @@ asked-as client ordinal (Some what) denied' request requests entry same made ask
 asked-as client ordinal None denied' request requests entry same made asked =
     let P : Option What → Type 0 = λ d. IsAsked client d requests entry in
     subst P same (asked.0, ordinal, asked.2, asked.3 ∙ ap (λ (r : Request). Command client asked.0 r asked.2) made)
+
+-- the same of an entry that was made
+pub done-asked : (old new : Course) (client client' : Client) (request : Request) (denied : Option What) → denied ≡ None → (given : Given)
+    → (reply : Reply) × HasDone old client (Command client.account.number (client.account.used + 1) request reply) given new client' × IsFewPages given
+    → (entry : Entry) × IsAsked client.account.number denied (λ _. request) entry × HasDone old client entry given new client' × IsFewPages given
+done-asked old new client client' request denied is_asked given (reply, done, few) =
+    let entry : Entry = Command client.account.number (client.account.used + 1) request reply in
+    let P : Option What → Type 0 = λ d. IsAsked client.account.number d (λ _. request) entry in
+    (entry, subst P (sym is_asked) (client.account.used + 1, 0, reply, refl), done, few)
+
+pub done-as : (old new : Course) (client client' : Client) (ordinal : ℕ) (denied denied' : Option What) (request : Request) (requests : ℕ → Request) → denied ≡ denied' → request ≡ requests ordinal → (given : Given)
+    → (entry : Entry) × IsAsked client.account.number denied (λ _. request) entry × HasDone old client entry given new client' × IsFewPages given
+    → (entry : Entry) × IsAsked client.account.number denied' requests entry × HasDone old client entry given new client' × IsFewPages given
+done-as old new client client' ordinal denied denied' request requests same made given (entry, asked, done, few) =
+    (entry, asked-as client.account.number ordinal denied denied' request requests entry same made asked, done, few)
 
 pub front-as : (old new : Course) (client client' : Client) (ordinal : ℕ) (denied denied' : Option What) (request : Request) (requests : ℕ → Request) → denied ≡ denied' → request ≡ requests ordinal
     → (mine : List Entry) × IsFrontOfAsked client.account.number denied (λ _. request) mine × HasAdded old client mine new client'

@@ -1,6 +1,7 @@
 //! A script's run, from its first client to its journal.
 
 ghost use Rattle.std.specs.Prelude.{◌≡◌, ◌≤◌, ◌<◌, ◌+◌, [], All, if◌then◌else◌, length, count_by, IfOk, OnOk};
+ghost use Rattle.std.specs.List.{list_any};
 ghost use Rattle.vg_machine.specs.Setup.{IsSetup};
 ghost use Rattle.vg_script.specs.Limits.{ClientInLimits, ScriptInLimits};
 ghost use Rattle.vg_run.specs.Calls.{Follows};
@@ -57,11 +58,33 @@ fn setup_of(alloc: Global, script: &Script) -> Result<Setup, AllocError>
 fn accepted_of(without: &[Feature]) -> u64
     ensures { result ≡ setups.accepted_of without.now }
 {
-    let edid = without.iter().any(|feature| is_edid(feature));
-    let uuid = without.iter().any(|feature| is_uuid(feature));
-    let blob = without.iter().any(|feature| is_blob(feature));
-    let context = without.iter().any(|feature| is_context(feature));
+    let (edid, uuid) = (has_edid(without), has_uuid(without));
+    let (blob, context) = (has_blob(without), has_context(without));
     0x11000001f - left_out(edid, 2) - left_out(uuid, 4) - left_out(blob, 8) - left_out(context, 17)
+}
+
+fn has_edid(features: &[Feature]) -> bool
+    ensures { result ≡ list_any setups.is_edid features.now }
+{
+    features.iter().any(|feature| is_edid(feature))
+}
+
+fn has_uuid(features: &[Feature]) -> bool
+    ensures { result ≡ list_any setups.is_uuid features.now }
+{
+    features.iter().any(|feature| is_uuid(feature))
+}
+
+fn has_blob(features: &[Feature]) -> bool
+    ensures { result ≡ list_any setups.is_blob features.now }
+{
+    features.iter().any(|feature| is_blob(feature))
+}
+
+fn has_context(features: &[Feature]) -> bool
+    ensures { result ≡ list_any setups.is_context features.now }
+{
+    features.iter().any(|feature| is_context(feature))
 }
 
 fn is_edid(feature: &Feature) -> bool

@@ -1,16 +1,13 @@
-use Rattle.std.proofs.Common.{◌≡◌, ◌+◌, ◌∙◌, sym, ap, subst, ℕ, Option, count_by}
+use Rattle.std.proofs.Common.{◌≡◌, ◌+◌, ◌∙◌, sym, ap, ℕ, count_by}
 use Rattle.vg_wire.specs.declared.request.Queue.{Queue}
 use Rattle.vg_wire_ext.specs.Commands.{command_kind}
-use Rattle.vg_machine.specs.declared.act.What.{What}
 use Rattle.vg_machine.specs.declared.history.Request.{Request}
 use Rattle.vg_machine.specs.Holds.{denied_of}
 use Rattle.vg_machine.specs.Lane.{lane_of}
 use Rattle.vg_machine.specs.Order.{is_of_lane}
-use Rattle.vg_run.specs.declared.task.Deed.TheVariants as deeds
 use Rattle.vg_run.specs.Requests.{denied_by, queue_by, request_by}
 use Rattle.vg_run.proofs.DeniedLemmas.{denied-read}
-use Rattle.vg_run.proofs.PlayLemmas.{asked-as, begun-none, front-as, map_err}
-use Rattle.vg_run.proofs.PrintingLemmas.{on_err}
+use Rattle.vg_run.proofs.PlayLemmas.{done-as, front-as, map_err, map_ok}
 use Rattle.vg_run.proofs.play.make_command.Goals as goal
 
 pub ask-requires-clause-next : goal.ask-requires-clause-next
@@ -24,3 +21,25 @@ ask-requires-clause-next c =
       lane = lane ∙ sym c.in_ok-request.ensures.lane ∙ ap (λ (q : Queue). lane_of q request.bytes) (sym queue);
       ordinal = ordinal ∙ c.next_ordinal-ordinal.ensures ∙ ap (λ (n : ℕ). count_by (is_of_lane n) c.args.session.now.history + 1) (c.lane_by.ensures.lane ∙ sym lane);
     }
+
+pub returns-clause-done : goal.returns-clause-done
+returns-clause-done c =
+    let request = c.in_ok-request.request in
+    let holds = c.args.client.now.account.holds in
+    let ordinal = c.next_ordinal-ordinal.result in
+    let made = c.in_ok-request.ensures.request in
+    let same : denied_of holds request.queue request.bytes ≡ denied_by holds c.args.way c.args.command =
+    ap (λ (r : Request). denied_of holds r.queue request.bytes) made
+    ∙ denied-read holds (queue_by c.args.way) c.args.way (command_kind c.args.command) ordinal request.bytes c.args.command c.in_ok-request.ensures.reads in
+    map_ok _ (done-as c.args.session.now c.ask.new.session c.args.client.now c.ask.new.client ordinal _ _ request (request_by c.args.way c.args.command) same made) c.ask.ensures.done
+
+pub returns-clause-begun : goal.returns-clause-begun
+returns-clause-begun c =
+    let request = c.in_ok-request.request in
+    let holds = c.args.client.now.account.holds in
+    let ordinal = c.next_ordinal-ordinal.result in
+    let made = c.in_ok-request.ensures.request in
+    let same : denied_of holds request.queue request.bytes ≡ denied_by holds c.args.way c.args.command =
+    ap (λ (r : Request). denied_of holds r.queue request.bytes) made
+    ∙ denied-read holds (queue_by c.args.way) c.args.way (command_kind c.args.command) ordinal request.bytes c.args.command c.in_ok-request.ensures.reads in
+    map_err _ (front-as c.args.session.now c.ask.new.session c.args.client.now c.ask.new.client ordinal _ _ request (request_by c.args.way c.args.command) same made) c.ask.ensures.begun
