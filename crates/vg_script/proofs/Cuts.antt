@@ -1,11 +1,12 @@
 -- A list of parts, with the first part taken off.
-use Rattle.std.proofs.Common.{◌≡◌, ℕ, ◌+◌, ◌<◌, ◌≤◌, ◌==◌, ◌⊎◌, Bool, true, false, List, [], ◌∷◌, length, arith, refl, inl, inr, length-drop}
+use Rattle.std.proofs.Common.{◌≡◌, ℕ, ◌+◌, ◌<◌, ◌≤◌, ◌==◌, ◌⊎◌, Bool, true, false, List, [], ◌∷◌, length, arith, refl, inl, inr, sym, Some, None, length-drop}
 use Rattle.std.proofs.lemmas.Grind.{common_steps}
 use Rattle.std.proofs.lemmas.Bool.{cases_lt}
 use Rattle.std.proofs.lemmas.Bool.Decides.{nat_tests}
 use Rattle.std.proofs.lemmas.List.Splits.{slice_split_first, slice_split_none}
-use Rattle.std.proofs.lemmas.List.Sums.{fails_before_first}
+use Rattle.std.proofs.lemmas.List.Sums.{fails_before_first, position_or_len_is}
 use Rattle.std.specs.List.{slice_split, before_first, after_first, position_or_len}
+use Rattle.memchr.specs.Find.{IsFirstByte, is_byte}
 use Rattle.vg_script.specs.Words.{words_of, lines_of, closed_lines}
 
 pub words_of-nil : words_of [] ≡ []
@@ -84,3 +85,14 @@ none_left (x ∷ xs) h = absurd (grind (arith, nat_tests))
 -- What is behind the first part is shorter.
 pub shorter : (p : ℕ → Bool) (xs : List ℕ) → 0 < length xs → length (after_first p xs) + 1 ≤ length xs
 shorter p xs h = simp length-drop (omega arith)
+
+-- The first of a byte, as it is searched.
+is_false : (b : Bool) → (b ≡ true → ⊥) → b ≡ false
+is_false true h = absurd (h refl)
+is_false false h = refl
+
+pub no_place : (at : ℕ) (bytes : List ℕ) → IsFirstByte (is_byte at) bytes None → length bytes ≡ position_or_len (λ b. b == at) bytes
+no_place at bytes h = sym (position_or_len_is (λ b. b == at) bytes (length bytes) 0 (omega arith) (λ k lt. is_false _ (h k (omega arith) lt)) (λ lt. absurd (omega arith)))
+
+pub first_place : (at : ℕ) (bytes : List ℕ) (place : ℕ) → IsFirstByte (is_byte at) bytes (Some place) → place ≡ position_or_len (λ b. b == at) bytes
+first_place at bytes place h = sym (position_or_len_is (λ b. b == at) bytes place 0 (omega (arith, h.0.high)) (λ k lt. is_false _ (h.0.before k (omega arith) lt)) (λ lt. h.1))

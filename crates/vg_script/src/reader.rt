@@ -9,7 +9,7 @@ use crate::kind::{Kind, Stop};
 use crate::names::{Names, forget};
 use crate::rows::spelled;
 use crate::types::{Feature, Line, Script, ScriptFault};
-use crate::words::{is_text, limited, words_of};
+use crate::words::{is_text, limited, put_words};
 use std::alloc::{AllocError, Global};
 use std::collections::BTreeMap;
 use vg_list::Seq;
@@ -52,9 +52,14 @@ impl<'a> Reader<'a> {
         self.lines
     }
 
-    /// Reads one line more.
+    /// Reads one line more, whose words are put in place of others.
     #[tactic(auto, unfolding(crate::specs::Grammar::after_line, crate::specs::Grammar::line_form))]
-    pub(crate) fn read_line(&mut self, alloc: Global, line: &'a [u8]) -> Result<(), Stop>
+    pub(crate) fn read_line(
+        &mut self,
+        alloc: Global,
+        words: &mut Vec<&'a [u8]>,
+        line: &'a [u8],
+    ) -> Result<(), Stop>
         requires { (seen self.old).lines < 2 ^ 32 - 1 }
         ensures { Goes (seen self.new) result (after_line (seen self.old) line.now) }
     {
@@ -62,7 +67,7 @@ impl<'a> Reader<'a> {
         if !is_text(line) {
             return Err(Stop::Fault(Kind::Text));
         }
-        let words = words_of(alloc, line)?;
+        put_words(words, line)?;
         self.read_words(alloc, words.as_slice())
     }
 

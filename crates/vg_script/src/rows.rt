@@ -10,9 +10,7 @@ ghost use Rattle.vg_script.specs.Code.{table_of, Agrees, Passes, Reads, Finds};
 use crate::kind::{Kind, Stop};
 use crate::names::{NameKind, Names, define, end, is_defined, is_kind};
 use crate::types::{Area, RawShape, Step};
-use crate::words::{
-    bytes_or_none, hex_bytes, is_hex, is_hex_or_none, is_name, is_number, limited, value,
-};
+use crate::words::{bytes_or_none, hex_bytes, is_name, is_number, limited, value};
 use std::alloc::{AllocError, Global};
 use vg_list::Seq;
 
@@ -82,9 +80,7 @@ pub(crate) fn store(
         (judged_row (store_row (table_of names.now) name.now offset.now hex.now times.now)) }
 {
     spelled(offset)?;
-    if !is_hex(hex) {
-        return Err(Stop::Fault(Kind::Number));
-    }
+    let bytes = hex_bytes(alloc, hex)?;
     spelled(times)?;
     let offset = limited(offset, 0, 1_228_799)?;
     let count = hex.len() / 2;
@@ -97,7 +93,6 @@ pub(crate) fn store(
     }
     known(names, name)?;
     let name = owned(alloc, name)?;
-    let bytes = hex_bytes(alloc, hex)?;
     Ok(Step::Store {
         name,
         offset,
@@ -298,14 +293,11 @@ pub(crate) fn raw(
     let cursor = queue_of(queue)?;
     let shape = shape_of(shape)?;
     spelled(room)?;
-    if !is_hex_or_none(hex) {
-        return Err(Stop::Fault(Kind::Number));
-    }
+    let bytes = bytes_or_none(alloc, hex)?;
     let room = limited(room, 0, 8_192)?;
     if hex.len() / 2 > 4_096 {
         return Err(Stop::Fault(Kind::Limit));
     }
-    let bytes = bytes_or_none(alloc, hex)?;
     Ok(Step::Raw {
         cursor,
         room,

@@ -43,12 +43,13 @@ fn read_lines<'a>(
     ensures fault { IfOk result (λ r. IfErr r (λ fault. scan nothing_seen (lines_of bytes.now) ≡ Err fault)) }
 {
     let mut reader = Reader::new(alloc);
+    let mut words = Vec::new(alloc);
     let mut rest = bytes;
     while !rest.is_empty() {
         let (line, after) = cut(rest, b'\n');
         rest = after;
         let number = reader.lines() + 1;
-        match reader.read_line(alloc, line) {
+        match reader.read_line(alloc, &mut words, line) {
             Ok(()) => {}
             Err(Stop::Memory) => return Err(AllocError),
             Err(Stop::Fault(kind)) => {

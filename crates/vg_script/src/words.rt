@@ -3,12 +3,12 @@
 ghost use Rattle.std.specs.List.{list_all, before_first, after_first, position_or_len};
 ghost use Rattle.std.specs.Int.{is_in_range};
 ghost use Rattle.std.specs.Char.{is_ascii_digit, is_ascii_alphanumeric};
-ghost use Rattle.std.specs.Prelude.{◌≡◌, ◌==◌, ◌+◌, ◌-◌, ◌*◌, ◌^◌, ◌<◌, ◌≤◌, min, true, false, length, map, IfOk, MatchResult};
-ghost use Rattle.vg_script.specs.Code.{Reads};
+ghost use Rattle.std.specs.Prelude.{◌≡◌, ◌==◌, ◌+◌, ◌-◌, ◌*◌, ◌^◌, ◌<◌, ◌≤◌, min, true, false, length, map, IfOk, OnOk, MatchResult};
+ghost use Rattle.vg_script.specs.Code.{Reads, Decodes, digit_or_16, decoded};
 ghost use Rattle.vg_script.specs.Words.{is_text, words_of, is_number, value, is_within, is_hex, is_hex_digit, hex_bytes, is_hex_or_none, bytes_or_none, is_name};
 
-use crate::kind::Kind;
-use hex::FromHexError;
+use crate::kind::{Kind, Stop};
+use memchr::memchr;
 use std::alloc::{AllocError, Global};
 use vg_list::Seq;
 
@@ -22,11 +22,18 @@ pub(crate) fn is_text(line: &[u8]) -> bool
 fn are_printable(line: &[u8]) -> bool
     ensures { result ≡ list_all (is_in_range 32 126) line.now }
 {
-    line.iter().all(|b| *b >= 32 && *b <= 126)
+    let mut all = true;
+    for b in line {
+        // Without an early end the loop goes over many bytes at once.
+        all &= *b >= 32;
+        all &= *b <= 126;
+    }
+    all
 }
 
 /// The bytes before the first `at`, and those behind it. Where there is none, all the bytes and nothing.
 #[tactic(auto, using(crate::proofs::Cuts::whole))]
+#[inline(always)]
 pub(crate) fn cut(bytes: &[u8], at: u8) -> (&[u8], &[u8])
     ensures before { result.0.now ≡ before_first (λ b. b == at) bytes.now }
     ensures after { result.1.now ≡ after_first (λ b. b == at) bytes.now }
@@ -38,24 +45,37 @@ pub(crate) fn cut(bytes: &[u8], at: u8) -> (&[u8], &[u8])
     (bytes, &[])
 }
 
-/// The place of the first `at`, or how many bytes there are.
+/// The place of the first `at`, or how many bytes there are. Many parts are empty, and are seen at once.
+#[inline(always)]
 fn place_of(bytes: &[u8], at: u8) -> usize
     ensures place { result ≡ position_or_len (λ b. b == at) bytes.now }
     ensures within { result ≤ length bytes.now }
 {
-    for (place, b) in bytes.iter().enumerate() {
-        if *b == at {
-            return place;
-        }
+    let [first, ..] = bytes else {
+        return 0;
+    };
+    if *first == at {
+        return 0;
     }
-    bytes.len()
+    far_place(bytes, at)
 }
 
-/// The words of a line.
-pub(crate) fn words_of(alloc: Global, line: &[u8]) -> Result<Vec<&[u8]>, AllocError>
-    ensures { IfOk result (λ v. map (λ word. word.now) v.items ≡ words_of line.now) }
+#[inline(never)]
+fn far_place(bytes: &[u8], at: u8) -> usize
+    ensures place { result ≡ position_or_len (λ b. b == at) bytes.now }
+    ensures within { result ≤ length bytes.now }
 {
-    let mut words = Vec::new(alloc);
+    match memchr(at, bytes) {
+        Some(place) => place,
+        None => bytes.len(),
+    }
+}
+
+/// Puts the words of a line in place of others.
+pub(crate) fn put_words<'a>(words: &mut Vec<&'a [u8]>, line: &'a [u8]) -> Result<(), AllocError>
+    ensures { OnOk result (map (λ word. word.now) words.new.items ≡ words_of line.now) }
+{
+    words.clear();
     let mut rest = line;
     while !rest.is_empty() {
         let (word, after) = cut(rest, b' ');
@@ -64,7 +84,7 @@ pub(crate) fn words_of(alloc: Global, line: &[u8]) -> Result<Vec<&[u8]>, AllocEr
         }
         rest = after;
     }
-    Ok(words)
+    Ok(())
 }
 
 /// Whether a word is a number.
@@ -83,17 +103,55 @@ fn are_digits(word: &[u8]) -> bool
     word.iter().all(|b| b.is_ascii_digit())
 }
 
-/// Whether a word is HEX.
-pub(crate) fn is_hex(word: &[u8]) -> bool
-    ensures { result ≡ is_hex word.now }
+/// The bytes of HEX, whose digits are looked at once.
+#[tactic(auto, using(crate::proofs::HexDigits::decoded_is))]
+pub(crate) fn hex_bytes(alloc: Global, word: &[u8]) -> Result<Seq<u8>, Stop>
+    ensures { Decodes (is_hex word.now) (hex_bytes word.now) result }
 {
-    word.len() % 2 == 0 && are_hex_digits(word)
+    if word.len() % 2 != 0 {
+        return Err(Stop::Fault(Kind::Number));
+    }
+    let mut bytes = vec![in alloc; 0u8; word.len() / 2]?;
+    if !put_bytes(word, &mut bytes) {
+        return Err(Stop::Fault(Kind::Number));
+    }
+    Ok(Seq::from_vec(bytes))
 }
 
-fn are_hex_digits(word: &[u8]) -> bool
-    ensures { result ≡ list_all is_hex_digit word.now }
+fn put_bytes(word: &[u8], bytes: &mut Vec<u8>) -> bool
+    requires { length word.now ≡ 2 * length bytes.old.items }
+    ensures all { result ≡ list_all is_hex_digit word.now }
+    ensures bytes { bytes.new.items ≡ decoded word.now }
 {
-    word.iter().all(|b| (*b >= b'0' && *b <= b'9') || (*b >= b'a' && *b <= b'f'))
+    decode(word, bytes.as_mut_slice())
+}
+
+/// Writes the bytes of pairs of digits. Whether all were digits.
+fn decode(word: &[u8], bytes: &mut [u8]) -> bool
+    requires { length word.now ≡ 2 * length bytes.old }
+    ensures all { result ≡ list_all is_hex_digit word.now }
+    ensures bytes { bytes.new ≡ decoded word.now }
+{
+    let mut all = true;
+    for i in 0..bytes.len() {
+        let high = digit(word[2 * i]);
+        let low = digit(word[2 * i + 1]);
+        all &= high < 16;
+        all &= low < 16;
+        bytes[i] = high % 16 * 16 + low % 16;
+    }
+    all
+}
+
+/// What a digit says, or 16.
+fn digit(b: u8) -> u8
+    ensures { result ≡ digit_or_16 b }
+{
+    match b {
+        b'0'..=b'9' => b - b'0',
+        b'a'..=b'f' => b - b'a' + 10,
+        _ => 16,
+    }
 }
 
 /// Whether a word is a name.
@@ -138,32 +196,9 @@ pub(crate) fn limited(number: &[u8], low: u32, high: u32) -> Result<u32, Kind>
     Ok(sum as u32)
 }
 
-/// The bytes of HEX.
-#[tactic(auto, using(crate::proofs::HexDigits::hex_is_read))]
-pub(crate) fn hex_bytes(alloc: Global, hex: &[u8]) -> Result<Seq<u8>, AllocError>
-    requires { is_hex hex.now ≡ true }
-    ensures { IfOk result (λ bytes. bytes ≡ hex_bytes hex.now) }
-{
-    match hex::decode(alloc, hex) {
-        Ok(bytes) => Ok(Seq::from_vec(bytes)),
-        Err(error) => match error {
-            FromHexError::OutOfMemory => Err(AllocError),
-            _ => unreachable!(),
-        },
-    }
-}
-
-/// Whether a word is HEX, or says that there are no bytes.
-pub(crate) fn is_hex_or_none(word: &[u8]) -> bool
-    ensures { result ≡ is_hex_or_none word.now }
-{
-    word == b"-".as_slice() || is_hex(word)
-}
-
 /// The bytes of HEX, or none.
-pub(crate) fn bytes_or_none(alloc: Global, word: &[u8]) -> Result<Seq<u8>, AllocError>
-    requires { is_hex_or_none word.now ≡ true }
-    ensures { IfOk result (λ bytes. bytes ≡ bytes_or_none word.now) }
+pub(crate) fn bytes_or_none(alloc: Global, word: &[u8]) -> Result<Seq<u8>, Stop>
+    ensures { Decodes (is_hex_or_none word.now) (bytes_or_none word.now) result }
 {
     if word == b"-".as_slice() {
         return Ok(Seq::from_vec(Vec::new(alloc)));

@@ -1,7 +1,7 @@
 use Rattle.std.proofs.Common.{arith}
 use Rattle.std.proofs.lemmas.Grind.{common_steps}
 use Rattle.vg_script.proofs.Cuts.{words_of-nil, words_of-some, words_of-none}
-use Rattle.vg_script.proofs.words.words_of.Goals as goal
+use Rattle.vg_script.proofs.words.put_words.Goals as goal
 
 pub loop-rest-preserved-in_ok-push : goal.loop-rest-preserved-in_ok-push
 loop-rest-preserved-in_ok-push c = let some = words_of-some c.loop-rest.rest.now in grind (arith, common_steps, some)
