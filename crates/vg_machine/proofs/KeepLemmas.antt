@@ -1,6 +1,6 @@
 -- A part of the display that is refused or changed, and the display around it; what is refused has changed nothing.
 use Rattle.std.proofs.Common.{◌≡◌, ◌≢◌, ℕ, ◌+◌, ◌==◌, ◌||◌, Bool, true, false, not, if◌then◌else◌, List, [], ◌∷◌, length, Option, Some, None, Result, Ok, Err, ap, sym, ◌∙◌, refl, subst}
-use Rattle.std.specs.Prelude.{nat_le}
+use Rattle.std.specs.Prelude.{nat_le, nat_lt, is_none, drop, ok_or, option_map}
 use Rattle.std.specs.Ordering.{nat_cmp}
 use Rattle.std.specs.BTreeMap.{insert_entry}
 use Rattle.vg_formats.specs.declared.entry.MemEntry.{MemEntry}
@@ -12,6 +12,12 @@ use Rattle.vg_wire.specs.declared.header.Header.{Header}
 use Rattle.vg_wire_ext.specs.declared.command.Command.{Command}
 use Rattle.vg_wire_ext.specs.declared.command.Command.TheVariants.{TwoD, CapsetInfo, Capset, Edid, AssignUuid, CreateBlob, SetScanoutBlob, CtxCreate, CtxDestroy, CtxAttach, CtxDetach, Submit, UpdateCursor, MoveCursor}
 use Rattle.vg_wire.specs.declared.request.Malformed.{Malformed}
+use Rattle.vg_wire.specs.declared.request.Malformed.TheVariants.{ShortHeader, UnknownKind, WrongQueue, ShortBody}
+use Rattle.vg_wire.specs.declared.request.Queue.{Queue}
+use Rattle.vg_wire.specs.Header.{header_of}
+use Rattle.vg_wire_ext.specs.Commands.{command_of, is_known}
+use Rattle.vg_wire_ext.specs.Request.{is_queue_of, request_of}
+use Rattle.vg_machine.specs.Features.{is_usable}
 use Rattle.vg_wire_ext.specs.declared.response.Response.{Response}
 use Rattle.vg_wire.specs.declared.two_d.Command2d.{Command2d}
 use Rattle.vg_wire.specs.declared.two_d.Command2d.TheVariants.{DisplayInfo, Create2d, Unref, SetScanout, Flush, Transfer, Attach, Detach}
@@ -23,8 +29,8 @@ use Rattle.vg_machine.specs.Receive.{receive, receive_refusal, with_received}
 use Rattle.vg_machine.specs.Refusals.{refusal_of, unless_refused}
 use Rattle.vg_machine.specs.Resource.{create, create_refusals, remove, resource_at, unref_refusals, with_blank, without}
 use Rattle.vg_machine.specs.Scanout.{ScanoutState, are_too_many, bind, flush, flushed, is_too_large}
-use Rattle.vg_machine.specs.State.{State, counted}
-use Rattle.vg_machine.specs.Step.{Keeps, answer_of, answered_by, binding_of, command_step, flush_step, set_scanout_step, two_d_step, with_shown}
+use Rattle.vg_machine.specs.State.{State}
+use Rattle.vg_machine.specs.Step.{Keeps, acceptance, answer_of, answered_by, answered_with, binding_of, command_step, flush_step, refused_or_ran, set_scanout_step, two_d_step, undone_step}
 
 -- what a part did by its own refusals is what the display does by them
 pub lifted : {S : Type 0} (around : S → State) (refusal : Option ℕ) (old new next : S) (done : Result (Unit {0}) ℕ)
@@ -37,105 +43,162 @@ keeps-answered : (refusal : Option ℕ) (state next : State) → Keeps (answered
 keeps-answered (Some code) state next = refl
 keeps-answered None state next = tt
 
-keeps-command : (state : State) (command : Command2d) → Keeps (two_d_step state command).1 state (two_d_step state command).0
-keeps-command state DisplayInfo = refl
-keeps-command state (Create2d resource format width height) = keeps-answered _ state _
-keeps-command state (Unref resource) = keeps-answered _ state _
-keeps-command state (SetScanout rect scanout resource) = keeps-answered _ state _
-keeps-command state (Flush rect resource) = keeps-answered _ state _
-keeps-command state (Transfer rect offset resource) = keeps-answered _ state _
-keeps-command state (Attach resource entries) = keeps-answered _ state _
-keeps-command state (Detach resource) = keeps-answered _ state _
+keeps-2d : (state : State) (command : Command2d) → Keeps (two_d_step state command).1 state (two_d_step state command).0
+keeps-2d state DisplayInfo = refl
+keeps-2d state (Create2d resource format width height) = keeps-answered _ state _
+keeps-2d state (Unref resource) = keeps-answered _ state _
+keeps-2d state (SetScanout rect scanout resource) = keeps-answered _ state _
+keeps-2d state (Flush rect resource) = keeps-answered _ state _
+keeps-2d state (Transfer rect offset resource) = keeps-answered _ state _
+keeps-2d state (Attach resource entries) = keeps-answered _ state _
+keeps-2d state (Detach resource) = keeps-answered _ state _
 
-keeps-any : (state : State) (command : Command) → Keeps (command_step state command).1 state (command_step state command).0
-keeps-any state (TwoD command) = keeps-command state command
-keeps-any state (CapsetInfo index) = refl
-keeps-any state (Capset id version) = refl
-keeps-any state (Edid scanout) = refl
-keeps-any state (AssignUuid resource) = refl
-keeps-any state (CreateBlob resource mem flags blob_id size entries) = refl
-keeps-any state (SetScanoutBlob rect scanout resource width height format stride offset) = refl
-keeps-any state (CtxCreate nlen context_init name) = refl
-keeps-any state CtxDestroy = refl
-keeps-any state (CtxAttach resource) = refl
-keeps-any state (CtxDetach resource) = refl
-keeps-any state (Submit size) = refl
-keeps-any state (UpdateCursor scanout x y resource hot_x hot_y) = refl
-keeps-any state (MoveCursor scanout x y) = refl
+keeps-block : (refusal : Option ℕ) (state : State) (block : List ℕ)
+    → Keeps (answered_with refusal state state (responses.Edid block)).1 state (answered_with refusal state state (responses.Edid block)).0
+keeps-block (Some code) state block = refl
+keeps-block None state block = refl
 
-pub keeps-answer : (state : State) (read : Result (Header × Command) Malformed) → Keeps (answer_of state read).1 state (answer_of state read).0
-keeps-answer state (Ok (header, command)) = keeps-any state command
-keeps-answer state (Err malformed) = refl
+keeps-uuid : (refusal : Option ℕ) (state next : State) (bytes : List ℕ)
+    → Keeps (answered_with refusal state next (responses.Uuid bytes)).1 state (answered_with refusal state next (responses.Uuid bytes)).0
+keeps-uuid (Some code) state next bytes = refl
+keeps-uuid None state next bytes = tt
 
--- the same of a step that is known by what it gives
-pub keeps-given : (state now : State) (read : Result (Header × Command) Malformed) (response : Response) → answer_of state read ≡ (now, response) → Keeps response state now
-keeps-given state now read response step = subst (λ (done : State × Response). Keeps done.1 state done.0) step (keeps-answer state read)
+keeps-command : (state : State) (command : Command) → Keeps (command_step state command).1 state (command_step state command).0
+keeps-command state (TwoD command) = keeps-2d state command
+keeps-command state (CapsetInfo index) = refl
+keeps-command state (Capset id version) = refl
+keeps-command state (Edid scanout) = keeps-block _ state _
+keeps-command state (AssignUuid resource) = keeps-uuid _ state _ _
+keeps-command state (CreateBlob resource mem flags blob_id size entries) = refl
+keeps-command state (SetScanoutBlob rect scanout resource width height format stride offset) = refl
+keeps-command state (CtxCreate nlen context_init name) = refl
+keeps-command state CtxDestroy = refl
+keeps-command state (CtxAttach resource) = refl
+keeps-command state (CtxDetach resource) = refl
+keeps-command state (Submit size) = refl
+keeps-command state (UpdateCursor scanout x y resource hot_x hot_y) = keeps-answered _ state _
+keeps-command state (MoveCursor scanout x y) = refl
 
-other-kept : (response : Response) (old new : State) → Keeps response old new → response ≢ responses.Nodata → new ≡ old
-other-kept responses.Nodata old new keeps other = absurd (other refl)
-other-kept (responses.DisplayInfo modes) old new keeps other = keeps
-other-kept (responses.Edid block) old new keeps other = keeps
-other-kept (responses.Uuid bytes) old new keeps other = keeps
-other-kept (responses.Error code) old new keeps other = keeps
+keeps-ran : (refusal : Option ℕ) (state : State) (command : Option Command)
+    → Keeps (refused_or_ran refusal state command).1 state (refused_or_ran refusal state command).0
+keeps-ran (Some code) state command = refl
+keeps-ran None state (Some command) = keeps-command state command
+keeps-ran None state None = refl
 
--- another answer than OK_NODATA has changed nothing
-pub kept-given : (state now : State) (read : Result (Header × Command) Malformed) (response : Response) → answer_of state read ≡ (now, response) → response ≢ responses.Nodata → now ≡ state
-kept-given state now read response step other = other-kept response state now (keeps-given state now read response step) other
+pub keeps-answer : (state : State) (queue : Queue) (bytes : List ℕ) → Keeps (answer_of state queue bytes).1 state (answer_of state queue bytes).0
+keeps-answer state queue bytes = keeps-ran _ state _
 
--- the same with the entry counted
-keeps-counted : (response : Response) (old new : State) → Keeps response old new → Keeps response (counted old) (counted new)
-keeps-counted responses.Nodata old new keeps = tt
-keeps-counted (responses.DisplayInfo modes) old new keeps = ap counted keeps
-keeps-counted (responses.Edid block) old new keeps = ap counted keeps
-keeps-counted (responses.Uuid bytes) old new keeps = ap counted keeps
-keeps-counted (responses.Error code) old new keeps = ap counted keeps
+-- another answer has changed nothing
+other-kept : (response : Response) (old new : State) → Keeps response old new → response ≢ responses.Nodata → ((bytes : List ℕ) → response ≢ responses.Uuid bytes) → new ≡ old
+other-kept responses.Nodata old new keeps other none = absurd (other refl)
+other-kept (responses.DisplayInfo modes) old new keeps other none = keeps
+other-kept (responses.Edid block) old new keeps other none = keeps
+other-kept (responses.Uuid bytes) old new keeps other none = absurd (none bytes refl)
+other-kept (responses.Error code) old new keeps other none = keeps
 
-pub counted-keeps : (state now : State) (read : Result (Header × Command) Malformed) → now ≡ (answer_of state read).0 → Keeps (answer_of state read).1 (counted state) (counted now)
-counted-keeps state now read same = rw same (keeps-counted (answer_of state read).1 state (answer_of state read).0 (keeps-answer state read))
+pub kept-given : (state now : State) (command : Command) (response : Response) → command_step state command ≡ (now, response)
+    → response ≢ responses.Nodata → ((bytes : List ℕ) → response ≢ responses.Uuid bytes) → now ≡ state
+kept-given state now command response step other none =
+    other-kept response state now (subst (λ (done : State × Response). Keeps done.1 state done.0) step (keeps-command state command)) other none
 
--- no command changes the count of entries
-entries-answered : (refusal : Option ℕ) (state next : State) → next.entries ≡ state.entries → (answered_by refusal state next).0.entries ≡ state.entries
-entries-answered (Some code) state next same = refl
-entries-answered None state next same = same
+-- what changes something is answered as was expected
+Expects : Response → Response → Type 0
+Expects expected responses.Nodata = expected ≡ responses.Nodata
+Expects expected (responses.Uuid bytes) = expected ≡ responses.Uuid bytes
+Expects expected response = Unit {0}
 
-entries-shown : (state : State) (rect : Rect) (scanout id : ℕ) (found : Option Resource) → (with_shown state rect scanout id found).entries ≡ state.entries
-entries-shown state rect scanout id (Some resource) = refl
-entries-shown state rect scanout id None = refl
+expects-answered : (refusal : Option ℕ) (state next : State) → Expects responses.Nodata (answered_by refusal state next).1
+expects-answered (Some code) state next = tt
+expects-answered None state next = refl
 
-entries-either : (test : Bool) (state one other : State) → one.entries ≡ state.entries → other.entries ≡ state.entries → (if test then one else other).entries ≡ state.entries
-entries-either true state one other a b = a
-entries-either false state one other a b = b
+expects-2d : (state : State) (command : Command2d) → Expects responses.Nodata (two_d_step state command).1
+expects-2d state DisplayInfo = tt
+expects-2d state (Create2d resource format width height) = expects-answered _ state _
+expects-2d state (Unref resource) = expects-answered _ state _
+expects-2d state (SetScanout rect scanout resource) = expects-answered _ state _
+expects-2d state (Flush rect resource) = expects-answered _ state _
+expects-2d state (Transfer rect offset resource) = expects-answered _ state _
+expects-2d state (Attach resource entries) = expects-answered _ state _
+expects-2d state (Detach resource) = expects-answered _ state _
 
-entries-2d : (state : State) (command : Command2d) → (two_d_step state command).0.entries ≡ state.entries
-entries-2d state DisplayInfo = refl
-entries-2d state (Create2d resource format width height) = entries-answered _ state _ refl
-entries-2d state (Unref resource) = entries-answered _ state _ refl
-entries-2d state (SetScanout rect scanout resource) =
-    entries-answered _ state _ (entries-either (resource == 0) state _ _ refl (entries-shown state rect scanout resource (resource_at resource state.resources)))
-entries-2d state (Flush rect resource) = entries-answered _ state _ refl
-entries-2d state (Transfer rect offset resource) = entries-answered _ state _ refl
-entries-2d state (Attach resource entries) = entries-answered _ state _ refl
-entries-2d state (Detach resource) = entries-answered _ state _ refl
+expects-block : (refusal : Option ℕ) (state : State) (block : List ℕ) → Expects responses.Nodata (answered_with refusal state state (responses.Edid block)).1
+expects-block (Some code) state block = tt
+expects-block None state block = tt
 
-entries-any : (state : State) (command : Command) → (command_step state command).0.entries ≡ state.entries
-entries-any state (TwoD command) = entries-2d state command
-entries-any state (CapsetInfo index) = refl
-entries-any state (Capset id version) = refl
-entries-any state (Edid scanout) = refl
-entries-any state (AssignUuid resource) = refl
-entries-any state (CreateBlob resource mem flags blob_id size entries) = refl
-entries-any state (SetScanoutBlob rect scanout resource width height format stride offset) = refl
-entries-any state (CtxCreate nlen context_init name) = refl
-entries-any state CtxDestroy = refl
-entries-any state (CtxAttach resource) = refl
-entries-any state (CtxDetach resource) = refl
-entries-any state (Submit size) = refl
-entries-any state (UpdateCursor scanout x y resource hot_x hot_y) = refl
-entries-any state (MoveCursor scanout x y) = refl
+expects-uuid : (refusal : Option ℕ) (state next : State) (bytes : List ℕ) → Expects (responses.Uuid bytes) (answered_with refusal state next (responses.Uuid bytes)).1
+expects-uuid (Some code) state next bytes = tt
+expects-uuid None state next bytes = refl
 
-pub entries-answer : (state : State) (read : Result (Header × Command) Malformed) → (answer_of state read).0.entries ≡ state.entries
-entries-answer state (Ok (header, command)) = entries-any state command
-entries-answer state (Err malformed) = refl
+expects-command : (state : State) (command : Command) → Expects (acceptance state command) (command_step state command).1
+expects-command state (TwoD command) = expects-2d state command
+expects-command state (CapsetInfo index) = tt
+expects-command state (Capset id version) = tt
+expects-command state (Edid scanout) = expects-block _ state _
+expects-command state (AssignUuid resource) = expects-uuid _ state _ _
+expects-command state (CreateBlob resource mem flags blob_id size entries) = tt
+expects-command state (SetScanoutBlob rect scanout resource width height format stride offset) = tt
+expects-command state (CtxCreate nlen context_init name) = tt
+expects-command state CtxDestroy = tt
+expects-command state (CtxAttach resource) = tt
+expects-command state (CtxDetach resource) = tt
+expects-command state (Submit size) = tt
+expects-command state (UpdateCursor scanout x y resource hot_x hot_y) = expects-answered _ state _
+expects-command state (MoveCursor scanout x y) = tt
+
+expects-given : (state now : State) (command : Command) (response : Response) → command_step state command ≡ (now, response) → Expects (acceptance state command) response
+expects-given state now command response step = subst (λ (done : State × Response). Expects (acceptance state command) done.1) step (expects-command state command)
+
+pub accepts-nodata : (state now : State) (command : Command) → command_step state command ≡ (now, responses.Nodata) → acceptance state command ≡ responses.Nodata
+accepts-nodata state now command step = expects-given state now command responses.Nodata step
+
+pub accepts-uuid : (state now : State) (command : Command) (bytes : List ℕ) → command_step state command ≡ (now, responses.Uuid bytes) → acceptance state command ≡ responses.Uuid bytes
+accepts-uuid state now command bytes step = expects-given state now command (responses.Uuid bytes) step
+
+-- what is answered to what was read
+by_read : Bool → State → Result (Header × Command) Malformed → State × Response
+by_read usable state (Ok (header, command)) = if usable then command_step state command else undone_step state
+by_read usable state (Err malformed) = undone_step state
+
+by_tests : (short known queue usable : Bool) (found : Option Command) (state : State) (header : Header)
+    → refused_or_ran (refusal_of ((short, 0x1200) ∷ (not known, 0x1200) ∷ (not queue, 0x1200) ∷ (not usable, 0x1200) ∷ (is_none found, 0x1200) ∷ [])) state found
+    ≡ by_read usable state (if short then Err ShortHeader else if not known then Err (UnknownKind header.kind) else if not queue then Err WrongQueue
+        else ok_or (option_map (λ command. (header, command)) found) ShortBody)
+by_tests true known queue usable found state header = refl
+by_tests false false queue usable found state header = refl
+by_tests false true false usable found state header = refl
+by_tests false true true false None state header = refl
+by_tests false true true false (Some command) state header = refl
+by_tests false true true true None state header = refl
+by_tests false true true true (Some command) state header = refl
+
+answer-read : (state : State) (queue : Queue) (bytes : List ℕ)
+    → answer_of state queue bytes ≡ by_read (is_usable state.setup.accepted (header_of bytes).kind) state (request_of queue bytes)
+answer-read state queue bytes =
+    by_tests (nat_lt (length bytes) 24) (is_known (header_of bytes).kind) (is_queue_of (header_of bytes).kind queue)
+    (is_usable state.setup.accepted (header_of bytes).kind) (command_of (header_of bytes).kind (drop 24 bytes)) state (header_of bytes)
+
+-- a request that was read, of a kind that may come
+pub answer-ok : (state : State) (queue : Queue) (bytes : List ℕ) (header : Header) (command : Command)
+    → is_usable state.setup.accepted (header_of bytes).kind ≡ true → request_of queue bytes ≡ Ok (header, command) → answer_of state queue bytes ≡ command_step state command
+answer-ok state queue bytes header command usable read =
+    answer-read state queue bytes ∙ ap (λ b. by_read b state (request_of queue bytes)) usable ∙ ap (by_read true state) read
+
+-- a request that is refused before its command is looked at
+pub answer-err : (state : State) (queue : Queue) (bytes : List ℕ) (malformed : Malformed) → request_of queue bytes ≡ Err malformed → answer_of state queue bytes ≡ undone_step state
+answer-err state queue bytes malformed read =
+    answer-read state queue bytes ∙ ap (by_read (is_usable state.setup.accepted (header_of bytes).kind) state) read
+
+by_unusable : (state : State) (read : Result (Header × Command) Malformed) → by_read false state read ≡ undone_step state
+by_unusable state (Ok (header, command)) = refl
+by_unusable state (Err malformed) = refl
+
+pub answer-unusable : (state : State) (queue : Queue) (bytes : List ℕ) → is_usable state.setup.accepted (header_of bytes).kind ≡ false → answer_of state queue bytes ≡ undone_step state
+answer-unusable state queue bytes usable =
+    answer-read state queue bytes ∙ ap (λ b. by_read b state (request_of queue bytes)) usable ∙ by_unusable state (request_of queue bytes)
+
+pub answer-short : (state : State) (queue : Queue) (bytes : List ℕ) → nat_lt (length bytes) 24 ≡ true → answer_of state queue bytes ≡ undone_step state
+answer-short state queue bytes short =
+    ap (λ b. refused_or_ran (refusal_of ((b, 0x1200) ∷ _)) state (command_of (header_of bytes).kind (drop 24 bytes))) short
 
 pub lifted-create : (around : List (ℕ × Resource) → State) (id width height format : ℕ) (old new : List (ℕ × Resource)) (done : Result (Unit {0}) ℕ)
     → ◌≡◌ {A = List (ℕ × Resource) × Result (Unit {0}) ℕ} (new, done) (create id width height format old)
@@ -172,11 +235,11 @@ step-show state rect scanout id resource new done there some found fits step =
 
 pub step-flush : (state : State) (rect : Rect) (id : ℕ) (resource : Resource) (new : ScanoutState) (done : Result (Unit {0}) ℕ)
     → resource_at id state.resources ≡ Some resource → is_inside rect resource.width resource.height ≡ true
-    → ◌≡◌ {A = ScanoutState × Result (Unit {0}) ℕ} (new, done) (flush (state.entries + 1) id rect resource.pixels state.scanouts)
+    → ◌≡◌ {A = ScanoutState × Result (Unit {0}) ℕ} (new, done) (flush state.entries id rect resource.pixels state.scanouts)
     → flush_step state rect id ≡ (record state { scanouts = new }, response_of done)
 unfolding flush
 step-flush state rect id resource new done found inside step =
-    rw (found, inside) (lifted (λ scanouts. record state { scanouts = scanouts }) (refusal_of ((are_too_many (flushed (state.entries + 1) id rect resource.pixels state.scanouts).frames, 0x1201) ∷ [])) state.scanouts new _ done step)
+    rw (found, inside) (lifted (λ scanouts. record state { scanouts = scanouts }) (refusal_of ((are_too_many (flushed state.entries id rect resource.pixels state.scanouts).frames, 0x1201) ∷ [])) state.scanouts new _ done step)
 
 -- a resource that was taken away, or wasn't
 refused-apart : (code : ℕ) → ◌≡◌ {A = Result (Unit {0}) ℕ} (Err code) (Ok tt) → ⊥

@@ -1,4 +1,5 @@
 pub mod Setup
+pub mod Features
 pub mod Lane
 pub mod Codes
 pub mod Refusals
@@ -6,11 +7,13 @@ pub mod Lists
 pub mod Resource
 pub mod Backing
 pub mod Receive
+pub mod Uuids
 pub mod Scanout
 pub mod Fits
 pub mod Cells
 pub mod Share
 pub mod Holds
+pub mod Foreign
 pub mod State
 pub mod Step
 pub mod Pixels

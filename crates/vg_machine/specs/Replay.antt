@@ -1,13 +1,13 @@
 use Rattle.std.specs.Prelude.{◌≡◌, List, [], ◌∷◌}
 use Rattle.vg_machine.specs.declared.setup.Setup.{Setup}
-use Rattle.vg_machine.specs.declared.shape.Shape.TheVariants.{Plain, Indirect}
-use Rattle.vg_machine.specs.declared.shape.Shape.{Shape}
+use Rattle.vg_chain.specs.declared.shape.Shape.TheVariants.{Bad}
+use Rattle.vg_chain.specs.declared.shape.Shape.{Shape}
 use Rattle.vg_machine.specs.declared.history.Entry.{Entry}
 use Rattle.vg_machine.specs.declared.history.Entry.TheVariants as entries
 use Rattle.vg_machine.specs.declared.history.Request.{Request}
 use Rattle.vg_machine.specs.declared.history.Reply.{Reply}
 use Rattle.vg_machine.specs.declared.history.Reply.TheVariants as replies
-use Rattle.vg_machine.specs.State.{State, start}
+use Rattle.vg_machine.specs.State.{State, counted, start}
 use Rattle.vg_machine.specs.ActStep.{act_step}
 use Rattle.vg_machine.specs.Step.{step}
 
@@ -17,10 +17,10 @@ plain_step state request =
     let done = step state request.queue request.bytes request.room in
     (done.0, replies.Response done.1)
 
--- A request of this shape: in either its bytes come whole.
+-- A request of this shape: its bytes come whole in each but Bad, whose fault is the reply and which does nothing.
 abbrev pub shaped_step : Shape → State → Request → State × Reply
-shaped_step Plain state request = plain_step state request
-shaped_step Indirect state request = plain_step state request
+shaped_step (Bad fault) state request = (counted state, replies.Fault fault)
+shaped_step _ state request = plain_step state request
 
 -- A request: the display after it, and the reply.
 abbrev pub request_step : State → Request → State × Reply

@@ -124,3 +124,20 @@ unfoldable pub flush : ℕ → ℕ → Rect → List ℕ → ScanoutState → Sc
 flush entry id rect surface state =
     unless_refused (refusal_of ((are_too_many (flushed entry id rect surface state).frames, ERR_OUT_OF_MEMORY) ∷ [])) state
     (flushed entry id rect surface state)
+
+abbrev pub screen_of : Option (Option Screen) → Option Screen
+screen_of (Some screen) = screen
+screen_of None = None
+
+-- The screen of a scanout, if it is bound and there is one.
+abbrev pub screen_at : ℕ → ScanoutState → Option Screen
+screen_at scanout state = screen_of (slice_get state.screens scanout)
+
+-- A frame of the scanout's screen as it is, which an entry makes; none where the scanout is disabled.
+abbrev pub snapped : ℕ → ℕ → ScanoutState → ScanoutState
+snapped entry scanout state = record state { frames = state.frames ++ frame_of entry scanout (screen_at scanout state) }
+
+unfoldable pub snap : ℕ → ℕ → ScanoutState → ScanoutState × Result Unit ℕ
+snap entry scanout state =
+    unless_refused (refusal_of ((are_too_many (snapped entry scanout state).frames, ERR_OUT_OF_MEMORY) ∷ [])) state
+    (snapped entry scanout state)

@@ -12,6 +12,7 @@ use Rattle.vg_machine.specs.Resource.{resource_at}
 use Rattle.vg_machine.specs.Scanout.{ScanoutState}
 use Rattle.vg_machine.specs.Setup.{IsSetup}
 use Rattle.vg_machine.specs.Share.{ShareState, SharesPages}
+use Rattle.vg_machine.specs.Uuids.{UuidState}
 
 -- The display: its setup, which no step changes, how many entries there are so far, and the states of its parts.
 pub record State : Type 0 where
@@ -20,6 +21,7 @@ pub record State : Type 0 where
   pub memory : Memory
   pub resources : List (ℕ × Resource)
   pub backings : List (ℕ × List MemEntry)
+  pub uuids : UuidState
   pub scanouts : ScanoutState
   pub share : ShareState
 
@@ -31,6 +33,7 @@ start setup = record {
   memory = fresh_memory setup.pages;
   resources = [];
   backings = [];
+  uuids = record { numbers = []; given = 0 };
   scanouts = record { screens = replicate (length setup.displays) None; frames = [] };
   share = record { buffers = []; reserved = 0; leases = replicate (length setup.displays) None; left = [] };
 }
@@ -67,3 +70,4 @@ pub record IsConsistent (state : State) : Type 0 where
   pub leases : length state.share.leases ≡ length state.setup.displays
   pub share : SharesPages state.memory state.share
   pub reserved : state.share.reserved ≤ state.entries
+  pub given : state.uuids.given ≤ state.entries

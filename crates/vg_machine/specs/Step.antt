@@ -1,15 +1,16 @@
-use Rattle.std.specs.Prelude.{◌≡◌, ℕ, ◌+◌, ◌*◌, ◌==◌, ◌&&◌, ◌||◌, not, Bool, is_none, is_some, List, [], ◌∷◌, length, take, map, nat_le, if◌then◌else◌, Option, Some, None, Result, Ok, Err, bit_and}
+use Rattle.std.specs.Prelude.{◌≡◌, ℕ, ◌*◌, ◌==◌, ◌&&◌, ◌||◌, not, true, Bool, is_none, is_some, List, [], ◌∷◌, length, take, drop, map, nat_le, nat_lt, slice_get, if◌then◌else◌, Option, Some, None, bit_and}
 use Rattle.vg_wire.specs.declared.request.Queue.{Queue}
 use Rattle.vg_wire_ext.specs.declared.command.Command.{Command}
-use Rattle.vg_wire_ext.specs.declared.command.Command.TheVariants.{TwoD}
-use Rattle.vg_wire.specs.declared.request.Malformed.{Malformed}
+use Rattle.vg_wire_ext.specs.declared.command.Command.TheVariants.{TwoD, CapsetInfo, Capset, Edid, AssignUuid, UpdateCursor}
 use Rattle.vg_wire.specs.declared.two_d.Command2d.{Command2d}
 use Rattle.vg_wire.specs.declared.two_d.Command2d.TheVariants.{DisplayInfo, Create2d, Unref, SetScanout, Flush, Transfer, Attach, Detach}
 use Rattle.vg_wire.specs.declared.header.Header.{Header}
 use Rattle.vg_wire_ext.specs.declared.response.Response.{Response}
 use Rattle.vg_wire_ext.specs.declared.response.Response.TheVariants as responses
 use Rattle.vg_wire.specs.Header.{header_of}
-use Rattle.vg_wire_ext.specs.Request.{request_of}
+use Rattle.vg_edid.specs.Edid.{edid_bytes}
+use Rattle.vg_wire_ext.specs.Commands.{command_of, is_known}
+use Rattle.vg_wire_ext.specs.Request.{is_queue_of}
 use Rattle.vg_wire_ext.specs.Response.{response_bytes, response_kind}
 use Rattle.std.specs.Ordering.{nat_cmp}
 use Rattle.std.specs.BTreeMap.{insert_entry}
@@ -24,7 +25,10 @@ use Rattle.vg_machine.specs.Refusals.{refusal_of}
 use Rattle.vg_machine.specs.Backing.{attach_refusals, detach_refusals, detached}
 use Rattle.vg_machine.specs.Receive.{receive_refusal, with_received}
 use Rattle.vg_machine.specs.Resource.{create_refusals, height_of, resource_at, unref_refusals, width_of, with_blank, without}
-use Rattle.vg_machine.specs.Scanout.{ScanoutState, are_too_many, bound, flushed, is_too_large, unbound, unbound_from}
+use Rattle.vg_machine.specs.Scanout.{ScanoutState, are_too_many, bound, flushed, is_too_large, snapped, unbound, unbound_from}
+use Rattle.vg_machine.specs.Features.{is_usable}
+use Rattle.vg_machine.specs.Uuids.{assign_refusals, assigned, forgotten, number_for, uuid_bytes}
+use Rattle.vg_machine.specs.declared.setup.Setup.{Setup}
 use Rattle.vg_machine.specs.State.{State, counted}
 
 -- The header of a response to a request with FENCE: the fence goes back (VIRTIO 1.2, 5.7.6.7); here ctx_id does too, and the ring
@@ -45,10 +49,14 @@ answer_header bytes kind =
     else record { kind = kind; flags = 0; fence_id = 0; ctx_id = 0; ring_idx = 0 }
 
 -- A command whose refusals are these: the first that holds is answered, and the display stays as it was; where none does the
--- display becomes `next`, and the answer is OK_NODATA.
+-- display becomes `next`, and the answer is this response.
+abbrev pub answered_with : Option ℕ → State → State → Response → State × Response
+answered_with (Some code) state next response = (state, responses.Error code)
+answered_with None state next response = (next, response)
+
+-- The same where the answer is OK_NODATA.
 abbrev pub answered_by : Option ℕ → State → State → State × Response
-answered_by (Some code) state next = (state, responses.Error code)
-answered_by None state next = (next, responses.Nodata)
+answered_by refusal state next = answered_with refusal state next responses.Nodata
 
 -- RESOURCE_CREATE_2D is refused as `create_refusals` (Resource) says.
 abbrev pub create_step : State → ℕ → ℕ → ℕ → ℕ → State × Response
@@ -56,11 +64,12 @@ create_step state resource format width height =
     answered_by (refusal_of (create_refusals resource width height format state.resources)) state
     (record state { resources = with_blank resource width height (format_of format) state.resources })
 
--- The scanouts of a resource that ends are disabled, and its backing ends.
+-- The scanouts of a resource that ends are disabled, and its backing and its UUID end.
 abbrev pub unreferenced : State → ℕ → State
 unreferenced state resource = record state {
   resources = without resource state.resources;
   backings = detached resource state.backings;
+  uuids = forgotten resource state.uuids;
   scanouts = unbound_from resource state.scanouts;
 }
 
@@ -115,7 +124,7 @@ pixels_of None = []
 
 -- The scanouts after a rectangle of the resource was flushed. The frames have the number of the entry that is being made.
 abbrev pub flushed_by : State → Rect → ℕ → ScanoutState
-flushed_by state rect id = flushed (state.entries + 1) id rect (pixels_of (resource_at id state.resources)) state.scanouts
+flushed_by state rect id = flushed state.entries id rect (pixels_of (resource_at id state.resources)) state.scanouts
 
 -- RESOURCE_FLUSH is refused for a resource that there isn't; a rectangle outside of it; too many bytes of frames with the new ones.
 abbrev pub flush_refusals : State → Rect → ℕ → List (Bool × ℕ)
@@ -160,36 +169,118 @@ two_d_step state (Transfer rect offset resource) = transfer_step state rect offs
 two_d_step state (Attach resource entries) = attach_step state resource entries
 two_d_step state (Detach resource) = detach_step state resource
 
--- What a command does and answers: the display has none but the 2D ones yet, and the others are answered ERR_UNSPEC and do nothing.
+-- GET_CAPSET_INFO and GET_CAPSET are refused, since there are no capsets (VIRTIO 1.2, 5.7.4, num_capsets).
+abbrev pub capset_refusals : List (Bool × ℕ)
+capset_refusals = (true, ERR_INVALID_PARAMETER) ∷ []
+
+abbrev pub capset_step : State → State × Response
+capset_step state = answered_by (refusal_of capset_refusals) state state
+
+-- GET_EDID is refused for a scanout that there isn't.
+abbrev pub edid_refusals : Setup → ℕ → List (Bool × ℕ)
+edid_refusals setup scanout = (nat_le (length setup.displays) scanout, ERR_INVALID_SCANOUT_ID) ∷ []
+
+-- The block of a scanout's display; none of a scanout that there isn't.
+abbrev pub block_of : ℕ → Option (ℕ × ℕ) → List ℕ
+block_of scanout (Some (width, height)) = edid_bytes width height scanout
+block_of scanout None = []
+
+abbrev pub edid_step : State → ℕ → State × Response
+edid_step state scanout =
+    answered_with (refusal_of (edid_refusals state.setup scanout)) state state
+    (responses.Edid (block_of scanout (slice_get state.setup.displays scanout)))
+
+-- RESOURCE_ASSIGN_UUID is refused as `assign_refusals` (Uuids) says.
+abbrev pub assign_step : State → ℕ → State × Response
+assign_step state id =
+    answered_with (refusal_of (assign_refusals (is_some (resource_at id state.resources)))) state
+    (record state { uuids = assigned id state.uuids })
+    (responses.Uuid (uuid_bytes (number_for id state.uuids)))
+
+-- The scanouts after a frame of one of them. The frame has the number of the entry that is being made.
+abbrev pub snapped_by : State → ℕ → ScanoutState
+snapped_by state scanout = snapped state.entries scanout state.scanouts
+
+-- UPDATE_CURSOR is refused with a resource, since no cursor can be shown yet; for a scanout that there isn't; for too many bytes of
+-- frames with the new one. With resource 0 it hides the cursor, which makes a frame where the scanout is bound.
+abbrev pub cursor_refusals : State → ℕ → ℕ → List (Bool × ℕ)
+cursor_refusals state scanout id =
+    (not (id == 0), ERR_UNSPEC)
+    ∷ (nat_le (length state.setup.displays) scanout, ERR_INVALID_SCANOUT_ID)
+    ∷ (are_too_many (snapped_by state scanout).frames, ERR_OUT_OF_MEMORY)
+    ∷ []
+
+abbrev pub cursor_step : State → ℕ → ℕ → State × Response
+cursor_step state scanout id =
+    answered_by (refusal_of (cursor_refusals state scanout id)) state (record state { scanouts = snapped_by state scanout })
+
+-- A command that the display doesn't do yet.
+abbrev pub undone_refusals : List (Bool × ℕ)
+undone_refusals = (true, ERR_UNSPEC) ∷ []
+
+abbrev pub undone_step : State → State × Response
+undone_step state = answered_by (refusal_of undone_refusals) state state
+
+-- What a command does and answers. MOVE_CURSOR, and the commands of blobs and contexts, are to come.
 abbrev pub command_step : State → Command → State × Response
 command_step state (TwoD command) = two_d_step state command
-command_step state _ = (state, responses.Error ERR_UNSPEC)
+command_step state (CapsetInfo index) = capset_step state
+command_step state (Capset id version) = capset_step state
+command_step state (Edid scanout) = edid_step state scanout
+command_step state (AssignUuid resource) = assign_step state resource
+command_step state (UpdateCursor scanout x y resource hot_x hot_y) = cursor_step state scanout resource
+command_step state _ = undone_step state
 
--- What a request does and answers: one that is malformed is answered ERR_UNSPEC and does nothing.
-abbrev pub answer_of : State → Result (Header × Command) Malformed → State × Response
-answer_of state (Ok (header, command)) = command_step state command
-answer_of state (Err malformed) = (state, responses.Error ERR_UNSPEC)
+-- What a command that changes something is answered where it isn't refused.
+abbrev pub acceptance : State → Command → Response
+acceptance state (AssignUuid resource) = responses.Uuid (uuid_bytes (number_for resource state.uuids))
+acceptance state _ = responses.Nodata
+
+-- A request is refused, before its command's own refusals, for fewer bytes than a header; a kind that no command has; the queue of
+-- other commands; a kind that needs a feature that isn't accepted; fewer bytes than the command's fields.
+abbrev pub request_refusals : Setup → Queue → List ℕ → List (Bool × ℕ)
+request_refusals setup queue bytes =
+    let kind = (header_of bytes).kind in
+    (nat_lt (length bytes) 24, ERR_UNSPEC)
+    ∷ (not (is_known kind), ERR_UNSPEC)
+    ∷ (not (is_queue_of kind queue), ERR_UNSPEC)
+    ∷ (not (is_usable setup.accepted kind), ERR_UNSPEC)
+    ∷ (is_none (command_of kind (drop 24 bytes)), ERR_UNSPEC)
+    ∷ []
+
+-- What the command does and answers; without one there is nothing to be done.
+abbrev pub ran : State → Option Command → State × Response
+ran state (Some command) = command_step state command
+ran state None = undone_step state
+
+-- The refusal, if there is one, or what the command does and answers.
+abbrev pub refused_or_ran : Option ℕ → State → Option Command → State × Response
+refused_or_ran (Some code) state command = (state, responses.Error code)
+refused_or_ran None state command = ran state command
+
+-- What a request does and answers, once it is counted.
+abbrev pub answer_of : State → Queue → List ℕ → State × Response
+answer_of state queue bytes =
+    refused_or_ran (refusal_of (request_refusals state.setup queue bytes)) state (command_of (header_of bytes).kind (drop 24 bytes))
 
 -- The response's bytes as far as the room holds them.
 abbrev pub answered : List ℕ → ℕ → Response → List ℕ
 answered bytes room response = take room (response_bytes (answer_header bytes (response_kind response)) response)
 
--- What a request does, the count of entries left aside, and the response's bytes.
+-- What a request does, once it is counted, and the response's bytes.
 abbrev pub effect_and_bytes : State → Queue → List ℕ → ℕ → State × List ℕ
 effect_and_bytes state queue bytes room =
-    let done = answer_of state (request_of queue bytes) in
+    let done = answer_of state queue bytes in
     (done.0, answered bytes room done.1)
 
 -- One command: the display after it, and the response's bytes.
 abbrev pub step : State → Queue → List ℕ → ℕ → State × List ℕ
-step state queue bytes room =
-    let done = effect_and_bytes state queue bytes room in
-    (counted done.0, done.1)
+step state queue bytes room = effect_and_bytes (counted state) queue bytes room
 
--- A response other than OK_NODATA has changed nothing: `new` is the display as it was.
+-- An error response, and one that only tells something, has changed nothing: `new` is the display as it was.
 abbrev pub Keeps : Response → State → State → Type 0
 Keeps responses.Nodata old new = Unit {0}
 Keeps (responses.DisplayInfo modes) old new = new ≡ old
 Keeps (responses.Edid block) old new = new ≡ old
-Keeps (responses.Uuid bytes) old new = new ≡ old
+Keeps (responses.Uuid bytes) old new = Unit {0}
 Keeps (responses.Error code) old new = new ≡ old

@@ -12,6 +12,10 @@ pub enum What {
     Resource { n: u32 },
     /// The scanout of this number.
     Scanout { n: u32 },
+    /// The context of this number.
+    Context { n: u32 },
+    /// The guest page of this number.
+    Page { n: u32 },
 }
 
 /// An act of a client. Keys are those of buffers, offsets and lengths are in bytes.

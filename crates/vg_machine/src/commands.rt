@@ -1,6 +1,6 @@
 //! What the 2D commands do (VIRTIO 1.2, 5.7.6.8), one function each.
 
-ghost use Rattle.std.specs.Prelude.{◌≡◌, ◌≢◌, IfOk, OnErr, map, Some, ◌<◌, ◌^◌, ◌-◌, length};
+ghost use Rattle.std.specs.Prelude.{◌≡◌, ◌≢◌, IfOk, OnErr, map, Some, ◌<◌, ◌^◌, length};
 ghost use Rattle.vg_wire.specs.TwoD.{FitsCount};
 ghost use Rattle.vg_wire_ext.specs.declared.response.Response.TheVariants as responses;
 ghost use Rattle.vg_machine.specs.Fits as fit_words;
@@ -21,7 +21,6 @@ impl Display {
         alloc: Global,
         command: &Command2d,
     ) -> Result<Response, AllocError>
-        requires entries { self.old.entries < 2 ^ 31 - 1 }
         requires count { FitsCount command.now }
         ensures step { IfOk result (λ response. two_d_step self.old command.now ≡ (self.new, response)) }
         ensures err { OnErr result (self.new ≡ self.old) }
@@ -87,6 +86,7 @@ impl Display {
             return Response::Error { code };
         }
         self.backings.remove(resource);
+        self.uuids.forget(resource);
         self.scanouts.unbind_resource(resource);
         Response::Nodata
     }
@@ -150,7 +150,6 @@ impl Display {
     }
 
     fn flush(&mut self, alloc: Global, rect: &Rect, resource: u32) -> Result<Response, AllocError>
-        requires { self.old.entries < 2 ^ 31 - 1 }
         ensures step { IfOk result (λ response. flush_step self.old rect.now resource ≡ (self.new, response)) }
         ensures err { OnErr result (self.new ≡ self.old) }
     {
@@ -164,10 +163,10 @@ impl Display {
                 code: ERR_INVALID_PARAMETER,
             });
         }
-        let entry = self.entries + 1;
+        let pixels = surface.pixels.as_slice();
         let done = self
             .scanouts
-            .flush(alloc, entry, resource, rect, surface.pixels.as_slice())?;
+            .flush(alloc, self.entries, resource, rect, pixels)?;
         Ok(response_of(done))
     }
 
@@ -219,7 +218,7 @@ fn enabled(alloc: Global, displays: &[(u32, u32)]) -> Result<Vec<Option<(u32, u3
 }
 
 /// OK_NODATA, or the error of a code.
-fn response_of(done: Result<(), u32>) -> Response
+pub(crate) fn response_of(done: Result<(), u32>) -> Response
     ensures { result ≡ fit_words.response_of done }
 {
     match done {

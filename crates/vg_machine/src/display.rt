@@ -1,25 +1,30 @@
 //! The device on one thread.
 
-ghost use Rattle.std.specs.Prelude.{◌≡◌, ◌==◌, ◌<◌, ◌-◌, ◌^◌, if◌then◌else◌, bit_and, IfOk, OnOk, OnErr};
+ghost use Rattle.std.specs.Prelude.{◌≡◌, ◌==◌, ◌<◌, ◌-◌, ◌^◌, if◌then◌else◌, bit_and, IfOk, IfSome, OnOk, OnErr};
 ghost use Rattle.vg_wire_ext.specs.Commands.{FitsEntries};
-ghost use Rattle.vg_wire_ext.specs.Request.{request_of};
 ghost use Rattle.vg_wire_ext.specs.Response.{response_kind};
 ghost use Rattle.vg_machine.specs.Setup.{IsSetup};
 ghost use Rattle.vg_machine.specs.State.{counted, start};
 ghost use Rattle.vg_machine.specs.ActStep.{KeepsIfRefused, act_step};
 ghost use Rattle.vg_machine.specs.Holds.{update};
-ghost use Rattle.vg_machine.specs.Step.{Keeps, answer_header, answer_of, answered, command_step, effect_and_bytes, step};
+ghost use Rattle.vg_machine.specs.Replay.{request_step};
+ghost use Rattle.vg_machine.specs.Step.{Keeps, acceptance, answer_header, answer_of, answered, effect_and_bytes, ran, step};
 
 use crate::act::{Act, ActReply};
 use crate::backing::Backings;
 use crate::codes::ERR_UNSPEC;
+use crate::features::is_usable;
+use crate::history::{Reply, Request};
 use crate::holds::Holds;
 use crate::resource::Resources;
 use crate::scanout::{Frame, Scanouts};
 use crate::setup::Setup;
 use crate::share::Share;
+use crate::uuids::Uuids;
 use std::alloc::{AllocError, Global};
 use std::marker::Model;
+use vg_chain::Shape;
+use vg_list::Seq;
 use vg_pages::Pages;
 use vg_wire::{Header, Queue, read_header};
 use vg_wire_ext::{Command, Response, read_request, write_response};
@@ -32,6 +37,7 @@ pub struct Display {
     pub(crate) pages: Pages,
     pub(crate) resources: Resources,
     pub(crate) backings: Backings,
+    pub(crate) uuids: Uuids,
     pub(crate) scanouts: Scanouts,
     pub(crate) share: Share,
 }
@@ -41,9 +47,9 @@ impl Model for Display {
 
     ghost Value = { State };
 
-    ghost view = { λ d. record { setup = d.setup; entries = d.entries; memory = d.pages; resources = d.resources; backings = d.backings; scanouts = d.scanouts; share = d.share } };
+    ghost view = { λ d. record { setup = d.setup; entries = d.entries; memory = d.pages; resources = d.resources; backings = d.backings; uuids = d.uuids; scanouts = d.scanouts; share = d.share } };
 
-    ghost invariant = { λ d. IsConsistent (record { setup = d.setup; entries = d.entries; memory = d.pages; resources = d.resources; backings = d.backings; scanouts = d.scanouts; share = d.share }) };
+    ghost invariant = { λ d. IsConsistent (record { setup = d.setup; entries = d.entries; memory = d.pages; resources = d.resources; backings = d.backings; uuids = d.uuids; scanouts = d.scanouts; share = d.share }) };
 }
 
 impl Display {
@@ -59,6 +65,7 @@ impl Display {
             pages: Pages::new(alloc, setup.pages)?,
             resources: Resources::new(alloc),
             backings: Backings::new(alloc),
+            uuids: Uuids::new(alloc),
             scanouts: Scanouts::new(alloc, count)?,
             share: Share::new(alloc, count)?,
         })
@@ -85,6 +92,23 @@ impl Display {
         self.scanouts.into_frames()
     }
 
+    /// Runs a request, and gives its reply. One whose shape is bad isn't run: its reply is the fault.
+    pub fn request(&mut self, alloc: Global, request: &Request) -> Result<Reply, AllocError>
+        requires { self.old.entries < 2 ^ 31 - 1 }
+        ensures step { IfOk result (λ reply. (self.new, reply) ≡ request_step self.old request.now) }
+        ensures err { OnErr result (self.new ≡ self.old) }
+    {
+        if let Shape::Bad { fault } = request.shape {
+            self.entries += 1;
+            return Ok(Reply::Fault { fault });
+        }
+        let bytes = request.bytes.as_slice();
+        let response = self.command(alloc, request.queue, bytes, request.room)?;
+        Ok(Reply::Response {
+            bytes: Seq::from_vec(response),
+        })
+    }
+
     /// Runs the request that came on this queue, and gives its response as far as `room` bytes hold it.
     /// A longer response is cut, and the command runs all the same.
     pub fn command(
@@ -96,12 +120,15 @@ impl Display {
     ) -> Result<Vec<u8>, AllocError>
         requires { self.old.entries < 2 ^ 31 - 1 }
         ensures step { IfOk result (λ bytes. (self.new, bytes.items) ≡ step self.old queue request.now room) }
-        ensures refused { OnOk result (Keeps (answer_of self.old (request_of queue request.now)).1 (counted self.old) self.new) }
+        ensures refused { OnOk result (Keeps (answer_of (counted self.old) queue request.now).1 (counted self.old) self.new) }
         ensures err { OnErr result (self.new ≡ self.old) }
     {
-        let bytes = self.answer(alloc, queue, request, room)?;
         self.entries += 1;
-        Ok(bytes)
+        let done = self.answer(alloc, queue, request, room);
+        if done.is_err() {
+            self.entries -= 1;
+        }
+        done
     }
 
     /// Does the act of a client, and gives its reply. What the client holds changes with it.
@@ -127,8 +154,8 @@ impl Display {
         done
     }
 
-    /// What a request does, and its response as far as the room holds it. Memory for OK_NODATA is taken before the
-    /// command runs; what is answered otherwise has changed nothing.
+    /// What a request does, and its response as far as the room holds it. Memory for the response of a command that
+    /// changes something is taken before it runs.
     fn answer(
         &mut self,
         alloc: Global,
@@ -136,44 +163,53 @@ impl Display {
         request: &[u8],
         room: u32,
     ) -> Result<Vec<u8>, AllocError>
-        requires { self.old.entries < 2 ^ 31 - 1 }
+        requires fresh { self.old.uuids.given < self.old.entries }
+        requires entries { self.old.entries < 2 ^ 31 }
         ensures step { IfOk result (λ bytes. (self.new, bytes.items) ≡ effect_and_bytes self.old queue request.now room) }
         ensures err { OnErr result (self.new ≡ self.old) }
     {
-        let accepted = write_answer(alloc, request, room, &Response::Nodata)?;
-        match self.respond(alloc, queue, request)? {
-            Response::Nodata => Ok(accepted),
+        let Some(command) = self.read(alloc, queue, request)? else {
+            return write_answer(alloc, request, room, &Response::Error { code: ERR_UNSPEC });
+        };
+        let accepted = write_answer(alloc, request, room, &self.acceptance(&command))?;
+        match self.run(alloc, &command)? {
+            Response::Nodata | Response::Uuid { .. } => Ok(accepted),
             other => write_answer(alloc, request, room, &other),
         }
     }
 
-    /// What a request is answered.
-    fn respond(
-        &mut self,
+    /// The command of a request. None where the request is refused before its command is looked at. Its body isn't read
+    /// where its kind needs a feature that isn't accepted.
+    fn read(
+        &self,
         alloc: Global,
         queue: Queue,
         request: &[u8],
-    ) -> Result<Response, AllocError>
-        requires { self.old.entries < 2 ^ 31 - 1 }
-        ensures step { IfOk result (λ response. answer_of self.old (request_of queue request.now) ≡ (self.new, response)) }
-        ensures err { OnErr result (self.new ≡ self.old) }
+    ) -> Result<Option<Command>, AllocError>
+        ensures answer { IfOk result (λ command. answer_of self.now queue request.now ≡ ran self.now command) }
+        ensures entries { IfOk result (λ command. IfSome command FitsEntries) }
     {
+        match read_header(request) {
+            Some(header) if is_usable(self.setup.accepted, header.kind) => {}
+            _ => return Ok(None),
+        }
         match read_request(alloc, request, queue)? {
-            Ok((_, command)) => self.run(alloc, &command),
-            Err(_) => Ok(Response::Error { code: ERR_UNSPEC }),
+            Ok((_, command)) => Ok(Some(command)),
+            Err(_) => Ok(None),
         }
     }
 
-    /// Runs a command: those beside the 2D ones do nothing yet.
-    fn run(&mut self, alloc: Global, command: &Command) -> Result<Response, AllocError>
-        requires entries { self.old.entries < 2 ^ 31 - 1 }
-        requires count { FitsEntries command.now }
-        ensures step { IfOk result (λ response. command_step self.old command.now ≡ (self.new, response)) }
-        ensures err { OnErr result (self.new ≡ self.old) }
+    /// What a command that changes something is answered where it isn't refused.
+    fn acceptance(&self, command: &Command) -> Response
+        requires fresh { self.now.uuids.given < self.now.entries }
+        requires entries { self.now.entries < 2 ^ 31 }
+        ensures { result ≡ acceptance self.now command.now }
     {
         match command {
-            Command::TwoD(command) => self.run_2d(alloc, command),
-            _ => Ok(Response::Error { code: ERR_UNSPEC }),
+            Command::AssignUuid { resource } => Response::Uuid {
+                bytes: self.uuids.of(*resource).into_bytes(),
+            },
+            _ => Response::Nodata,
         }
     }
 }

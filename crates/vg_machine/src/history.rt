@@ -1,7 +1,7 @@
 //! One entry of a history: an act of a client, or a command that the device has run.
 
 use crate::act::{Act, ActReply};
-use crate::shape::Shape;
+use vg_chain::{ChainFault, Shape};
 use vg_list::Seq;
 use vg_wire::Queue;
 
@@ -15,6 +15,7 @@ pub struct Request {
     pub ordinal: u64,
     /// How many bytes there are for the response.
     pub room: u32,
+    /// How the request and its room are laid out in descriptors.
     pub shape: Shape,
     pub bytes: Seq<u8>,
 }
@@ -24,6 +25,8 @@ pub struct Request {
 pub enum Reply {
     /// The response's bytes, cut to the request's room.
     Response { bytes: Seq<u8> },
+    /// The fault of the request's descriptor chain, which was not run.
+    Fault { fault: ChainFault },
 }
 
 /// An entry, with the client that it belongs to and the client's own number for it, from 1.

@@ -1,9 +1,9 @@
 //! The scanouts: what they are bound to, what they show, and what they have shown (VIRTIO 1.2, 5.7.6.8).
 
-ghost use Rattle.std.specs.Prelude.{◌≡◌, ◌<◌, ◌+◌, ◌-◌, ◌*◌, ◌^◌, [], Some, None, All, IfOk, OnErr, if◌then◌else◌, length, map, min, replicate, option_copied, option_to_list};
+ghost use Rattle.std.specs.Prelude.{◌≡◌, ◌<◌, ◌+◌, ◌-◌, ◌*◌, ◌^◌, [], ◌∷◌, Some, None, All, IfOk, OnErr, if◌then◌else◌, length, map, min, replicate, option_copied, option_to_list};
 ghost use Rattle.vg_formats.specs.Pixels.{HasPixels, LiesWithin, common_of};
 ghost use Rattle.vg_machine.specs.Fits.{FitSurface, FitsSurface, IsScreen};
-ghost use Rattle.vg_machine.specs.Scanout.{after_flush, bind, binding_at, flush, is_flushed, new_bytes, new_frame, new_frame_bytes, new_frames, pixels_with, unbound, unbound_from, unbound_screen};
+ghost use Rattle.vg_machine.specs.Scanout.{after_flush, bind, binding_at, flush, frame_of, is_flushed, new_bytes, new_frame, new_frame_bytes, new_frames, pixels_with, snap, unbound, unbound_from, unbound_screen};
 
 use crate::codes::ERR_OUT_OF_MEMORY;
 use std::alloc::{AllocError, Global};
@@ -162,6 +162,32 @@ impl Scanouts {
         Ok(Ok(()))
     }
 
+    /// Makes a frame of a scanout's screen as it is, if the scanout is bound, or answers the code of its refusal. The
+    /// frame has the number `entry`.
+    #[tactic(auto, unfolding(crate::specs::Scanout::snap))]
+    pub(crate) fn snap(
+        &mut self,
+        alloc: Global,
+        entry: u64,
+        scanout: u32,
+    ) -> Result<Result<(), u32>, AllocError>
+        requires scanout { scanout < length self.old.screens }
+        ensures done { IfOk result (λ done. (self.new, done) ≡ snap entry scanout self.old) }
+        ensures err { OnErr result (self.new ≡ self.old) }
+    {
+        let Some(screen) = &self.screens[scanout as usize] else {
+            return Ok(Ok(()));
+        };
+        let bytes = self.bytes + screen.pixels.len() as u64;
+        if bytes > MOST_FRAME_BYTES {
+            return Ok(Err(ERR_OUT_OF_MEMORY));
+        }
+        let frame = copy_frame(alloc, entry, scanout, screen)?;
+        self.frames.push(frame)?;
+        self.bytes = bytes;
+        Ok(Ok(()))
+    }
+
     /// A law, and no work: each screen has the pixels of its rectangle.
     pub(crate) fn are_screens(&self)
         ensures { All IsScreen self.now.screens }
@@ -300,6 +326,24 @@ fn make_frame(
         entry,
         pixels: Seq::from_vec(pixels),
     }))
+}
+
+/// The frame of a screen as it is.
+fn copy_frame(
+    alloc: Global,
+    entry: u64,
+    scanout: u32,
+    screen: &Screen,
+) -> Result<Frame, AllocError>
+    ensures { IfOk result (λ frame. frame ∷ [] ≡ frame_of entry scanout (Some screen.now)) }
+{
+    Ok(Frame {
+        scanout,
+        width: screen.binding.rect.width,
+        height: screen.binding.rect.height,
+        entry,
+        pixels: Seq::from_vec(screen.pixels.as_slice().to_vec(alloc)?),
+    })
 }
 
 /// Shows a rectangle of the resource on each of the screens that is bound to it and has a pixel of it.

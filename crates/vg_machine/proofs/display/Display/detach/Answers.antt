@@ -17,6 +17,7 @@ invariant_of-self c =
       leases = was.leases;
       share = was.share;
       reserved = was.reserved;
+      given = was.given;
     }
 
 pub returns : goal.returns
@@ -26,6 +27,6 @@ returns c =
     record {
       step =
           rw (c.response_of.ensures, ← c.self.view_is)
-          (lifted-detach (λ backings. record { setup = s.setup; entries = s.entries; memory = s.pages; resources = s.resources; backings = backings; scanouts = s.scanouts; share = s.share })
+          (lifted-detach (λ backings. record { setup = s.setup; entries = s.entries; memory = s.pages; resources = s.resources; backings = backings; uuids = s.uuids; scanouts = s.scanouts; share = s.share })
           (is_some (resource_at c.args.resource s.resources)) c.args.resource s.backings c.detach.new.self c.detach.result known c.detach.ensures.done);
     }

@@ -25,6 +25,7 @@ invariant_of-self-2 c =
       leases = was.leases;
       share = was.share;
       reserved = was.reserved;
+      given = was.given;
     }
 
 pub returns-clause-step : goal.returns-clause-step
@@ -33,4 +34,4 @@ returns-clause-step c =
     let surface = c.in-Some.surface.now in
     let inside : is_inside c.args.rect.now surface.width surface.height ≡ true = search rules in
     rw (c.response_of.ensures, ← c.self.view_is)
-    (step-flush (record { setup = s.setup; entries = s.entries; memory = s.pages; resources = s.resources; backings = s.backings; scanouts = s.scanouts; share = s.share }) c.args.rect.now c.args.resource surface c.flush.new.self c.in_ok-done.done (sym c.in-Some.ensures.value) inside (rw c.as_slice.ensures at c.in_ok-done.ensures.done))
+    (step-flush (record { setup = s.setup; entries = s.entries; memory = s.pages; resources = s.resources; backings = s.backings; uuids = s.uuids; scanouts = s.scanouts; share = s.share }) c.args.rect.now c.args.resource surface c.flush.new.self c.in_ok-done.done (sym c.in-Some.ensures.value) inside (rw c.as_slice.ensures at c.in_ok-done.ensures.done))

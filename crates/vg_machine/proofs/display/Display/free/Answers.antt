@@ -17,4 +17,5 @@ invariant_of-self c =
       leases = now.leases;
       share = now.pages;
       reserved = now.reserved;
+      given = was.given;
     }

@@ -17,4 +17,5 @@ invariant_of-result c =
       leases = rw (c.in_ok-new-3.ensures, same, ← count) (length-replicate _ _);
       share = rw (c.in_ok-new.ensures.fresh, c.in_ok-new-3.ensures) (shares-fresh c.args.setup.now.pages _ _);
       reserved = rw c.in_ok-new-3.ensures (omega arith);
+      given = rw c.new-4.ensures (omega arith);
     }

@@ -17,6 +17,7 @@ invariant_of-self c =
       leases = now.leases;
       share = c.reserve.ensures.share;
       reserved = now.reserved;
+      given = was.given;
     }
 
 pub returns-clause-err : goal.returns-clause-err

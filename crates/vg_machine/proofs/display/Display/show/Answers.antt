@@ -27,6 +27,7 @@ invariant_of-self-2 c =
       leases = was.leases;
       share = was.share;
       reserved = was.reserved;
+      given = was.given;
     }
 
 pub returns-clause-step : goal.returns-clause-step
@@ -37,4 +38,4 @@ returns-clause-step c =
     let some : (c.args.resource == 0) ≡ false = grind (arith, nat_tests) in
     let fits : (is_empty c.args.rect.now || not (is_inside c.args.rect.now surface.width surface.height)) ≡ false = search rules in
     rw (c.response_of.ensures, ← c.self.view_is)
-    (step-show (record { setup = s.setup; entries = s.entries; memory = s.pages; resources = s.resources; backings = s.backings; scanouts = s.scanouts; share = s.share }) c.args.rect.now c.args.scanout c.args.resource surface c.bind.new.self c.in_ok-done.done there some (sym c.in-Some.ensures.value) fits c.in_ok-done.ensures.done)
+    (step-show (record { setup = s.setup; entries = s.entries; memory = s.pages; resources = s.resources; backings = s.backings; uuids = s.uuids; scanouts = s.scanouts; share = s.share }) c.args.rect.now c.args.scanout c.args.resource surface c.bind.new.self c.in_ok-done.done there some (sym c.in-Some.ensures.value) fits c.in_ok-done.ensures.done)

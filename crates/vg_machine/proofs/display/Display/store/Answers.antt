@@ -28,4 +28,5 @@ invariant_of-self c =
       leases = was.leases;
       share = rw c.store.ensures (shares-bytes s.pages _ s.share was.share);
       reserved = was.reserved;
+      given = was.given;
     }

@@ -20,6 +20,7 @@ invariant_of-self c =
       leases = now.leases;
       share = now.pages;
       reserved = now.reserved;
+      given = was.given;
     }
 
 pub returns-clause-holds : goal.returns-clause-holds

@@ -17,6 +17,7 @@ invariant_of-self c =
       leases = was.leases;
       share = was.share;
       reserved = was.reserved;
+      given = was.given;
     }
 
 pub returns : goal.returns
@@ -25,6 +26,6 @@ returns c =
     record {
       step =
           rw (c.response_of.ensures, ← c.self.view_is)
-          (lifted-receive (λ resources. record { setup = s.setup; entries = s.entries; memory = s.pages; resources = resources; backings = s.backings; scanouts = s.scanouts; share = s.share })
+          (lifted-receive (λ resources. record { setup = s.setup; entries = s.entries; memory = s.pages; resources = resources; backings = s.backings; uuids = s.uuids; scanouts = s.scanouts; share = s.share })
           s.pages c.args.resource c.args.rect.now c.args.offset s.backings s.resources c.receive.new.self c.receive.result c.receive.ensures);
     }
