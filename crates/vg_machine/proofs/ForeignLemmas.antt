@@ -26,11 +26,6 @@ none-in own (suc n) a there =
     ap (λ b. cond (not b) (Some a) (find (is_missing own) (range_with_len (a + 1) n))) (there a (omega arith) (omega arith))
     ∙ none-in own n (a + 1) (λ page from below. there page (omega (arith, from)) (omega (arith, below)))
 
-pub none-missing : (own : List Bool) (starts : List ℕ) (first end : ℕ) → AreStarts own starts → first < end → end ≤ length own → get_or starts (end - 1) 0 ≤ first
-    → find (is_missing own) (between (Some (first, end))) ≡ None
-none-missing own starts first end are some inside from =
-    none-in own (end - first) first (λ page after below. are.each (end - 1) page (omega (arith, some, inside)) (omega (arith, from, after)) (omega (arith, some, below)))
-
 -- entry by entry
 pub missing-next : (own : List Bool) (count : ℕ) (entries : List MemEntry) (i : ℕ) (d : MemEntry) → i < length entries
     → find (is_missing own) (pages_in count (drop i entries)) ≡ option_or (find (is_missing own) (pages_in_entry count (get_or entries i d))) (find (is_missing own) (pages_in count (drop (i + 1) entries)))
@@ -55,9 +50,11 @@ foreign-found holds key own entries found are is =
     ap (option_map Page) (is ∙ same-found holds key own are (pages_in holds.pages entries) (below-pages holds.pages entries))
 
 -- an entry whose pages are between these two
-pub none-between : (own : List Bool) (starts : List ℕ) (first end : ℕ) (pages : List ℕ) → AreStarts own starts → first < end → end ≤ length own → get_or starts (end - 1) 0 ≤ first → between (Some (first, end)) ≡ pages
+pub none-between : (own : List Bool) (starts : List ℕ) (first end : ℕ) (pages : List ℕ) → AreStarts own starts → first < end → (end - 1 < length starts) × (get_or starts (end - 1) 0 ≤ first) → between (Some (first, end)) ≡ pages
     → None ≡ find (is_missing own) pages
-none-between own starts first end pages are some inside from is = sym (none-missing own starts first end are some inside from) ∙ ap (find (is_missing own)) is
+none-between own starts first end pages are some reached is =
+    sym (none-in own (end - first) first (λ page after below. are.each (end - 1) page reached.0 (omega (arith, reached.1, after)) (omega (arith, some, below))))
+    ∙ ap (find (is_missing own)) is
 
 -- what an entry lacks is what they all do, if it lacks something
 option_or-some : {X : Type 0} (one rest : Option X) → is_some one ≡ true → option_or one rest ≡ one

@@ -27,10 +27,10 @@ pub record AreMarked (old : List Bool) (test : ℕ → Bool) (new : List Bool) :
   pub long : length new ≡ length old
   pub each : (page : ℕ) → page < length old → slice_index_or new page false ≡ (slice_index_or old page false || test page)
 
--- From its start to each page the table says yes.
+-- From its start to each page that has one the table says yes.
 pub record AreStarts (own : List Bool) (starts : List ℕ) : Type 0 where
-  pub long : length starts ≡ length own
-  pub each : (last page : ℕ) → last < length own → slice_index_or starts last 0 ≤ page → page ≤ last → slice_index_or own page false ≡ true
+  pub long : length starts ≤ length own
+  pub each : (last page : ℕ) → last < length starts → slice_index_or starts last 0 ≤ page → page ≤ last → slice_index_or own page false ≡ true
 
 -- The pages from the first of a pair up to its second, which is left out.
 abbrev pub between : Option (ℕ × ℕ) → List ℕ

@@ -1,6 +1,6 @@
 //! The pages that a request names and that aren't those of its resource's buffer.
 
-ghost use Rattle.std.specs.Prelude.{◌≡◌, ◌<◌, ◌≤◌, ◌^◌, ◌+◌, true, if◌then◌else◌, length, Some, IfOk, IfSome};
+ghost use Rattle.std.specs.Prelude.{◌≡◌, ◌<◌, ◌≤◌, ◌^◌, ◌+◌, ◌-◌, true, if◌then◌else◌, length, slice_index_or, Some, IfOk, IfSome};
 ghost use Rattle.std.specs.List.{find, slice_set};
 ghost use Rattle.vg_machine.specs.Foreign.{AreMarked, AreOwn, AreStarts, between, foreign_page};
 ghost use Rattle.vg_machine.specs.Foreign as tables;
@@ -14,8 +14,8 @@ use vg_formats::MemEntry;
 use vg_list::Seq;
 use vg_pages::page_address;
 
-/// The first page that entries name and that isn't one of the buffer of this key. Each entry takes the same time, however
-/// many pages it names.
+/// The first page that entries name and that isn't one of the buffer of this key. It takes time in proportion to the
+/// number of entries and of all pages, however many pages the entries name.
 pub(crate) fn first_foreign(
     alloc: Global,
     holds: &Holds,
@@ -25,7 +25,7 @@ pub(crate) fn first_foreign(
     ensures { IfOk result (λ what. what ≡ foreign_page holds.now key (pages_in holds.now.pages entries.now)) }
 {
     let own = own_pages(alloc, holds, key)?;
-    let starts = run_starts(alloc, own.as_slice())?;
+    let starts = starts_for(alloc, own.as_slice(), entries)?;
     match missing_of(holds.pages, own.as_slice(), starts.as_slice(), entries) {
         Some(n) => Ok(Some(What::Page { n })),
         None => Ok(None),
@@ -67,6 +67,26 @@ fn mark_one(own: &mut [bool], page: u32)
     if (page as usize) < own.len() {
         own[page as usize] = true;
     }
+}
+
+/// The starts of runs, or none of them where the entries name so few pages that looking at each takes less.
+fn starts_for(alloc: Global, own: &[bool], entries: &[MemEntry]) -> Result<Vec<usize>, AllocError>
+    ensures { IfOk result (λ starts. AreStarts own.now starts.items) }
+{
+    if count_pages(entries) <= own.len() as u64 {
+        Ok(Vec::new(alloc))
+    } else {
+        run_starts(alloc, own)
+    }
+}
+
+/// How many pages entries may name, or more than there are addresses.
+fn count_pages(entries: &[MemEntry]) -> u64 {
+    let mut count = 0u64;
+    for entry in entries {
+        count = count.saturating_add(u64::from(entry.length / 4096) + 2);
+    }
+    count
 }
 
 /// Of each page the first from which on the table says yes up to it.
@@ -111,10 +131,21 @@ fn missing_in(count: u32, own: &[bool], starts: &[usize], entry: MemEntry) -> Op
     ensures { result ≡ find (tables.is_missing own.now) (pages_in_entry count entry) }
 {
     let (first, end) = pages_between(count, entry)?;
-    if starts[end as usize - 1] <= first as usize {
+    if reaches(starts, first, end) {
         return None;
     }
     missing_between(own, first, end)
+}
+
+/// Whether a start tells that the table says yes from `first` up to `end`.
+fn reaches(starts: &[usize], first: u32, end: u32) -> bool
+    requires { 0 < end }
+    ensures { result ≡ true → (end - 1 < length starts.now) × (slice_index_or starts.now (end - 1) 0 ≤ first) }
+{
+    match starts.get(end as usize - 1) {
+        Some(start) => *start <= first as usize,
+        None => false,
+    }
 }
 
 /// The first page from `first` up to `end` of which the table says no.

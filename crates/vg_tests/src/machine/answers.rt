@@ -4,7 +4,9 @@ use super::rig::Rig;
 use std::alloc::{AllocError, Global};
 use std::process::Abort;
 use std::test::Fail;
-use vg_machine::lane_of;
+use vg_chain::{ChainFault, Shape};
+use vg_list::Seq;
+use vg_machine::{Reply, Request, lane_of};
 use vg_wire::Queue;
 
 /// A request: what it shows, its queue, its bytes, the room, how long its answer is, and the answer's first bytes, behind which
@@ -216,6 +218,155 @@ fn a_command_without_room_runs(rt: HostRuntime) -> Result<(), Fail> {
         ),
     ];
     check_answers(&rt, rt.alloc(), &CASES)?;
+    Ok(())
+}
+
+/// RESOURCE_CREATE_2D of resource 5, format 1, 1 by 1, without a fence.
+const MAKE: &[u8] = &[
+    1, 1, 0, 0, 0, 0, 0, 0, 0, 0, 0, 0, 0, 0, 0, 0, 0, 0, 0, 0, 0, 0, 0, 0, //
+    5, 0, 0, 0, 1, 0, 0, 0, 1, 0, 0, 0, 1, 0, 0, 0,
+];
+
+/// RESOURCE_UNREF of resource 5.
+const END: &[u8] = &[
+    2, 1, 0, 0, 0, 0, 0, 0, 0, 0, 0, 0, 0, 0, 0, 0, 0, 0, 0, 0, 0, 0, 0, 0, //
+    5, 0, 0, 0, 0, 0, 0, 0,
+];
+
+/// RESOURCE_ASSIGN_UUID of resource 5.
+const ASK: &[u8] = &[
+    0x0b, 1, 0, 0, 0, 0, 0, 0, 0, 0, 0, 0, 0, 0, 0, 0, 0, 0, 0, 0, 0, 0, 0, 0, //
+    5, 0, 0, 0, 0, 0, 0, 0,
+];
+
+/// OK_RESOURCE_UUID with the first UUID, and with the second.
+const FIRST: &[u8] = &[
+    5, 0x11, 0, 0, 0, 0, 0, 0, 0, 0, 0, 0, 0, 0, 0, 0, 0, 0, 0, 0, 0, 0, 0, 0, //
+    0x76, 0x67, 0x70, 0x55, 0, 0, 0x80, 0, 0x80, 0, 0, 0, 0, 0, 0, 1,
+];
+
+const SECOND: &[u8] = &[
+    5, 0x11, 0, 0, 0, 0, 0, 0, 0, 0, 0, 0, 0, 0, 0, 0, 0, 0, 0, 0, 0, 0, 0, 0, //
+    0x76, 0x67, 0x70, 0x55, 0, 0, 0x80, 0, 0x80, 0, 0, 0, 0, 0, 0, 2,
+];
+
+#[test]
+fn a_uuid_is_kept_and_ends_with_its_resource(rt: HostRuntime) -> Result<(), Fail> {
+    static CASES: [AnswerCase<'static>; 8] = [
+        ("of none", Queue::Control, ASK, 40, 24, &[3, 0x12]),
+        ("made", Queue::Control, MAKE, 24, 24, &[0, 0x11]),
+        ("the first", Queue::Control, ASK, 40, 40, FIRST),
+        ("again", Queue::Control, ASK, 8192, 40, FIRST),
+        ("ended", Queue::Control, END, 24, 24, &[0, 0x11]),
+        ("of none again", Queue::Control, ASK, 40, 24, &[3, 0x12]),
+        ("made again", Queue::Control, MAKE, 24, 24, &[0, 0x11]),
+        ("the second", Queue::Control, ASK, 40, 40, SECOND),
+    ];
+    check_answers(&rt, rt.alloc(), &CASES)?;
+    Ok(())
+}
+
+/// GET_EDID of scanout 1, and of scanout 2.
+const EDID: &[u8] = &[
+    0x0a, 1, 0, 0, 0, 0, 0, 0, 0, 0, 0, 0, 0, 0, 0, 0, 0, 0, 0, 0, 0, 0, 0, 0, //
+    1, 0, 0, 0, 0, 0, 0, 0,
+];
+
+const NO_EDID: &[u8] = &[
+    0x0a, 1, 0, 0, 0, 0, 0, 0, 0, 0, 0, 0, 0, 0, 0, 0, 0, 0, 0, 0, 0, 0, 0, 0, //
+    2, 0, 0, 0, 0, 0, 0, 0,
+];
+
+/// OK_EDID with the block of 640 by 480 on scanout 1, as another program lays it out.
+const BLOCK: &[u8] = &[
+    4, 0x11, 0, 0, 0, 0, 0, 0, 0, 0, 0, 0, 0, 0, 0, 0, 0, 0, 0, 0, 0, 0, 0, 0, 128, 0, 0, 0, 0, 0,
+    0, 0, //
+    0x00, 0xff, 0xff, 0xff, 0xff, 0xff, 0xff, 0x00, 0x58, 0xf0, 0x01, 0x00, 0x02, 0x00, 0x00, 0x00,
+    0x01, 0x20, 0x01, 0x04, 0x80, 0x00, 0x00, 0x78, 0x06, 0xee, 0x91, 0xa3, 0x54, 0x4c, 0x99, 0x26,
+    0x0f, 0x50, 0x54, 0x00, 0x00, 0x00, 0x01, 0x01, 0x01, 0x01, 0x01, 0x01, 0x01, 0x01, 0x01, 0x01,
+    0x01, 0x01, 0x01, 0x01, 0x01, 0x01, 0x6e, 0x09, 0x80, 0xa0, 0x20, 0xe0, 0x17, 0x10, 0x30, 0x20,
+    0x35, 0x00, 0x00, 0x00, 0x00, 0x00, 0x00, 0x18, 0x00, 0x00, 0x00, 0x10, 0x00, 0x00, 0x00, 0x00,
+    0x00, 0x00, 0x00, 0x00, 0x00, 0x00, 0x00, 0x00, 0x00, 0x00, 0x00, 0x00, 0x00, 0x10, 0x00, 0x00,
+    0x00, 0x00, 0x00, 0x00, 0x00, 0x00, 0x00, 0x00, 0x00, 0x00, 0x00, 0x00, 0x00, 0x00, 0x00, 0x10,
+    0x00, 0x00, 0x00, 0x00, 0x00, 0x00, 0x00, 0x00, 0x00, 0x00, 0x00, 0x00, 0x00, 0x00, 0x00, 0xc8,
+];
+
+/// Commands of the cursor queue: UPDATE_CURSOR of scanout 0 with resource 0, of scanout 0 with resource 5 and of scanout 2 with
+/// resource 0, and MOVE_CURSOR of scanout 0.
+const HIDE: &[u8] = &[
+    0, 3, 0, 0, 0, 0, 0, 0, 0, 0, 0, 0, 0, 0, 0, 0, 0, 0, 0, 0, 0, 0, 0, 0, //
+    0, 0, 0, 0, 1, 0, 0, 0, 1, 0, 0, 0, 0, 0, 0, 0, 0, 0, 0, 0, 0, 0, 0, 0, 0, 0, 0, 0, 0, 0, 0, 0,
+];
+
+const SHOW: &[u8] = &[
+    0, 3, 0, 0, 0, 0, 0, 0, 0, 0, 0, 0, 0, 0, 0, 0, 0, 0, 0, 0, 0, 0, 0, 0, //
+    0, 0, 0, 0, 1, 0, 0, 0, 1, 0, 0, 0, 0, 0, 0, 0, 5, 0, 0, 0, 0, 0, 0, 0, 0, 0, 0, 0, 0, 0, 0, 0,
+];
+
+const HIDE_FAR: &[u8] = &[
+    0, 3, 0, 0, 0, 0, 0, 0, 0, 0, 0, 0, 0, 0, 0, 0, 0, 0, 0, 0, 0, 0, 0, 0, //
+    2, 0, 0, 0, 1, 0, 0, 0, 1, 0, 0, 0, 0, 0, 0, 0, 0, 0, 0, 0, 0, 0, 0, 0, 0, 0, 0, 0, 0, 0, 0, 0,
+];
+
+const MOVE: &[u8] = &[
+    1, 3, 0, 0, 0, 0, 0, 0, 0, 0, 0, 0, 0, 0, 0, 0, 0, 0, 0, 0, 0, 0, 0, 0, //
+    0, 0, 0, 0, 1, 0, 0, 0, 1, 0, 0, 0, 0, 0, 0, 0, 0, 0, 0, 0, 0, 0, 0, 0, 0, 0, 0, 0, 0, 0, 0, 0,
+];
+
+#[test]
+fn displays_are_described_and_cursors_hidden(rt: HostRuntime) -> Result<(), Fail> {
+    static CASES: [AnswerCase<'static>; 8] = [
+        ("the block", Queue::Control, EDID, 1056, 1056, BLOCK),
+        ("a part of it", Queue::Control, EDID, 10, 10, &[4, 0x11]),
+        ("no display", Queue::Control, NO_EDID, 1056, 24, &[2, 0x12]),
+        ("hidden", Queue::Cursor, HIDE, 24, 24, &[0, 0x11]),
+        ("shown", Queue::Cursor, SHOW, 24, 24, &[0, 0x12]),
+        ("no scanout", Queue::Cursor, HIDE_FAR, 24, 24, &[2, 0x12]),
+        ("moved", Queue::Cursor, MOVE, 24, 24, &[0, 0x12]),
+        ("not there", Queue::Control, HIDE, 24, 24, &[0, 0x12]),
+    ];
+    check_answers(&rt, rt.alloc(), &CASES)?;
+    Ok(())
+}
+
+/// PLAIN as a request of this shape.
+fn shaped(alloc: Global, shape: Shape) -> Result<Request, AllocError> {
+    Ok(Request {
+        queue: Queue::Control,
+        lane: 0,
+        ordinal: 1,
+        room: 24,
+        shape,
+        bytes: Seq::from_vec(PLAIN.to_vec(alloc)?),
+    })
+}
+
+#[test]
+fn a_bad_shape_is_answered_with_its_fault(rt: HostRuntime) -> Result<(), Fail> {
+    let alloc = rt.alloc();
+    let mut rig = Rig::new(alloc)?;
+    let fault = ChainFault::TableLength;
+    let bad = shaped(alloc, Shape::Bad { fault })?;
+    let whole = shaped(alloc, Shape::Pieces { n: 3 })?;
+    assert!(rt; rig.display.entries() < 1000);
+    let first = rig.display.request(alloc, &bad)?;
+    assert!(rt;
+        matches!(
+            first,
+            Reply::Fault {
+                fault: ChainFault::TableLength
+            }
+        )
+    );
+    assert!(rt; rig.display.entries() < 1000);
+    let second = rig.display.request(alloc, &whole)?;
+    match &second {
+        Reply::Response { bytes } => {
+            assert!(rt; is_answer(bytes.as_slice(), 24, &[1, 0x11]));
+        }
+        Reply::Fault { .. } => assert!(rt; false),
+    }
+    assert_eq!(rt; rig.display.entries(), 2);
     Ok(())
 }
 

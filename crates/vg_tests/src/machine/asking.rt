@@ -27,12 +27,17 @@ fn some_holds(alloc: Global) -> Result<Holds, AllocError> {
 /// The first number of a resource that no buffer has.
 const FAR: u32 = 0x8000_0000;
 
+/// The address of page 0.
+const START: u32 = 0x10_0000;
+
 /// What is denied.
 #[derive(Clone, Copy)]
 enum Asked {
     Fine,
     Resource(u32),
     Scanout(u32),
+    Context(u32),
+    Page(u32),
 }
 
 impl Asked {
@@ -41,6 +46,8 @@ impl Asked {
             Asked::Fine => None,
             Asked::Resource(n) => Some(What::Resource { n }),
             Asked::Scanout(n) => Some(What::Scanout { n }),
+            Asked::Context(n) => Some(What::Context { n }),
+            Asked::Page(n) => Some(What::Page { n }),
         }
     }
 }
@@ -62,7 +69,7 @@ fn check_denied(rt: &impl Abort, alloc: Global, cases: &[AskedCase<'_>]) -> Resu
 
 #[test]
 fn what_is_denied_is_told(rt: HostRuntime) -> Result<(), Fail> {
-    static CASES: [AskedCase<'static>; 36] = [
+    static CASES: [AskedCase<'static>; 47] = [
         ("display information", DISPLAY_INFO, &[], Asked::Fine),
         (
             "create of one that is held",
@@ -209,8 +216,298 @@ fn what_is_denied_is_told(rt: HostRuntime) -> Result<(), Fail> {
             &[0, 0, 4, 2, 0, FAR],
             Asked::Scanout(0),
         ),
+        (
+            "its pages",
+            ATTACH,
+            &[3, 1, START, 0, 0x2000, 0],
+            Asked::Fine,
+        ),
+        (
+            "those of one that is taken down",
+            ATTACH,
+            &[4, 1, START + 0x2000, 0, 0x1000, 0],
+            Asked::Fine,
+        ),
+        (
+            "those of its other buffer",
+            ATTACH,
+            &[3, 1, START + 0x2000, 0, 0x1000, 0],
+            Asked::Page(2),
+        ),
+        (
+            "two bytes, the second in another's page",
+            ATTACH,
+            &[3, 1, START + 0x1fff, 0, 2, 0],
+            Asked::Page(2),
+        ),
+        (
+            "the first of several",
+            ATTACH,
+            &[3, 1, START + 0x1000, 0, 0x4000, 0],
+            Asked::Page(2),
+        ),
+        (
+            "a second entry",
+            ATTACH,
+            &[3, 2, START, 0, 0x1000, 0, START + 0x3000, 0, 1, 0],
+            Asked::Page(3),
+        ),
+        (
+            "the last page",
+            ATTACH,
+            &[3, 1, START + 0xf000, 0, 0x1000, 0],
+            Asked::Page(15),
+        ),
+        (
+            "a byte past memory",
+            ATTACH,
+            &[3, 1, START + 0xf000, 0, 0x1001, 0],
+            Asked::Fine,
+        ),
+        (
+            "a byte before memory",
+            ATTACH,
+            &[3, 1, START - 1, 0, 2, 0],
+            Asked::Fine,
+        ),
+        (
+            "past all addresses",
+            ATTACH,
+            &[3, 1, MOST, MOST, MOST, 0],
+            Asked::Fine,
+        ),
+        (
+            "an entry of no bytes",
+            ATTACH,
+            &[3, 1, START + 0x5000, 0, 0, 0],
+            Asked::Fine,
+        ),
     ];
     check_denied(&rt, rt.alloc(), &CASES)?;
+    Ok(())
+}
+
+/// A request: what it shows, its queue, its type, its flags, its context, its fields, and what is denied.
+type HeaderCase<'a> = (&'a str, Queue, u32, u32, u32, &'a [u32], Asked);
+
+/// Checks what such requests are told.
+fn check_by_header(
+    rt: &impl Abort,
+    alloc: Global,
+    cases: &[HeaderCase<'_>],
+) -> Result<(), AllocError> {
+    let holds = some_holds(alloc)?;
+    for case in cases {
+        let (name, queue, kind, flags, context, fields, due) = *case;
+        let mut bytes = Vec::new(alloc);
+        for word in &[kind, flags, 0, 0, context, 0] {
+            bytes.extend_from_slice(&word.to_le_bytes())?;
+        }
+        for field in fields {
+            bytes.extend_from_slice(&field.to_le_bytes())?;
+        }
+        let what = denied(alloc, &holds, queue, bytes.as_slice())?;
+        assert_eq!(rt; what, due.what(), "{name}");
+    }
+    Ok(())
+}
+
+#[test]
+fn contexts_and_cursors_are_looked_at(rt: HostRuntime) -> Result<(), Fail> {
+    static CASES: [HeaderCase<'static>; 23] = [
+        (
+            "its first context",
+            Queue::Control,
+            0x0201,
+            0,
+            257,
+            &[],
+            Asked::Fine,
+        ),
+        ("its last", Queue::Control, 0x0201, 0, 511, &[], Asked::Fine),
+        (
+            "the one before",
+            Queue::Control,
+            0x0201,
+            0,
+            256,
+            &[],
+            Asked::Context(256),
+        ),
+        (
+            "the one behind",
+            Queue::Control,
+            0x0201,
+            0,
+            512,
+            &[],
+            Asked::Context(512),
+        ),
+        ("context 0", Queue::Control, 0x0201, 0, 0, &[], Asked::Fine),
+        (
+            "context 2^31",
+            Queue::Control,
+            0x0201,
+            0,
+            FAR,
+            &[],
+            Asked::Fine,
+        ),
+        (
+            "the one below it",
+            Queue::Control,
+            0x0201,
+            0,
+            FAR - 1,
+            &[],
+            Asked::Context(FAR - 1),
+        ),
+        (
+            "a submission",
+            Queue::Control,
+            0x0207,
+            0,
+            512,
+            &[0, 0],
+            Asked::Context(512),
+        ),
+        (
+            "a ring index",
+            Queue::Control,
+            0x0100,
+            2,
+            512,
+            &[],
+            Asked::Context(512),
+        ),
+        (
+            "no ring index",
+            Queue::Control,
+            0x0100,
+            5,
+            512,
+            &[],
+            Asked::Fine,
+        ),
+        (
+            "its resource before its context",
+            Queue::Control,
+            0x0202,
+            0,
+            512,
+            &[5, 0],
+            Asked::Resource(5),
+        ),
+        (
+            "its context then",
+            Queue::Control,
+            0x0203,
+            0,
+            512,
+            &[3, 0],
+            Asked::Context(512),
+        ),
+        (
+            "a scanout before a context",
+            Queue::Control,
+            0x0103,
+            2,
+            512,
+            &[0, 0, 4, 2, 0, 3],
+            Asked::Scanout(0),
+        ),
+        (
+            "a context before pages",
+            Queue::Control,
+            0x0106,
+            2,
+            512,
+            &[3, 1, START + 0x5000, 0, 1, 0],
+            Asked::Context(512),
+        ),
+        (
+            "display data of any scanout",
+            Queue::Control,
+            0x010a,
+            0,
+            0,
+            &[0, 0],
+            Asked::Fine,
+        ),
+        (
+            "a UUID of another",
+            Queue::Control,
+            0x010b,
+            0,
+            0,
+            &[5, 0],
+            Asked::Resource(5),
+        ),
+        (
+            "a blob with the number 2^31",
+            Queue::Control,
+            0x010c,
+            0,
+            0,
+            &[FAR, 1, 0, 0, 0, 0, 0, 0],
+            Asked::Resource(FAR),
+        ),
+        (
+            "a blob of another's page",
+            Queue::Control,
+            0x010c,
+            0,
+            0,
+            &[3, 1, 0, 1, 0, 0, 16, 0, START + 0x5000, 0, 16, 0],
+            Asked::Page(5),
+        ),
+        (
+            "a cursor on one that isn't leased",
+            Queue::Cursor,
+            0x0300,
+            0,
+            0,
+            &[0, 0, 0, 0, 0, 0, 0, 0],
+            Asked::Scanout(0),
+        ),
+        (
+            "a cursor that is another's",
+            Queue::Cursor,
+            0x0300,
+            0,
+            0,
+            &[0, 0, 0, 0, 5, 0, 0, 0],
+            Asked::Resource(5),
+        ),
+        (
+            "a cursor on one that is leased",
+            Queue::Cursor,
+            0x0300,
+            0,
+            0,
+            &[1, 0, 0, 0, 3, 0, 0, 0],
+            Asked::Fine,
+        ),
+        (
+            "a ring index on that queue",
+            Queue::Cursor,
+            0x0300,
+            2,
+            512,
+            &[1, 0, 0, 0, 0, 0, 0, 0],
+            Asked::Context(512),
+        ),
+        (
+            "a move on one that isn't leased",
+            Queue::Cursor,
+            0x0301,
+            0,
+            0,
+            &[0, 0, 0, 0, 5, 0, 0, 0],
+            Asked::Scanout(0),
+        ),
+    ];
+    check_by_header(&rt, rt.alloc(), &CASES)?;
     Ok(())
 }
 
