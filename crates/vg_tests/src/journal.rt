@@ -5,9 +5,10 @@ ghost use Rattle.std.specs.Prelude.{None};
 use super::run::Sip;
 use std::alloc::{AllocError, Global};
 use std::test::Fail;
+use vg_chain::Shape;
 use vg_io::{Failed, MemSink, Sink};
 use vg_list::Seq;
-use vg_machine::{Act, ActReply, Entry, Frame, Reply, Request, Setup, Shape, ShareRefusal, What};
+use vg_machine::{Act, ActReply, Entry, Frame, Reply, Request, Setup, ShareRefusal, What};
 use vg_run::{Journal, print};
 use vg_wire::Queue;
 
@@ -122,27 +123,6 @@ fn a_journal_has_this_text(rt: HostRuntime) -> Result<(), Fail> {
     let mut sip = Sip(MemSink::new(alloc, 1000, Vec::new(alloc))?);
     assert_eq!(rt; print(alloc, &journal, &mut sip)?, Ok(()));
     assert_eq!(rt; sip.0.bytes(), TWO_CLIENTS);
-    Ok(())
-}
-
-#[test]
-fn a_write_that_fails_leaves_a_front(rt: HostRuntime) -> Result<(), Fail> {
-    let alloc = rt.alloc();
-    let journal = two_clients(alloc)?;
-    // The lines up to the first frame's, its pixels, the lines up to the second frame's, the end.
-    let fronts = [(1u64, 0usize), (2, 280), (3, 288), (4, 305)];
-    for (write, front) in fronts {
-        let mut sink = MemSink::new(alloc, 1000, vec![in alloc; write]?)?;
-        assert_eq!(rt;
-            print(alloc, &journal, &mut sink)?,
-            Err(Failed),
-            "at write {write}"
-        );
-        assert!(rt; front <= TWO_CLIENTS.len());
-        assert_eq!(rt; sink.bytes(), &TWO_CLIENTS[..front], "at write {write}");
-    }
-    let mut sink = MemSink::new(alloc, 1000, vec![in alloc; 5u64]?)?;
-    assert_eq!(rt; print(alloc, &journal, &mut sink)?, Ok(()));
     Ok(())
 }
 
@@ -270,6 +250,35 @@ fn a_line_longer_than_a_piece_is_whole(rt: HostRuntime) -> Result<(), Fail> {
     for (from, want) in [(0, head), (50, first), (80_069, second), (160_097, end)] {
         assert_eq!(rt; part(text, from, want), want, "at {from}");
     }
+    Ok(())
+}
+
+#[test]
+fn a_write_that_fails_leaves_a_front(rt: HostRuntime) -> Result<(), Fail> {
+    let alloc = rt.alloc();
+    let journal = two_long_requests(alloc)?;
+    let mut whole = MemSink::new(alloc, 200_000, Vec::new(alloc))?;
+    assert_eq!(rt; print(alloc, &journal, &mut whole)?, Ok(()));
+    // Each line of 80,028 bytes is longer than a piece, which holds 65,536.
+    let fronts = [
+        (1u64, 0usize),
+        (2, 65_536),
+        (3, 80_078),
+        (4, 145_614),
+        (5, 160_106),
+    ];
+    for (write, front) in fronts {
+        let mut sink = MemSink::new(alloc, 200_000, vec![in alloc; write]?)?;
+        assert_eq!(rt;
+            print(alloc, &journal, &mut sink)?,
+            Err(Failed),
+            "at write {write}"
+        );
+        assert_eq!(rt; sink.bytes().len(), front, "at write {write}");
+        assert!(rt; whole.bytes().starts_with(sink.bytes()));
+    }
+    let mut sink = MemSink::new(alloc, 200_000, vec![in alloc; 6u64]?)?;
+    assert_eq!(rt; print(alloc, &journal, &mut sink)?, Ok(()));
     Ok(())
 }
 

@@ -1,9 +1,5 @@
-//! What the display machine answers, shows and keeps, laid out by hand.
+//! What the display machine answers where no script of one client asks it: rows/ has the rest.
 
 mod acts;
-mod answers;
-mod asking;
 mod leases;
-mod refusals;
 mod rig;
-mod transfers;

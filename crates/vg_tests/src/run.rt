@@ -6,7 +6,7 @@ use vg_io::{Failed, MemSink, MemSource, Sink, Source};
 use vg_run::{Status, at_most_one_history, vgpu};
 
 /// How many bytes the journal here has at most.
-const ROOM: usize = 2_000;
+const ROOM: usize = 3_000;
 
 const SCRIPT: &[u8] = b"display 4 2\nmemory 16\nclient\nbuffer A 4 2 1\ntake 0\nflip 0 A\n";
 
@@ -89,16 +89,8 @@ fn a_fault_of_the_source_writes_nothing(rt: HostRuntime) -> Result<(), Fail> {
 /// Each write that fails, and each room that is too small.
 #[test]
 fn a_fault_of_the_sink_leaves_a_front(rt: HostRuntime) -> Result<(), Fail> {
-    // A journal is written in a piece for its lines, one for a frame's pixels and one for the rest.
-    static FAULTS: [(u64, usize); 7] = [
-        (1, ROOM),
-        (2, ROOM),
-        (3, ROOM),
-        (0, 0),
-        (0, 1),
-        (0, 100),
-        (0, 1_000),
-    ];
+    // A journal as short as this one is written in one piece.
+    static FAULTS: [(u64, usize); 5] = [(1, ROOM), (0, 0), (0, 1), (0, 100), (0, 1_000)];
     let (_, whole) = ran(rt.alloc(), 0, 0, ROOM)?;
     for (write, room) in FAULTS.iter() {
         let (status, sink) = ran(rt.alloc(), 0, *write, *room)?;
@@ -107,7 +99,7 @@ fn a_fault_of_the_sink_leaves_a_front(rt: HostRuntime) -> Result<(), Fail> {
         assert!(rt; sink.bytes().len() < whole.bytes().len());
         assert!(rt; *write > 0 || sink.bytes().len() == *room);
     }
-    let (status, _) = ran(rt.alloc(), 0, 4, ROOM)?;
+    let (status, _) = ran(rt.alloc(), 0, 2, ROOM)?;
     assert_eq!(rt; status, Status::Done);
     Ok(())
 }

@@ -1,62 +1,8 @@
-//! The acts on buffers of guest pages: what they do, and when they are refused.
+//! When the acts on buffers of guest pages are refused.
 
 use super::rig::Row::{self, Act, Command};
 use super::rig::{CREATE, Do, Due, OK, UNREF, run};
 use std::test::Fail;
-
-#[test]
-fn pages_are_the_lowest_free_ones(rt: HostRuntime) -> Result<(), Fail> {
-    static ROWS: [Row<'static>; 16] = [
-        Act("two pages", 1, Do::Reserve(8192), Due::Key(1, &[0, 1])),
-        Act("a byte", 2, Do::Reserve(1), Due::Key(2, &[2])),
-        Act("nothing", 1, Do::Reserve(0), Due::Key(3, &[])),
-        Act(
-            "a page and a byte",
-            1,
-            Do::Reserve(4097),
-            Due::Key(4, &[3, 4]),
-        ),
-        Act(
-            "a byte past what is free",
-            1,
-            Do::Reserve(45057),
-            Due::Full(11),
-        ),
-        Act("the most bytes", 2, Do::Reserve(0xffff_ffff), Due::Full(11)),
-        Act(
-            "a page, all the same",
-            1,
-            Do::Reserve(4096),
-            Due::Key(5, &[5]),
-        ),
-        Act("release", 2, Do::Release(2), Due::Last),
-        Act(
-            "released pages aren't free",
-            1,
-            Do::Reserve(1),
-            Due::Key(6, &[6]),
-        ),
-        Act("free", 2, Do::Free(2), Due::Ok),
-        Act("release key 4", 1, Do::Release(4), Due::Last),
-        Act("free key 4", 1, Do::Free(4), Due::Ok),
-        Act(
-            "what others had, and the next",
-            2,
-            Do::Reserve(16384),
-            Due::Key(7, &[2, 3, 4, 7]),
-        ),
-        Act(
-            "all others",
-            1,
-            Do::Reserve(32768),
-            Due::Key(8, &[8, 9, 10, 11, 12, 13, 14, 15]),
-        ),
-        Act("a byte, of none", 1, Do::Reserve(1), Due::Full(0)),
-        Act("nothing, of none", 1, Do::Reserve(0), Due::Key(9, &[])),
-    ];
-    run(&rt, rt.alloc(), &ROWS, &[])?;
-    Ok(())
-}
 
 #[test]
 fn store_and_load_are_refused(rt: HostRuntime) -> Result<(), Fail> {
@@ -113,7 +59,7 @@ fn store_and_load_are_refused(rt: HostRuntime) -> Result<(), Fail> {
         ),
         Act("load behind that", 1, Do::Load(1, 0, 1), Due::Unknown),
     ];
-    run(&rt, rt.alloc(), &ROWS, &[])?;
+    run(&rt, rt.alloc(), &ROWS)?;
     Ok(())
 }
 
@@ -151,6 +97,6 @@ fn release_and_free_are_refused(rt: HostRuntime) -> Result<(), Fail> {
         ),
         Act("all of it", 1, Do::Load(3, 0, 16), Due::Bytes(&[0; 16])),
     ];
-    run(&rt, rt.alloc(), &ROWS, &[])?;
+    run(&rt, rt.alloc(), &ROWS)?;
     Ok(())
 }
