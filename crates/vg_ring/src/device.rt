@@ -14,8 +14,8 @@ use crate::plays::{
     Answers, Completes, CutsRight, Fetches, LooksAtAvailable, Names, Reads, Settles, TakesRight,
     TellsLent,
 };
-use crate::tagged::Tagged;
 use crate::words::{available_word, used_element_word, used_word};
+use vg_history::Tagged;
 
 /// Loads the available index.
 pub(crate) fn look_at_available<P: Tagged>(line: &Line<P>, pass: &mut Pass<P>) -> u64

@@ -18,11 +18,11 @@ use crate::naming::Naming;
 use crate::parcel::Tag;
 use crate::right::Right;
 use crate::table::read_table;
-use crate::tagged::Tagged;
 use std::alloc::{AllocError, Global};
 use std::marker::{Model, PhantomData};
 use std::sync::Arc;
 use vg_chain::{Chain, ChainFault, a_layout_is_walked, a_walk_has_one_result, walk};
+use vg_history::Tagged;
 
 /// A cargo that was fetched, and the place of its head descriptor.
 #[derive(Drop)]

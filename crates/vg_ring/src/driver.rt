@@ -12,9 +12,9 @@ ghost use Rattle.vg_ring.specs.Words as layout;
 use crate::cargo::Cargo;
 use crate::law::{Line, Pass};
 use crate::plays::{LooksAtUsed, Offers, Publishes, Reaps, Settles, StoresAddress, StoresRest};
-use crate::tagged::Tagged;
 use crate::words::{available_word, rest_word, used_element_word, used_of};
 use vg_chain::{Descriptor, Extent, Shape};
+use vg_history::Tagged;
 
 /// Stores a descriptor at a place.
 pub(crate) fn store_descriptor<P: Tagged>(

@@ -14,10 +14,10 @@ use crate::law::{Line, Pass};
 use crate::naming::Naming;
 use crate::places::Places;
 use crate::sending::send;
-use crate::tagged::Tagged;
 use std::marker::{Model, PhantomData};
 use std::sync::Arc;
 use vg_chain::Shape;
+use vg_history::Tagged;
 use vg_wire::Queue;
 
 /// A cargo that came back, from the chain whose head is there, with the number of bytes that were written.

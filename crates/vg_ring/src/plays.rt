@@ -8,9 +8,9 @@ ghost use Rattle.vg_ring.specs.Plays.{driver_of, device_of, queue_of, place_at, 
 ghost use Rattle.vg_ring.specs.Tells.{IsReaped, IsTaken, TellsWord};
 
 use crate::cargo::Cargo;
-use crate::tagged::Tagged;
 use crate::views::View;
 use atomic_table::{Join, Play, Split};
+use vg_history::Tagged;
 
 pub(crate) enum StoresAddress {}
 
