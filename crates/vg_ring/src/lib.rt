@@ -1,6 +1,7 @@
 //! The two ends of a split virtqueue that threads share (VIRTIO 1.2, 2.7).
 #![tactic(auto)]
 
+mod agree;
 mod cargo;
 mod device;
 mod device_end;
@@ -20,6 +21,7 @@ mod threads;
 mod views;
 mod words;
 
+pub use agree::ends_agree;
 pub use cargo::Cargo;
 pub use device_end::{DeviceEnd, Fetched};
 pub use driver_end::{DriverEnd, Reaped};
