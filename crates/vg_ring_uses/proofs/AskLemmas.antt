@@ -1,5 +1,5 @@
 -- What the driver's thread knows of the cargoes that it has asked, one at a time.
-use Rattle.std.proofs.Common.{◌≡◌, ℕ, zero, suc, ◌+◌, ◌<◌, ◌≤◌, Bool, true, false, List, [], ◌∷◌, ◌++◌, length, map, refl, ap, sym, subst, ◌∙◌, arith, length-append, add-one}
+use Rattle.std.proofs.Common.{◌≡◌, ℕ, zero, suc, ◌+◌, ◌<◌, ◌≤◌, Bool, true, false, List, [], ◌∷◌, ◌++◌, length, map, refl, ap, sym, subst, ◌∙◌, arith, length-append, add-one, take, min}
 use Rattle.std.specs.Prelude.{All}
 use Rattle.std.proofs.lemmas.List.{map-append, append-nil}
 use Rattle.std.proofs.lemmas.List.Elements.{All-append, All-nil}
@@ -8,14 +8,13 @@ use mathlib.Core.List.{IsPrefix}
 use Rattle.vg_wire.specs.declared.request.Queue.{Queue}
 use Rattle.vg_wire.specs.declared.request.Queue.TheVariants.{Control, Cursor}
 use Rattle.vg_history.specs.Lists.{upto}
-use Rattle.vg_chain.specs.declared.shape.Shape.{Shape}
 use Rattle.vg_ring.specs.declared.views.Entry.{Entry}
 use Rattle.vg_ring.specs.declared.views.Answer.{Answer}
 use Rattle.vg_ring.specs.Cargo.{CargoData, IsLane}
-use Rattle.vg_ring.specs.Entries.{entries, lane_count, published_as}
-use Rattle.vg_ring.specs.Ends.{DriverLists, Publishes, Reaps, ReapsNone}
+use Rattle.vg_ring.specs.Entries.{entries, lane_count}
+use Rattle.vg_ring.specs.Ends.{DriverLists, Reaps, ReapsNone}
 use Rattle.vg_ring.specs.DeviceEnds.{DeviceLists}
-use Rattle.vg_ring_uses.specs.Carried.{ordinal_of, IsOfLane, IsAnswered, HasAsked, Asks, MayAsk, TakesBack, HasAnswered, HaveCarried}
+use Rattle.vg_ring_uses.specs.Carried.{ordinal_of, ordinal_bytes, IsAsked, IsEchoed, IsAnswered, HasAsked, Asks, MayAsk, TakesBack, HasAnswered, HaveCarried}
 
 pub all_one : {X : Type 0} (P : X → Type 0) (x : X) → P x → All P (x ∷ [])
 all_one P x h zero d lt = h
@@ -37,11 +36,11 @@ length_map [] = refl
 length_map (e ∷ es) = let rest = length_map es in omega (arith, rest)
 
 -- entries of one lane are as many as that lane has
-lanes_count : (lane : ℕ) (es : List Entry) → All (IsOfLane lane) es → lane_count lane es ≡ length es
-lanes_count lane [] h = refl
-lanes_count lane (e ∷ es) h =
-    let here : e.lane ≡ lane = h 0 e (omega arith) in
-    let rest = lanes_count lane es (λ k d lt. h (suc k) d (omega arith)) in
+lanes_count : (queue : Queue) (lane : ℕ) (es : List Entry) → All (IsAsked queue lane) es → lane_count lane es ≡ length es
+lanes_count queue lane [] h = refl
+lanes_count queue lane (e ∷ es) h =
+    let here : e.lane ≡ lane = (h 0 e (omega arith)).lane_is in
+    let rest = lanes_count queue lane es (λ k d lt. h (suc k) d (omega arith)) in
     let one : lane_count lane (e ∷ es) ≡ 1 + lane_count lane es = rw (eq-eqb e.lane lane here) refl in
     omega (arith, one, rest)
 
@@ -51,17 +50,6 @@ asked_length queue lane k lists h =
     let one = length_map lists.published in
     let two = length_upto k in
     omega (arith, same, one, two)
-
-pub asks_is : {P : Type 0} (lane count : ℕ) (old new : DriverLists) (shape : Shape) (cargo : CargoData P) → Publishes old shape cargo new → cargo.parcel.lane ≡ lane → cargo.parcel.ordinal ≡ lane_count lane old.published + 1 → length old.published + 1 ≤ count → Asks lane count old new
-asks_is lane count old new shape cargo p lane_is ordinal fewer = record {
-  entry = published_as p.places cargo;
-  published = p.published;
-  lane_is = lane_is;
-  ordinal = ordinal;
-  fewer = fewer;
-  reaped = p.reaped;
-  queue_is = p.same.0;
-}
 
 pub back_none : (old new : DriverLists) → ReapsNone old new → TakesBack old new
 back_none old new r = record {
@@ -90,20 +78,20 @@ asking_none queue lane count lists of_queue published reaped = record {
   asked = record {
     queue_is = of_queue;
     ordinals = ap (map ordinal_of) published;
-    lanes = subst (λ (es : List Entry). All (IsOfLane lane) es) (sym published) (All-nil (IsOfLane lane));
+    cargoes = subst (λ (es : List Entry). All (IsAsked queue lane) es) (sym published) (All-nil (IsAsked queue lane));
     back = (let one = ap length reaped in omega (arith, one));
   };
 }
 
-asked_more : (queue : Queue) (lane count k : ℕ) (old new : DriverLists) → HasAsked queue lane k old → Asks lane count old new → HasAsked queue lane (k + 1) new
+asked_more : (queue : Queue) (lane count k : ℕ) (old new : DriverLists) → HasAsked queue lane k old → Asks queue lane count old new → HasAsked queue lane (k + 1) new
 asked_more queue lane count k old new h a =
     let long = asked_length queue lane k old h in
-    let count_is = lanes_count lane old.published h.lanes in
+    let count_is = lanes_count queue lane old.published h.cargoes in
     let ordinal : a.entry.ordinal ≡ k + 1 = (let is = a.ordinal in omega (arith, is, count_is, long)) in
     record {
       queue_is = a.queue_is ∙ h.queue_is;
       ordinals = ap (map ordinal_of) a.published ∙ (map-append ordinal_of old.published (a.entry ∷ []) ∙ (ap (λ (ns : List ℕ). ns ++ a.entry.ordinal ∷ []) h.ordinals ∙ (ap (λ (n : ℕ). upto k ++ n ∷ []) ordinal ∙ upto_more k)));
-      lanes = subst (λ (es : List Entry). All (IsOfLane lane) es) (sym a.published) (All-append (IsOfLane lane) old.published (a.entry ∷ []) h.lanes (all_one (IsOfLane lane) a.entry a.lane_is));
+      cargoes = subst (λ (es : List Entry). All (IsAsked queue lane) es) (sym a.published) (All-append (IsAsked queue lane) old.published (a.entry ∷ []) h.cargoes (all_one (IsAsked queue lane) a.entry a.asked));
       back = (let one = ap length a.reaped in let few = h.back in omega (arith, one, few));
     }
 
@@ -115,11 +103,11 @@ took_back queue lane k old new h t =
     record {
       queue_is = t.queue_is ∙ h.queue_is;
       ordinals = ap (map ordinal_of) t.published ∙ h.ordinals;
-      lanes = subst (λ (es : List Entry). All (IsOfLane lane) es) (sym t.published) h.lanes;
+      cargoes = subst (λ (es : List Entry). All (IsAsked queue lane) es) (sym t.published) h.cargoes;
       back = omega (arith, few, same, long);
     }
 
-pub asking_more : (queue : Queue) (lane count : ℕ) (old mid new : DriverLists) (asked : Bool) → IsAsking queue lane count old → MayAsk lane count old mid asked → TakesBack mid new → IsAsking queue lane count new
+pub asking_more : (queue : Queue) (lane count : ℕ) (old mid new : DriverLists) (asked : Bool) → IsAsking queue lane count old → MayAsk queue lane count old mid asked → TakesBack mid new → IsAsking queue lane count new
 asking_more queue lane count old mid new true h a t =
     let long = asked_length queue lane h.so_far old h.asked in
     record {
@@ -150,7 +138,16 @@ length_entries (a ∷ more) = let rest = length_entries more in omega (arith, re
 length_prefix : {X : Type 0} (xs ys : List X) (p : IsPrefix xs ys) → length xs ≤ length ys
 length_prefix xs ys p = (let long = length-append xs p.0 in let same = ap length p.1 in omega (arith, long, same))
 
-pub have_carried : (queue : Queue) (lane count : ℕ) (d : DriverLists) (v : DeviceLists) → HasAsked queue lane count d → length d.reaped ≡ count → HasAnswered v → IsPrefix v.fetched d.published → IsPrefix d.reaped v.completed → HaveCarried lane count d v
+-- with room for all of the ordinal's bytes the response is the request
+echoed : (queue : Queue) (lane : ℕ) (a : Answer) → IsAnswered a → IsAsked queue lane a.entry → IsEchoed a
+echoed queue lane a h k = h ∙ (ap (λ (room : ℕ). take (min (length (ordinal_bytes a.entry)) room) (ordinal_bytes a.entry)) k.room ∙ sym k.request)
+
+echoes : (queue : Queue) (lane : ℕ) (answers : List Answer) → All IsAnswered answers → All (IsAsked queue lane) (entries answers) → All IsEchoed answers
+echoes queue lane [] h k i d lt = absurd (omega arith)
+echoes queue lane (a ∷ more) h k zero d lt = echoed queue lane a (h 0 a (omega arith)) (k 0 a.entry (omega arith))
+echoes queue lane (a ∷ more) h k (suc i) d lt = echoes queue lane more (λ j e l. h (suc j) e (omega arith)) (λ j e l. k (suc j) e (omega arith)) i d (omega arith)
+
+pub have_carried : (queue : Queue) (lane count : ℕ) (d : DriverLists) (v : DeviceLists) → HasAsked queue lane count d → length d.reaped ≡ count → HasAnswered v → IsPrefix v.fetched d.published → IsPrefix d.reaped v.completed → HaveCarried queue lane count d v
 have_carried queue lane count d v h all a up back =
     let long = asked_length queue lane count d h in
     let few = length_prefix v.fetched d.published up in
@@ -164,6 +161,6 @@ have_carried queue lane count d v h all a up back =
       fetched = fetched;
       reaped = reaped;
       ordinals = ap (map ordinal_of) entries_are ∙ h.ordinals;
-      lanes = subst (λ (es : List Entry). All (IsOfLane lane) es) (sym entries_are) h.lanes;
-      answered = subst (λ (as' : List Answer). All IsAnswered as') (sym reaped) a.answered;
+      cargoes = subst (λ (es : List Entry). All (IsAsked queue lane) es) (sym entries_are) h.cargoes;
+      echoed = echoes queue lane d.reaped (subst (λ (as' : List Answer). All IsAnswered as') (sym reaped) a.answered) (subst (λ (es : List Entry). All (IsAsked queue lane) es) (sym entries_are) h.cargoes);
     }

@@ -12,14 +12,22 @@ use Rattle.vg_ring.specs.DeviceEnds.{DeviceLists}
 abbrev pub ordinal_of : Entry → ℕ
 ordinal_of e = e.ordinal
 
-abbrev pub IsOfLane : ℕ → Entry → Type 0
-IsOfLane lane e = e.lane ≡ lane
-
 -- The eight bytes of the entry's ordinal, the lowest first.
 abbrev pub ordinal_bytes : Entry → List ℕ
 ordinal_bytes e = to_le_bytes w64 e.ordinal
 
--- The response is as many of these bytes as there is room for.
+-- A cargo of the queue and the lane, whose request is its ordinal's bytes, with as much room.
+pub record IsAsked (queue : Queue) (lane : ℕ) (e : Entry) : Type 0 where
+  pub queue_is : e.queue ≡ queue
+  pub lane_is : e.lane ≡ lane
+  pub request : e.request ≡ ordinal_bytes e
+  pub room : e.room ≡ 8
+
+-- The response is the request.
+abbrev pub IsEchoed : Answer → Type 0
+IsEchoed a = a.response ≡ a.entry.request
+
+-- The response is as many of the ordinal's bytes as there is room for.
 abbrev pub IsAnswered : Answer → Type 0
 IsAnswered a = a.response ≡ take (min (length (ordinal_bytes a.entry)) a.entry.room) (ordinal_bytes a.entry)
 
@@ -27,22 +35,22 @@ IsAnswered a = a.response ≡ take (min (length (ordinal_bytes a.entry)) a.entry
 pub record HasAsked (queue : Queue) (lane count : ℕ) (lists : DriverLists) : Type 0 where
   pub queue_is : lists.queue ≡ queue
   pub ordinals : map ordinal_of lists.published ≡ upto count
-  pub lanes : All (IsOfLane lane) lists.published
+  pub cargoes : All (IsAsked queue lane) lists.published
   pub back : length lists.reaped ≤ count
 
 -- The lane's next cargo was published, or nothing was done.
-pub record Asks (lane count : ℕ) (old new : DriverLists) : Type 0 where
+pub record Asks (queue : Queue) (lane count : ℕ) (old new : DriverLists) : Type 0 where
   pub entry : Entry
   pub published : new.published ≡ old.published ++ entry ∷ []
-  pub lane_is : entry.lane ≡ lane
+  pub asked : IsAsked queue lane entry
   pub ordinal : entry.ordinal ≡ lane_count lane old.published + 1
   pub fewer : length old.published + 1 ≤ count
   pub reaped : new.reaped ≡ old.reaped
   pub queue_is : new.queue ≡ old.queue
 
-abbrev pub MayAsk : ℕ → ℕ → DriverLists → DriverLists → Bool → Type 0
-MayAsk lane count old new true = Asks lane count old new
-MayAsk lane count old new false = new ≡ old
+abbrev pub MayAsk : Queue → ℕ → ℕ → DriverLists → DriverLists → Bool → Type 0
+MayAsk queue lane count old new true = Asks queue lane count old new
+MayAsk queue lane count old new false = new ≡ old
 
 -- One cargo came back, or none did.
 pub record TakesBack (old new : DriverLists) : Type 0 where
@@ -67,13 +75,14 @@ MayAnswer old new true = Answers old new
 MayAnswer old new false = (new.fetched ≡ old.fetched) × (new.completed ≡ old.completed)
 
 -- So many cargoes of a lane went across a ring and back: all that was published was fetched, in order, and all that was
--- completed came back, in order; those that came back have the ordinals from 1 on, one by one, each with its ordinal's bytes.
-pub record HaveCarried (lane count : ℕ) (driver : DriverLists) (device : DeviceLists) : Type 0 where
+-- completed came back, in order; those that came back have the ordinals from 1 on, one by one, each with its request as its
+-- response.
+pub record HaveCarried (queue : Queue) (lane count : ℕ) (driver : DriverLists) (device : DeviceLists) : Type 0 where
   pub fetched : device.fetched ≡ driver.published
   pub reaped : driver.reaped ≡ device.completed
   pub ordinals : map ordinal_of (entries driver.reaped) ≡ upto count
-  pub lanes : All (IsOfLane lane) (entries driver.reaped)
-  pub answered : All IsAnswered driver.reaped
+  pub cargoes : All (IsAsked queue lane) (entries driver.reaped)
+  pub echoed : All IsEchoed driver.reaped
 
 -- Two cargoes were fetched, and completed in the other order.
 pub record Turns (old new : DeviceLists) : Type 0 where

@@ -15,7 +15,7 @@ use vg_chain::Shape;
 use vg_ring::{DriverEnd, Naming, Parcel, Reaped, Tag};
 use vg_wire::Queue;
 
-/// The room of each cargo, which is that of its ordinal's bytes.
+/// How many bytes there are of an ordinal, and how much room for them.
 const ROOM: u32 = 8;
 
 /// The shapes of cargoes, one after another.
@@ -58,7 +58,7 @@ pub(crate) fn ask_next<N: Naming>(
 ) -> Result<bool, AllocError>
     requires queue { driver.old.queue ≡ order.queue }
     requires lane { IsLane order.queue order.lane }
-    ensures asked { IfOk result (λ asked. MayAsk order.lane order.count driver.old driver.new asked) }
+    ensures asked { IfOk result (λ asked. MayAsk order.queue order.lane order.count driver.old driver.new asked) }
     ensures queue { driver.new.queue ≡ driver.old.queue }
 {
     let asked = driver.published();

@@ -25,7 +25,7 @@ pub fn carry<N: Naming + Send, R: Threads + Wait + Sync>(
 ) -> Result<(DriverEnd<Ticket, N>, DeviceEnd<Ticket, N>, u64), AllocError>
     requires ring { (made.table ≡ N.ring) × (made.queue ≡ order.queue) }
     requires lane { IsLane order.queue order.lane }
-    ensures { IfOk result (λ r. HaveCarried order.lane order.count r.0 r.1) }
+    ensures { IfOk result (λ r. HaveCarried order.queue order.lane order.count r.0 r.1) }
 {
     let (driver, device) = made.named::<N>();
     let stop = AtomicBool::new(false);

@@ -41,5 +41,5 @@ returns g c =
     let o = c.args.order in
     let got = subst (λ r. IfOk r (λ x. HasAsked o.queue o.lane o.count x.0 × (length x.0.reaped ≡ o.count))) c.in_ok-driver.was c.both-asked.ensures.0 in
     let same = c.ends_agree.ensures in
-    subst (λ (x : DriverLists × DeviceLists). HaveCarried o.lane o.count x.0 x.1) (λ i. (sym same.driver i, sym same.device i))
+    subst (λ (x : DriverLists × DeviceLists). HaveCarried o.queue o.lane o.count x.0 x.1) (λ i. (sym same.driver i, sym same.device i))
     (have_carried o.queue o.lane o.count _ _ got.0 got.1 c.both-asked.ensures.1 same.fetched same.reaped)
