@@ -1,5 +1,5 @@
 -- What goes across a ring and back between two threads.
-use Rattle.std.specs.Prelude.{◌≡◌, ℕ, ◌+◌, ◌≤◌, Bool, true, false, All, List, [], ◌∷◌, ◌++◌, length, map, min, take}
+use Rattle.std.specs.Prelude.{◌≡◌, ℕ, ◌+◌, ◌%◌, ◌≤◌, Bool, true, false, All, List, [], ◌∷◌, ◌++◌, length, map, min, take}
 use Rattle.std.specs.Int.{to_le_bytes, w64}
 use Rattle.vg_wire.specs.declared.request.Queue.{Queue}
 use Rattle.vg_history.specs.Lists.{upto}
@@ -63,6 +63,10 @@ pub record HasAnswered (lists : DeviceLists) : Type 0 where
   pub in_order : entries lists.completed ≡ lists.fetched
   pub answered : All IsAnswered lists.completed
 
+-- The available index that was loaded last is the count of what was fetched.
+abbrev pub HasSeenAll : DeviceLists → Type 0
+HasSeenAll lists = lists.seen ≡ length lists.fetched % 65536
+
 -- One cargo was fetched and completed, or none was there.
 pub record Answers (old new : DeviceLists) : Type 0 where
   pub answer : Answer
@@ -72,7 +76,7 @@ pub record Answers (old new : DeviceLists) : Type 0 where
 
 abbrev pub MayAnswer : DeviceLists → DeviceLists → Bool → Type 0
 MayAnswer old new true = Answers old new
-MayAnswer old new false = (new.fetched ≡ old.fetched) × (new.completed ≡ old.completed)
+MayAnswer old new false = (new.fetched ≡ old.fetched) × (new.completed ≡ old.completed) × HasSeenAll new
 
 -- So many cargoes of a lane went across a ring and back: all that was published was fetched, in order, and all that was
 -- completed came back, in order; those that came back have the ordinals from 1 on, one by one, each with its request as its

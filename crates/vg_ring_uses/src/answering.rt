@@ -1,7 +1,7 @@
 //! The device's thread: it fetches cargoes and gives them back.
 
 ghost use Rattle.std.specs.Prelude.{◌≡◌, []};
-ghost use Rattle.vg_ring_uses.specs.Carried.{HasAnswered, MayAnswer};
+ghost use Rattle.vg_ring_uses.specs.Carried.{HasAnswered, HasSeenAll, MayAnswer};
 
 use crate::asking::pause;
 use crate::crew::Job;
@@ -38,7 +38,8 @@ pub fn answer<N: Naming, R: Wait>(
     stop: &AtomicBool,
 ) -> DeviceEnd<Ticket, N>
     requires { (device.fetched ≡ []) × (device.completed ≡ []) }
-    ensures { HasAnswered result }
+    ensures answered { HasAnswered result }
+    ensures seen { HasSeenAll result }
 {
     let mut device = device;
     let backoff = Backoff::new();

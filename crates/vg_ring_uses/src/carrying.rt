@@ -1,6 +1,6 @@
 //! Cargoes across a ring and back, between two threads.
 
-ghost use Rattle.std.specs.Prelude.{◌≡◌, ◌%◌, IfOk, IfSome, length};
+ghost use Rattle.std.specs.Prelude.{◌≡◌, ◌%◌, ◌+◌, IfOk, MatchOption, length};
 ghost use Rattle.vg_ring.specs.Cargo.{IsLane};
 ghost use Rattle.vg_ring_uses.specs.Carried.{HaveCarried};
 
@@ -45,9 +45,9 @@ pub fn carry<N: Naming + Send, R: Threads + Wait + Sync>(
     Ok((driver, device, right))
 }
 
-/// The available index, as the device's end loads it where nothing more was published.
+/// The available index, as the device's end loads it where nothing more was published. Else it fetches one.
 pub fn index_seen<N: Naming>(device: &mut DeviceEnd<Ticket, N>) -> Option<u64>
-    ensures { IfSome result (λ index. (device.new.seen ≡ index) × (index ≡ length device.old.fetched % 65536)) }
+    ensures { MatchOption result (length device.new.fetched ≡ length device.old.fetched + 1) (λ index. (device.new.seen ≡ index) × (index ≡ length device.old.fetched % 65536)) }
 {
     let fetched = device.fetched();
     match device.fetch() {

@@ -1,7 +1,7 @@
 //! Completions in another order than fetches.
 
 ghost use Rattle.std.specs.Prelude.{◌≡◌, true, false, length};
-ghost use Rattle.vg_ring_uses.specs.Carried.{Turns};
+ghost use Rattle.vg_ring_uses.specs.Carried.{HasSeenAll, Turns};
 
 use crate::ticket::Ticket;
 use std::marker::Model;
@@ -24,7 +24,8 @@ fn settle(cargo: &mut Cargo<Ticket>) -> u32
 
 /// Fetches two cargoes, and completes the second one first. False where there aren't two.
 pub fn answer_turned<N: Naming>(device: &mut DeviceEnd<Ticket, N>) -> bool
-    ensures { result ≡ true → Turns device.old device.new }
+    ensures turned { result ≡ true → Turns device.old device.new }
+    ensures missing { result ≡ false → (device.new.completed ≡ device.old.completed) × HasSeenAll device.new }
 {
     let Some(first) = device.fetch() else {
         return false;

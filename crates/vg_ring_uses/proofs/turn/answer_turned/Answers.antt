@@ -16,8 +16,8 @@ complete-requires-2-clause-entry g c =
     let is = c.complete.ensures f'.entry (fetched_at (λ t. t.wanted) c.fetch.new.self c.fetch-2.new.self second.head second.cargo f') in
     (f.entry, first_left (λ t. t.wanted) c.args.device.now c.fetch.new.self c.fetch-2.new.self c.complete.new.self first.head second.head c.settle-len.result first.cargo second.cargo c.settle-len.new.cargo f f' is, settled_of f.entry first.cargo c.settle-len-2.new.cargo c.settle-len-2.ensures.parcel (f.fresh.entry, f.fresh.head_is))
 
-pub returns : goal.returns
-returns g c =
+pub returns-clause-turned : goal.returns-clause-turned
+returns-clause-turned g c =
     let f = c.in-Some.ensures in
     let f' = c.in-Some-fetch.ensures in
     let first = c.in-Some.first in
