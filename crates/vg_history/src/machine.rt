@@ -97,7 +97,7 @@ pub trait Machine: Drop {
 }
 
 /// What travels on a lane under an ordinal, on its way out or on its way back.
-pub trait Tagged {
+pub trait Tagged: Drop {
     ghost tagged: { Self → ℕ × ℕ };
 
     ghost is_wanted: { Self → Bool };

@@ -27,6 +27,7 @@ use Rattle.vg_ring.specs.Tells.{IsTaken, IsIn, TellsWord}
 use Rattle.vg_ring.proofs.Frames.{word_else, stored_high, stand_high, stored_low, stand_low, stand_snoc, stand_append, stand_front, offers_high, returns_apart, returns_snoc, offers_kept, returns_kept}
 use Rattle.vg_ring.proofs.Counts.{heads_uses, length_spread, weigh-append, have-append, of-back, weigh-ones, in_order-front, head_in_places, heads_less, heads_length, length-entries, entries-append, have-front}
 use Rattle.vg_ring.proofs.Slots.{wait_kept, lie_kept, lie_snoc}
+use Rattle.vg_history.proofs.ListLemmas.{prefix_self, prefix_more}
 use Rattle.vg_ring.proofs.Seats.{at_device, seated_device}
 
 module _ {P : Type 0} (wanted : P → Bool) (queue : Queue) (n : ℕ) where
@@ -67,7 +68,7 @@ module _ {P : Type 0} (wanted : P → Bool) (queue : Queue) (n : ℕ) where
         device_knows = knows;
         matched = r.matched;
         lent_once = r.lent_once;
-        seated = seated_device wanted queue n s.views d v (record v { looks = looks; seen = seen; stage = stage }) refl r.seated;
+        seated = seated_device wanted queue n s.views d v (record v { looks = looks; seen = seen; stage = stage }) refl (prefix_self v.completed) r.seated;
       })
 
   newer : (ws : List ℕ) (d : DriverView) (v : DeviceView) (coming : List Entry) (found : ℕ) → d.published ≡ v.fetched ++ coming → found ≡ length d.published % 65536
@@ -137,7 +138,7 @@ module _ {P : Type 0} (wanted : P → Bool) (queue : Queue) (n : ℕ) where
         device_knows = mine;
         matched = λ f. (let old = r.matched f in let more = weigh-append f v.fetched (e ∷ []) in omega (arith, old, more));
         lent_once = r.lent_once;
-        seated = seated_device wanted queue n s.views d (set_stage v device.Newer) (fetched_after v e) refl r.seated;
+        seated = seated_device wanted queue n s.views d (set_stage v device.Newer) (fetched_after v e) refl (prefix_self v.completed) r.seated;
       } in
       let back : IsRing wanted queue n (record { words = set s.words i (get_or s.words i 0); homes = set s.homes h none; views = set s.views 1 (Device (fetched_after v e)) }) d (fetched_after v e) coming going =
       subst (λ (ws : List ℕ). IsRing wanted queue n (record { words = ws; homes = set s.homes h none; views = set s.views 1 (Device (fetched_after v e)) }) d (fetched_after v e) coming going) (sym (set-get_or s.words i 0)) next in
@@ -226,7 +227,7 @@ module _ {P : Type 0} (wanted : P → Bool) (queue : Queue) (n : ℕ) where
         device_knows = tt;
         matched = r.matched;
         lent_once = r.lent_once;
-        seated = seated_device wanted queue n s.views w.driver (set_stage v (device.Taken e)) (set_stage v device.Resting) refl r.seated;
+        seated = seated_device wanted queue n s.views w.driver (set_stage v (device.Taken e)) (set_stage v device.Resting) refl (prefix_self v.completed) r.seated;
       } in
       let back = subst (λ (ws : List ℕ). IsRing wanted queue n (record { words = ws; homes = set s.homes h (some None); views = set s.views 1 (Device (set_stage v device.Resting)) }) w.driver (set_stage v device.Resting) w.coming w.going) (sym (set-get_or s.words i 0)) next in
       (Device (set_stage v device.Resting), gives, tt, rw w.id_is (inr (w.driver, set_stage v device.Resting, w.coming, w.going, back)), refl)
@@ -243,6 +244,7 @@ module _ {P : Type 0} (wanted : P → Bool) (queue : Queue) (n : ℕ) where
       let same : uses first.place outs ≡ uses h outs = ap (λ (k : ℕ). uses k outs) hand in
       omega (arith, once, one, same)
   driver_apart ws published outs going driver.Newer h out knows hand = hand
+  driver_apart ws published outs going (driver.Noted fetched) h out knows hand = hand
   driver_apart ws published outs going (driver.Taken a) h out knows hand = (let same : uses (head_of a.entry) outs ≡ uses h outs = ap (λ (k : ℕ). uses k outs) hand in omega (arith, knows, same))
 
   driver_high : (ws : List ℕ) (i x : ℕ) (published outs : List Entry) (going : List Answer) (stage : DriverStage) → 0 < n → 2 + 3 * n ≤ i
@@ -255,6 +257,7 @@ module _ {P : Type 0} (wanted : P → Bool) (queue : Queue) (n : ℕ) where
       let small = mod-lt (length published) large in
       (knows.0, stored_high ws n i x stored (omega arith) knows.0.below knows.1, knows.2, word_else ws i (available_place n (length published % n)) x (λ same. omega (arith, small)) ∙ knows.3)
   driver_high ws i x published outs going driver.Newer large high knows = knows
+  driver_high ws i x published outs going (driver.Noted fetched) large high knows = knows
   driver_high ws i x published outs going (driver.Taken a) large high knows = knows
 
   -- The used element is stored, and the empty slot of the head is taken.
@@ -314,7 +317,7 @@ module _ {P : Type 0} (wanted : P → Bool) (queue : Queue) (n : ℕ) where
         device_knows = (mine, get_or-set_same s.words i x 0 (let all = r.words in omega (arith, all, small)));
         matched = r.matched;
         lent_once = r.lent_once;
-        seated = seated_device wanted queue n s.views w.driver (set_stage v device.Resting) (set_stage v (device.Answering e len)) refl r.seated;
+        seated = seated_device wanted queue n s.views w.driver (set_stage v device.Resting) (set_stage v (device.Answering e len)) refl (prefix_self v.completed) r.seated;
       } in
       (Device (set_stage v (device.Answering e len)), takes h None, empty, rw w.id_is (inr (w.driver, set_stage v (device.Answering e len), w.coming, w.going, next)), refl)
 
@@ -327,6 +330,7 @@ module _ {P : Type 0} (wanted : P → Bool) (queue : Queue) (n : ℕ) where
   driver_low ws i x published outs going a (driver.Offered stored) low knows = (knows.0, stored_low ws i x stored low knows.1, knows.2, word_else ws i (available_place n (length published % n)) x (λ same. omega arith) ∙ knows.3)
   driver_low ws i x published outs going a driver.Newer low knows = (let long = length-append going (a ∷ []) in omega (arith, long))
   driver_low ws i x published outs going a (driver.Taken b) low knows = knows
+  driver_low ws i x published outs going a (driver.Noted fetched) low knows = knows
 
   -- The used index, and the slot goes home with the cargo.
   pub returns_cargo : (slots id : ℕ) (v : DeviceView) (xs ys : List Entry) (a : Answer) (cargo : CargoData P) → v.held ≡ xs ++ a.entry ∷ ys → IsDone wanted a cargo
@@ -389,7 +393,7 @@ module _ {P : Type 0} (wanted : P → Bool) (queue : Queue) (n : ℕ) where
         device_knows = tt;
         matched = λ f. (let old = r.matched f in let one = cut f in let all : weigh f (entries (v.completed ++ a ∷ [])) ≡ weigh f (entries v.completed ++ e ∷ []) = ap (weigh f) (entries-append v.completed (a ∷ [])) in let two = weigh-append f (entries v.completed) (e ∷ []) in omega (arith, old, one, all, two));
         lent_once = r.lent_once;
-        seated = seated_device wanted queue n s.views w.driver (set_stage v (device.Answering e a.len)) v' refl r.seated;
+        seated = seated_device wanted queue n s.views w.driver (set_stage v (device.Answering e a.len)) v' refl (prefix_more v.completed v.completed (a ∷ []) (prefix_self v.completed)) r.seated;
       } in
       (Device v', gives, tt, rw w.id_is (inr (w.driver, v', w.coming, w.going ++ a ∷ [], next)), refl)
 

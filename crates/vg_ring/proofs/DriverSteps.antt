@@ -28,6 +28,7 @@ use Rattle.vg_ring.specs.Tells.{IsReaped}
 use Rattle.vg_ring.proofs.Frames.{word_else, stored_kept, stored_high, stand_kept, stand_high, stored_low, stand_low, stand_snoc, offers_kept, offers_apart, offers_snoc, returns_kept, IsWordOf}
 use Rattle.vg_ring.proofs.Counts.{times-append, places-snoc, stored-snoc, heads_uses, length_spread, weigh-append, weigh-ones, weigh_away, weigh_without, length-entries, head_in_places, have-append, of-append, in_order-snoc}
 use Rattle.vg_ring.proofs.Slots.{heads_here, wait_kept, wait_snoc, lie_kept}
+use Rattle.vg_history.proofs.ListLemmas.{prefix_self, prefix_more}
 use Rattle.vg_ring.proofs.Seats.{at_driver, seated_driver}
 
 module _ {P : Type 0} (wanted : P → Bool) (queue : Queue) (n : ℕ) where
@@ -40,6 +41,7 @@ module _ {P : Type 0} (wanted : P → Bool) (queue : Queue) (n : ℕ) where
   device_kept ws i x coming completed held lent (device.Answering e len) low knows = (knows.0, word_else ws i (used_place n (length completed % n)) x (λ same. omega arith) ∙ knows.1)
   device_kept ws i x coming completed held lent (device.Naming e) low knows = knows
   device_kept ws i x coming completed held lent (device.Returned e old) low knows = knows
+  device_kept ws i x coming completed held lent (device.Noted reaped) low knows = knows
 
   -- one entry more comes
   came : (ws : List ℕ) (coming : List Entry) (e : Entry) (completed : List Answer) (held lent : List Entry) (stage : DeviceStage)
@@ -50,6 +52,7 @@ module _ {P : Type 0} (wanted : P → Bool) (queue : Queue) (n : ℕ) where
   came ws coming e completed held lent (device.Answering f len) knows = knows
   came ws coming e completed held lent (device.Naming f) knows = knows
   came ws coming e completed held lent (device.Returned f old) knows = knows
+  came ws coming e completed held lent (device.Noted reaped) knows = knows
 
   -- a word of a place that no entry has is stored, and the driver's stage changes from one that holds no slot to another
   stores : (s : State (Option (CargoData P)) View) (d : DriverView) (stage : DriverStage) (v : DeviceView) (coming : List Entry) (going : List Answer) (p i x : ℕ)
@@ -91,7 +94,7 @@ module _ {P : Type 0} (wanted : P → Bool) (queue : Queue) (n : ℕ) where
         device_knows = device_kept s.words i x coming v.completed v.held v.lent v.stage (omega arith) ring.device_knows;
         matched = ring.matched;
         lent_once = ring.lent_once;
-        seated = seated_driver wanted queue n s.views d (staged d stage) v ring.seated;
+        seated = seated_driver wanted queue n s.views d (staged d stage) v (prefix_self d.published) ring.seated;
       }
 
   -- The address of one more descriptor of a publication.
@@ -164,6 +167,7 @@ module _ {P : Type 0} (wanted : P → Bool) (queue : Queue) (n : ℕ) where
   device_apart ws coming completed held lent (device.Answering e len) h free knows hand = (let same : heads (head_of e) held ≡ heads h held = ap (λ (k : ℕ). heads k held) hand in omega (arith, knows.0))
   device_apart ws coming completed held lent (device.Naming e) h free knows hand = hand
   device_apart ws coming completed held lent (device.Returned e old) h free knows hand = hand
+  device_apart ws coming completed held lent (device.Noted reaped) h free knows hand = hand
 
   -- The available element, and the empty slot of the head is taken.
   pub offers_element : (slots id : ℕ) (d : DriverView) (first : Stored) (stored : List Stored) → spread d.outs + length (first ∷ stored) ≤ n
@@ -218,7 +222,7 @@ module _ {P : Type 0} (wanted : P → Bool) (queue : Queue) (n : ℕ) where
         device_knows = device_kept s.words i h w.coming w.device.completed w.device.held w.device.lent w.device.stage (omega arith) r.device_knows;
         matched = r.matched;
         lent_once = r.lent_once;
-        seated = seated_driver wanted queue n s.views (staged d (driver.Writing (first ∷ stored))) (staged d (driver.Offered (first ∷ stored))) w.device r.seated;
+        seated = seated_driver wanted queue n s.views (staged d (driver.Writing (first ∷ stored))) (staged d (driver.Offered (first ∷ stored))) w.device (prefix_self d.published) r.seated;
       } in
       (Driver (staged d (driver.Offered (first ∷ stored))), takes h None, empty, rw w.id_is (inr (staged d (driver.Offered (first ∷ stored)), w.device, w.coming, w.going, next)), refl)
 
@@ -284,12 +288,12 @@ module _ {P : Type 0} (wanted : P → Bool) (queue : Queue) (n : ℕ) where
         device_knows = came (set s.words 0 x) w.coming e w.device.completed w.device.held w.device.lent w.device.stage (device_kept s.words 0 x w.coming w.device.completed w.device.held w.device.lent w.device.stage (omega arith) r.device_knows);
         matched = r.matched;
         lent_once = r.lent_once;
-        seated = seated_driver wanted queue n s.views (staged d (driver.Offered (first ∷ stored))) (published_after d e) w.device r.seated;
+        seated = seated_driver wanted queue n s.views (staged d (driver.Offered (first ∷ stored))) (published_after d e) w.device (prefix_more d.published d.published (e ∷ []) (prefix_self d.published)) r.seated;
       } in
       (Driver (published_after d e), gives, tt, rw w.id_is (inr (published_after d e, w.device, w.coming ++ e ∷ [], w.going, next)), refl)
 
   -- the driver's end comes to another stage, with the same lists
-  moves : (s : State (Option (CargoData P)) View) (d : DriverView) (v : DeviceView) (looks seen : ℕ) (stage : DriverStage) (coming : List Entry) (going : List Answer) (i : ℕ)
+  pub moves : (s : State (Option (CargoData P)) View) (d : DriverView) (v : DeviceView) (looks seen : ℕ) (stage : DriverStage) (coming : List Entry) (going : List Answer) (i : ℕ)
       → IsRing wanted queue n s d v coming going → ((h : ℕ) → driver_hand wanted queue n d.stage h → driver_hand wanted queue n stage h)
       → DriverKnows wanted queue n s.words d.published d.outs going stage
       → IsRing wanted queue n (record { words = set s.words i (get_or s.words i 0); homes = s.homes; views = set s.views 0 (Driver (record d { looks = looks; seen = seen; stage = stage })) }) (record d { looks = looks; seen = seen; stage = stage }) v coming going
@@ -325,7 +329,7 @@ module _ {P : Type 0} (wanted : P → Bool) (queue : Queue) (n : ℕ) where
         device_knows = r.device_knows;
         matched = r.matched;
         lent_once = r.lent_once;
-        seated = seated_driver wanted queue n s.views d (record d { looks = looks; seen = seen; stage = stage }) v r.seated;
+        seated = seated_driver wanted queue n s.views d (record d { looks = looks; seen = seen; stage = stage }) v (prefix_self d.published) r.seated;
       })
 
   newer : (ws : List ℕ) (d : DriverView) (v : DeviceView) (going : List Answer) (found : ℕ) → v.completed ≡ d.reaped ++ going → found ≡ length v.completed % 65536
@@ -406,7 +410,7 @@ module _ {P : Type 0} (wanted : P → Bool) (queue : Queue) (n : ℕ) where
         device_knows = r.device_knows;
         matched = r.matched;
         lent_once = r.lent_once;
-        seated = seated_driver wanted queue n s.views (staged d driver.Newer) d' v r.seated;
+        seated = seated_driver wanted queue n s.views (staged d driver.Newer) d' v (prefix_self d.published) r.seated;
       } in
       let back = subst (λ (ws : List ℕ). IsRing wanted queue n (record { words = ws; homes = set s.homes h none; views = set s.views 0 (Driver d') }) d' v coming going) (sym (set-get_or s.words i 0)) next in
       let fewer : length d.reaped < length d.published =
@@ -485,7 +489,7 @@ module _ {P : Type 0} (wanted : P → Bool) (queue : Queue) (n : ℕ) where
         device_knows = r.device_knows;
         matched = r.matched;
         lent_once = r.lent_once;
-        seated = seated_driver wanted queue n s.views (staged d (driver.Taken a)) (staged d driver.Resting) w.device r.seated;
+        seated = seated_driver wanted queue n s.views (staged d (driver.Taken a)) (staged d driver.Resting) w.device (prefix_self d.published) r.seated;
       } in
       let back = subst (λ (ws : List ℕ). IsRing wanted queue n (record { words = ws; homes = set s.homes h (some None); views = set s.views 0 (Driver (staged d driver.Resting)) }) (staged d driver.Resting) w.device w.coming w.going) (sym (set-get_or s.words i 0)) next in
       (Driver (staged d driver.Resting), gives, tt, rw w.id_is (inr (staged d driver.Resting, w.device, w.coming, w.going, back)), refl)

@@ -7,6 +7,7 @@ pub mod Seats
 pub mod DriverSteps
 pub mod DeviceSteps
 pub mod RightSteps
+pub mod NoteSteps
 pub mod Told
 pub mod PlaceLemmas
 pub mod LayLemmas

@@ -7,12 +7,13 @@ use Rattle.std.proofs.lemmas.Bool.{cases_eq, eq-eqb, ne_eqb}
 use Rattle.atomic_table.specs.Table.{State, Allows, Splits, Joins, opening}
 use Rattle.atomic_table.specs.Table.Act.{keeps}
 use Rattle.vg_ring.specs.declared.views.Entry.{Entry}
+use Rattle.vg_ring.specs.declared.views.Answer.{Answer}
 use Rattle.vg_ring.specs.declared.views.DeviceStage.{DeviceStage}
 use Rattle.vg_ring.specs.declared.views.DeviceStage.TheVariants as device
 use Rattle.vg_ring.specs.declared.views.DriverView.{DriverView}
 use Rattle.vg_ring.specs.declared.views.DeviceView.{DeviceView}
 use Rattle.vg_ring.specs.declared.views.View.{View}
-use Rattle.vg_ring.specs.declared.views.View.TheVariants.{Start, Driver, Device, Right, Spent}
+use Rattle.vg_ring.specs.declared.views.View.TheVariants.{Start, Driver, Device, Right, Note, Spent}
 use Rattle.vg_ring.specs.Cargo.{CargoData}
 use Rattle.vg_wire.specs.declared.request.Queue.{Queue}
 use Rattle.vg_ring.specs.Entries.{head_of, head_in, heads, without, Has}
@@ -38,7 +39,7 @@ pub heads_without : (k h : ℕ) (es : List Entry) → heads k (without h es) ≤
 heads_without k h [] = omega arith
 heads_without k h (f ∷ es) = heads_choice k f es (without h es) (eqb (head_of f) h) (heads_without k h es)
 
-snoc_cases : (xs : List View) (a : View) (i : ℕ) (w : View) → get_elem? (xs ++ a ∷ []) i ≡ some w → (get_elem? xs i ≡ some w) ⊎ ((i ≡ length xs) × (a ≡ w))
+pub snoc_cases : (xs : List View) (a : View) (i : ℕ) (w : View) → get_elem? (xs ++ a ∷ []) i ≡ some w → (get_elem? xs i ≡ some w) ⊎ ((i ≡ length xs) × (a ≡ w))
 snoc_cases [] a zero w at = inr (refl, some-injective a w at)
 snoc_cases [] a (suc i) w at = absurd (some-ne-none w (sym at))
 snoc_cases (x ∷ xs) a zero w at = inl at
@@ -73,12 +74,13 @@ module _ {P : Type 0} (wanted : P → Bool) (queue : Queue) (n : ℕ) where
   right_at views d v (suc zero) e seated at = (let both : some (Device v) ≡ some (Right e) = sym seated.device_at ∙ at in absurd (cc))
   right_at views d v (suc (suc i)) e seated at = (omega arith, seated.guests (suc (suc i)) (Right e) (omega arith) at)
 
-  guest_more : (e : Entry) (lent : List Entry) (w : View) → IsGuest wanted queue n lent w → IsGuest wanted queue n (e ∷ lent) w
-  guest_more e lent (Start q) guest = guest
-  guest_more e lent (Driver d) guest = guest
-  guest_more e lent (Device v) guest = guest
-  guest_more e lent (Right f) guest = inr guest
-  guest_more e lent Spent guest = guest
+  guest_more : (published : List Entry) (completed : List Answer) (e : Entry) (lent : List Entry) (w : View) → IsGuest wanted queue n published completed lent w → IsGuest wanted queue n published completed (e ∷ lent) w
+  guest_more published completed e lent (Start q) guest = guest
+  guest_more published completed e lent (Driver d) guest = guest
+  guest_more published completed e lent (Device v) guest = guest
+  guest_more published completed e lent (Right f) guest = inr guest
+  guest_more published completed e lent (Note fetched reaped) guest = guest
+  guest_more published completed e lent Spent guest = guest
 
   moved : (views : List View) (x : DeviceView) (i : ℕ) (e : Entry) → get_elem? (set views 1 (Device x)) i ≡ some (Right e) → get_elem? views i ≡ some (Right e)
   moved views x i e at = elim (at_set views 1 i (Device x) (Right e) at) [ inl w ↦ absurd (cc) | inr w ↦ w.1 ]
@@ -91,8 +93,8 @@ module _ {P : Type 0} (wanted : P → Bool) (queue : Queue) (n : ℕ) where
         driver_at = at_longer front (Right e ∷ []) 0 (Driver d) (set_else views 1 0 (Device (lent_after v e)) (λ same. omega arith) ∙ seated.driver_at);
         device_at = at_longer front (Right e ∷ []) 1 (Device (lent_after v e)) (set_here views 1 (Device (lent_after v e)) (within views 1 (Device (set_stage v stage)) seated.device_at));
         guests = λ i w late at. elim (snoc_cases front (Right e) i w at) [
-          | inl old ↦ guest_more e v.lent w (seated.guests i w late (sym (set_else views 1 i (Device (lent_after v e)) (λ same. omega arith)) ∙ old))
-          | inr new ↦ subst (λ (z : View). IsGuest wanted queue n (e ∷ v.lent) z) new.1 (inl refl)
+          | inl old ↦ guest_more d.published v.completed e v.lent w (seated.guests i w late (sym (set_else views 1 i (Device (lent_after v e)) (λ same. omega arith)) ∙ old))
+          | inr new ↦ subst (λ (z : View). IsGuest wanted queue n d.published v.completed (e ∷ v.lent) z) new.1 (inl refl)
         ];
         apart = λ i j f g at at' same. elim (snoc_cases front (Right e) i (Right f) at) [
           | inl old ↦ elim (snoc_cases front (Right e) j (Right g) at') [
@@ -236,7 +238,7 @@ module _ {P : Type 0} (wanted : P → Bool) (queue : Queue) (n : ℕ) where
         driver_at = set_else front other 0 Spent (λ same. omega arith) ∙ set_else views 1 0 (Device (returned_after v e)) (λ same. omega arith) ∙ seated.driver_at;
         device_at = set_else front other 1 Spent (λ same. omega arith) ∙ set_here views 1 (Device (returned_after v e)) (within views 1 (Device (set_stage v device.Resting)) seated.device_at);
         guests = λ i w past at. elim (at_set front other i Spent w at) [
-          | inl same ↦ subst (λ (z : View). IsGuest wanted queue n (without (head_of e) v.lent) z) same.1 tt
+          | inl same ↦ subst (λ (z : View). IsGuest wanted queue n d.published v.completed (without (head_of e) v.lent) z) same.1 tt
           | inr else_there ↦ guest_less i w past else_there.0 (sym (set_else views 1 i (Device (returned_after v e)) (λ same. omega arith)) ∙ else_there.1)
         ];
         apart = λ i j f g at at' same. seated.apart i j f g (still i f at) (still j g at') same;
@@ -245,11 +247,12 @@ module _ {P : Type 0} (wanted : P → Bool) (queue : Queue) (n : ℕ) where
       still : (i : ℕ) (f : Entry) → get_elem? (set (set views 1 (Device (returned_after v e))) other Spent) i ≡ some (Right f) → get_elem? views i ≡ some (Right f)
       still i f at = elim (at_set (set views 1 (Device (returned_after v e))) other i Spent (Right f) at) [ inl same ↦ absurd (cc) | inr else_there ↦ moved views (returned_after v e) i f else_there.1 ]
 
-      guest_less : (i : ℕ) (w : View) → 1 < i → i ≢ other → get_elem? views i ≡ some w → IsGuest wanted queue n (without (head_of e) v.lent) w
+      guest_less : (i : ℕ) (w : View) → 1 < i → i ≢ other → get_elem? views i ≡ some w → IsGuest wanted queue n d.published v.completed (without (head_of e) v.lent) w
       guest_less i (Start q) past apart at = seated.guests i (Start q) past at
       guest_less i (Driver x) past apart at = seated.guests i (Driver x) past at
       guest_less i (Device x) past apart at = seated.guests i (Device x) past at
       guest_less i (Right f) past apart at = has_without f (head_of e) v.lent (λ same. apart (seated.apart i other f e at at_other same)) (seated.guests i (Right f) past at)
+      guest_less i (Note fetched reaped) past apart at = seated.guests i (Note fetched reaped) past at
       guest_less i Spent past apart at = tt
 
   -- A right is taken in.

@@ -1,4 +1,5 @@
 use Rattle.std.proofs.Common.{◌≡◌, ℕ, zero, suc, ◌<◌, Bool, Option, List, [], ◌∷◌, length, set, refl, sym, subst, inl, inr, ◌∙◌, arith}
+use mathlib.Core.List.{IsPrefix}
 use mathlib.Core.Option.{some, some-injective, some-ne-none}
 use lib.ListN.{get_elem?}
 use Rattle.atomic_table.specs.Table.{State}
@@ -8,9 +9,10 @@ use Rattle.vg_ring.specs.declared.views.Answer.{Answer}
 use Rattle.vg_ring.specs.declared.views.DriverView.{DriverView}
 use Rattle.vg_ring.specs.declared.views.DeviceView.{DeviceView}
 use Rattle.vg_ring.specs.declared.views.View.{View}
-use Rattle.vg_ring.specs.declared.views.View.TheVariants.{Start, Driver, Device, Right}
+use Rattle.vg_ring.specs.declared.views.View.TheVariants.{Start, Driver, Device, Right, Note, Spent}
 use Rattle.vg_ring.specs.Cargo.{CargoData}
 use Rattle.vg_wire.specs.declared.request.Queue.{Queue}
+use Rattle.vg_history.proofs.ListLemmas.{prefix_self, prefix_trans}
 use Rattle.vg_ring.specs.Rule.{IsGuest, AreSeated, IsRing, Ring}
 
 -- some seat is there
@@ -44,12 +46,21 @@ module _ {P : Type 0} (wanted : P → Bool) (queue : Queue) (n : ℕ) where
   at_driver s (suc zero) d (inr r) at = (let both : some (Device r.1) ≡ some (Driver d) = sym r.4.seated.device_at ∙ at in absurd (cc))
   at_driver s (suc (suc i)) d (inr r) at = absurd (r.4.seated.guests (suc (suc i)) (Driver d) (omega arith) at)
 
-  -- the driver's seat has another view
-  pub seated_driver : (views : List View) (d d' : DriverView) (v : DeviceView) → AreSeated wanted queue n views d v → AreSeated wanted queue n (set views 0 (Driver d')) d' v
-  seated_driver views d d' v seated = record {
+  -- more was published and completed
+  guest_grown : (published more : List Entry) (completed done : List Answer) (lent : List Entry) (w : View) → IsPrefix published more → IsPrefix completed done → IsGuest wanted queue n published completed lent w → IsGuest wanted queue n more done lent w
+  guest_grown published more completed done lent (Start q) up back guest = guest
+  guest_grown published more completed done lent (Driver d) up back guest = guest
+  guest_grown published more completed done lent (Device v) up back guest = guest
+  guest_grown published more completed done lent (Right e) up back guest = guest
+  guest_grown published more completed done lent (Note fetched reaped) up back guest = (prefix_trans fetched published more guest.0 up, prefix_trans reaped completed done guest.1 back)
+  guest_grown published more completed done lent Spent up back guest = guest
+
+  -- the driver's seat has another view, and no fewer were published
+  pub seated_driver : (views : List View) (d d' : DriverView) (v : DeviceView) → IsPrefix d.published d'.published → AreSeated wanted queue n views d v → AreSeated wanted queue n (set views 0 (Driver d')) d' v
+  seated_driver views d d' v up seated = record {
     driver_at = set_here views 0 (Driver d') (within views 0 (Driver d) seated.driver_at);
     device_at = set_else views 0 1 (Driver d') (λ e. omega arith) ∙ seated.device_at;
-    guests = λ i w late at. seated.guests i w late (sym (set_else views 0 i (Driver d') (λ e. omega arith)) ∙ at);
+    guests = λ i w late at. guest_grown d.published d'.published v.completed v.completed v.lent w up (prefix_self v.completed) (seated.guests i w late (sym (set_else views 0 i (Driver d') (λ e. omega arith)) ∙ at));
     apart = λ i j e f at at' same. seated.apart i j e f (moved i e at) (moved j f at') same;
   }
     where
@@ -73,12 +84,12 @@ module _ {P : Type 0} (wanted : P → Bool) (queue : Queue) (n : ℕ) where
       record { id_is = refl; driver = r.0; coming = r.2; going = r.3; ring = subst (λ (z : DeviceView). IsRing wanted queue n s r.0 z r.2 r.3) same r.4 }
   at_device s (suc (suc i)) v (inr r) at = absurd (r.4.seated.guests (suc (suc i)) (Device v) (omega arith) at)
 
-  -- the device's seat has another view, with the same rights outside
-  pub seated_device : (views : List View) (d : DriverView) (v v' : DeviceView) → v'.lent ≡ v.lent → AreSeated wanted queue n views d v → AreSeated wanted queue n (set views 1 (Device v')) d v'
-  seated_device views d v v' lent seated = record {
+  -- the device's seat has another view, with the same rights outside, and no fewer were completed
+  pub seated_device : (views : List View) (d : DriverView) (v v' : DeviceView) → v'.lent ≡ v.lent → IsPrefix v.completed v'.completed → AreSeated wanted queue n views d v → AreSeated wanted queue n (set views 1 (Device v')) d v'
+  seated_device views d v v' lent back seated = record {
     driver_at = set_else views 1 0 (Device v') (λ e. omega arith) ∙ seated.driver_at;
     device_at = set_here views 1 (Device v') (within views 1 (Device v) seated.device_at);
-    guests = λ i w late at. subst (λ (es : List Entry). IsGuest wanted queue n es w) (sym lent) (seated.guests i w late (sym (set_else views 1 i (Device v') (λ e. omega arith)) ∙ at));
+    guests = λ i w late at. subst (λ (es : List Entry). IsGuest wanted queue n d.published v'.completed es w) (sym lent) (guest_grown d.published d.published v.completed v'.completed v.lent w (prefix_self d.published) back (seated.guests i w late (sym (set_else views 1 i (Device v') (λ e. omega arith)) ∙ at)));
     apart = λ i j e f at at' same. seated.apart i j e f (moved i e at) (moved j f at') same;
   }
     where

@@ -16,7 +16,7 @@ use Rattle.atomic_table.specs.contracts.owned.Table as table
 use Rattle.atomic_table.specs.declared.shared.TableRule as TableRule
 use Rattle.atomic_table.proofs.Rights.{right_send}
 use Rattle.atomic_table.proofs.Sent.{seat_keyless, owns_keyless, shares_keyless}
-use Rattle.vg_ring.specs.declared.tagged.Tagged as Tagged
+use Rattle.vg_history.specs.declared.machine.Tagged as Tagged
 use Rattle.vg_ring.specs.declared.naming.Naming as Naming
 use Rattle.vg_ring.specs.contracts.law.Law as law
 use Rattle.vg_ring.specs.contracts.law.Size as size

@@ -1,4 +1,5 @@
 use Rattle.std.specs.Prelude.{◌≡◌, ℕ, suc, ◌+◌, ◌*◌, ◌%◌, ◌^◌, ◌<◌, ◌≤◌, ◌⊎◌, Bool, Option, Some, None, List, [], ◌∷◌, ◌++◌, length, map, slice_index, replicate, ◌==◌, if◌then◌else◌}
+use mathlib.Core.List.{IsPrefix}
 use mathlib.Core.Option.{some, none}
 use lib.ListN.{get_elem?}
 use Rattle.atomic_table.specs.Table.{State}
@@ -12,7 +13,7 @@ use Rattle.vg_ring.specs.declared.views.DeviceStage.TheVariants as device
 use Rattle.vg_ring.specs.declared.views.DriverView.{DriverView}
 use Rattle.vg_ring.specs.declared.views.DeviceView.{DeviceView}
 use Rattle.vg_ring.specs.declared.views.View.{View}
-use Rattle.vg_ring.specs.declared.views.View.TheVariants.{Start, Driver, Device, Right, Spent}
+use Rattle.vg_ring.specs.declared.views.View.TheVariants.{Start, Driver, Device, Right, Note, Spent}
 use Rattle.vg_ring.specs.Cargo.{CargoData}
 use Rattle.vg_wire.specs.declared.request.Queue.{Queue}
 use Rattle.vg_ring.specs.Words.{addr_place, rest_place, available_place, used_place, used_word}
@@ -78,6 +79,7 @@ module _ {P : Type 0} (wanted : P → Bool) (queue : Queue) (n : ℕ) where
   driver_hand (driver.Offered (d ∷ more)) h = d.place ≡ h
   driver_hand driver.Newer h = ⊥
   driver_hand (driver.Taken a) h = head_of a.entry ≡ h
+  driver_hand (driver.Noted fetched) h = ⊥
 
   abbrev pub device_hand : DeviceStage → ℕ → Type 0
   device_hand device.Resting h = ⊥
@@ -86,6 +88,7 @@ module _ {P : Type 0} (wanted : P → Bool) (queue : Queue) (n : ℕ) where
   device_hand (device.Answering e len) h = head_of e ≡ h
   device_hand (device.Naming e) h = ⊥
   device_hand (device.Returned e old) h = ⊥
+  device_hand (device.Noted reaped) h = ⊥
 
   -- Every slot that has no waiting or lying cargo, and that no end has taken, is at home and empty.
   abbrev pub Vacant : Homes → DriverStage → DeviceStage → List Entry → List Answer → Type 0
@@ -106,6 +109,7 @@ module _ {P : Type 0} (wanted : P → Bool) (queue : Queue) (n : ℕ) where
       AreFree stored outs × StandStored words stored × (0 < length stored) × (word_at words (available_place n (length published % n)) ≡ slice_index (places_of stored) 0)
   DriverKnows words published outs going driver.Newer = 0 < length going
   DriverKnows words published outs going (driver.Taken a) = uses (head_of a.entry) outs ≡ 0
+  DriverKnows words published outs going (driver.Noted fetched) = IsPrefix fetched published
 
   abbrev pub DeviceKnows : List ℕ → List Entry → List Answer → List Entry → List Entry → DeviceStage → Type 0
   DeviceKnows words coming completed held lent device.Resting = Unit {0}
@@ -114,19 +118,21 @@ module _ {P : Type 0} (wanted : P → Bool) (queue : Queue) (n : ℕ) where
   DeviceKnows words coming completed held lent (device.Answering e len) = (heads (head_of e) held ≡ 1) × (word_at words (used_place n (length completed % n)) ≡ used_word (head_of e) len)
   DeviceKnows words coming completed held lent (device.Naming e) = (heads (head_of e) held ≡ 1) × (heads (head_of e) lent ≡ 0)
   DeviceKnows words coming completed held lent (device.Returned e old) = Has e old
+  DeviceKnows words coming completed held lent (device.Noted reaped) = IsPrefix reaped completed
 
   -- What the seats from the third on know.
-  abbrev pub IsGuest : List Entry → View → Type 0
-  IsGuest lent (Start q) = ⊥
-  IsGuest lent (Driver d) = ⊥
-  IsGuest lent (Device v) = ⊥
-  IsGuest lent (Right e) = Has e lent
-  IsGuest lent Spent = Unit {0}
+  abbrev pub IsGuest : List Entry → List Answer → List Entry → View → Type 0
+  IsGuest published completed lent (Start q) = ⊥
+  IsGuest published completed lent (Driver d) = ⊥
+  IsGuest published completed lent (Device v) = ⊥
+  IsGuest published completed lent (Right e) = Has e lent
+  IsGuest published completed lent (Note fetched reaped) = IsPrefix fetched published × IsPrefix reaped completed
+  IsGuest published completed lent Spent = Unit {0}
 
   pub record AreSeated (views : List View) (d : DriverView) (v : DeviceView) : Type 0 where
     pub driver_at : get_elem? views 0 ≡ some (Driver d)
     pub device_at : get_elem? views 1 ≡ some (Device v)
-    pub guests : (i : ℕ) (w : View) → 1 < i → get_elem? views i ≡ some w → IsGuest v.lent w
+    pub guests : (i : ℕ) (w : View) → 1 < i → get_elem? views i ≡ some w → IsGuest d.published v.completed v.lent w
     pub apart : (i j : ℕ) (e f : Entry) → get_elem? views i ≡ some (Right e) → get_elem? views j ≡ some (Right f) → head_of e ≡ head_of f → i ≡ j
 
   -- The ring between two steps: what comes to the device, and what goes back to the driver.

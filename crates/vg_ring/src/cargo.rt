@@ -5,10 +5,10 @@ ghost use Rattle.vg_ring.specs.Cargo.{IsLane, IsExtent, base_of};
 ghost use Rattle.vg_chain.specs.Made.{AreTables};
 
 use crate::parcel::{Parcel, Tag};
-use crate::tagged::Tagged;
 use std::marker::Model;
 use std::mem;
 use vg_chain::{Extent, Parts};
+use vg_history::Tagged;
 
 /// A parcel and its pass, which has the parcel's tag.
 #[derive(Drop)]
@@ -25,13 +25,13 @@ impl<P: Tagged> Model for Cargo<P> {
 
     ghost view = { λ c. record { parcel = c.parcel; pass = c.pass } };
 
-    ghost invariant = { λ c. P.tag_of c.pass ≡ (c.parcel.lane, c.parcel.ordinal) };
+    ghost invariant = { λ c. P.tagged c.pass ≡ (c.parcel.lane, c.parcel.ordinal) };
 }
 
 impl Parcel {
     /// The parcel with its pass.
     pub fn load<P: Tagged>(self, pass: P) -> Cargo<P>
-        requires { P.tag_of pass ≡ (self.lane, self.ordinal) }
+        requires { P.tagged pass ≡ (self.lane, self.ordinal) }
         ensures { result ≡ record { parcel = self; pass = pass } }
     {
         Cargo { parcel: self, pass }
@@ -42,7 +42,7 @@ impl<P: Tagged> Cargo<P> {
     /// The lane and the ordinal.
     pub fn tag(&self) -> Tag
         ensures tag { (result.lane ≡ self.now.parcel.lane) × (result.ordinal ≡ self.now.parcel.ordinal) }
-        ensures pass { P.tag_of self.now.pass ≡ (result.lane, result.ordinal) }
+        ensures pass { P.tagged self.now.pass ≡ (result.lane, result.ordinal) }
         ensures lane { IsLane self.now.parcel.queue result.lane }
     {
         self.parcel.tag()
@@ -85,7 +85,7 @@ impl<P: Tagged> Cargo<P> {
 
     /// Puts another pass of the same tag in, and gives the one that was there.
     pub fn swap_pass(&mut self, pass: P) -> P
-        requires { P.tag_of pass ≡ (self.old.parcel.lane, self.old.parcel.ordinal) }
+        requires { P.tagged pass ≡ (self.old.parcel.lane, self.old.parcel.ordinal) }
         ensures old { result ≡ self.old.pass }
         ensures new { self.new ≡ record self.old { pass = pass } }
     {

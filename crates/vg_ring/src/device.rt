@@ -1,8 +1,9 @@
 //! The device's steps.
 
 ghost use Rattle.std.specs.Prelude.{◌≡◌, ◌+◌, ◌*◌, ◌^◌, ◌<◌, [], length};
-ghost use Rattle.vg_ring.specs.declared.views.View.TheVariants.{Device, Right};
-ghost use Rattle.vg_ring.specs.Plays.{device_of, resting_device, newer_device, right_of};
+ghost use mathlib.Core.List.{IsPrefix};
+ghost use Rattle.vg_ring.specs.declared.views.View.TheVariants.{Device, Right, Note};
+ghost use Rattle.vg_ring.specs.Plays.{device_of, resting_device, newer_device, right_of, fetched_of, reaped_of};
 ghost use Rattle.vg_ring.specs.Entries.{Has, heads, held_at, answer_with, without, IsDone};
 ghost use Rattle.vg_ring.specs.Rule.{set_stage, looked_by_device, completed_after, lent_after, returned_after};
 ghost use Rattle.vg_ring.specs.declared.views.DeviceStage.TheVariants.{Resting};
@@ -11,11 +12,11 @@ ghost use Rattle.vg_ring.specs.Tells.{HasTaken, TellsWord};
 use crate::cargo::Cargo;
 use crate::law::{Line, Pass};
 use crate::plays::{
-    Answers, Completes, CutsRight, Fetches, LooksAtAvailable, Names, Reads, Settles, TakesRight,
-    TellsLent,
+    Answers, Completes, CutsRight, DeviceTakesNote, Fetches, LooksAtAvailable, Names, NotesFetched,
+    Reads, Settles, TakesRight, TellsLent, TellsReaped,
 };
-use crate::tagged::Tagged;
 use crate::words::{available_word, used_element_word, used_word};
+use vg_history::Tagged;
 
 /// Loads the available index.
 pub(crate) fn look_at_available<P: Tagged>(line: &Line<P>, pass: &mut Pass<P>) -> u64
@@ -114,4 +115,26 @@ pub(crate) fn read_word<P: Tagged>(line: &Line<P>, pass: &mut Pass<P>, word: usi
     ensures word { TellsWord line.now.shared.key.count word result (device_of pass.old.me.0).held }
 {
     line.shared.load::<Reads>(pass, word)
+}
+
+/// A note of what was fetched.
+pub(crate) fn note_fetched<P: Tagged>(line: &Line<P>, pass: &mut Pass<P>) -> Pass<P>
+    requires line { (pass.old.table_id ≡ line.now.shared.table_id) × (line.now.shared.table_id.words ≡ 2 + 4 * line.now.shared.key.count) }
+    requires view { pass.old.me ≡ (resting_device pass.old.me.0, []) }
+    ensures line { (pass.new.table_id ≡ pass.old.table_id) × (pass.new.id ≡ pass.old.id) × (pass.new.me ≡ pass.old.me) }
+    ensures note { (result.table_id ≡ pass.old.table_id) × (result.me ≡ (Note (device_of pass.old.me.0).fetched [], [])) }
+{
+    line.shared.split_seat::<NotesFetched>(pass)
+}
+
+/// Takes a note in: what it says that came back was completed.
+pub(crate) fn take_reaped<P: Tagged>(line: &Line<P>, pass: &mut Pass<P>, note: Pass<P>)
+    requires line { (pass.old.table_id ≡ line.now.shared.table_id) × (note.table_id ≡ line.now.shared.table_id) × (line.now.shared.table_id.words ≡ 2 + 4 * line.now.shared.key.count) }
+    requires view { pass.old.me ≡ (resting_device pass.old.me.0, []) }
+    requires note { note.me ≡ (Note (fetched_of note.me.0) (reaped_of note.me.0), []) }
+    ensures line { (pass.new.table_id ≡ pass.old.table_id) × (pass.new.id ≡ pass.old.id) × (pass.new.me ≡ pass.old.me) }
+    ensures reaped { IsPrefix (reaped_of note.me.0) (device_of pass.old.me.0).completed }
+{
+    line.shared.join_seat::<DeviceTakesNote>(pass, note);
+    line.shared.load::<TellsReaped>(pass, 0);
 }

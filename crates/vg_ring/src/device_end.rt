@@ -1,10 +1,12 @@
 //! The device's end of a ring (VIRTIO 1.2, 2.7.6 and 2.7.8).
 
-ghost use Rattle.std.specs.Prelude.{◌≡◌, ◌+◌, ◌<◌, true, false, [], ◌∷◌, length, MatchOption, IfOk, OnOk, OnErr};
+ghost use Rattle.std.specs.Prelude.{◌≡◌, ℕ, ◌+◌, ◌<◌, true, false, [], ◌∷◌, length, MatchOption, IfOk, OnOk, OnErr};
+ghost use mathlib.Core.List.{IsPrefix};
 ghost use Rattle.vg_ring.specs.declared.views.Entry.{Entry};
-ghost use Rattle.vg_ring.specs.Entries.{head_of, heads, Has};
+ghost use Rattle.vg_ring.specs.Entries.{head_of, heads, weigh, entries, Has};
 ghost use Rattle.vg_wire.specs.declared.request.Queue.{Queue};
-ghost use Rattle.vg_ring.specs.declared.views.View.TheVariants.{Device};
+ghost use Rattle.vg_ring.specs.declared.views.View.TheVariants.{Device, Note};
+ghost use Rattle.vg_ring.specs.Plays.{fetched_of, reaped_of};
 ghost use Rattle.vg_ring.specs.Rule.{new_device};
 ghost use Rattle.vg_ring.specs.Ends.{IsOnLine};
 ghost use Rattle.vg_ring.specs.Making.{IsNewDevice};
@@ -12,17 +14,19 @@ ghost use Rattle.vg_ring.specs.DeviceEnds.{HasAt, IsCargoOf, Fetches, FetchesNon
 ghost use Rattle.vg_ring.specs.Cargo.{base_of};
 
 use crate::cargo::Cargo;
-use crate::device::{cut_right, give_back, join_right, look_at_available, take_entry};
+use crate::device::{
+    cut_right, give_back, join_right, look_at_available, note_fetched, take_entry, take_reaped,
+};
 use crate::law::{Line, Pass};
 use crate::naming::Naming;
 use crate::parcel::Tag;
 use crate::right::Right;
 use crate::table::read_table;
-use crate::tagged::Tagged;
 use std::alloc::{AllocError, Global};
 use std::marker::{Model, PhantomData};
 use std::sync::Arc;
 use vg_chain::{Chain, ChainFault, a_layout_is_walked, a_walk_has_one_result, walk};
+use vg_history::Tagged;
 
 /// A cargo that was fetched, and the place of its head descriptor.
 #[derive(Drop)]
@@ -148,6 +152,26 @@ impl<P: Tagged, N: Naming> DeviceEnd<P, N> {
             cargo,
         );
         self.completed += 1;
+    }
+
+    /// A note of what was fetched.
+    pub(crate) fn note(&mut self) -> Pass<P>
+        ensures table { result.table_id ≡ N.ring }
+        ensures note { result.me ≡ (Note self.old.fetched [], []) }
+        ensures matched { (f : Entry → ℕ) → weigh f self.old.fetched ≡ weigh f (entries self.old.completed) + weigh f self.old.held }
+        ensures same { self.new ≡ self.old }
+    {
+        note_fetched(&self.line, &mut self.pass)
+    }
+
+    /// Takes in a note of what came back.
+    pub(crate) fn take_note(&mut self, note: Pass<P>)
+        requires table { note.table_id ≡ N.ring }
+        requires note { note.me ≡ (Note (fetched_of note.me.0) (reaped_of note.me.0), []) }
+        ensures reaped { IsPrefix (reaped_of note.me.0) self.old.completed }
+        ensures same { self.new ≡ self.old }
+    {
+        take_reaped(&self.line, &mut self.pass, note);
     }
 
     pub(crate) fn of(

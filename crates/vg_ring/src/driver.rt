@@ -1,8 +1,9 @@
 //! The driver's steps.
 
 ghost use Rattle.std.specs.Prelude.{◌≡◌, ◌+◌, ◌*◌, ◌%◌, ◌<◌, [], ◌∷◌, ◌++◌, length, ℕ, ◌≤◌, slice_index};
-ghost use Rattle.vg_ring.specs.declared.views.View.TheVariants.{Driver};
-ghost use Rattle.vg_ring.specs.Plays.{driver_of, laying, writing, written_by, laid, resting_driver, newer_driver};
+ghost use mathlib.Core.List.{IsPrefix};
+ghost use Rattle.vg_ring.specs.declared.views.View.TheVariants.{Driver, Note};
+ghost use Rattle.vg_ring.specs.Plays.{driver_of, laying, writing, written_by, laid, resting_driver, newer_driver, fetched_of, reaped_of};
 ghost use Rattle.vg_ring.specs.Entries.{times, uses, stored_at, published_as, AreBack};
 ghost use Rattle.vg_ring.specs.Rule.{staged, places_of, published_after, looked_by_driver};
 ghost use Rattle.vg_chain.specs.Made.{made, IsCount, IsMeasured, IsNeeded};
@@ -11,10 +12,13 @@ ghost use Rattle.vg_ring.specs.Words as layout;
 
 use crate::cargo::Cargo;
 use crate::law::{Line, Pass};
-use crate::plays::{LooksAtUsed, Offers, Publishes, Reaps, Settles, StoresAddress, StoresRest};
-use crate::tagged::Tagged;
+use crate::plays::{
+    DriverTakesNote, LooksAtUsed, NotesReaped, Offers, Publishes, Reaps, Settles, StoresAddress,
+    StoresRest, TellsFetched,
+};
 use crate::words::{available_word, rest_word, used_element_word, used_of};
 use vg_chain::{Descriptor, Extent, Shape};
+use vg_history::Tagged;
 
 /// Stores a descriptor at a place.
 pub(crate) fn store_descriptor<P: Tagged>(
@@ -128,4 +132,26 @@ pub(crate) fn take_answer<P: Tagged>(
     line.shared.load::<Settles>(pass, 0);
     let cargo = slot.unwrap();
     (head, len, cargo)
+}
+
+/// A note of what came back.
+pub(crate) fn note_reaped<P: Tagged>(line: &Line<P>, pass: &mut Pass<P>) -> Pass<P>
+    requires line { (pass.old.table_id ≡ line.now.shared.table_id) × (line.now.shared.table_id.words ≡ 2 + 4 * line.now.shared.key.count) }
+    requires view { pass.old.me ≡ (resting_driver pass.old.me.0, []) }
+    ensures line { (pass.new.table_id ≡ pass.old.table_id) × (pass.new.id ≡ pass.old.id) × (pass.new.me ≡ pass.old.me) }
+    ensures note { (result.table_id ≡ pass.old.table_id) × (result.me ≡ (Note [] (driver_of pass.old.me.0).reaped, [])) }
+{
+    line.shared.split_seat::<NotesReaped>(pass)
+}
+
+/// Takes a note in: what it says that was fetched was published.
+pub(crate) fn take_fetched<P: Tagged>(line: &Line<P>, pass: &mut Pass<P>, note: Pass<P>)
+    requires line { (pass.old.table_id ≡ line.now.shared.table_id) × (note.table_id ≡ line.now.shared.table_id) × (line.now.shared.table_id.words ≡ 2 + 4 * line.now.shared.key.count) }
+    requires view { pass.old.me ≡ (resting_driver pass.old.me.0, []) }
+    requires note { note.me ≡ (Note (fetched_of note.me.0) (reaped_of note.me.0), []) }
+    ensures line { (pass.new.table_id ≡ pass.old.table_id) × (pass.new.id ≡ pass.old.id) × (pass.new.me ≡ pass.old.me) }
+    ensures fetched { IsPrefix (fetched_of note.me.0) (driver_of pass.old.me.0).published }
+{
+    line.shared.join_seat::<DriverTakesNote>(pass, note);
+    line.shared.load::<TellsFetched>(pass, 0);
 }

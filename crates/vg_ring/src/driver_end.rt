@@ -1,23 +1,25 @@
 //! The driver's end of a ring (VIRTIO 1.2, 2.7.13 and 2.7.14).
 
 ghost use Rattle.std.specs.Prelude.{◌≡◌, ℕ, ◌+◌, ◌-◌, ◌^◌, ◌<◌, nat_le, true, [], length, MatchOption};
+ghost use mathlib.Core.List.{IsPrefix};
 ghost use Rattle.vg_chain.specs.Made.{IsCount, IsNeeded};
 ghost use Rattle.vg_ring.specs.Entries.{uses, spread, entries, lane_count};
-ghost use Rattle.vg_ring.specs.declared.views.View.TheVariants.{Driver};
+ghost use Rattle.vg_ring.specs.declared.views.View.TheVariants.{Driver, Note};
+ghost use Rattle.vg_ring.specs.Plays.{fetched_of, reaped_of};
 ghost use Rattle.vg_ring.specs.Rule.{new_driver};
 ghost use Rattle.vg_ring.specs.Making.{IsNewDriver};
 ghost use Rattle.vg_ring.specs.Ends.{HasRoom, Publishes, Reaps, ReapsNone, IsOnLine, IsKept};
 
 use crate::cargo::Cargo;
-use crate::driver::{look_at_used, take_answer};
+use crate::driver::{look_at_used, note_reaped, take_answer, take_fetched};
 use crate::law::{Line, Pass};
 use crate::naming::Naming;
 use crate::places::Places;
 use crate::sending::send;
-use crate::tagged::Tagged;
 use std::marker::{Model, PhantomData};
 use std::sync::Arc;
 use vg_chain::Shape;
+use vg_history::Tagged;
 use vg_wire::Queue;
 
 /// A cargo that came back, from the chain whose head is there, with the number of bytes that were written.
@@ -138,6 +140,25 @@ impl<P: Tagged, N: Naming> DriverEnd<P, N> {
         self.places.give(head);
         self.reaped += 1;
         Some(Reaped { head, len, cargo })
+    }
+
+    /// A note of what came back.
+    pub(crate) fn note(&mut self) -> Pass<P>
+        ensures table { result.table_id ≡ N.ring }
+        ensures note { result.me ≡ (Note [] self.old.reaped, []) }
+        ensures same { self.new ≡ self.old }
+    {
+        note_reaped(&self.line, &mut self.pass)
+    }
+
+    /// Takes in a note of what was fetched.
+    pub(crate) fn take_note(&mut self, note: Pass<P>)
+        requires table { note.table_id ≡ N.ring }
+        requires note { note.me ≡ (Note (fetched_of note.me.0) (reaped_of note.me.0), []) }
+        ensures fetched { IsPrefix (fetched_of note.me.0) self.old.published }
+        ensures same { self.new ≡ self.old }
+    {
+        take_fetched(&self.line, &mut self.pass, note);
     }
 
     pub(crate) fn of(

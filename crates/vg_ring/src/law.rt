@@ -4,10 +4,10 @@ ghost use Rattle.vg_ring.specs.declared.views.View.TheVariants.{Start};
 ghost use Rattle.vg_ring.specs.Rule.{Ring};
 
 use crate::cargo::Cargo;
-use crate::tagged::Tagged;
 use crate::views::View;
 use atomic_table::{Seat, Table, TableRule};
 use std::alloc::Global;
+use vg_history::Tagged;
 use vg_wire::Queue;
 
 /// What a table is told once: which queue it is, and how many descriptors that has.

@@ -1,6 +1,7 @@
 //! The two ends of a split virtqueue that threads share (VIRTIO 1.2, 2.7).
 #![tactic(auto)]
 
+mod agree;
 mod cargo;
 mod device;
 mod device_end;
@@ -16,11 +17,11 @@ mod right;
 mod ring;
 mod sending;
 mod table;
-mod tagged;
 mod threads;
 mod views;
 mod words;
 
+pub use agree::ends_agree;
 pub use cargo::Cargo;
 pub use device_end::{DeviceEnd, Fetched};
 pub use driver_end::{DriverEnd, Reaped};
@@ -28,7 +29,6 @@ pub use naming::Naming;
 pub use parcel::{Parcel, Tag};
 pub use right::Right;
 pub use ring::{Made, Ring};
-pub use tagged::Tagged;
 pub use threads::ends_may_be_sent;
 pub use views::{Answer, DeviceStage, DeviceView, DriverStage, DriverView, Entry, Stored, View};
 pub use words::words_are_bytes;

@@ -6,9 +6,9 @@ ghost use Rattle.vg_ring.specs.Rule.{new_driver, new_device};
 
 use crate::law::{Line, Pass, Size};
 use crate::plays::CutsEnds;
-use crate::tagged::Tagged;
 use atomic_table::Table;
 use std::alloc::{AllocError, Global};
+use vg_history::Tagged;
 use vg_wire::Queue;
 
 /// As many words, all of them 0.

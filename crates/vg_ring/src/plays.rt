@@ -1,16 +1,17 @@
 //! What the steps of a ring's table tell, and how its seats are cut in two and joined.
 
 ghost use Rattle.std.specs.Prelude.{◌≡◌, ◌%◌, ◌^◌, None, [], ◌∷◌};
-ghost use Rattle.vg_ring.specs.declared.views.View.TheVariants.{Driver, Device, Right, Spent};
+ghost use mathlib.Core.List.{IsPrefix};
+ghost use Rattle.vg_ring.specs.declared.views.View.TheVariants.{Driver, Device, Right, Note, Spent};
 ghost use Rattle.vg_ring.specs.Entries.{Has};
 ghost use Rattle.vg_ring.specs.Rule.{new_driver, new_device, looked_by_driver, looked_by_device, lent_after, returned_after};
-ghost use Rattle.vg_ring.specs.Plays.{driver_of, device_of, queue_of, place_at, with_half, with_rest, offered, sent_with, rested, answering, answered_with, naming, named_by, lent_by, right_of};
+ghost use Rattle.vg_ring.specs.Plays.{driver_of, device_of, queue_of, place_at, with_half, with_rest, offered, sent_with, rested, answering, answered_with, naming, named_by, lent_by, right_of, noted_by_driver, noted_by_device, fetched_noted, reaped_noted};
 ghost use Rattle.vg_ring.specs.Tells.{IsReaped, IsTaken, TellsWord};
 
 use crate::cargo::Cargo;
-use crate::tagged::Tagged;
 use crate::views::View;
 use atomic_table::{Join, Play, Split};
+use vg_history::Tagged;
 
 pub(crate) enum StoresAddress {}
 
@@ -130,4 +131,52 @@ impl Join<View> for TakesRight {
     ghost both = { λ view right. Device (returned_after (device_of view) (right_of right)) };
 
     ghost spent = { Spent };
+}
+
+/// The device's end writes a note of what it has fetched.
+pub(crate) enum NotesFetched {}
+
+impl Split<View> for NotesFetched {
+    ghost left = { λ view. view };
+
+    ghost right = { λ view. Note (device_of view).fetched [] };
+}
+
+/// The driver's end writes a note of what came back.
+pub(crate) enum NotesReaped {}
+
+impl Split<View> for NotesReaped {
+    ghost left = { λ view. view };
+
+    ghost right = { λ view. Note [] (driver_of view).reaped };
+}
+
+pub(crate) enum DriverTakesNote {}
+
+impl Join<View> for DriverTakesNote {
+    ghost both = { noted_by_driver };
+
+    ghost spent = { Spent };
+}
+
+pub(crate) enum DeviceTakesNote {}
+
+impl Join<View> for DeviceTakesNote {
+    ghost both = { noted_by_device };
+
+    ghost spent = { Spent };
+}
+
+/// A load, which tells that what the note says that was fetched was published.
+pub(crate) enum TellsFetched {}
+
+impl<P: Tagged> Play<Option<Cargo<P>>, View> for TellsFetched {
+    ghost then = { λ st me found after. (after ≡ (rested me.0, [])) × IsPrefix (fetched_noted (driver_of me.0).stage) (driver_of me.0).published };
+}
+
+/// A load, which tells that what the note says that came back was completed.
+pub(crate) enum TellsReaped {}
+
+impl<P: Tagged> Play<Option<Cargo<P>>, View> for TellsReaped {
+    ghost then = { λ st me found after. (after ≡ (rested me.0, [])) × IsPrefix (reaped_noted (device_of me.0).stage) (device_of me.0).completed };
 }

@@ -9,10 +9,10 @@ use crate::cargo::Cargo;
 use crate::law::Pass;
 use crate::naming::Naming;
 use crate::parcel::Tag;
-use crate::tagged::Tagged;
 use crate::views::View;
 use atomic_table::Badge;
 use std::marker::{Model, PhantomData};
+use vg_history::Tagged;
 
 /// A right to the cargo of a head: while it is outside, the head isn't completed.
 #[derive(Drop)]

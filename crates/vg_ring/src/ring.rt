@@ -10,10 +10,10 @@ use crate::made::make_line;
 use crate::naming::Naming;
 use crate::parcel::Tag;
 use crate::places::Places;
-use crate::tagged::Tagged;
 use std::alloc::{AllocError, Global};
 use std::marker::Model;
 use std::sync::Arc;
+use vg_history::Tagged;
 use vg_wire::Queue;
 
 /// Makes rings.

@@ -10,8 +10,8 @@ ghost use Rattle.vg_ring.specs.Rule.{published_after};
 use crate::cargo::Cargo;
 use crate::driver::{lay, offer};
 use crate::law::{Line, Pass};
-use crate::tagged::Tagged;
 use vg_chain::Shape;
+use vg_history::Tagged;
 
 /// Publishes a cargo whose descriptors go to these places, the head first. So many were published before.
 pub(crate) fn send<P: Tagged>(

@@ -6,10 +6,10 @@ ghost use Rattle.vg_ring.specs.Tells.{TellsDescriptor, TellsTable};
 
 use crate::device::read_word;
 use crate::law::{Line, Pass};
-use crate::tagged::Tagged;
 use crate::words::descriptor_of;
 use std::alloc::{AllocError, Global};
 use vg_chain::Descriptor;
+use vg_history::Tagged;
 
 /// The descriptor at a place.
 fn read_descriptor<P: Tagged>(

@@ -4,12 +4,13 @@ ghost use Rattle.std.specs.Prelude.{◌≡◌, ◌≤◌};
 ghost use Rattle.vg_chain.specs.Made.{IsCount};
 ghost use Rattle.vg_wire.specs.declared.request.Queue.TheVariants.{Control};
 
-use super::{DeviceEnd, DriverEnd, Fetched, Made, Naming, Parcel, Ring, Tag, Tagged};
+use super::{DeviceEnd, DriverEnd, Fetched, Made, Naming, Parcel, Ring, Tag};
 use crate::words::{descriptor_of, rest_word, used_of, used_word};
 use std::alloc::{AllocError, Global};
 use std::marker::Brand;
 use std::test::Fail;
 use vg_chain::{ChainFault, Descriptor, Shape};
+use vg_history::Tagged;
 use vg_wire::Queue;
 
 /// A pass for tests, which says its tag itself.
@@ -21,7 +22,7 @@ struct Ticket {
 }
 
 impl Tagged for Ticket {
-    ghost tag_of = { λ t. (t.lane, t.ordinal) };
+    ghost tagged = { λ t. (t.lane, t.ordinal) };
 
     ghost is_wanted = { λ t. t.wanted };
 

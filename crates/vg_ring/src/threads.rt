@@ -5,7 +5,7 @@ use crate::device_end::DeviceEnd;
 use crate::driver_end::DriverEnd;
 use crate::naming::Naming;
 use crate::right::Right;
-use crate::tagged::Tagged;
+use vg_history::Tagged;
 
 /// Does nothing: it can be called where T may go to another thread.
 fn may_be_sent<T: Send>() {}

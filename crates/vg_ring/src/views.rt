@@ -53,6 +53,10 @@ pub enum DriverStage {
     Taken {
         answer: Answer,
     },
+    /// A note was taken in: the device's end has fetched these.
+    Noted {
+        fetched: LinkedList<Entry>,
+    },
 }
 
 /// What the driver's end knows.
@@ -91,6 +95,10 @@ pub enum DeviceStage {
     Naming {
         entry: Entry,
     },
+    /// A note was taken in: the driver's end has these back.
+    Noted {
+        reaped: LinkedList<Answer>,
+    },
 }
 
 /// What the device's end knows.
@@ -117,6 +125,11 @@ pub enum View {
     Device(DeviceView),
     /// A right to this entry.
     Right(Entry),
-    /// A right that was taken in.
+    /// What an end has, for the other one: these were published, and these were completed.
+    Note {
+        fetched: LinkedList<Entry>,
+        reaped: LinkedList<Answer>,
+    },
+    /// A right or a note that was taken in.
     Spent,
 }

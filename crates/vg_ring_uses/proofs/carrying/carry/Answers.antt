@@ -1,0 +1,45 @@
+use denote.Param.{param}
+use denote.Param.Send.{IsSend, sendable, param_send}
+use Rattle.std.proofs.Common.{◌≡◌, length, sym, subst}
+use Rattle.std.specs.Prelude.{IfOk}
+use Rattle.std.proofs.Crossing.{crosses}
+use Rattle.vg_ring.specs.Ends.{DriverLists}
+use Rattle.vg_ring.specs.DeviceEnds.{DeviceLists}
+use Rattle.vg_ring.proofs.Sent.{driver_send, device_send}
+use Rattle.vg_ring_uses.specs.Carried.{HasAsked, HaveCarried}
+use Rattle.vg_ring_uses.proofs.AskLemmas.{have_carried}
+use Rattle.vg_ring_uses.proofs.carrying.carry.Lts as lts
+use Rattle.vg_ring_uses.proofs.carrying.carry.Given.{Over}
+use Rattle.vg_ring_uses.proofs.carrying.carry.Goals as goal
+
+asked_send : (g : Over) (κs : contract.Lifetimes.Lfts 8) → IsSend (param 0 g.row.N) → IsSend (lts.arg-2-0 g.row.N g.row.R g.N.laws g.R.laws g.N.Naming g.N.Naming-dict g.R.Threads g.R.Threads-dict g.R.Wait g.R.Wait-dict κs)
+asked_send g κs n = search (sendable, crosses, driver_send) depth 20
+
+answered_send : (g : Over) (κs : contract.Lifetimes.Lfts 8) → IsSend (param 0 g.row.N) → IsSend (lts.arg-2-1 g.row.N g.row.R g.N.laws g.R.laws g.N.Naming g.N.Naming-dict g.R.Threads g.R.Threads-dict g.R.Wait g.R.Wait-dict κs)
+answered_send g κs n = search (sendable, crosses, device_send) depth 20
+
+asking_send : (g : Over) (κs : contract.Lifetimes.Lfts 8) → IsSend (param 0 g.row.N) → IsSend (lts.arg-2-2 g.row.N g.row.R g.N.laws g.R.laws g.N.Naming g.N.Naming-dict g.R.Threads g.R.Threads-dict g.R.Wait g.R.Wait-dict κs)
+asking_send g κs n = search (sendable, crosses, driver_send) depth 20
+
+answering_send : (g : Over) (κs : contract.Lifetimes.Lfts 8) → IsSend (param 0 g.row.N) → IsSend (lts.arg-2-3 g.row.N g.row.R g.N.laws g.R.laws g.N.Naming g.N.Naming-dict g.R.Threads g.R.Threads-dict g.R.Wait g.R.Wait-dict κs)
+answering_send g κs n = search (sendable, crosses, device_send) depth 20
+
+pub both-asked-requires-send-D : goal.both-asked-requires-send-D
+both-asked-requires-send-D g c κs within = param_send _ _ (asked_send g κs c.type_bounds.send-N)
+
+pub both-asked-requires-send-E : goal.both-asked-requires-send-E
+both-asked-requires-send-E g c κs within = param_send _ _ (answered_send g κs c.type_bounds.send-N)
+
+pub both-asked-requires-send-A : goal.both-asked-requires-send-A
+both-asked-requires-send-A g c κs within = param_send _ _ (asking_send g κs c.type_bounds.send-N)
+
+pub both-asked-requires-send-B : goal.both-asked-requires-send-B
+both-asked-requires-send-B g c κs within = param_send _ _ (answering_send g κs c.type_bounds.send-N)
+
+pub returns : goal.returns
+returns g c =
+    let o = c.args.order in
+    let got = subst (λ r. IfOk r (λ x. HasAsked o.queue o.lane o.count x.0 × (length x.0.reaped ≡ o.count))) c.in_ok-driver.was c.both-asked.ensures.0 in
+    let same = c.ends_agree.ensures in
+    subst (λ (x : DriverLists × DeviceLists). HaveCarried o.queue o.lane o.count x.0 x.1) (λ i. (sym same.driver i, sym same.device i))
+    (have_carried o.queue o.lane o.count _ _ got.0 got.1 c.both-asked.ensures.1 same.fetched same.reaped)

@@ -1,0 +1,18 @@
+//! Small users of a ring, whose two ends lie on two threads. They show what its contracts are good for.
+#![tactic(auto)]
+
+mod answering;
+mod asking;
+mod carrying;
+mod crew;
+#[cfg(test)]
+mod tests;
+mod ticket;
+mod turn;
+
+pub use answering::answer;
+pub use asking::{Mix, Order, ask};
+pub use carrying::{carry, index_seen};
+pub use crew::{Job, both};
+pub use ticket::Ticket;
+pub use turn::answer_turned;
