@@ -9,7 +9,10 @@ ghost use Rattle.vg_wire.specs.TwoD as layout;
 use crate::entries::{Entries, put_entries, read_entries};
 use crate::fields::{put_u32, put_u64, u32_at, u64_at};
 use crate::header::Header;
-use crate::kinds::{GET_DISPLAY_INFO, RESOURCE_ATTACH_BACKING, RESOURCE_CREATE_2D, RESOURCE_DETACH_BACKING, RESOURCE_FLUSH, RESOURCE_UNREF, SET_SCANOUT, TRANSFER_TO_HOST_2D};
+use crate::kinds::{
+    GET_DISPLAY_INFO, RESOURCE_ATTACH_BACKING, RESOURCE_CREATE_2D, RESOURCE_DETACH_BACKING,
+    RESOURCE_FLUSH, RESOURCE_UNREF, SET_SCANOUT, TRANSFER_TO_HOST_2D,
+};
 use crate::rect::{put_rect, rect_at};
 use std::alloc::{AllocError, Global};
 use vg_formats::{MemEntry, Rect};
