@@ -16,7 +16,7 @@ use Rattle.vg_machine.specs.declared.share.Buffer.{Buffer}
 use Rattle.vg_machine.specs.declared.share.ShareRefusal.TheVariants.{NotHeld, OutOfRange}
 use Rattle.vg_machine.specs.Refusals.{refusal_of}
 use Rattle.vg_machine.specs.Cells.{pages_of, repeated, stored}
-use Rattle.vg_machine.specs.Share.{ShareState, SharesPages, buffer_at, freed, given_back, is_holder, leased, pages_at, pages_in, place_refusal, refused_by, released, unleased, with_buffer, with_left}
+use Rattle.vg_machine.specs.Share.{ShareState, SharesPages, buffer_at, ended, entered, freed, given_back, is_holder, leased, pages_at, pages_in, place_refusal, refused_by, released, unleased, with_buffer}
 use Rattle.vg_machine.specs.Fits.{AreHeld}
 use Rattle.vg_machine.specs.declared.act.Act.{Act}
 use Rattle.vg_machine.specs.declared.act.Act.TheVariants.{Enter, Reserve, Store, Load, Release, Free, Take, Drop, Denied, Leave}
@@ -64,7 +64,7 @@ pub fits-dropped : (memory : Memory) (count entries scanout : ℕ) (result : Res
 fits-dropped memory count entries scanout result old new kept after were =
     either result (ShareFits memory count entries) old new (unleased scanout old) kept after were (fits-leases memory count entries scanout None old were)
 
-pub shares-left : (memory : Memory) (client : ℕ) (share : ShareState) → SharesPages memory share → SharesPages memory (with_left client share)
+pub shares-left : (memory : Memory) (client : ℕ) (share : ShareState) → SharesPages memory share → SharesPages memory (ended client (entered client share))
 shares-left memory client share were = record { taken = were.taken; enough = were.enough; apart = were.apart; owned = were.owned; given = were.given }
 
 length-marked : (pages : List ℕ) (now : Bool) (taken : List Bool) → length (marked pages now taken) ≡ length taken
@@ -173,32 +173,28 @@ pub popped : {X : Type 0} (xs pushed rest : List X) (x : X) → pushed ≡ xs ++
 popped xs pushed rest x is left =
     left ∙ ap (λ list. take (length list - 1) list) is ∙ take_at xs (x ∷ []) (length (xs ++ x ∷ []) - 1) (omega (arith, length_push xs x))
 
--- a reserve was refused, was accepted, or found no memory
-reserved-either : {A E F : Type 0} (P : Memory → ShareState → Type 0) (result : Result (Result A E) F) (old new next : Memory) (share shared given : ShareState)
-    → IfOk result (λ done. OnErr done ((shared ≡ share) × (new ≡ old))) → IfOk result (λ done. OnOk done ((shared ≡ given) × (new ≡ next))) → OnErr result ((shared ≡ share) × (new ≡ old))
-    → P old share → P next given → P new shared
-reserved-either P (Ok (Ok done)) old new next share shared given kept after err was would =
-    subst (λ memory. P memory shared) (sym after.1) (subst (P next) (sym after.0) would)
-reserved-either P (Ok (Err refusal)) old new next share shared given kept after err was would =
-    subst (λ memory. P memory shared) (sym kept.1) (subst (P old) (sym kept.0) was)
-reserved-either P (Err error) old new next share shared given kept after err was would =
-    subst (λ memory. P memory shared) (sym err.1) (subst (P old) (sym err.0) was)
-
 -- what is kept beside what the pages and the buffers keep
 pub record Reserved (count entries : ℕ) (before now : Memory) (share : ShareState) : Type 0 where
   pub large : IsAsLarge before now
   pub leases : length share.leases ≡ count
   pub reserved : share.reserved ≤ entries
 
-pub fits-reserved : {A E F : Type 0} (count entries client : ℕ) (geometry : Geometry) (pages : List ℕ) (result : Result (Result A E) F) (old new : Memory) (share shared : ShareState)
-    → IfOk result (λ done. OnErr done ((shared ≡ share) × (new ≡ old)))
-    → IfOk result (λ done. OnOk done ((shared ≡ with_buffer client geometry pages share) × (new ≡ after_taking old pages)))
+reserved-as : (count entries : ℕ) (old new next : Memory) (shared after : ShareState) → shared ≡ after → new ≡ next → Reserved count entries old next after → Reserved count entries old new shared
+reserved-as count entries old new next shared after is at was =
+    subst (λ memory. Reserved count entries old memory shared) (sym at) (subst (Reserved count entries old next) (sym is) was)
+
+-- a reserve was accepted, or found no memory
+pub fits-reserved : {E : Type 0} (count entries client : ℕ) (geometry : Geometry) (pages : List ℕ) (result : Result (Unit {0}) E) (old new : Memory) (share shared : ShareState)
+    → OnOk result (shared ≡ with_buffer client geometry pages share)
+    → OnOk result (new ≡ after_taking old pages)
     → OnErr result ((shared ≡ share) × (new ≡ old))
     → length share.leases ≡ count → share.reserved < entries → Reserved count entries old new shared
-fits-reserved count entries client geometry pages result old new share shared kept after err leases reserved =
-    reserved-either (Reserved count entries old) result old new (after_taking old pages) share shared (with_buffer client geometry pages share) kept after err
-    (record { large = large-itself old; leases = leases; reserved = omega (arith, reserved) })
+fits-reserved count entries client geometry pages (Ok done) old new share shared buffer taken err leases reserved =
+    reserved-as count entries old new (after_taking old pages) shared (with_buffer client geometry pages share) buffer taken
     (record { large = large-taking old pages; leases = leases; reserved = omega (arith, reserved) })
+fits-reserved count entries client geometry pages (Err e) old new share shared buffer taken err leases reserved =
+    reserved-as count entries old new old shared share err.0 err.1
+    (record { large = large-itself old; leases = leases; reserved = omega (arith, reserved) })
 
 pub length-repeated : (bytes : List ℕ) (times : ℕ) → length (repeated bytes times) ≡ length bytes * times
 unfolding repeated

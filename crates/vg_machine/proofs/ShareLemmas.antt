@@ -211,13 +211,13 @@ free-apart taken free mine takeable givable = λ k d within.
 -- ---- the three changes
 
 -- a buffer's holders change
-pub shares-released : (memory : Memory) (buffers after : List (ℕ × Buffer)) (reserved : ℕ) (leases : List (Option ℕ)) (left : List ℕ) (client key : ℕ)
+pub shares-released : (memory : Memory) (buffers after : List (ℕ × Buffer)) (reserved : ℕ) (leases : List (Option ℕ)) (clients : List (ℕ × Bool)) (client key : ℕ)
     → after ≡ released_entries client key (lookup (is_at (nat_cmp key)) buffers) buffers
-    → SharesPages memory (record { buffers = buffers; reserved = reserved; leases = leases; left = left })
-    → SharesPages memory (record { buffers = after; reserved = reserved; leases = leases; left = left })
-shares-released memory buffers after reserved leases left client key is shares =
+    → SharesPages memory (record { buffers = buffers; reserved = reserved; leases = leases; clients = clients })
+    → SharesPages memory (record { buffers = after; reserved = reserved; leases = leases; clients = clients })
+shares-released memory buffers after reserved leases clients client key is shares =
     let test = is_at (nat_cmp key) in
-    let whole : List (ℕ × Buffer) → Type 0 = λ es. SharesPages memory (record { buffers = es; reserved = reserved; leases = leases; left = left }) in
+    let whole : List (ℕ × Buffer) → Type 0 = λ es. SharesPages memory (record { buffers = es; reserved = reserved; leases = leases; clients = clients }) in
     elim (lookup test buffers) as (λ found. lookup test buffers ≡ found → after ≡ released_entries client key found buffers → whole after) [
       | Some buffer ↦ λ found same.
           let new = released_buffer client buffer in
@@ -239,17 +239,17 @@ live-givable memory share test buffer list found same shares =
     (All-found (λ entry. AreGivable memory.taken entry.1.pages) test share.buffers buffer found shares.taken (AreGivable memory.taken buffer.pages) (λ key fact. fact))
 
 -- a buffer's pages are given back
-pub shares-freed : (memory now : Memory) (buffers after : List (ℕ × Buffer)) (reserved : ℕ) (leases : List (Option ℕ)) (left : List ℕ) (test : ℕ → Bool) (buffer : Buffer) (list : List ℕ)
+pub shares-freed : (memory now : Memory) (buffers after : List (ℕ × Buffer)) (reserved : ℕ) (leases : List (Option ℕ)) (clients : List (ℕ × Bool)) (test : ℕ → Bool) (buffer : Buffer) (list : List ℕ)
     → lookup test buffers ≡ Some buffer
     → list ≡ buffer.pages
     → now.taken ≡ marked list false memory.taken
     → ((mine : List ℕ) → AreGivable memory.taken mine → All (λ page. is_among list page ≡ false) mine → AreGivable now.taken mine)
     → after ≡ remove_entry test buffers
-    → SharesPages memory (record { buffers = buffers; reserved = reserved; leases = leases; left = left })
-    → SharesPages now (record { buffers = after; reserved = reserved; leases = leases; left = left })
-shares-freed memory now buffers after reserved leases left test buffer list found same flags others rest_is shares =
+    → SharesPages memory (record { buffers = buffers; reserved = reserved; leases = leases; clients = clients })
+    → SharesPages now (record { buffers = after; reserved = reserved; leases = leases; clients = clients })
+shares-freed memory now buffers after reserved leases clients test buffer list found same flags others rest_is shares =
     let rest = remove_entry test buffers in
-    let whole : List (ℕ × Buffer) → Type 0 = λ es. SharesPages now (record { buffers = es; reserved = reserved; leases = leases; left = left }) in
+    let whole : List (ℕ × Buffer) → Type 0 = λ es. SharesPages now (record { buffers = es; reserved = reserved; leases = leases; clients = clients }) in
     let beside : All (λ (entry : ℕ × Buffer). All (λ page. is_among buffer.pages page ≡ false) entry.1.pages) rest =
     All-beside HaveNoPageInCommon (λ old entry. All (λ page. is_among old.pages page ≡ false) entry.1.pages) test buffers buffer
     (λ key x apart. apart-sym buffer.pages x.1.pages apart) (λ x key apart. apart) found shares.apart
@@ -269,7 +269,7 @@ shares-freed memory now buffers after reserved leases left test buffer list foun
     })
 
 -- a new buffer has pages that were free
-pub shares-reserved : (memory now : Memory) (buffers after : List (ℕ × Buffer)) (reserved key : ℕ) (leases : List (Option ℕ)) (left : List ℕ) (buffer : Buffer)
+pub shares-reserved : (memory now : Memory) (buffers after : List (ℕ × Buffer)) (reserved key : ℕ) (leases : List (Option ℕ)) (clients : List (ℕ × Bool)) (buffer : Buffer)
     → AreTakeable memory.taken buffer.pages
     → length buffer.pages ≡ pages_of buffer.geometry.bytes
     → now.taken ≡ marked buffer.pages true memory.taken
@@ -277,13 +277,13 @@ pub shares-reserved : (memory now : Memory) (buffers after : List (ℕ × Buffer
     → ((mine : List ℕ) → AreGivable memory.taken mine → AreGivable now.taken mine)
     → key ≡ reserved + 1
     → after ≡ insert_entry nat_cmp buffers key buffer
-    → SharesPages memory (record { buffers = buffers; reserved = reserved; leases = leases; left = left })
-    → SharesPages now (record { buffers = after; reserved = key; leases = leases; left = left })
-shares-reserved memory now buffers after reserved key leases left buffer takeable enough flags givable others next inserted shares =
+    → SharesPages memory (record { buffers = buffers; reserved = reserved; leases = leases; clients = clients })
+    → SharesPages now (record { buffers = after; reserved = key; leases = leases; clients = clients })
+shares-reserved memory now buffers after reserved key leases clients buffer takeable enough flags givable others next inserted shares =
     let pages = buffer.pages in
     let new : ℕ × Buffer = (reserved + 1, buffer) in
     let has : ℕ → ℕ × Buffer → Bool = λ page entry. is_among entry.1.pages page in
-    let whole : List (ℕ × Buffer) → ℕ → Type 0 = λ es n. SharesPages now (record { buffers = es; reserved = n; leases = leases; left = left }) in
+    let whole : List (ℕ × Buffer) → ℕ → Type 0 = λ es n. SharesPages now (record { buffers = es; reserved = n; leases = leases; clients = clients }) in
     let last : after ≡ buffers ++ new ∷ [] = inserted ∙ ap (λ n. insert_entry nat_cmp buffers n buffer) next ∙ insert-last buffers reserved buffer shares.given in
     subst (λ n. whole after n) (sym next) (subst (λ es. whole es (reserved + 1)) (sym last) (record {
       taken = All-push (λ entry. AreGivable now.taken entry.1.pages) buffers new
@@ -306,9 +306,9 @@ shares-reserved memory now buffers after reserved key leases left buffer takeabl
 -- ---- what users of the share need
 
 -- no buffers, and memory of which no page is taken
-pub shares-fresh : (count : ℕ) (leases : List (Option ℕ)) (left : List ℕ) → SharesPages (fresh_memory count) (record { buffers = []; reserved = 0; leases = leases; left = left })
+pub shares-fresh : (count : ℕ) (leases : List (Option ℕ)) (clients : List (ℕ × Bool)) → SharesPages (fresh_memory count) (record { buffers = []; reserved = 0; leases = leases; clients = clients })
 unfolding fresh_memory
-shares-fresh count leases left = record {
+shares-fresh count leases clients = record {
   taken = All-nil (λ (entry : ℕ × Buffer). AreGivable (replicate count false) entry.1.pages);
   enough = All-nil (λ (entry : ℕ × Buffer). length entry.1.pages ≡ pages_of entry.1.geometry.bytes);
   apart = λ i j d order within. absurd (omega (arith, within));
@@ -320,7 +320,7 @@ shares-fresh count leases left = record {
   given = All-nil (λ (entry : ℕ × Buffer). entry.0 ≤ 0);
 }
 
--- only bytes of memory, leases and the clients that left have changed
+-- only bytes of memory, leases and clients have changed
 pub shares-same : (memory now : Memory) (share after : ShareState) → now.taken ≡ memory.taken → after.buffers ≡ share.buffers → after.reserved ≡ share.reserved → SharesPages memory share → SharesPages now after
 shares-same memory now share after flags buffers reserved shares = record {
   taken = subst (λ all. All (λ (entry : ℕ × Buffer). AreGivable all entry.1.pages) after.buffers) (sym flags)

@@ -12,7 +12,7 @@ use Rattle.vg_pages.specs.Memory.{after_taking}
 use Rattle.vg_machine.specs.Cells.{loaded, repeated, stored}
 use Rattle.vg_machine.specs.Resource.{resource_at}
 use Rattle.vg_machine.specs.Scanout.{binding_at}
-use Rattle.vg_machine.specs.Share.{drop_refusal, free_refusal, freed, given_back, has_holder, is_leased, leased, new_pages, pages_at, place_refusal, release_refusal, released, reserve_refusal, take_refusal, unleased, with_buffer, with_left}
+use Rattle.vg_machine.specs.Share.{drop_refusal, ended, entered, free_refusal, freed, given_back, has_holder, is_leased, leased, new_pages, pages_at, place_refusal, release_refusal, released, reserve_refusal, take_refusal, unleased, with_buffer}
 use Rattle.vg_machine.specs.State.{State, counted}
 
 -- An act whose refusal is this: the display stays as it was, or becomes `next`.
@@ -82,7 +82,7 @@ effect_of state client (Free key) = free_step state client key
 effect_of state client (Take scanout) = take_step state client scanout
 effect_of state client (Drop scanout) = drop_step state client scanout
 effect_of state client (Denied what) = (state, act_replies.Ok)
-effect_of state client Leave = (record state { share = with_left client state.share }, act_replies.Ok)
+effect_of state client Leave = (record state { share = ended client (entered client state.share) }, act_replies.Ok)
 
 -- One act of a client: the display after it, and the reply.
 abbrev pub act_step : State → ℕ → Act → State × ActReply

@@ -1,10 +1,9 @@
 -- What clients share beside the device: buffers of guest pages, and the leases of scanouts. All of it is our own.
-use Rattle.std.specs.Prelude.{◌≡◌, ℕ, ◌+◌, ◌≤◌, ◌==◌, Bool, true, false, not, nat_lt, if◌then◌else◌, List, [], ◌∷◌, length, take, Option, Some, None, option_map, slice_get}
+use Rattle.std.specs.Prelude.{◌≡◌, ℕ, ◌+◌, ◌≤◌, ◌==◌, Bool, true, false, not, nat_lt, if◌then◌else◌, List, [], ◌∷◌, length, take, Option, Some, None, is_some, option_map, slice_get}
 use Rattle.std.specs.List.{count_by, list_any, slice_set, All, AllPairs}
 use Rattle.std.specs.Ordering.{nat_cmp}
 use Rattle.std.specs.Map.{lookup, remove_entry, set_value}
 use Rattle.std.specs.BTreeMap.{insert_entry, is_at}
-use Rattle.std.specs.BTreeSet.{insert_key}
 use Rattle.vg_pages.specs.Memory.{Memory, AreGivable, free_pages, is_among, marked}
 use Rattle.vg_machine.specs.declared.share.Buffer.{Buffer}
 use Rattle.vg_machine.specs.declared.share.Geometry.{Geometry}
@@ -15,12 +14,12 @@ use Rattle.vg_machine.specs.Lists.{without_first}
 use Rattle.vg_machine.specs.Refusals.{refusal_of}
 
 -- What the clients share: the live buffers by their keys, rising; how many buffers were reserved so far; of each scanout the
--- client to which it is leased, if any; and the numbers of the clients that have left, rising.
+-- client to which it is leased, if any; and the clients that have come, by their numbers, with whether each has left.
 pub record ShareState : Type 0 where
   pub buffers : List (ℕ × Buffer)
   pub reserved : ℕ
   pub leases : List (Option ℕ)
-  pub left : List ℕ
+  pub clients : List (ℕ × Bool)
 
 abbrev pub buffer_at : ℕ → ShareState → Option Buffer
 buffer_at key share = lookup (is_at (nat_cmp key)) share.buffers
@@ -159,9 +158,16 @@ drop_refusal client scanout shown share = refusal_of (
 abbrev pub unleased : ℕ → ShareState → ShareState
 unleased scanout share = record share { leases = slice_set share.leases scanout None }
 
+abbrev pub has_entered : ℕ → ShareState → Bool
+has_entered client share = is_some (lookup (is_at (nat_cmp client)) share.clients)
+
+-- The client has come. A second time changes nothing.
+abbrev pub entered : ℕ → ShareState → ShareState
+entered client share = record share { clients = if has_entered client share then share.clients else insert_entry nat_cmp share.clients client false }
+
 -- The client has left.
-abbrev pub with_left : ℕ → ShareState → ShareState
-with_left client share = record share { left = insert_key nat_cmp share.left client }
+abbrev pub ended : ℕ → ShareState → ShareState
+ended client share = record share { clients = insert_entry nat_cmp share.clients client true }
 
 -- No page belongs to both.
 abbrev pub HaveNoPageInCommon : ℕ × Buffer → ℕ × Buffer → Type 0

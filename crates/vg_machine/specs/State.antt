@@ -35,7 +35,7 @@ start setup = record {
   backings = [];
   uuids = record { numbers = []; given = 0 };
   scanouts = record { screens = replicate (length setup.displays) None; frames = [] };
-  share = record { buffers = []; reserved = 0; leases = replicate (length setup.displays) None; left = [] };
+  share = record { buffers = []; reserved = 0; leases = replicate (length setup.displays) None; clients = [] };
 }
 
 -- The display with one entry more.

@@ -63,7 +63,8 @@ impl Display {
             Act::Take { scanout } => self.take(client, holds, *scanout),
             Act::Drop { scanout } => Ok(self.end_lease(client, holds, *scanout)),
             Act::Leave => {
-                self.share.leave(client)?;
+                self.share.enter(client)?;
+                self.share.end(client);
                 Ok(ActReply::Ok)
             }
         }
@@ -82,25 +83,23 @@ impl Display {
         ensures holds { IfOk result (λ reply. holds.new ≡ update holds.old (acts.Reserve geometry.width geometry.height geometry.format geometry.bytes) reply) }
         ensures err { OnErr result ((self.new ≡ self.old) × (holds.new ≡ holds.old)) }
     {
-        let Some(pages) = self.pages.lowest(alloc, pages_of(geometry.bytes))? else {
+        let Some(list) = self.pages.lowest(alloc, pages_of(geometry.bytes))? else {
             return Ok(refused(ShareRefusal::GuestFull {
                 free: self.pages.free(),
             }));
         };
         let key = self.share.next_key();
-        holds.buffers.push((key, Seq::from_vec(pages)))?;
+        let own = list.as_slice().to_vec(alloc)?;
+        holds.buffers.push((key, Seq::from_vec(own)))?;
+        let pages = &mut self.pages;
         match self
             .share
-            .reserve(alloc, &mut self.pages, client, &geometry)
+            .reserve(alloc, pages, client, &geometry, list.as_slice())
         {
-            Ok(Ok((key, pages))) => Ok(ActReply::Reserved {
+            Ok(()) => Ok(ActReply::Reserved {
                 key,
-                pages: Seq::from_vec(pages),
+                pages: Seq::from_vec(list),
             }),
-            Ok(Err(refusal)) => {
-                holds.buffers.pop();
-                Ok(refused(refusal))
-            }
             Err(refused) => {
                 holds.buffers.pop();
                 Err(refused)

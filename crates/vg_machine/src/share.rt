@@ -3,15 +3,14 @@
 ghost use Rattle.std.specs.BTreeMap.{is_at};
 ghost use Rattle.std.specs.Map.{lookup};
 ghost use Rattle.std.specs.Ordering.{nat_cmp};
-ghost use Rattle.std.specs.Prelude.{◌≡◌, ◌==◌, ◌+◌, ◌^◌, ◌-◌, not, ◌<◌, ◌≤◌, [], ◌∷◌, Some, None, ℕ, List, IfOk, IfErr, IfSome, IfNone, OnOk, OnErr, length, replicate, option_copied, slice_get};
-ghost use Rattle.vg_pages.specs.Memory.{AreGivable, Memory, after_taking};
+ghost use Rattle.std.specs.Prelude.{◌≡◌, ◌==◌, ◌+◌, ◌^◌, ◌-◌, not, true, ◌<◌, ◌≤◌, [], ◌∷◌, Some, None, ℕ, List, IfOk, IfErr, IfSome, IfNone, OnOk, OnErr, length, replicate, option_copied, slice_get};
+ghost use Rattle.vg_pages.specs.Memory.{AreTakeable, Memory, after_taking};
 ghost use Rattle.vg_machine.specs.Cells.{pages_of};
-ghost use Rattle.vg_machine.specs.Share.{SharesPages, buffer_at, drop_refusal, free_refusal, freed, given_back, has_holder, holds_once, is_holder, is_leased, leased, new_buffer, new_pages, pages_at, place_refusal, release_refusal, released, released_buffer, released_entries, reserve_refusal, some_holder, take_refusal, unleased, with_buffer, with_left};
+ghost use Rattle.vg_machine.specs.Share.{SharesPages, buffer_at, drop_refusal, ended, entered, free_refusal, freed, given_back, has_entered, has_holder, holds_once, is_holder, is_leased, leased, new_buffer, pages_at, place_refusal, release_refusal, released, released_buffer, released_entries, some_holder, take_refusal, unleased, with_buffer};
 
-use crate::cells::pages_of;
 use crate::lists::remove_number;
 use std::alloc::{AllocError, Global};
-use std::collections::{BTreeMap, BTreeSet};
+use std::collections::BTreeMap;
 use std::marker::Model;
 use vg_list::Seq;
 use vg_pages::Pages;
@@ -63,7 +62,8 @@ pub(crate) struct Share {
     buffers: BTreeMap<u32, Buffer>,
     reserved: u32,
     leases: Vec<Option<u32>>,
-    left: BTreeSet<u32>,
+    /// The clients that have come, and whether each has left.
+    clients: BTreeMap<u32, bool>,
 }
 
 impl Model for Share {
@@ -71,20 +71,20 @@ impl Model for Share {
 
     ghost Value = { ShareState };
 
-    ghost view = { λ s. record { buffers = s.buffers.entries; reserved = s.reserved; leases = s.leases.items; left = s.left.keys } };
+    ghost view = { λ s. record { buffers = s.buffers.entries; reserved = s.reserved; leases = s.leases.items; clients = s.clients.entries } };
 }
 
 impl Share {
     /// No buffers, and so many scanouts, none of them leased.
     pub(crate) fn new(alloc: Global, scanouts: u32) -> Result<Share, AllocError>
-        ensures { IfOk result (λ share. share ≡ record { buffers = []; reserved = 0; leases = replicate scanouts None; left = [] }) }
+        ensures { IfOk result (λ share. share ≡ record { buffers = []; reserved = 0; leases = replicate scanouts None; clients = [] }) }
     {
         let leases = vec![in alloc; None; scanouts as usize]?;
         Ok(Share {
             buffers: BTreeMap::new(alloc),
             reserved: 0,
             leases,
-            left: BTreeSet::new(alloc),
+            clients: BTreeMap::new(alloc),
         })
     }
 
@@ -96,36 +96,30 @@ impl Share {
         self.reserved + 1
     }
 
-    /// Takes the lowest free pages for a new buffer that the client holds once, and gives its key and its pages.
+    /// Takes the lowest free pages, which the list has, for a new buffer that the client holds once. Its key is the next.
     pub(crate) fn reserve(
         &mut self,
         alloc: Global,
         pages: &mut Pages,
         client: u32,
         geometry: &Geometry,
-    ) -> Result<Result<(u32, Vec<u32>), ShareRefusal>, AllocError>
+        list: &[u32],
+    ) -> Result<(), AllocError>
         requires share { SharesPages pages.old self.old }
         requires number { self.old.reserved < 2 ^ 32 - 1 }
-        ensures refused { IfOk result (λ done. IfErr done (λ refusal. reserve_refusal geometry.now.bytes pages.old ≡ Some refusal)) }
-        ensures kept { IfOk result (λ done. OnErr done ((self.new ≡ self.old) × (pages.new ≡ pages.old))) }
-        ensures accepted { IfOk result (λ done. OnOk done (reserve_refusal geometry.now.bytes pages.old ≡ None)) }
-        ensures given { IfOk result (λ done. IfOk done (λ given.
-            (given.0 ≡ self.old.reserved + 1) × (given.1.items ≡ new_pages geometry.now.bytes pages.old))) }
-        ensures after { IfOk result (λ done. OnOk done (
-            (self.new ≡ with_buffer client geometry.now (new_pages geometry.now.bytes pages.old) self.old)
-            × (pages.new ≡ after_taking pages.old (new_pages geometry.now.bytes pages.old)))) }
+        requires free { AreTakeable pages.old.taken list.now }
+        requires enough { length list.now ≡ pages_of geometry.now.bytes }
+        ensures buffer { OnOk result (self.new ≡ with_buffer client geometry.now list.now self.old) }
+        ensures taken { OnOk result (pages.new ≡ after_taking pages.old list.now) }
         ensures share { SharesPages pages.new self.new }
         ensures err { OnErr result ((self.new ≡ self.old) × (pages.new ≡ pages.old)) }
     {
-        let Some(list) = pages.lowest(alloc, pages_of(geometry.bytes))? else {
-            return Ok(Err(ShareRefusal::GuestFull { free: pages.free() }));
-        };
         let key = self.next_key();
-        let buffer = new_buffer(alloc, client, geometry, list.as_slice())?;
+        let buffer = new_buffer(alloc, client, geometry, list)?;
         self.buffers.insert(key, buffer)?;
         self.reserved = key;
-        pages.take_these(list.as_slice());
-        Ok(Ok((key, list)))
+        pages.take_these(list);
+        Ok(())
     }
 
     /// The pages of a buffer that the client holds, where so many bytes from an offset on lie in it.
@@ -248,13 +242,24 @@ impl Share {
         }
     }
 
-    /// Marks the client as one that has left.
-    pub(crate) fn leave(&mut self, client: u32) -> Result<(), AllocError>
-        ensures ok { OnOk result (self.new ≡ with_left client self.old) }
+    /// Notes that the client has come. A second time changes nothing.
+    pub(crate) fn enter(&mut self, client: u32) -> Result<(), AllocError>
+        ensures ok { OnOk result (self.new ≡ entered client self.old) }
+        ensures there { OnOk result (has_entered client self.new ≡ true) }
         ensures err { OnErr result (self.new ≡ self.old) }
     {
-        self.left.insert(client)?;
+        if !self.clients.contains_key(&client) {
+            self.clients.insert(client, false)?;
+        }
         Ok(())
+    }
+
+    /// Notes that the client, which has come, has left. It takes no memory.
+    pub(crate) fn end(&mut self, client: u32)
+        requires { has_entered client self.old ≡ true }
+        ensures { self.new ≡ ended client self.old }
+    {
+        let _ = self.clients.insert(client, true);
     }
 
     /// Why the client can't give up a hold of the buffer, if it can't.

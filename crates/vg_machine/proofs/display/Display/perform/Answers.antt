@@ -1,4 +1,5 @@
-use Rattle.std.proofs.Common.{}
+use Rattle.std.proofs.Common.{ap, ◌∙◌}
+use Rattle.vg_machine.specs.Share.{ended}
 use Rattle.vg_machine.proofs.ActLemmas.{shares-left}
 use Rattle.vg_machine.proofs.display.Display.perform.Goals as goal
 
@@ -6,7 +7,7 @@ pub invariant_of-self-in-Leave-1 : goal.invariant_of-self-in-Leave-1
 invariant_of-self-in-Leave-1 c =
     let was = c.self.invariant in
     let s = c.self.inside in
-    let left = c.in_ok-leave-in-Leave.ensures.ok in
+    let left = c.end.ensures ∙ ap (ended c.args.client) c.in_ok-enter-in-Leave.ensures.ok in
     record {
       setup = was.setup;
       pages = was.pages;

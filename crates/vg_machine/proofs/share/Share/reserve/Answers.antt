@@ -1,5 +1,5 @@
 -- The new buffer's pages were free.
-use Rattle.std.proofs.Common.{◌≡◌, ◌∙◌, ◌+◌, true, length, vec_len, IfSome, ap, sym, subst}
+use Rattle.std.proofs.Common.{◌≡◌, ◌∙◌, ◌+◌, true, length, ap, sym, subst}
 use Rattle.vg_pages.specs.Memory.{Memory, AreGivable, AreTakeable, marked}
 use Rattle.vg_machine.specs.declared.share.Buffer.{Buffer}
 use Rattle.vg_machine.specs.Cells.{pages_of}
@@ -14,20 +14,15 @@ returns-clause-share c =
     let memory = c.args.pages.now in
     let now = c.take_these.new.self in
     let is = c.in_ok-buffer.ensures in
-    let items : buffer.pages ≡ c.in-Some.list.items = ap (λ (b : Buffer). b.pages) is ∙ c.as_slice.ensures.value in
-    let taken : c.as_slice-2.result.now ≡ buffer.pages = c.as_slice-2.ensures.value ∙ sym items in
-    let lowest : AreTakeable memory.taken c.in-Some.list.items =
-    subst (λ answer. IfSome answer (λ list. AreTakeable memory.taken list.items)) c.in-Some.is c.in_ok-list.ensures.takeable
-    in
-    let takeable : AreTakeable memory.taken buffer.pages = subst (AreTakeable memory.taken) (sym items) lowest in
-    let count : vec_len c.in-Some.list ≡ c.pages_of.result = subst (λ answer. IfSome answer (λ list. vec_len list ≡ c.pages_of.result)) c.in-Some.is c.in_ok-list.ensures.count in
+    let items : buffer.pages ≡ c.args.list.now = ap (λ (b : Buffer). b.pages) is in
+    let takeable : AreTakeable memory.taken buffer.pages = subst (AreTakeable memory.taken) (sym items) c.requires.free in
     let enough : length buffer.pages ≡ pages_of buffer.geometry.bytes =
-    ap length (ap (λ (b : Buffer). b.pages) is) ∙ c.as_slice.ensures.len ∙ count ∙ c.pages_of.ensures ∙ sym (ap (λ (b : Buffer). pages_of b.geometry.bytes) is)
+    ap length items ∙ c.requires.enough ∙ sym (ap (λ (b : Buffer). pages_of b.geometry.bytes) is)
     in
     let flags : now.taken ≡ marked buffer.pages true memory.taken =
-    ap (λ (m : Memory). m.taken) c.take_these.ensures.after ∙ ap (λ list. marked list true memory.taken) taken
+    ap (λ (m : Memory). m.taken) c.take_these.ensures.after ∙ ap (λ list. marked list true memory.taken) (sym items)
     in
     let next : c.next_key-key.result ≡ inside.reserved + 1 = c.next_key-key.ensures ∙ ap (λ (share : ShareState). share.reserved + 1) (sym c.self.view_is) in
-    shares-reserved memory now inside.buffers.entries c.insert.new.self.entries inside.reserved c.next_key-key.result inside.leases.items inside.left.keys
-    buffer takeable enough flags (subst (AreGivable now.taken) taken c.take_these.ensures.givable) c.take_these.ensures.others next c.in_ok-insert.ensures.entries
+    shares-reserved memory now inside.buffers.entries c.insert.new.self.entries inside.reserved c.next_key-key.result inside.leases.items inside.clients.entries
+    buffer takeable enough flags (subst (AreGivable now.taken) (sym items) c.take_these.ensures.givable) c.take_these.ensures.others next c.in_ok-insert.ensures.entries
     (subst (SharesPages memory) (sym c.self.view_is) c.requires.share)
