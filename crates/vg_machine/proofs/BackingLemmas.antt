@@ -15,7 +15,7 @@ use borrow.Rule.Slice.PartMut.{put_mid}
 use Rattle.vg_formats.specs.declared.entry.MemEntry.{MemEntry}
 use Rattle.vg_formats.specs.declared.rect.Rect.{Rect}
 use Rattle.vg_formats.specs.Pixels.{is_empty}
-use Rattle.vg_pages.specs.Memory.{Memory, Holds, bytes_at}
+use Rattle.vg_pages.specs.Memory.{Memory, HoldsRange, bytes_at}
 use Rattle.vg_machine.specs.declared.backing.Run.{Run}
 use Rattle.vg_machine.specs.Backing.{backing_bytes, total}
 use Rattle.vg_machine.specs.Fits.{AreHeld, ArePlaced, HasByte, entries_of}
@@ -33,7 +33,7 @@ bytes-within bytes addr length skip n start low fits =
     ∙ ap (take n) (drop-drop skip (addr - start) bytes)
     ∙ ap (λ m. take n (drop m bytes)) at
 
-length-bytes_at : (memory : Memory) (addr n : ℕ) → Holds memory addr n → length (bytes_at memory.bytes addr n) ≡ n
+length-bytes_at : (memory : Memory) (addr n : ℕ) → HoldsRange memory addr n → length (bytes_at memory.bytes addr n) ≡ n
 length-bytes_at memory addr n held = omega (arith, length-take n (drop (addr - 1048576) memory.bytes), length-drop (addr - 1048576) memory.bytes, held)
 
 held-rest : (memory : Memory) (entry : MemEntry) (more : List MemEntry) → AreHeld memory (entry ∷ more) → AreHeld memory more
@@ -46,7 +46,7 @@ unfolding backing_bytes
 piece memory [] k skip n d held within fits = absurd (omega arith)
 piece memory (entry ∷ more) zero skip n d held within fits =
     let here = bytes_at memory.bytes entry.addr entry.length in
-    let holds : Holds memory entry.addr entry.length = (held zero d (omega arith)).1 in
+    let holds : HoldsRange memory entry.addr entry.length = (held zero d (omega arith)).1 in
     let long : length here ≡ entry.length = length-bytes_at memory entry.addr entry.length holds in
     let none : 0 + skip ≡ skip = omega arith in
     ap (λ m. take n (drop m (here ++ backing_bytes memory more))) none

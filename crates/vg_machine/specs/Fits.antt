@@ -3,7 +3,7 @@
 use Rattle.std.specs.Prelude.{◌≡◌, ℕ, ◌+◌, ◌-◌, ◌*◌, ◌^◌, ◌<◌, ◌≤◌, List, length, map, take, slice_index_or, Option, Some, None, Result, Ok, Err}
 use Rattle.std.specs.List.{All}
 use Rattle.vg_formats.specs.declared.entry.MemEntry.{MemEntry}
-use Rattle.vg_pages.specs.Memory.{Memory, Holds}
+use Rattle.vg_pages.specs.Memory.{Memory, HoldsRange}
 use Rattle.vg_machine.specs.declared.backing.Run.{Run}
 use Rattle.vg_machine.specs.declared.resource.Resource.{Resource}
 use Rattle.vg_machine.specs.declared.scanout.Binding.{Binding}
@@ -14,7 +14,7 @@ use Rattle.vg_machine.specs.Backing.{total}
 
 -- Each entry has bytes, and lies wholly in guest memory.
 abbrev pub AreHeld : Memory → List MemEntry → Type 0
-AreHeld memory entries = All (λ entry. (0 < entry.length) × Holds memory entry.addr entry.length) entries
+AreHeld memory entries = All (λ entry. (0 < entry.length) × HoldsRange memory entry.addr entry.length) entries
 
 -- The entries of the runs that a backing keeps.
 abbrev pub entries_of : List Run → List MemEntry

@@ -23,8 +23,8 @@ unfoldable pub fresh_memory : ℕ → Memory
 fresh_memory count = record { bytes = replicate (4096 * count) 0; taken = replicate count false }
 
 -- The n bytes from this address on lie wholly in memory. An empty range does at each address up to its end.
-abbrev pub Holds : Memory → ℕ → ℕ → Type 0
-Holds memory addr n = (1048576 ≤ addr) × (addr + n ≤ 1048576 + length memory.bytes)
+abbrev pub HoldsRange : Memory → ℕ → ℕ → Type 0
+HoldsRange memory addr n = (1048576 ≤ addr) × (addr + n ≤ 1048576 + length memory.bytes)
 
 -- Bytes with as many zeros behind them as make this many in all.
 abbrev pub padded : ℕ → List ℕ → List ℕ

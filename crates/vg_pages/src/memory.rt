@@ -1,7 +1,7 @@
 //! Guest memory as one buffer, with a flag for each page.
 
 ghost use Rattle.std.specs.Prelude.{◌≡◌, ℕ, List, All, ◌<◌, ◌≤◌, ◌*◌, ◌↔◌, IfOk, IfSome, IfNone, OnErr, IsNone, IsTrue, length, take, false, vec_len};
-ghost use Rattle.vg_pages.specs.Memory.{HasWholePages, fresh_memory, Holds, bytes_at, written_at, free_pages, is_among, marked, after_taking, AreGivable, AreTakeable, page_address};
+ghost use Rattle.vg_pages.specs.Memory.{HasWholePages, fresh_memory, HoldsRange, bytes_at, written_at, free_pages, is_among, marked, after_taking, AreGivable, AreTakeable, page_address};
 
 use crate::flags::{count_free, lowest_free, mark, zero};
 use crate::lazy::LazyBytes;
@@ -113,7 +113,7 @@ impl Pages {
     /// Whether the `length` bytes from the address `addr` on lie wholly in memory. An empty range does where its
     /// address is in memory or the first one past it.
     pub fn holds(&self, addr: u64, length: u64) -> bool
-        ensures held { IsTrue result ↔ Holds self.now addr length }
+        ensures held { IsTrue result ↔ HoldsRange self.now addr length }
         ensures pages { HasWholePages self.now }
     {
         let end = MEMORY_START + self.bytes.len() as u64;
@@ -132,7 +132,7 @@ impl Pages {
 
     /// Copies the bytes from the address `addr` on into `out`, as many as it has.
     pub fn read(&self, addr: u64, out: &mut [u8])
-        requires { Holds self.now addr (length out.old) }
+        requires { HoldsRange self.now addr (length out.old) }
         ensures { out.new ≡ bytes_at self.now.bytes addr (length out.old) }
     {
         self.bytes.read((addr - MEMORY_START) as usize, out);
@@ -140,7 +140,7 @@ impl Pages {
 
     /// Writes `bytes` over memory from the address `addr` on.
     pub fn write(&mut self, addr: u64, bytes: &[u8])
-        requires { Holds self.old addr (length bytes.now) }
+        requires { HoldsRange self.old addr (length bytes.now) }
         ensures { self.new ≡ record self.old { bytes = written_at self.old.bytes addr bytes.now } }
     {
         self.bytes.write((addr - MEMORY_START) as usize, bytes);

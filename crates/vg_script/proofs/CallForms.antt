@@ -10,7 +10,7 @@ use Rattle.vg_script.specs.declared.types.Step.{Step}
 use Rattle.vg_script.specs.Seen.{Seen, NameTable, add_line}
 use Rattle.vg_script.specs.Rows.{judged_row, row_of}
 use Rattle.vg_script.specs.Grammar.{called_form, settled_form}
-use Rattle.vg_script.specs.Code.{Agrees}
+use Rattle.vg_script.specs.Code.{Judges}
 use Rattle.vg_script.specs.Reading.{Goes, past_limit}
 use Rattle.vg_script.proofs.Forms.{with_call, call_ok, call_err, past_ok, past_err, misplaced}
 
@@ -34,14 +34,14 @@ no_room : (seen : Seen) (lines : List Line) → seen.clients ≡ lines ∷ [] �
 no_room seen lines e h = rw e (grind (arith, nat_tests))
 
 pub goes_past : {lines : List Line} {count : ℕ} {names : NameTable} (seen new : Seen) (word : List ℕ) (args : List (List ℕ)) (after : NameTable) (read : Result Step Stop)
-    → Stands seen lines count names → 100000 ≤ length lines → Agrees after read (judged_row (row_of word count names args)) → Goes new (Err (past_limit read)) (settled_form (called_form seen word args))
+    → Stands seen lines count names → 100000 ≤ length lines → Judges after read (judged_row (row_of word count names args)) → Goes new (Err (past_limit read)) (settled_form (called_form seen word args))
 unfolding called_form
 goes_past seen new word args after (Ok step) s full h = past_ok seen _ step after (begun seen _ s.clients) (no_room seen _ s.clients full) (same_row seen word args s ∙ h)
 goes_past seen new word args after (Err Memory) s full h = tt
 goes_past seen new word args after (Err (Fault kind)) s full h = past_err seen _ kind (begun seen _ s.clients) (no_room seen _ s.clients full) (same_row seen word args s ∙ h)
 
 pub goes_err : {lines : List Line} {count : ℕ} {names : NameTable} (seen new : Seen) (word : List ℕ) (args : List (List ℕ)) (after : NameTable) (stop : Stop)
-    → Stands seen lines count names → length lines < 100000 → Agrees after (Err stop) (judged_row (row_of word count names args)) → Goes new (Err stop) (settled_form (called_form seen word args))
+    → Stands seen lines count names → length lines < 100000 → Judges after (Err stop) (judged_row (row_of word count names args)) → Goes new (Err stop) (settled_form (called_form seen word args))
 unfolding called_form
 goes_err seen new word args after Memory s few h = tt
 goes_err seen new word args after (Fault kind) s few h = call_err seen _ kind (begun seen _ s.clients) (room seen _ s.clients few) (same_row seen word args s ∙ h)

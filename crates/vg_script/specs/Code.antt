@@ -25,9 +25,9 @@ Passes test kind (Ok x) = test ≡ true
 Passes test kind (Err k) = (k ≡ kind) × (test ≡ false)
 
 -- A test was passed and the answer is this, or the answer is a fault of this kind.
-abbrev pub Reads : {X : Type 0} → Bool → X → Kind → Result X Kind → Type 0
-Reads test value kind (Ok x) = (test ≡ true) × (x ≡ value)
-Reads test value kind (Err k) = (k ≡ kind) × (test ≡ false)
+abbrev pub Yields : {X : Type 0} → Bool → X → Kind → Result X Kind → Type 0
+Yields test value kind (Ok x) = (test ≡ true) × (x ≡ value)
+Yields test value kind (Err k) = (k ≡ kind) × (test ≡ false)
 
 -- There is such a value and the answer is it, or there is none and the answer is a fault of this kind.
 abbrev pub Finds : {X : Type 0} → Option X → Kind → Result X Kind → Type 0
@@ -51,7 +51,7 @@ decoded (high ∷ low ∷ more) = (digit_or_16 high % 16 * 16 + digit_or_16 low 
 
 -- What the reading of a line gave, where memory may be wanting: the call and the names after it, or the
 -- kind of the fault.
-abbrev pub Agrees : NameTable → Result Step Stop → Result (Step × NameTable) Kind → Type 0
-Agrees after (Ok step) judged = judged ≡ Ok (step, after)
-Agrees after (Err Memory) judged = ⊤
-Agrees after (Err (Fault kind)) judged = judged ≡ Err kind
+abbrev pub Judges : NameTable → Result Step Stop → Result (Step × NameTable) Kind → Type 0
+Judges after (Ok step) judged = judged ≡ Ok (step, after)
+Judges after (Err Memory) judged = ⊤
+Judges after (Err (Fault kind)) judged = judged ≡ Err kind

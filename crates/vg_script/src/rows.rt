@@ -5,7 +5,7 @@ ghost use Rattle.vg_script.specs.declared.names.NameKind.TheVariants as kinds;
 ghost use Rattle.vg_script.specs.Words.{is_number, value};
 ghost use Rattle.vg_script.specs.Seen.{is_kind};
 ghost use Rattle.vg_script.specs.Rows.{judged_row, is_format, is_scanout, are_numbers, are_any, area_of, queue_of, shape_of, info_row, edid_row, buffer_row, store_row, load_row, send_row, flush_row, take_row, drop_row, hide_row, show_row, flip_row, uuid_row, close_row, raw_row};
-ghost use Rattle.vg_script.specs.Code.{table_of, Agrees, Passes, Reads, Finds};
+ghost use Rattle.vg_script.specs.Code.{table_of, Judges, Passes, Yields, Finds};
 
 use crate::kind::{Kind, Stop};
 use crate::names::{NameKind, Names, define, end, is_defined, is_kind};
@@ -17,7 +17,7 @@ use vg_list::Seq;
 /// `info`
 #[tactic(auto, unfolding(crate::specs::Rows::info_row))]
 pub(crate) fn info(names: &Names) -> Result<Step, Stop>
-    ensures { Agrees (table_of names.now) result
+    ensures { Judges (table_of names.now) result
         (judged_row (info_row (table_of names.now))) }
 {
     Ok(Step::Info)
@@ -26,7 +26,7 @@ pub(crate) fn info(names: &Names) -> Result<Step, Stop>
 /// `edid S`
 #[tactic(auto, unfolding(crate::specs::Rows::edid_row))]
 pub(crate) fn edid(names: &Names, scanout: &[u8]) -> Result<Step, Stop>
-    ensures { Agrees (table_of names.now) result
+    ensures { Judges (table_of names.now) result
         (judged_row (edid_row (table_of names.now) scanout.now)) }
 {
     spelled(scanout)?;
@@ -44,7 +44,7 @@ pub(crate) fn buffer<'a>(
     height: &[u8],
     format: &[u8],
 ) -> Result<Step, Stop>
-    ensures { Agrees (table_of names.new) result
+    ensures { Judges (table_of names.new) result
         (judged_row (buffer_row (table_of names.old) name.now width.now height.now format.now)) }
 {
     spelled(width)?;
@@ -76,7 +76,7 @@ pub(crate) fn store(
     hex: &[u8],
     times: &[u8],
 ) -> Result<Step, Stop>
-    ensures { Agrees (table_of names.now) result
+    ensures { Judges (table_of names.now) result
         (judged_row (store_row (table_of names.now) name.now offset.now hex.now times.now)) }
 {
     spelled(offset)?;
@@ -110,7 +110,7 @@ pub(crate) fn load(
     offset: &[u8],
     size: &[u8],
 ) -> Result<Step, Stop>
-    ensures { Agrees (table_of names.now) result
+    ensures { Judges (table_of names.now) result
         (judged_row (load_row (table_of names.now) name.now offset.now size.now)) }
 {
     spelled(offset)?;
@@ -137,7 +137,7 @@ pub(crate) fn send(
     width: &[u8],
     height: &[u8],
 ) -> Result<Step, Stop>
-    ensures { Agrees (table_of names.now) result
+    ensures { Judges (table_of names.now) result
         (judged_row (send_row (table_of names.now) name.now x.now y.now width.now height.now)) }
 {
     all_spelled(x, y, width, height)?;
@@ -158,7 +158,7 @@ pub(crate) fn flush(
     width: &[u8],
     height: &[u8],
 ) -> Result<Step, Stop>
-    ensures { Agrees (table_of names.now) result
+    ensures { Judges (table_of names.now) result
         (judged_row (flush_row (table_of names.now) name.now x.now y.now width.now height.now)) }
 {
     all_spelled(x, y, width, height)?;
@@ -172,7 +172,7 @@ pub(crate) fn flush(
 #[tactic(auto, unfolding(crate::specs::Rows::take_row))]
 pub(crate) fn take(names: &Names, displays: usize, scanout: &[u8]) -> Result<Step, Stop>
     requires { displays ≤ 16 }
-    ensures { Agrees (table_of names.now) result
+    ensures { Judges (table_of names.now) result
         (judged_row (take_row displays (table_of names.now) scanout.now)) }
 {
     spelled(scanout)?;
@@ -184,7 +184,7 @@ pub(crate) fn take(names: &Names, displays: usize, scanout: &[u8]) -> Result<Ste
 #[tactic(auto, unfolding(crate::specs::Rows::drop_row))]
 pub(crate) fn drop_scanout(names: &Names, displays: usize, scanout: &[u8]) -> Result<Step, Stop>
     requires { displays ≤ 16 }
-    ensures { Agrees (table_of names.now) result
+    ensures { Judges (table_of names.now) result
         (judged_row (drop_row displays (table_of names.now) scanout.now)) }
 {
     spelled(scanout)?;
@@ -196,7 +196,7 @@ pub(crate) fn drop_scanout(names: &Names, displays: usize, scanout: &[u8]) -> Re
 #[tactic(auto, unfolding(crate::specs::Rows::hide_row))]
 pub(crate) fn hide(names: &Names, displays: usize, scanout: &[u8]) -> Result<Step, Stop>
     requires { displays ≤ 16 }
-    ensures { Agrees (table_of names.now) result
+    ensures { Judges (table_of names.now) result
         (judged_row (hide_row displays (table_of names.now) scanout.now)) }
 {
     spelled(scanout)?;
@@ -218,7 +218,7 @@ pub(crate) fn show(
     height: &[u8],
 ) -> Result<Step, Stop>
     requires { displays ≤ 16 }
-    ensures { Agrees (table_of names.now) result
+    ensures { Judges (table_of names.now) result
         (judged_row (show_row displays (table_of names.now) scanout.now name.now x.now y.now width.now height.now)) }
 {
     spelled(scanout)?;
@@ -244,7 +244,7 @@ pub(crate) fn flip(
     name: &[u8],
 ) -> Result<Step, Stop>
     requires { displays ≤ 16 }
-    ensures { Agrees (table_of names.now) result
+    ensures { Judges (table_of names.now) result
         (judged_row (flip_row displays (table_of names.now) scanout.now name.now)) }
 {
     spelled(scanout)?;
@@ -257,7 +257,7 @@ pub(crate) fn flip(
 /// `uuid A`
 #[tactic(auto, unfolding(crate::specs::Rows::uuid_row))]
 pub(crate) fn uuid(alloc: Global, names: &Names, name: &[u8]) -> Result<Step, Stop>
-    ensures { Agrees (table_of names.now) result
+    ensures { Judges (table_of names.now) result
         (judged_row (uuid_row (table_of names.now) name.now)) }
 {
     known(names, name)?;
@@ -268,7 +268,7 @@ pub(crate) fn uuid(alloc: Global, names: &Names, name: &[u8]) -> Result<Step, St
 /// `close A`
 #[tactic(auto, unfolding(crate::specs::Rows::close_row))]
 pub(crate) fn close(alloc: Global, names: &mut Names, name: &[u8]) -> Result<Step, Stop>
-    ensures { Agrees (table_of names.new) result
+    ensures { Judges (table_of names.new) result
         (judged_row (close_row (table_of names.old) name.now)) }
 {
     known(names, name)?;
@@ -287,7 +287,7 @@ pub(crate) fn raw(
     shape: &[u8],
     hex: &[u8],
 ) -> Result<Step, Stop>
-    ensures { Agrees (table_of names.now) result
+    ensures { Judges (table_of names.now) result
         (judged_row (raw_row (table_of names.now) queue.now room.now shape.now hex.now)) }
 {
     let cursor = queue_of(queue)?;
@@ -392,7 +392,7 @@ pub(crate) fn spelled(word: &[u8]) -> Result<(), Kind>
 /// The code of a format.
 fn format_code(number: &[u8]) -> Result<u32, Kind>
     requires { is_number number.now ≡ true }
-    ensures { Reads (is_format number.now) (value number.now) Kind.Limit result }
+    ensures { Yields (is_format number.now) (value number.now) Kind.Limit result }
 {
     match value(number) {
         code @ (1..=4 | 67 | 68 | 121 | 134) => Ok(code as u32),
@@ -404,7 +404,7 @@ fn format_code(number: &[u8]) -> Result<u32, Kind>
 fn display(number: &[u8], displays: usize) -> Result<u32, Kind>
     requires spelled { is_number number.now ≡ true }
     requires few { displays ≤ 16 }
-    ensures { Reads (is_scanout displays number.now) (value number.now) Kind.Limit result }
+    ensures { Yields (is_scanout displays number.now) (value number.now) Kind.Limit result }
 {
     let scanout = value(number);
     if scanout < displays as u64 {
@@ -433,7 +433,7 @@ fn area(x: &[u8], y: &[u8], width: &[u8], height: &[u8]) -> Result<Area, Kind>
     requires y { is_number y.now ≡ true }
     requires width { is_number width.now ≡ true }
     requires height { is_number height.now ≡ true }
-    ensures { Reads (are_any x.now y.now width.now height.now)
+    ensures { Yields (are_any x.now y.now width.now height.now)
         (area_of x.now y.now width.now height.now) Kind.Limit result }
 {
     Ok(Area {

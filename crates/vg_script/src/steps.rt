@@ -3,7 +3,7 @@
 ghost use Rattle.std.specs.Prelude.{◌≤◌, map};
 ghost use Rattle.vg_script.specs.Rows.{judged_row, row_of, store_row, show_row};
 ghost use Rattle.vg_script.specs.Words.{four_args, six_args};
-ghost use Rattle.vg_script.specs.Code.{table_of, Agrees};
+ghost use Rattle.vg_script.specs.Code.{table_of, Judges};
 
 use crate::args::with_args;
 use crate::kind::{Kind, Stop};
@@ -22,7 +22,7 @@ pub(crate) fn step_of<'a>(
     args: &[&'a [u8]],
 ) -> Result<Step, Stop>
     requires { displays ≤ 16 }
-    ensures { Agrees (table_of names.new) result
+    ensures { Judges (table_of names.new) result
         (judged_row (row_of word.now displays (table_of names.old) (map (λ arg. arg.now) args.now))) }
 {
     if word == b"info".as_slice() {
@@ -74,7 +74,7 @@ pub(crate) fn step_of<'a>(
 }
 
 fn store(alloc: Global, names: &Names, args: &[&[u8]]) -> Result<Step, Stop>
-    ensures { Agrees (table_of names.now) result
+    ensures { Judges (table_of names.now) result
         (judged_row (four_args (store_row (table_of names.now)) (map (λ arg. arg.now) args.now))) }
 {
     with_args!(args, [name, offset, hex, times] => rows::store(alloc, names, name, offset, hex, times))
@@ -82,7 +82,7 @@ fn store(alloc: Global, names: &Names, args: &[&[u8]]) -> Result<Step, Stop>
 
 fn show(alloc: Global, names: &Names, displays: usize, args: &[&[u8]]) -> Result<Step, Stop>
     requires { displays ≤ 16 }
-    ensures { Agrees (table_of names.now) result
+    ensures { Judges (table_of names.now) result
         (judged_row (six_args (show_row displays (table_of names.now)) (map (λ arg. arg.now) args.now))) }
 {
     with_args!(args, [scanout, name, x, y, width, height] => rows::show(alloc, names, displays, scanout, name, x, y, width, height))

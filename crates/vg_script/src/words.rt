@@ -4,7 +4,7 @@ ghost use Rattle.std.specs.List.{list_all, before_first, after_first, position_o
 ghost use Rattle.std.specs.Int.{is_in_range};
 ghost use Rattle.std.specs.Char.{is_ascii_digit, is_ascii_alphanumeric};
 ghost use Rattle.std.specs.Prelude.{◌≡◌, ◌==◌, ◌+◌, ◌-◌, ◌*◌, ◌^◌, ◌<◌, ◌≤◌, min, true, false, length, map, IfOk, OnOk, MatchResult};
-ghost use Rattle.vg_script.specs.Code.{Reads, Decodes, digit_or_16, decoded};
+ghost use Rattle.vg_script.specs.Code.{Yields, Decodes, digit_or_16, decoded};
 ghost use Rattle.vg_script.specs.Words.{is_text, words_of, is_number, value, is_within, is_hex, is_hex_digit, hex_bytes, is_hex_or_none, bytes_or_none, is_name};
 
 use crate::kind::{Kind, Stop};
@@ -187,7 +187,7 @@ pub(crate) fn value(number: &[u8]) -> u64
 /// A number within its limits.
 pub(crate) fn limited(number: &[u8], low: u32, high: u32) -> Result<u32, Kind>
     requires { is_number number.now ≡ true }
-    ensures { Reads (is_within low high number.now) (value number.now) Kind.Limit result }
+    ensures { Yields (is_within low high number.now) (value number.now) Kind.Limit result }
 {
     let sum = value(number);
     if sum < u64::from(low) || u64::from(high) < sum {
