@@ -1,5 +1,5 @@
 use Rattle.std.specs.Prelude.{◌≡◌, ◌≤◌, ◌+◌, ℕ, Bool, List, [], ◌∷◌, length, count_by, true, false, not}
-use Rattle.std.specs.List.{AllByRecursion}
+use Rattle.std.specs.List.{All, AllByRecursion}
 use Rattle.vg_wire.specs.declared.request.Queue.{Queue}
 use Rattle.vg_wire.specs.declared.request.Queue.TheVariants.{Control, Cursor}
 use Rattle.vg_machine.specs.declared.history.Entry.{Entry}
@@ -8,10 +8,19 @@ use Rattle.vg_machine.specs.Replay.{replay}
 use Rattle.vg_machine.specs.Order.{Sound, client_of}
 use Rattle.vg_script.specs.declared.types.Line.{Line}
 use Rattle.vg_script.specs.declared.types.Script.{Script}
+use Rattle.vg_script.specs.declared.types.Step.{Step}
 use Rattle.vg_run.specs.declared.journal.Journal.{Journal}
 use Rattle.vg_machine.specs.declared.setup.Setup.{Setup}
 use Rattle.vg_run.specs.Setup.{setup_of}
 use Rattle.vg_run.specs.Calls.{Follows}
+
+-- Whether a step leaves its command unfinished, for a later line to wait for. None does yet.
+abbrev pub is_left : Step → Bool
+is_left step = false
+
+-- No client leaves a command unfinished.
+abbrev pub AreFinished : List (List Line) → Type 0
+AreFinished clients = All (λ lines. All (λ line. is_left line.step ≡ false) lines) clients
 
 -- Each client follows its lines, from this client on.
 abbrev pub FollowAll : Setup → ℕ → List (List Line) → List Entry → Type 0
