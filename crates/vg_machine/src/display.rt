@@ -2,7 +2,6 @@
 
 ghost use Rattle.std.specs.Prelude.{◌≡◌, ◌==◌, ◌<◌, ◌-◌, ◌^◌, if◌then◌else◌, bit_and, IfOk, IfSome, OnOk, OnErr};
 ghost use Rattle.vg_wire_ext.specs.Commands.{FitsEntries};
-ghost use Rattle.vg_wire_ext.specs.Response.{response_kind};
 ghost use Rattle.vg_machine.specs.Setup.{IsSetup};
 ghost use Rattle.vg_machine.specs.State.{counted, start};
 ghost use Rattle.vg_machine.specs.ActStep.{KeepsIfRefused, act_step};

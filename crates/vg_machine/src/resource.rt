@@ -6,7 +6,7 @@ ghost use Rattle.std.specs.Map.{values_of};
 ghost use Rattle.vg_machine.specs.Backing.{transfer};
 ghost use Rattle.vg_machine.specs.Receive.{receive};
 ghost use Rattle.vg_machine.specs.Fits.{AreHeld, IsWhole};
-ghost use Rattle.vg_machine.specs.Resource.{blank, create, create_refusals, pixel_bytes, remove, resource_at, with_pixels};
+ghost use Rattle.vg_machine.specs.Resource.{blank, create, create_refusals, pixel_bytes, remove, resource_at};
 ghost use Rattle.vg_machine.specs.Refusals.{refusal_of};
 ghost use Rattle.vg_formats.specs.Formats.{format_of};
 

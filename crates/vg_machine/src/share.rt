@@ -3,10 +3,10 @@
 ghost use Rattle.std.specs.BTreeMap.{is_at};
 ghost use Rattle.std.specs.Map.{lookup};
 ghost use Rattle.std.specs.Ordering.{nat_cmp};
-ghost use Rattle.std.specs.Prelude.{◌≡◌, ◌==◌, ◌+◌, ◌^◌, ◌-◌, not, true, ◌<◌, ◌≤◌, [], ◌∷◌, Some, None, ℕ, List, IfOk, IfErr, IfSome, IfNone, OnOk, OnErr, length, replicate, option_copied, slice_get};
+ghost use Rattle.std.specs.Prelude.{◌≡◌, ◌==◌, ◌+◌, ◌^◌, ◌-◌, not, true, ◌<◌, [], Some, None, IfOk, IfErr, OnOk, OnErr, length, replicate};
 ghost use Rattle.vg_pages.specs.Memory.{AreTakeable, Memory, after_taking};
 ghost use Rattle.vg_machine.specs.Cells.{pages_of};
-ghost use Rattle.vg_machine.specs.Share.{SharesPages, buffer_at, drop_refusal, ended, entered, free_refusal, freed, given_back, has_entered, has_holder, holds_once, is_holder, is_leased, leased, new_buffer, pages_at, place_refusal, release_refusal, released, released_buffer, released_entries, some_holder, take_refusal, unleased, with_buffer};
+ghost use Rattle.vg_machine.specs.Share.{SharesPages, drop_refusal, ended, entered, free_refusal, freed, given_back, has_entered, has_holder, holds_once, is_holder, is_leased, leased, new_buffer, pages_at, place_refusal, release_refusal, released, released_buffer, released_entries, some_holder, take_refusal, unleased, with_buffer};
 
 use crate::lists::remove_number;
 use std::alloc::{AllocError, Global};

@@ -1,7 +1,7 @@
 -- Bytes with zeros behind them, place by place: past the bytes each place has 0, whether there is one or not.
 use Rattle.std.proofs.Common.{◌≡◌, ℕ, zero, suc, ◌+◌, ◌-◌, ◌<◌, ◌≤◌, List, [], ◌∷◌, ◌++◌, length, get_or, take, drop, replicate, min, sym, ap, ◌∙◌, refl, inl, inr, arith}
 use Rattle.std.proofs.lemmas.Bool.{cases_lt}
-use Rattle.std.proofs.lemmas.List.{get_or_past, get_or-take, get_or-drop, get_or_append_left, get_or-append_right, get_or-replicate, length-append, length-take, length-drop, length-replicate, replicate-append-replicate, append_assoc}
+use Rattle.std.proofs.lemmas.List.{get_or_past, get_or-take, get_or-drop, get_or_append_left, get_or-append_right, length-append, length-take, length-drop, length-replicate, replicate-append-replicate, append_assoc}
 use Rattle.vg_places.proofs.Places.{tabulate_from_places}
 use Rattle.vg_pages.specs.Memory.{padded}
 

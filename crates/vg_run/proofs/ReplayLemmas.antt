@@ -1,4 +1,4 @@
-use Rattle.std.proofs.Common.{◌≡◌, ◌+◌, ◌*◌, ◌==◌, ap, refl, ℕ, Bool, true, false, cond, length, drop, Option, Some, None, List, [], ◌∷◌, ◌++◌, count_by}
+use Rattle.std.proofs.Common.{◌≡◌, ◌+◌, ◌*◌, ◌==◌, refl, ℕ, Bool, true, false, cond, length, drop, Option, Some, None, List, [], ◌∷◌, ◌++◌, count_by}
 use Rattle.std.specs.Prelude.{is_some}
 use Rattle.std.specs.List.{fold}
 use Rattle.vg_wire_ext.specs.declared.command.Command.{Command}

@@ -1,5 +1,5 @@
 -- The request of a command: by the way that it goes, and its ordinal on its lane.
-use Rattle.std.specs.Prelude.{◌≡◌, ℕ, ◌+◌, ◌^◌, ◌<◌, ◌≤◌, nat_lt, if◌then◌else◌, List, length, Option, Result, Ok}
+use Rattle.std.specs.Prelude.{◌≡◌, ℕ, ◌+◌, ◌^◌, ◌<◌, ◌≤◌, nat_lt, if◌then◌else◌, List, length, Option, Ok}
 use Rattle.vg_wire.specs.declared.header.Header.{Header}
 use Rattle.vg_wire.specs.declared.request.Queue.{Queue}
 use Rattle.vg_wire.specs.declared.request.Queue.TheVariants as queues
@@ -15,7 +15,7 @@ use Rattle.vg_machine.specs.declared.act.Act.TheVariants as acts
 use Rattle.vg_machine.specs.declared.act.What.{What}
 use Rattle.vg_machine.specs.declared.history.Request.{Request}
 use Rattle.vg_machine.specs.declared.holds.Holds.{Holds}
-use Rattle.vg_machine.specs.Holds.{denied_of, denied_request}
+use Rattle.vg_machine.specs.Holds.{denied_request}
 use Rattle.vg_machine.specs.Lane.{lane_of}
 use Rattle.vg_run.specs.declared.task.Change.{Change}
 use Rattle.vg_run.specs.declared.task.Change.TheVariants.{NewBuffer}

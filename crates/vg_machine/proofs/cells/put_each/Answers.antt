@@ -1,5 +1,5 @@
 -- One repetition more.
-use Rattle.std.proofs.Common.{◌≡◌, ◌*◌, ◌∙◌, ◌++◌, sym, ap, length, arith, append_assoc, append-nil, List, ℕ}
+use Rattle.std.proofs.Common.{◌∙◌, ◌++◌, sym, ap, arith, append_assoc, append-nil, List, ℕ}
 use Rattle.vg_machine.specs.Cells.{repeated}
 use Rattle.vg_machine.proofs.CellLemmas.{repeated_none, repeated_more}
 use Rattle.vg_machine.proofs.cells.put_each.Goals as goal

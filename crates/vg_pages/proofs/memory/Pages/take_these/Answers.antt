@@ -1,5 +1,5 @@
 -- Pages that are taken may be given back, and what could be given back still may.
-use Rattle.std.proofs.Common.{◌≡◌, ap, sym, subst, ◌∙◌, length, true, arith}
+use Rattle.std.proofs.Common.{ap, sym, subst, ◌∙◌, length, true, arith}
 use Rattle.vg_pages.specs.Memory.{AreGivable, AreTakeable}
 use Rattle.vg_pages.proofs.Marked.{givable-taken, givable-after_taking, length-marked, length-zeroed, marked-in_place}
 use Rattle.vg_pages.proofs.memory.Pages.take_these.Goals as goal
