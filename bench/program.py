@@ -1,4 +1,6 @@
 """The program that is timed, and what its runs cost."""
+import collections
+import json
 import os
 import pathlib
 import subprocess
@@ -7,6 +9,9 @@ import tempfile
 import time
 
 HERE = pathlib.Path(__file__).resolve().parent.parent
+
+# What a run took: seconds, seconds of processor time, and the most bytes of memory. And how it ended.
+Run = collections.namedtuple("Run", "seconds processor memory status")
 
 
 def built():
@@ -17,9 +22,23 @@ def built():
     return HERE / "crates" / "vgpu" / "out" / "vgpu"
 
 
-def chosen():
-    """The program that the command names, or the one that is built."""
-    return pathlib.Path(sys.argv[1]).resolve() if len(sys.argv) > 1 else built()
+def chosen(words=sys.argv[1:]):
+    """The program that the first of these words names, or without one the program that is built."""
+    if not words:
+        return built()
+    program = pathlib.Path(words[0]).resolve()
+    if not os.access(program, os.X_OK):
+        sys.exit(f"{program} can't be run")
+    return program
+
+
+def run(words, given, taken, said=None, env=None):
+    """Runs these words over open files, for input, output and errors."""
+    with tempfile.TemporaryFile() as told:
+        launch = [sys.executable, "-I", "-S", HERE / "bench" / "launch.py", str(told.fileno()), *words]
+        subprocess.run(launch, stdin=given, stdout=taken, stderr=said, env=env, pass_fds=[told.fileno()], check=True)
+        told.seek(0)
+        return Run(*json.load(told))
 
 
 def cost(program, text, turns=5):
@@ -30,13 +49,19 @@ def cost(program, text, turns=5):
         for _ in range(turns):
             given.seek(0)
             with tempfile.TemporaryFile() as said:
-                child = subprocess.Popen([program, "run"], stdin=given, stdout=none, stderr=said)
-                _, status, usage = os.wait4(child.pid, 0)
-                child.returncode = os.waitstatus_to_exitcode(status)
+                ran = run([program, "run"], given, none, said)
                 said.seek(0)
                 words = said.read().decode()
-            least = min(least, usage.ru_utime + usage.ru_stime)
-    return least, child.returncode, words.strip()
+            least = min(least, ran.processor)
+    return least, ran.status, words.strip()
+
+
+def spent(program, script, turns=5):
+    """The least seconds of processor time of some runs over a script, which have to end with status 0."""
+    seconds, status, said = cost(program, script.encode(), turns)
+    if status != 0:
+        sys.exit(f"status {status}, {said}")
+    return seconds
 
 
 def copied(act, turns=5):
