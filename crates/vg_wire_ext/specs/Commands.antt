@@ -81,25 +81,26 @@ pub record Row : Type 0 where
   pub size : List ℕ → ℕ
   pub fields : List ℕ → Command
 
-abbrev pub row : ℕ → (List ℕ → Command) → Option Row
-row n read = Some (record { size = λ body. n; fields = read })
+-- The row of a command whose fields always take this many bytes.
+abbrev pub fixed : ℕ → (List ℕ → Command) → Option Row
+fixed n read = Some (record { size = λ body. n; fields = read })
 
 -- The row of each kind, beside those of the 2D commands (VIRTIO 1.2, 5.7.6.7, enum virtio_gpu_ctrl_type).
 unfoldable pub row_of : ℕ → Option Row
 row_of kind =
-    if kind == GET_CAPSET_INFO then row 8 capset_info
-    else if kind == GET_CAPSET then row 8 capset
-    else if kind == GET_EDID then row 8 edid
-    else if kind == RESOURCE_ASSIGN_UUID then row 8 assign_uuid
+    if kind == GET_CAPSET_INFO then fixed 8 capset_info
+    else if kind == GET_CAPSET then fixed 8 capset
+    else if kind == GET_EDID then fixed 8 edid
+    else if kind == RESOURCE_ASSIGN_UUID then fixed 8 assign_uuid
     else if kind == RESOURCE_CREATE_BLOB then Some (record { size = create_blob_size; fields = create_blob })
-    else if kind == SET_SCANOUT_BLOB then row 72 set_scanout_blob
-    else if kind == CTX_CREATE then row 72 ctx_create
-    else if kind == CTX_DESTROY then row 0 ctx_destroy
-    else if kind == CTX_ATTACH_RESOURCE then row 8 ctx_attach
-    else if kind == CTX_DETACH_RESOURCE then row 8 ctx_detach
-    else if kind == SUBMIT_3D then row 8 submit
-    else if kind == UPDATE_CURSOR then row 32 update_cursor
-    else if kind == MOVE_CURSOR then row 32 move_cursor
+    else if kind == SET_SCANOUT_BLOB then fixed 72 set_scanout_blob
+    else if kind == CTX_CREATE then fixed 72 ctx_create
+    else if kind == CTX_DESTROY then fixed 0 ctx_destroy
+    else if kind == CTX_ATTACH_RESOURCE then fixed 8 ctx_attach
+    else if kind == CTX_DETACH_RESOURCE then fixed 8 ctx_detach
+    else if kind == SUBMIT_3D then fixed 8 submit
+    else if kind == UPDATE_CURSOR then fixed 32 update_cursor
+    else if kind == MOVE_CURSOR then fixed 32 move_cursor
     else None
 
 -- What a row makes of the bytes after the header: None where they are fewer than its fields take.
