@@ -7,7 +7,7 @@ use Rattle.std.proofs.lemmas.List.Elements.{All-map, All-replicate, All-set}
 use Rattle.vg_formats.specs.declared.rect.Rect.{Rect}
 use Rattle.vg_machine.specs.declared.resource.Resource.{Resource}
 use Rattle.vg_machine.specs.declared.scanout.Binding.{Binding}
-use Rattle.vg_machine.specs.declared.scanout.Screen.{Screen}
+use Rattle.vg_machine.specs.Scanout.{Screen}
 use Rattle.vg_machine.specs.Refusals.{refusal_of, unless_refused}
 use Rattle.vg_machine.specs.Resource.{resource_at, without}
 use Rattle.vg_machine.specs.Scanout.{ScanoutState, after_flush, bind, bound, flush, flushed, flushed_screen, are_too_many, fresh_screen, is_bound_to, is_flushed, is_too_large, unbound_from}

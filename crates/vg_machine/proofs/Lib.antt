@@ -7,6 +7,7 @@ pub mod ActLemmas
 pub mod CellLemmas
 pub mod ShareLemmas
 pub mod ScreenLemmas
+pub mod PanelLemmas
 pub mod SnapLemmas
 pub mod ShapeLemmas
 pub mod EdidLemmas

@@ -26,7 +26,7 @@ use Rattle.vg_shown.proofs.ShownLemmas.{length-shown_bytes}
 use Rattle.vg_pages.specs.Memory.{Memory}
 use Rattle.vg_wire_ext.specs.declared.response.Response.TheVariants as responses
 use Rattle.vg_machine.specs.declared.resource.Resource.{Resource}
-use Rattle.vg_machine.specs.declared.scanout.Screen.{Screen}
+use Rattle.vg_machine.specs.Scanout.{Screen}
 use Rattle.vg_machine.specs.Backing.{backing_at, backing_bytes, bytes_of_rect, entries_at, total, transfer_end, transferred}
 use Rattle.vg_machine.specs.Fits.{AreHeld, IsScreen, IsWhole}
 use Rattle.vg_machine.specs.Pixels.{CopiesEachPixel, CopiesPixels, ShowsEachPixel, ShowsScreen, pixel_of}

@@ -7,7 +7,7 @@ use Rattle.std.proofs.lemmas.List.Sums.{sum_by-append}
 use Rattle.vg_places.proofs.Filled.{length-filled}
 use Rattle.std.proofs.lemmas.List.Elements.{All-get_or, All-map}
 use Rattle.vg_formats.specs.declared.rect.Rect.{Rect}
-use Rattle.vg_machine.specs.declared.scanout.Screen.{Screen}
+use Rattle.vg_machine.specs.Scanout.{Screen}
 use Rattle.vg_machine.specs.declared.scanout.Frame.{Frame}
 use Rattle.vg_machine.specs.Scanout.{unbound_screen, is_bound_to, is_flushed, flushed_screen, flushed_pixels, area_of, after_flush, frame_bytes, new_frame, new_frames, new_frame_bytes, new_bytes, flush, ScanoutState}
 use Rattle.std.proofs.lemmas.Bool.Decides.{nat_tests}

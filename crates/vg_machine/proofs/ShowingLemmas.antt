@@ -9,7 +9,7 @@ use Rattle.vg_formats.specs.declared.rect.Rect.{Rect}
 use Rattle.vg_formats.specs.Formats.{format_of}
 use Rattle.vg_machine.specs.declared.resource.Resource.{Resource}
 use Rattle.vg_machine.specs.declared.scanout.Binding.{Binding}
-use Rattle.vg_machine.specs.declared.scanout.Screen.{Screen}
+use Rattle.vg_machine.specs.Scanout.{Screen}
 use Rattle.vg_pages.specs.Memory.{Memory}
 use Rattle.vg_machine.specs.Receive.{receive, receive_refusal, with_received}
 use Rattle.vg_machine.specs.Refusals.{refusal_of, unless_refused}

@@ -7,7 +7,7 @@ use Rattle.vg_pages.specs.Memory.{Memory, HoldsRange}
 use Rattle.vg_machine.specs.declared.backing.Run.{Run}
 use Rattle.vg_machine.specs.declared.resource.Resource.{Resource}
 use Rattle.vg_machine.specs.declared.scanout.Binding.{Binding}
-use Rattle.vg_machine.specs.declared.scanout.Screen.{Screen}
+use Rattle.vg_machine.specs.Scanout.{Screen}
 use Rattle.vg_wire_ext.specs.declared.response.Response.{Response}
 use Rattle.vg_wire_ext.specs.declared.response.Response.TheVariants as responses
 use Rattle.vg_machine.specs.Backing.{total}

@@ -9,6 +9,7 @@ pub mod Receive
 pub mod Uuids
 pub mod Scanout
 pub mod Fits
+pub mod Panels
 pub mod Cells
 pub mod Share
 pub mod Holds

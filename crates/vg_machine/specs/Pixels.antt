@@ -4,7 +4,7 @@ use Rattle.vg_formats.specs.declared.rect.Rect.{Rect}
 use Rattle.vg_formats.specs.Formats.{shown_bytes}
 use Rattle.vg_formats.specs.Pixels.{Covers}
 use Rattle.vg_machine.specs.declared.resource.Resource.{Resource}
-use Rattle.vg_machine.specs.declared.scanout.Screen.{Screen}
+use Rattle.vg_machine.specs.Scanout.{Screen}
 use Rattle.vg_machine.specs.Backing.{backing_bytes, entries_at}
 use Rattle.vg_machine.specs.Resource.{resource_at}
 use Rattle.vg_machine.specs.State.{State}

@@ -7,9 +7,13 @@ use Rattle.vg_places.specs.declared.rectangles.Area.{Area}
 use Rattle.vg_shown.specs.Shown.{shown_rows}
 use Rattle.vg_machine.specs.declared.scanout.Binding.{Binding}
 use Rattle.vg_machine.specs.declared.scanout.Frame.{Frame}
-use Rattle.vg_machine.specs.declared.scanout.Screen.{Screen}
 use Rattle.vg_wire.specs.Kinds.{ERR_OUT_OF_MEMORY}
 use Rattle.vg_machine.specs.Refusals.{refusal_of, unless_refused}
+
+-- The screen of a scanout that is bound: the pixels that it shows, in the order blue, green, red, alpha.
+pub record Screen : Type 0 where
+  pub binding : Binding
+  pub pixels : List ℕ
 
 -- What the scanouts have: of each, from scanout 0, its screen where it is bound, and None where it is disabled; and the
 -- frames, in the order in which they were made.

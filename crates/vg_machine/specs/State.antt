@@ -4,7 +4,7 @@ use Rattle.vg_formats.specs.declared.entry.MemEntry.{MemEntry}
 use Rattle.vg_pages.specs.Memory.{Memory, fresh_memory}
 use Rattle.vg_machine.specs.declared.resource.Resource.{Resource}
 use Rattle.vg_machine.specs.declared.scanout.Binding.{Binding}
-use Rattle.vg_machine.specs.declared.scanout.Screen.{Screen}
+use Rattle.vg_machine.specs.Scanout.{Screen}
 use Rattle.vg_machine.specs.declared.setup.Setup.{Setup}
 use Rattle.vg_formats.specs.Pixels.{is_inside}
 use Rattle.vg_machine.specs.Fits.{AreHeld}

@@ -38,7 +38,7 @@ impl Display {
                 rect,
                 scanout,
                 resource,
-            } => self.set_scanout(alloc, rect, *scanout, *resource),
+            } => Ok(self.set_scanout(rect, *scanout, *resource)),
             Command2d::Flush { rect, resource } => self.flush(alloc, rect, *resource),
             Command2d::Transfer {
                 rect,
@@ -91,50 +91,36 @@ impl Display {
         Response::Nodata
     }
 
-    fn set_scanout(
-        &mut self,
-        alloc: Global,
-        rect: &Rect,
-        scanout: u32,
-        resource: u32,
-    ) -> Result<Response, AllocError>
-        ensures step { IfOk result (λ response. set_scanout_step self.old rect.now scanout resource ≡ (self.new, response)) }
-        ensures err { OnErr result (self.new ≡ self.old) }
+    fn set_scanout(&mut self, rect: &Rect, scanout: u32, resource: u32) -> Response
+        ensures step { set_scanout_step self.old rect.now scanout resource ≡ (self.new, result) }
     {
         if self.setup.displays.len() <= scanout as usize {
-            return Ok(Response::Error {
+            return Response::Error {
                 code: ERR_INVALID_SCANOUT_ID,
-            });
+            };
         }
         if resource == 0 {
             self.scanouts.unbind(scanout);
-            return Ok(Response::Nodata);
+            return Response::Nodata;
         }
-        self.show(alloc, rect, scanout, resource)
+        self.show(rect, scanout, resource)
     }
 
     /// Binds a scanout to a rectangle of a resource.
-    fn show(
-        &mut self,
-        alloc: Global,
-        rect: &Rect,
-        scanout: u32,
-        resource: u32,
-    ) -> Result<Response, AllocError>
+    fn show(&mut self, rect: &Rect, scanout: u32, resource: u32) -> Response
         requires scanout { scanout < length self.old.setup.displays }
         requires resource { resource ≢ 0 }
-        ensures step { IfOk result (λ response. set_scanout_step self.old rect.now scanout resource ≡ (self.new, response)) }
-        ensures err { OnErr result (self.new ≡ self.old) }
+        ensures step { set_scanout_step self.old rect.now scanout resource ≡ (self.new, result) }
     {
         let Some(surface) = self.resources.get(resource) else {
-            return Ok(Response::Error {
+            return Response::Error {
                 code: ERR_INVALID_RESOURCE_ID,
-            });
+            };
         };
         if rect.is_empty() || !rect.inside(surface.width, surface.height) {
-            return Ok(Response::Error {
+            return Response::Error {
                 code: ERR_INVALID_PARAMETER,
-            });
+            };
         }
         let binding = Binding {
             resource,
@@ -145,8 +131,7 @@ impl Display {
             stride: 4 * surface.width,
             offset: 0,
         };
-        let done = self.scanouts.bind(alloc, scanout, binding)?;
-        Ok(response_of(done))
+        response_of(self.scanouts.bind(scanout, binding))
     }
 
     fn flush(&mut self, alloc: Global, rect: &Rect, resource: u32) -> Result<Response, AllocError>

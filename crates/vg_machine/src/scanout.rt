@@ -1,9 +1,10 @@
 //! The scanouts: what they are bound to, what they show, and what they have shown (VIRTIO 1.2, 5.7.6.8).
 
-ghost use Rattle.std.specs.Prelude.{◌≡◌, ◌<◌, ◌+◌, ◌-◌, ◌*◌, ◌^◌, [], ◌∷◌, Some, None, All, IfOk, OnErr, if◌then◌else◌, length, map, min, replicate, option_copied, option_to_list};
+ghost use Rattle.std.specs.Prelude.{◌≡◌, ◌<◌, ◌≤◌, ◌+◌, ◌-◌, ◌*◌, ◌^◌, [], ◌∷◌, Some, None, All, IfOk, OnErr, if◌then◌else◌, length, map, min, replicate, option_copied, option_to_list};
 ghost use Rattle.vg_formats.specs.Pixels.{HasPixels, LiesWithin, common_of};
 ghost use Rattle.vg_machine.specs.Fits.{FitSurface, FitsSurface, IsScreen};
-ghost use Rattle.vg_machine.specs.Scanout.{after_flush, bind, binding_at, flush, frame_of, is_flushed, new_bytes, new_frame, new_frame_bytes, new_frames, pixels_with, snap, unbound, unbound_from, unbound_screen};
+ghost use Rattle.vg_machine.specs.Panels.{ArePanels, IsPanel, bytes_made, is_touched, next_number, numbered, numbered_one, pixels_in, screen_in, screens_in, unbound_panel};
+ghost use Rattle.vg_machine.specs.Scanout.{bind, binding_at, flush, frame_of, new_frame, new_frame_bytes, new_frames, pixels_with, snap, unbound, unbound_from};
 
 use std::alloc::{AllocError, Global};
 use std::marker::Model;
@@ -32,11 +33,12 @@ pub struct Binding {
     pub offset: u32,
 }
 
-/// The screen of a scanout that is bound: the pixels that it shows, in the order blue, green, red, alpha.
-#[derive(Debug, Drop, Clone)]
-pub(crate) struct Screen {
+/// A scanout that is bound. Its screen has the pixels of a frame, that of the number `shown`; all its bytes are 0 where
+/// it hasn't made one yet.
+#[derive(Clone, Copy, Debug)]
+pub(crate) struct Panel {
     pub(crate) binding: Binding,
-    pub(crate) pixels: Seq<u8>,
+    pub(crate) shown: Option<usize>,
 }
 
 /// One picture of a scanout.
@@ -56,7 +58,7 @@ pub struct Frame {
 /// The state of all scanouts.
 #[derive(Debug, Drop)]
 pub(crate) struct Scanouts {
-    screens: Vec<Option<Screen>>,
+    panels: Vec<Option<Panel>>,
     frames: Vec<Frame>,
     /// How many bytes the frames have.
     bytes: u64,
@@ -65,14 +67,14 @@ pub(crate) struct Scanouts {
 impl Model for Scanouts {
     ghost use Rattle.std.specs.Prelude.{◌≡◌, ◌≤◌, ◌<◌, ◌^◌, length};
     ghost use Rattle.std.specs.List.{All};
-    ghost use Rattle.vg_machine.specs.Fits.{IsScreen};
+    ghost use Rattle.vg_machine.specs.Panels.{ArePanels, screens_in};
     ghost use Rattle.vg_machine.specs.Scanout.{ScanoutState, frame_bytes};
 
     ghost Value = { ScanoutState };
 
-    ghost view = { λ s. record { screens = s.screens.items; frames = s.frames.items } };
+    ghost view = { λ s. record { screens = screens_in s.frames.items s.panels.items; frames = s.frames.items } };
 
-    ghost invariant = { λ s. (s.bytes ≡ frame_bytes s.frames.items) × (s.bytes ≤ 268435456) × All IsScreen s.screens.items × (length s.screens.items < 2 ^ 32) };
+    ghost invariant = { λ s. (s.bytes ≡ frame_bytes s.frames.items) × (s.bytes ≤ 268435456) × ArePanels s.frames.items s.panels.items × (length s.panels.items < 2 ^ 32) };
 }
 
 impl Scanouts {
@@ -80,9 +82,9 @@ impl Scanouts {
     pub(crate) fn new(alloc: Global, count: u32) -> Result<Scanouts, AllocError>
         ensures { IfOk result (λ scanouts. scanouts ≡ record { screens = replicate count None; frames = [] }) }
     {
-        let screens = vec![in alloc; None; count as usize]?;
+        let panels = vec![in alloc; None; count as usize]?;
         Ok(Scanouts {
-            screens,
+            panels,
             frames: Vec::new(alloc),
             bytes: 0,
         })
@@ -90,23 +92,19 @@ impl Scanouts {
 
     /// Binds a scanout, or answers the code of its refusal. All bytes of its screen are 0 then.
     #[tactic(auto, unfolding(crate::specs::Scanout::bind, crate::specs::Scanout::fresh_screen))]
-    pub(crate) fn bind(
-        &mut self,
-        alloc: Global,
-        scanout: u32,
-        binding: Binding,
-    ) -> Result<Result<(), u32>, AllocError>
+    pub(crate) fn bind(&mut self, scanout: u32, binding: Binding) -> Result<(), u32>
         requires scanout { scanout < length self.old.screens }
-        ensures done { IfOk result (λ done. (self.new, done) ≡ bind scanout binding self.old) }
-        ensures err { OnErr result (self.new ≡ self.old) }
+        ensures { (self.new, result) ≡ bind scanout binding self.old }
     {
         let size = pixel_bytes(binding.rect.width, binding.rect.height);
         if size > u128::from(MOST_SCREEN_BYTES) {
-            return Ok(Err(ERR_OUT_OF_MEMORY));
+            return Err(ERR_OUT_OF_MEMORY);
         }
-        let pixels = Seq::from_vec(zeros(alloc, size as usize)?);
-        self.screens[scanout as usize] = Some(Screen { binding, pixels });
-        Ok(Ok(()))
+        self.panels[scanout as usize] = Some(Panel {
+            binding,
+            shown: None,
+        });
+        Ok(())
     }
 
     /// Disables a scanout.
@@ -114,22 +112,22 @@ impl Scanouts {
         requires scanout { scanout < length self.old.screens }
         ensures { self.new ≡ unbound scanout self.old }
     {
-        self.screens[scanout as usize] = None;
+        self.panels[scanout as usize] = None;
     }
 
     /// Disables each scanout that is bound to the resource.
     pub(crate) fn unbind_resource(&mut self, resource: u32)
         ensures { self.new ≡ unbound_from resource self.old }
     {
-        disable_each(self.screens.as_mut_slice(), resource);
+        disable_each(self.panels.as_mut_slice(), resource);
     }
 
     /// What a scanout is bound to. None where it is disabled, or where there is no such scanout.
     pub(crate) fn binding(&self, scanout: u32) -> Option<&Binding>
         ensures { option_copied result ≡ binding_at scanout self.now }
     {
-        match self.screens.get(scanout as usize) {
-            Some(Some(screen)) => Some(&screen.binding),
+        match self.panels.get(scanout as usize) {
+            Some(Some(panel)) => Some(&panel.binding),
             _ => None,
         }
     }
@@ -149,15 +147,17 @@ impl Scanouts {
         ensures done { IfOk result (λ done. (self.new, done) ≡ flush entry resource rect.now surface.now self.old) }
         ensures err { OnErr result (self.new ≡ self.old) }
     {
-        let bytes = bytes_after(self.screens.as_slice(), resource, rect, self.bytes);
+        let before = self.frames.as_slice();
+        let panels = self.panels.as_slice();
+        let bytes = bytes_after(before, panels, resource, rect, self.bytes);
         if bytes > MOST_FRAME_BYTES {
             return Ok(Err(ERR_OUT_OF_MEMORY));
         }
-        let screens = self.screens.as_slice();
-        let mut frames = make_frames(alloc, entry, resource, rect, surface, screens)?;
+        let mut frames = make_frames(alloc, entry, resource, rect, surface, before, panels)?;
+        let first = before.len();
         // What can fail comes before the first screen changes.
         self.frames.append(&mut frames)?;
-        show_on_each(self.screens.as_mut_slice(), resource, rect, surface);
+        show_on_each(self.panels.as_mut_slice(), resource, rect, first);
         self.bytes = bytes;
         Ok(Ok(()))
     }
@@ -175,14 +175,14 @@ impl Scanouts {
         ensures done { IfOk result (λ done. (self.new, done) ≡ snap entry scanout self.old) }
         ensures err { OnErr result (self.new ≡ self.old) }
     {
-        let Some(screen) = &self.screens[scanout as usize] else {
+        let Some(panel) = self.panels[scanout as usize] else {
             return Ok(Ok(()));
         };
-        let bytes = self.bytes + screen.pixels.len() as u64;
+        let bytes = self.bytes + panel.size();
         if bytes > MOST_FRAME_BYTES {
             return Ok(Err(ERR_OUT_OF_MEMORY));
         }
-        let frame = copy_frame(alloc, entry, scanout, screen)?;
+        let frame = copy_frame(alloc, entry, scanout, self.frames.as_slice(), &panel)?;
         self.frames.push(frame)?;
         self.bytes = bytes;
         Ok(Ok(()))
@@ -192,7 +192,7 @@ impl Scanouts {
     pub(crate) fn are_screens(&self)
         ensures { All IsScreen self.now.screens }
     {
-        let _ = &self.screens;
+        let _ = &self.panels;
     }
 
     /// The frames, in the order in which they were made.
@@ -210,10 +210,10 @@ impl Scanouts {
     }
 }
 
-impl Screen {
+impl Panel {
     /// The pixels of the screen that a flush of `rect` touches, if it has one and is bound to the resource.
     fn touched(&self, resource: u32, rect: &Rect) -> Option<Rect>
-        ensures { result ≡ (if is_flushed resource rect.now (Some self.now) then Some (common_of self.now.binding.rect rect.now) else None) }
+        ensures { result ≡ (if is_touched resource rect.now (Some self.now) then Some (common_of self.now.binding.rect rect.now) else None) }
     {
         if self.binding.resource == resource {
             self.binding.rect.meet(rect)
@@ -221,75 +221,97 @@ impl Screen {
             None
         }
     }
-}
 
-/// Disables each of the scanouts that is bound to the resource.
-fn disable_each(screens: &mut [Option<Screen>], resource: u32)
-    ensures { screens.new ≡ map (unbound_screen resource) screens.old }
-{
-    for i in 0..screens.len() {
-        disable(&mut screens[i], resource);
+    /// How many bytes the screen has.
+    fn size(&self) -> u64
+        requires { 4 * self.now.binding.rect.width * self.now.binding.rect.height ≤ 33554432 }
+        ensures { result ≡ 4 * self.now.binding.rect.width * self.now.binding.rect.height }
+    {
+        pixel_bytes(self.binding.rect.width, self.binding.rect.height) as u64
+    }
+
+    /// A copy of the screen's pixels.
+    fn pixels(&self, alloc: Global, frames: &[Frame]) -> Result<Vec<u8>, AllocError>
+        requires { IsPanel frames.now (Some self.now) }
+        ensures { IfOk result (λ pixels. pixels.items ≡ pixels_in frames.now self.now) }
+    {
+        match self.shown {
+            Some(number) => frames[number].pixels.as_slice().to_vec(alloc),
+            None => zeros(alloc, self.size() as usize),
+        }
     }
 }
 
-fn disable(screen: &mut Option<Screen>, resource: u32)
-    ensures { screen.new ≡ unbound_screen resource screen.old }
+/// Disables each of the scanouts that is bound to the resource.
+fn disable_each(panels: &mut [Option<Panel>], resource: u32)
+    ensures { panels.new ≡ map (unbound_panel resource) panels.old }
 {
-    let bound = match screen {
-        Some(screen) => screen.binding.resource == resource,
+    for i in 0..panels.len() {
+        disable(&mut panels[i], resource);
+    }
+}
+
+fn disable(panel: &mut Option<Panel>, resource: u32)
+    ensures { panel.new ≡ unbound_panel resource panel.old }
+{
+    let bound = match panel {
+        Some(panel) => panel.binding.resource == resource,
         None => false,
     };
     if bound {
-        *screen = None;
+        *panel = None;
     }
 }
 
 /// How many bytes all frames have after a flush, if they have so many before it; no more than a `u64` can tell.
-fn bytes_after(screens: &[Option<Screen>], resource: u32, rect: &Rect, bytes: u64) -> u64
-    ensures { result ≡ min (bytes + new_bytes resource rect.now screens.now) (2 ^ 64 - 1) }
+fn bytes_after(
+    frames: &[Frame],
+    panels: &[Option<Panel>],
+    resource: u32,
+    rect: &Rect,
+    bytes: u64,
+) -> u64
+    requires { ArePanels frames.now panels.now }
+    ensures { result ≡ min (bytes + bytes_made resource rect.now frames.now panels.now) (2 ^ 64 - 1) }
 {
     let mut sum = bytes;
-    for screen in screens {
-        sum = sum.saturating_add(bytes_of_frame(screen, resource, rect));
+    for panel in panels {
+        sum = sum.saturating_add(bytes_of_frame(frames, panel, resource, rect));
     }
     sum
 }
 
 /// How many bytes the frame has that a flush makes of a screen.
-fn bytes_of_frame(screen: &Option<Screen>, resource: u32, rect: &Rect) -> u64
-    ensures { result ≡ new_frame_bytes resource rect.now screen.now }
+fn bytes_of_frame(frames: &[Frame], panel: &Option<Panel>, resource: u32, rect: &Rect) -> u64
+    requires { IsPanel frames.now panel.now }
+    ensures { result ≡ new_frame_bytes resource rect.now (screen_in frames.now panel.now) }
 {
-    let Some(screen) = screen else { return 0 };
-    match screen.touched(resource, rect) {
-        Some(_) => screen.pixels.len() as u64,
+    let Some(panel) = panel else { return 0 };
+    match panel.touched(resource, rect) {
+        Some(_) => panel.size(),
         None => 0,
     }
 }
 
-/// The frames that a flush makes.
+/// The frames that a flush makes, behind these.
 fn make_frames(
     alloc: Global,
     entry: u64,
     resource: u32,
     rect: &Rect,
     surface: &[u8],
-    screens: &[Option<Screen>],
+    before: &[Frame],
+    panels: &[Option<Panel>],
 ) -> Result<Vec<Frame>, AllocError>
-    requires count { length screens.now < 2 ^ 32 }
-    requires screens { All IsScreen screens.now }
-    requires surface { All (FitSurface resource (length surface.now)) screens.now }
-    ensures { IfOk result (λ frames. frames.items ≡ new_frames entry resource rect.now surface.now 0 screens.now) }
+    requires count { length panels.now < 2 ^ 32 }
+    requires panels { ArePanels before.now panels.now }
+    requires surface { All (FitSurface resource (length surface.now)) (screens_in before.now panels.now) }
+    ensures { IfOk result (λ frames. frames.items ≡ new_frames entry resource rect.now surface.now 0 (screens_in before.now panels.now)) }
 {
     let mut frames = Vec::new(alloc);
-    for i in 0..screens.len() {
+    for i in 0..panels.len() {
         if let Some(frame) = make_frame(
-            alloc,
-            entry,
-            i as u32,
-            resource,
-            rect,
-            surface,
-            &screens[i],
+            alloc, entry, i as u32, resource, rect, surface, before, &panels[i],
         )? {
             frames.push(frame)?;
         }
@@ -305,68 +327,72 @@ fn make_frame(
     resource: u32,
     rect: &Rect,
     surface: &[u8],
-    screen: &Option<Screen>,
+    before: &[Frame],
+    panel: &Option<Panel>,
 ) -> Result<Option<Frame>, AllocError>
-    requires screen { IsScreen screen.now }
-    requires surface { FitSurface resource (length surface.now) screen.now }
-    ensures { IfOk result (λ frame. option_to_list frame ≡ new_frame entry resource rect.now surface.now scanout screen.now) }
+    requires panel { IsPanel before.now panel.now }
+    requires surface { FitSurface resource (length surface.now) (screen_in before.now panel.now) }
+    ensures { IfOk result (λ frame. option_to_list frame ≡ new_frame entry resource rect.now surface.now scanout (screen_in before.now panel.now)) }
 {
-    let Some(screen) = screen else {
+    let Some(panel) = panel else { return Ok(None) };
+    let Some(common) = panel.touched(resource, rect) else {
         return Ok(None)
     };
-    let Some(common) = screen.touched(resource, rect) else {
-        return Ok(None)
-    };
-    let mut pixels = screen.pixels.as_slice().to_vec(alloc)?;
-    show_part(&screen.binding, &common, surface, pixels.as_mut_slice());
+    let mut pixels = panel.pixels(alloc, before)?;
+    show_part(&panel.binding, &common, surface, pixels.as_mut_slice());
     Ok(Some(Frame {
         scanout,
-        width: screen.binding.rect.width,
-        height: screen.binding.rect.height,
+        width: panel.binding.rect.width,
+        height: panel.binding.rect.height,
         entry,
         pixels: Seq::from_vec(pixels),
     }))
 }
 
 /// The frame of a screen as it is.
-fn copy_frame(alloc: Global, entry: u64, scanout: u32, screen: &Screen) -> Result<Frame, AllocError>
-    ensures { IfOk result (λ frame. frame ∷ [] ≡ frame_of entry scanout (Some screen.now)) }
+fn copy_frame(
+    alloc: Global,
+    entry: u64,
+    scanout: u32,
+    frames: &[Frame],
+    panel: &Panel,
+) -> Result<Frame, AllocError>
+    requires { IsPanel frames.now (Some panel.now) }
+    ensures { IfOk result (λ frame. frame ∷ [] ≡ frame_of entry scanout (screen_in frames.now (Some panel.now))) }
 {
     Ok(Frame {
         scanout,
-        width: screen.binding.rect.width,
-        height: screen.binding.rect.height,
+        width: panel.binding.rect.width,
+        height: panel.binding.rect.height,
         entry,
-        pixels: Seq::from_vec(screen.pixels.as_slice().to_vec(alloc)?),
+        pixels: Seq::from_vec(panel.pixels(alloc, frames)?),
     })
 }
 
-/// Shows a rectangle of the resource on each of the screens that is bound to it and has a pixel of it.
-fn show_on_each(screens: &mut [Option<Screen>], resource: u32, rect: &Rect, surface: &[u8])
-    requires screens { All IsScreen screens.old }
-    requires surface { All (FitSurface resource (length surface.now)) screens.old }
-    ensures { screens.new ≡ map (after_flush resource rect.now surface.now) screens.old }
+/// Has each of the screens that a flush touches show its new frame, of which the first has this number.
+fn show_on_each(panels: &mut [Option<Panel>], resource: u32, rect: &Rect, first: usize)
+    requires { first + length panels.old < 2 ^ 64 }
+    ensures { panels.new ≡ numbered resource rect.now first panels.old }
 {
-    for i in 0..screens.len() {
-        show_on(&mut screens[i], resource, rect, surface);
+    let mut next = first;
+    for i in 0..panels.len() {
+        next = show_on(&mut panels[i], resource, rect, next);
     }
 }
 
-fn show_on(screen: &mut Option<Screen>, resource: u32, rect: &Rect, surface: &[u8])
-    requires screen { IsScreen screen.old }
-    requires surface { FitSurface resource (length surface.now) screen.old }
-    ensures { screen.new ≡ after_flush resource rect.now surface.now screen.old }
+/// Has the screen show the frame of this number, if a flush touches it, and gives the next one's number.
+fn show_on(panel: &mut Option<Panel>, resource: u32, rect: &Rect, number: usize) -> usize
+    requires { number < 2 ^ 64 - 1 }
+    ensures panel { panel.new ≡ numbered_one resource rect.now number panel.old }
+    ensures next { result ≡ next_number resource rect.now number panel.old }
 {
-    if let Some(screen) = screen {
-        if let Some(common) = screen.touched(resource, rect) {
-            show_part(
-                &screen.binding,
-                &common,
-                surface,
-                screen.pixels.as_mut_slice(),
-            );
+    if let Some(panel) = panel {
+        if panel.touched(resource, rect).is_some() {
+            panel.shown = Some(number);
+            return number + 1;
         }
     }
+    number
 }
 
 /// Shows this part of a screen as the surface has it now.

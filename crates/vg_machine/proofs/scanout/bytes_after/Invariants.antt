@@ -1,6 +1,6 @@
 use Rattle.std.proofs.Common.{◌≡◌, ◌+◌, ◌-◌, ◌^◌, min, take}
-use Rattle.vg_machine.specs.Scanout.{new_bytes}
+use Rattle.vg_machine.specs.Panels.{bytes_made}
 use Rattle.vg_machine.proofs.scanout.bytes_after.Given as goal
 
-abbrev pub invariant-loop-screen : goal.invariant-loop-screen
-invariant-loop-screen l = l.sum ≡ min (l.bytes + new_bytes l.resource l.rect (take l.screen-index l.screens)) (2 ^ 64 - 1)
+abbrev pub invariant-loop-panel : goal.invariant-loop-panel
+invariant-loop-panel l = l.sum ≡ min (l.bytes + bytes_made l.resource l.rect l.frames (take l.panel-index l.panels)) (2 ^ 64 - 1)

@@ -1,12 +1,12 @@
-use Rattle.std.proofs.Common.{◌∙◌, ap, slice_set}
-use Rattle.vg_machine.specs.Scanout.{unbound_screen}
+use Rattle.std.proofs.Common.{None, ◌∙◌, ap, slice_set}
+use Rattle.vg_machine.specs.Panels.{unbound_panel}
 use Rattle.vg_machine.proofs.ScreenLemmas.{mapped-more, mapped-all}
 use Rattle.vg_machine.proofs.scanout.disable_each.Goals as goal
 
 pub loop-i-preserved : goal.loop-i-preserved
 loop-i-preserved c =
-    ap (λ screen. slice_set c.loop-i.screens c.loop-i.i screen) c.disable.ensures
-    ∙ mapped-more (unbound_screen c.args.resource) c.args.screens.now c.loop-i.screens c.loop-i.i c.index-screens-i.result c.loop-i-test.true c.loop-i.invariant
+    ap (λ panel. slice_set c.loop-i.panels c.loop-i.i panel) c.disable.ensures
+    ∙ mapped-more (unbound_panel c.args.resource) c.args.panels.now c.loop-i.panels c.loop-i.i None c.loop-i-test.true c.loop-i.invariant
 
 pub returns : goal.returns
-returns c = c.loop-i.invariant ∙ mapped-all (unbound_screen c.args.resource) c.args.screens.now c.loop-i.i c.loop-i-test.false
+returns c = c.loop-i.invariant ∙ mapped-all (unbound_panel c.args.resource) c.args.panels.now c.loop-i.i c.loop-i-test.false

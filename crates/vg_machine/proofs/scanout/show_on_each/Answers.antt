@@ -1,21 +1,19 @@
-use Rattle.std.proofs.Common.{◌∙◌, ap, slice_set, length}
-use Rattle.vg_machine.specs.Scanout.{after_flush}
-use Rattle.vg_machine.proofs.ScreenLemmas.{mapped-more, mapped-all, mapped-holds}
+use Rattle.std.proofs.Common.{rules, ◌≡◌, ◌≤◌, ◌+◌, ◌∙◌, ap, get_or, length, slice_set, refl, arith, None}
+use Rattle.std.proofs.lemmas.List.{length-set}
+use Rattle.vg_machine.specs.Panels.{next_number, numbered, numbered_one}
+use Rattle.vg_machine.proofs.PanelLemmas.{next-most, number-end, number-more}
 use Rattle.vg_machine.proofs.scanout.show_on_each.Goals as goal
-use Rattle.vg_machine.specs.Fits.{FitSurface, IsScreen}
 
 pub loop-i-preserved : goal.loop-i-preserved
 loop-i-preserved c =
-    ap (λ screen. slice_set c.loop-i.screens c.loop-i.i screen) c.show_on.ensures
-    ∙ mapped-more (after_flush c.args.resource c.args.rect.now c.args.surface.now) c.args.screens.now c.loop-i.screens c.loop-i.i c.index-screens-i.result c.loop-i-test.true c.loop-i.invariant
+    let a = c.args in
+    let so_far = c.loop-i.invariant in
+    let panel = get_or c.loop-i.panels c.loop-i.i None in
+    let more = number-more a.resource a.rect.now a.panels.now c.loop-i.panels c.loop-i.i c.loop-i.next panel None _ (omega (arith, c.loop-i-test.true, so_far.2)) so_far.1 refl so_far.0 in
+    rw (c.show_on-next.ensures.panel, c.show_on-next.ensures.next)
+    (more.0, more.1, length-set c.loop-i.panels c.loop-i.i _ ∙ so_far.2, omega (arith, so_far.3, next-most a.resource a.rect.now c.loop-i.next panel))
 
 pub returns : goal.returns
-returns c = c.loop-i.invariant ∙ mapped-all (after_flush c.args.resource c.args.rect.now c.args.surface.now) c.args.screens.now c.loop-i.i c.loop-i-test.false
-
-pub show_on-requires : goal.show_on-requires
-show_on-requires c =
-    let flush = after_flush c.args.resource c.args.rect.now c.args.surface.now in
-    record {
-      screen = mapped-holds IsScreen flush c.args.screens.now c.loop-i.screens c.loop-i.i c.index-screens-i.result c.loop-i-test.true c.loop-i.invariant c.requires.screens;
-      surface = mapped-holds (FitSurface c.args.resource (length c.args.surface.now)) flush c.args.screens.now c.loop-i.screens c.loop-i.i c.index-screens-i.result c.loop-i-test.true c.loop-i.invariant c.requires.surface;
-    }
+returns c =
+    let so_far = c.loop-i.invariant in
+    number-end c.args.resource c.args.rect.now c.args.panels.now c.loop-i.panels c.loop-i.i c.loop-i.next _ (omega (arith, c.loop-i-test.false, so_far.2)) so_far.1 so_far.0

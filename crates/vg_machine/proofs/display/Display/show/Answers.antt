@@ -10,14 +10,14 @@ use Rattle.vg_machine.proofs.ShowingLemmas.{found-shown}
 use Rattle.vg_machine.proofs.BoundLemmas.{showing-bind, shows-binding, within-true}
 use Rattle.vg_machine.proofs.display.Display.show.Goals as goal
 
-pub invariant_of-self-2 : goal.invariant_of-self-2
-invariant_of-self-2 c =
+pub invariant_of-self : goal.invariant_of-self
+invariant_of-self c =
     let was = c.self.invariant in
     let s = c.self.inside in
     let surface = c.in-Some.surface.now in
     let binding = binding_of c.args.resource c.args.rect.now surface in
     let shows = found-shown binding (resource_at c.args.resource s.resources) surface (sym c.in-Some.ensures.value) (shows-binding c.args.resource c.args.rect.now surface (sym c.if-is_empty.ensures) (within-true c.args.rect.now surface.width surface.height (search rules) (search rules))) in
-    let now = showing-bind s.resources c.args.scanout binding s.scanouts c.bind.new.self c.in_ok-done.done _ c.in_ok-done.ensures.done shows (record { count_is = was.screens; showing = was.showing }) in
+    let now = showing-bind s.resources c.args.scanout binding s.scanouts c.bind.new.self c.bind.result _ c.bind.ensures shows (record { count_is = was.screens; showing = was.showing }) in
     record {
       setup = was.setup;
       pages = was.pages;
@@ -30,12 +30,14 @@ invariant_of-self-2 c =
       given = was.given;
     }
 
-pub returns-clause-step : goal.returns-clause-step
-returns-clause-step c =
+pub returns : goal.returns
+returns c =
     let s = c.self.inside in
     let surface = c.in-Some.surface.now in
     let there : nat_le (length s.setup.displays) c.args.scanout ≡ false = grind (arith, nat_tests) in
     let some : (c.args.resource == 0) ≡ false = grind (arith, nat_tests) in
     let fits : (is_empty c.args.rect.now || not (is_inside c.args.rect.now surface.width surface.height)) ≡ false = search rules in
-    rw (c.response_of.ensures, ← c.self.view_is)
-    (step-show (record { setup = s.setup; entries = s.entries; memory = s.pages; resources = s.resources; backings = s.backings; uuids = s.uuids; scanouts = s.scanouts; share = s.share }) c.args.rect.now c.args.scanout c.args.resource surface c.bind.new.self c.in_ok-done.done there some (sym c.in-Some.ensures.value) fits c.in_ok-done.ensures.done)
+    record {
+      step = rw (c.response_of.ensures, ← c.self.view_is)
+          (step-show (record { setup = s.setup; entries = s.entries; memory = s.pages; resources = s.resources; backings = s.backings; uuids = s.uuids; scanouts = s.scanouts; share = s.share }) c.args.rect.now c.args.scanout c.args.resource surface c.bind.new.self c.bind.result there some (sym c.in-Some.ensures.value) fits c.bind.ensures);
+    }
