@@ -1,20 +1,25 @@
 -- What is kept of the scanouts, and the screens that it stands for.
-use Rattle.std.proofs.Common.{◌≡◌, ℕ, zero, suc, ◌+◌, ◌*◌, ◌<◌, ◌≤◌, Bool, true, false, cond, List, [], ◌∷◌, ◌++◌, length, map, take, drop, get_or, slice_set, replicate, Option, Some, None, refl, sym, ap, ◌∙◌, subst, arith, add-one, append_assoc}
+use Rattle.std.proofs.Common.{◌≡◌, ℕ, zero, suc, ◌+◌, ◌-◌, ◌*◌, ◌<◌, ◌≤◌, Bool, true, false, cond, List, [], ◌∷◌, ◌++◌, length, map, take, drop, get_or, slice_set, replicate, Option, Some, None, refl, sym, ap, ◌∙◌, subst, arith, add-one, append_assoc}
 use Rattle.std.specs.Prelude.{slice_get}
 use Rattle.std.specs.List.{All}
 use Rattle.std.proofs.lemmas.List.{append-nil, map-set, drop_all, take_all, length-append, length-map, length-drop}
 use Rattle.std.proofs.lemmas.List.{get_or-map}
 use Rattle.std.proofs.lemmas.List.Sums.{sum_by-append, sum_by_push}
 use Rattle.std.proofs.lemmas.List.Elements.{All-cons, All-tail, All-nil, All-map}
+use Rattle.std.proofs.lemmas.Option.{get_or_from_slice_get}
+use Rattle.vg_places.specs.declared.rectangles.Area.{Area}
+use Rattle.vg_places.specs.Places.{tabulate}
+use Rattle.vg_places.specs.Rectangles.{filled, place_of}
+use Rattle.vg_places.proofs.Filled.{filled-inside, filled_whole, row-fits}
+use Rattle.vg_shown.specs.Shown.{shown_byte}
 use Rattle.vg_formats.specs.declared.rect.Rect.{Rect}
-use Rattle.vg_formats.specs.Pixels.{are_meeting}
 use Rattle.vg_machine.specs.declared.scanout.Binding.{Binding}
 use Rattle.vg_machine.specs.declared.scanout.Frame.{Frame}
 use Rattle.vg_machine.specs.declared.scanout.Panel.{Panel}
 use Rattle.vg_machine.specs.Fits.{IsScreen}
-use Rattle.vg_machine.specs.Panels.{IsAmong, IsPanel, ArePanels, ShowsFrame, bytes_made, is_panel_of, is_touched, next_number, numbered, numbered_one, pixels_of_frame, pixels_shown, pixels_in, screen_in, screens_in, showing, unbound_panel}
+use Rattle.vg_machine.specs.Panels.{IsAmong, IsPanel, ArePanels, ShowsFrame, IsGround, bytes_made, is_panel_of, is_touched, next_number, numbered, numbered_one, pixels_of_frame, pixels_shown, pixels_in, screen_in, screens_in, unbound_panel}
 use Rattle.std.specs.Prelude.{Result, Ok, nat_lt}
-use Rattle.vg_machine.specs.Scanout.{ScanoutState, Screen, after_flush, bind, fresh_screen, new_bytes, new_frame_bytes, flushed_pixels, frame_bytes, frame_of, is_flushed, new_frame, new_frames, unbound_screen}
+use Rattle.vg_machine.specs.Scanout.{ScanoutState, Screen, after_flush, area_of, pixels_with, bind, fresh_screen, new_bytes, new_frame_bytes, flushed_pixels, frame_bytes, frame_of, new_frames, unbound_screen}
 
 get-front : {X : Type 0} (xs more : List X) (k : ℕ) → k < length xs → slice_get (xs ++ more) k ≡ slice_get xs k
 get-front [] more k within = absurd (omega arith)
@@ -253,3 +258,44 @@ panel-length frames panels scanout found panel within is some are =
 -- the bytes of all frames with one of a screen as it is
 pub bytes-snapped : (entry scanout : ℕ) (frames : List Frame) (panel : Panel) → frame_bytes (frames ++ frame_of entry scanout (screen_in frames (Some panel))) ≡ frame_bytes frames + length (pixels_in frames panel)
 bytes-snapped entry scanout frames panel = sum_by_push (λ (frame : Frame). length frame.pixels) frames _
+
+-- a rectangle of all of a list is filled alike over any other list of that length
+filled-alike : (height row_length : ℕ) (value : ℕ → ℕ → ℕ) (old new : List ℕ) → 0 < row_length → length old ≡ height * row_length → length new ≡ length old
+    → filled (record { row = 0; column = 0; width = row_length; height = height }) row_length value new ≡ filled (record { row = 0; column = 0; width = row_length; height = height }) row_length value old
+filled-alike height row_length value old new some long same =
+    let all : Area = record { row = 0; column = 0; width = row_length; height = height } in
+    let done = filled all row_length value old in
+    let at : (i c : ℕ) → i < height → c < row_length → value i c ≡ get_or done (i * row_length + c) 0 = λ i c row column.
+    (let place : place_of all row_length i c ≡ i * row_length + c = omega arith in
+    let within : i * row_length + c + 1 ≤ length old = row-fits 0 i height row_length c 1 (length old) (i * row_length + c) (omega arith) (omega (arith, column)) row (omega (arith, long)) in
+    sym (get_or_from_slice_get done (i * row_length + c) (value i c) 0
+    (subst (λ k. slice_get done k ≡ Some (value i c)) place (filled-inside all row_length value old i c (omega arith) row column (omega (arith, within, place))))))
+    in
+    filled_whole height row_length value new (λ k. get_or done k 0) some (same ∙ long) at
+    ∙ ap (λ n. tabulate n (λ k. get_or done k 0)) same
+    ∙ sym (filled_whole height row_length value old (λ k. get_or done k 0) some long at)
+
+-- all of a screen is shown over any pixels, as many
+pub whole-ground : (binding : Binding) (own pixels : List ℕ) → 0 < binding.rect.width → length own ≡ 4 * binding.rect.width * binding.rect.height → length pixels ≡ length own
+    → IsGround binding binding.rect own pixels
+whole-ground binding own pixels some long same =
+    let rect = binding.rect in
+    let all : area_of rect rect ≡ record { row = 0; column = 0; width = 4 * rect.width; height = rect.height } =
+    ap (λ n. record { row = n; column = 4 * (rect.x - rect.x); width = 4 * rect.width; height = rect.height }) (omega arith)
+    ∙ ap (λ n. record { row = 0; column = n; width = 4 * rect.width; height = rect.height }) (omega arith)
+    in
+    record {
+      long = same;
+      same = λ surface.
+          (let offset = binding.offset + binding.stride * rect.y + 4 * rect.x in
+          let value = λ (i c : ℕ). shown_byte binding.format (drop (offset + binding.stride * i) surface) c in
+          subst (λ area. filled area (4 * rect.width) value pixels ≡ filled area (4 * rect.width) value own) (sym all)
+          (filled-alike rect.height (4 * rect.width) value own pixels (omega (arith, some)) (omega (arith, long)) same));
+    }
+
+-- a screen's own pixels are such too
+pub own-ground : (binding : Binding) (part : Rect) (own pixels : List ℕ) → pixels ≡ own → IsGround binding part own pixels
+own-ground binding part own pixels is = record {
+  long = ap length is;
+  same = λ surface. ap (pixels_with binding part surface) is;
+}

@@ -1,12 +1,13 @@
 -- What the code keeps of a scanout: its binding, and the number of the frame that has its screen's pixels.
-use Rattle.std.specs.Prelude.{ℕ, ◌+◌, ◌*◌, ◌<◌, ◌==◌, ◌&&◌, Bool, false, if◌then◌else◌, List, [], ◌∷◌, length, map, replicate, slice_get, Option, Some, None}
+use Rattle.std.specs.Prelude.{◌≡◌, ℕ, ◌+◌, ◌*◌, ◌<◌, ◌==◌, ◌&&◌, Bool, false, if◌then◌else◌, List, [], ◌∷◌, length, map, replicate, slice_get, Option, Some, None}
 use Rattle.std.specs.List.{All, sum_by}
 use Rattle.vg_formats.specs.declared.rect.Rect.{Rect}
 use Rattle.vg_formats.specs.Pixels.{are_meeting}
+use Rattle.vg_machine.specs.declared.scanout.Binding.{Binding}
 use Rattle.vg_machine.specs.declared.scanout.Frame.{Frame}
 use Rattle.vg_machine.specs.declared.scanout.Panel.{Panel}
 use Rattle.vg_machine.specs.Fits.{IsScreen}
-use Rattle.vg_machine.specs.Scanout.{Screen, new_frame_bytes}
+use Rattle.vg_machine.specs.Scanout.{Screen, new_frame_bytes, pixels_with}
 
 -- The pixels of a frame, if there is one.
 abbrev pub pixels_of_frame : Option Frame → List ℕ
@@ -76,3 +77,8 @@ numbered id rect number (panel ∷ more) = numbered_one id rect number panel ∷
 -- How many bytes the frames have that a flush makes of these.
 abbrev pub bytes_made : ℕ → Rect → List Frame → List (Option Panel) → ℕ
 bytes_made id rect frames panels = sum_by (λ panel. new_frame_bytes id rect (screen_in frames panel)) panels
+
+-- With this part of a screen shown over them, these pixels are as the screen's own would be.
+pub record IsGround (binding : Binding) (part : Rect) (own pixels : List ℕ) : Type 0 where
+  pub long : length pixels ≡ length own
+  pub same : (surface : List ℕ) → pixels_with binding part surface pixels ≡ pixels_with binding part surface own

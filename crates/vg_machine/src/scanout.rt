@@ -3,7 +3,7 @@
 ghost use Rattle.std.specs.Prelude.{◌≡◌, ◌<◌, ◌≤◌, ◌+◌, ◌-◌, ◌*◌, ◌^◌, [], ◌∷◌, Some, None, All, IfOk, OnErr, if◌then◌else◌, length, map, min, replicate, option_copied, option_to_list};
 ghost use Rattle.vg_formats.specs.Pixels.{HasPixels, LiesWithin, common_of};
 ghost use Rattle.vg_machine.specs.Fits.{FitSurface, FitsSurface, IsScreen};
-ghost use Rattle.vg_machine.specs.Panels.{ArePanels, IsPanel, bytes_made, is_touched, next_number, numbered, numbered_one, pixels_in, screen_in, screens_in, unbound_panel};
+ghost use Rattle.vg_machine.specs.Panels.{ArePanels, IsGround, IsPanel, bytes_made, is_touched, next_number, numbered, numbered_one, pixels_in, screen_in, screens_in, unbound_panel};
 ghost use Rattle.vg_machine.specs.Scanout.{bind, binding_at, flush, frame_of, new_frame, new_frame_bytes, new_frames, pixels_with, snap, unbound, unbound_from};
 
 use std::alloc::{AllocError, Global};
@@ -240,6 +240,19 @@ impl Panel {
             None => zeros(alloc, self.size() as usize),
         }
     }
+
+    /// Pixels to show this part of the screen over: a copy of its own, but where the part is all of it.
+    fn ground(&self, alloc: Global, frames: &[Frame], part: &Rect) -> Result<Vec<u8>, AllocError>
+        requires panel { IsPanel frames.now (Some self.now) }
+        requires some { HasPixels part.now }
+        ensures { IfOk result (λ pixels. IsGround self.now.binding part.now (pixels_in frames.now self.now) pixels.items) }
+    {
+        if *part != self.binding.rect {
+            return self.pixels(alloc, frames);
+        }
+        let pixels = zeros(alloc, self.size() as usize)?;
+        Ok(pixels)
+    }
 }
 
 /// Disables each of the scanouts that is bound to the resource.
@@ -338,7 +351,7 @@ fn make_frame(
     let Some(common) = panel.touched(resource, rect) else {
         return Ok(None)
     };
-    let mut pixels = panel.pixels(alloc, before)?;
+    let mut pixels = panel.ground(alloc, before, &common)?;
     show_part(&panel.binding, &common, surface, pixels.as_mut_slice());
     Ok(Some(Frame {
         scanout,

@@ -1,6 +1,5 @@
-use Rattle.std.proofs.Common.{rules, ◌≡◌, ◌≤◌, ◌+◌, ◌∙◌, ap, get_or, length, slice_set, refl, arith, None}
+use Rattle.std.proofs.Common.{◌∙◌, get_or, refl, arith, None}
 use Rattle.std.proofs.lemmas.List.{length-set}
-use Rattle.vg_machine.specs.Panels.{next_number, numbered, numbered_one}
 use Rattle.vg_machine.proofs.PanelLemmas.{next-most, number-end, number-more}
 use Rattle.vg_machine.proofs.scanout.show_on_each.Goals as goal
 

@@ -1,4 +1,3 @@
-use Rattle.std.proofs.Common.{rules}
 use Rattle.vg_machine.proofs.PanelLemmas.{are-screens}
 use Rattle.vg_machine.proofs.scanout.Scanouts.are_screens.Goals as goal
 

@@ -1,7 +1,6 @@
-use Rattle.std.proofs.Common.{◌≡◌, ◌<◌, ◌≤◌, ◌+◌, ◌∙◌, List, ◌∷◌, [], ◌++◌, length, ap, subst, sym, arith, Ok, Some, Option}
+use Rattle.std.proofs.Common.{◌<◌, ◌∙◌, List, ◌∷◌, [], ◌++◌, length, ap, subst, sym, arith, Ok, Some, Option}
 use Rattle.std.proofs.lemmas.List.{length-map}
 use Rattle.vg_machine.specs.declared.scanout.Frame.{Frame}
-use Rattle.vg_machine.specs.Fits.{IsScreen}
 use Rattle.vg_machine.specs.Panels.{screen_in, screens_in}
 use Rattle.vg_machine.specs.Scanout.{ScanoutState, Screen, frame_bytes, frame_of}
 use Rattle.vg_machine.proofs.PanelLemmas.{are-panels, are-screens, bytes-snapped, panel-length, screen-at, stand-snapped}
