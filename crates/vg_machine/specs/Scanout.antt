@@ -9,7 +9,7 @@ use Rattle.vg_machine.specs.declared.scanout.Binding.{Binding}
 use Rattle.vg_machine.specs.declared.scanout.Frame.{Frame}
 use Rattle.vg_machine.specs.declared.scanout.Screen.{Screen}
 use Rattle.vg_wire.specs.Kinds.{ERR_OUT_OF_MEMORY}
-use Rattle.vg_machine.specs.Refusals.{refusal_of, unless_refused}
+use Rattle.vg_refusals.specs.Refusals.{refusal_of, unless_refused}
 
 -- What the scanouts have: of each, from scanout 0, its screen where it is bound, and None where it is disabled; and the
 -- frames, in the order in which they were made.

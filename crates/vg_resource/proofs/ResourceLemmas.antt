@@ -16,8 +16,7 @@ use Rattle.std.proofs.lemmas.Map.Steps.{set_value_same}
 use Rattle.vg_formats.specs.declared.format.Format.{Format}
 use Rattle.vg_places.proofs.Filled.{length-filled}
 use Rattle.vg_resource.specs.declared.resource.Resource.{Resource}
-use Rattle.vg_resource.specs.Resource.{blank, pixel_bytes, resource_at, with_pixels, without}
-use Rattle.vg_resource.specs.Resource.{IsWhole}
+use Rattle.vg_resource.specs.Resource.{blank, pixel_bytes, resource_at, with_pixels, without, IsWhole}
 
 length-overwritten : (old written : List ℕ) → length (overwritten old written) ≡ length old
 length-overwritten old written =

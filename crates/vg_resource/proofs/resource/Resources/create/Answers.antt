@@ -5,10 +5,9 @@ use Rattle.std.specs.Map.{values_of}
 use Rattle.std.specs.Ordering.{nat_cmp}
 use Rattle.std.proofs.lemmas.Map.Views.{All-values-insert_entry}
 use Rattle.vg_resource.specs.declared.resource.Resource.{Resource}
-use Rattle.vg_resource.specs.Resource.{pixel_bytes, resource_at}
+use Rattle.vg_resource.specs.Resource.{pixel_bytes, resource_at, IsWhole}
 use Rattle.vg_resource.proofs.ResourceLemmas.{bytes-with, whole-blank, length-blank}
 use Rattle.vg_resource.proofs.resource.Resources.create.Goals as goal
-use Rattle.vg_resource.specs.Resource.{IsWhole}
 
 pub invariant_of-self-2 : goal.invariant_of-self-2
 invariant_of-self-2 c =

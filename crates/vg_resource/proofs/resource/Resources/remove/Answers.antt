@@ -6,10 +6,9 @@ use Rattle.std.specs.Ordering.{nat_cmp}
 use Rattle.std.specs.BTreeMap.{is_at}
 use Rattle.std.proofs.lemmas.Map.Views.{All-map-remove_entry}
 use Rattle.vg_resource.specs.declared.resource.Resource.{Resource}
-use Rattle.vg_resource.specs.Resource.{pixel_bytes}
+use Rattle.vg_resource.specs.Resource.{pixel_bytes, IsWhole}
 use Rattle.vg_resource.proofs.ResourceLemmas.{bytes-without}
 use Rattle.vg_resource.proofs.resource.Resources.remove.Goals as goal
-use Rattle.vg_resource.specs.Resource.{IsWhole}
 
 pub overflow_sub-self : goal.overflow_sub-self
 overflow_sub-self c =
