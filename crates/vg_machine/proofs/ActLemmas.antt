@@ -14,17 +14,16 @@ use Rattle.vg_machine.specs.declared.share.Geometry.{Geometry}
 use Rattle.vg_machine.specs.declared.share.ShareRefusal.{ShareRefusal}
 use Rattle.vg_machine.specs.declared.share.Buffer.{Buffer}
 use Rattle.vg_machine.specs.declared.share.ShareRefusal.TheVariants.{NotHeld, OutOfRange}
-use Rattle.vg_machine.specs.Refusals.{refusal_of}
+use Rattle.vg_refusals.specs.Refusals.{refusal_of}
 use Rattle.vg_machine.specs.Cells.{pages_of, repeated, stored}
-use Rattle.vg_machine.specs.Share.{ShareState, SharesPages, buffer_at, ended, entered, freed, given_back, is_holder, leased, pages_at, pages_in, place_refusal, refused_by, released, unleased, with_buffer}
-use Rattle.vg_machine.specs.Fits.{AreHeld}
+use Rattle.vg_machine.specs.Share.{ShareState, SharesPages, buffer_at, ended, entered, freed, given_back, is_holder, leased, pages_at, pages_in, place_refusal, refused_by, released, unleased, with_buffer, drop_refusal, free_refusal, has_holder, release_refusal, reserve_refusal, take_refusal}
+use Rattle.vg_backing.specs.Backing.{AreHeld}
 use Rattle.vg_machine.specs.declared.act.Act.{Act}
 use Rattle.vg_machine.specs.declared.act.Act.TheVariants.{Enter, Reserve, Store, Load, Release, Free, Take, Drop, Denied, Leave}
 use Rattle.vg_machine.specs.declared.act.ActReply.{ActReply}
 use Rattle.vg_machine.specs.declared.act.ActReply.TheVariants as act_replies
-use Rattle.vg_machine.specs.Resource.{resource_at}
+use Rattle.vg_resource.specs.Resource.{resource_at}
 use Rattle.vg_machine.specs.Scanout.{binding_at}
-use Rattle.vg_machine.specs.Share.{drop_refusal, free_refusal, has_holder, release_refusal, reserve_refusal, take_refusal}
 use Rattle.vg_machine.specs.State.{State}
 use Rattle.vg_machine.specs.ActStep.{KeepsIfRefused, effect_of, replied_by, shown_at}
 

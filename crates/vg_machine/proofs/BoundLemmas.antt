@@ -5,18 +5,18 @@ use Rattle.std.proofs.lemmas.Bool.Decides.{nat_tests}
 use Rattle.std.proofs.lemmas.List.{length-map, length-set}
 use Rattle.std.proofs.lemmas.List.Elements.{All-map, All-replicate, All-set}
 use Rattle.vg_formats.specs.declared.rect.Rect.{Rect}
-use Rattle.vg_machine.specs.declared.resource.Resource.{Resource}
+use Rattle.vg_resource.specs.declared.resource.Resource.{Resource}
 use Rattle.vg_machine.specs.declared.scanout.Binding.{Binding}
 use Rattle.vg_machine.specs.Scanout.{Screen}
-use Rattle.vg_machine.specs.Refusals.{refusal_of, unless_refused}
-use Rattle.vg_machine.specs.Resource.{resource_at, without}
+use Rattle.vg_refusals.specs.Refusals.{refusal_of, unless_refused}
+use Rattle.vg_resource.specs.Resource.{resource_at, without, IsWhole}
 use Rattle.vg_machine.specs.Scanout.{ScanoutState, after_flush, bind, bound, flush, flushed, flushed_screen, are_too_many, fresh_screen, is_bound_to, is_flushed, is_too_large, unbound_from}
 use Rattle.vg_machine.specs.State.{IsShowing, ShowsResource, ShowsSome}
 use Rattle.vg_machine.specs.Step.{binding_of}
 use Rattle.vg_machine.proofs.MapLemmas.{remove_other}
 use Rattle.vg_machine.proofs.ShowingLemmas.{found-shown, shown-found}
 use Rattle.vg_formats.specs.Pixels.{is_empty, is_inside}
-use Rattle.vg_machine.specs.Fits.{FitSurface, FitsSurface, IsWhole}
+use Rattle.vg_machine.specs.Fits.{FitSurface, FitsSurface}
 
 -- as many screens, which show resources that there are
 pub record AreShowing (resources : List (ℕ × Resource)) (count : ℕ) (screens : List (Option Screen)) : Type 0 where

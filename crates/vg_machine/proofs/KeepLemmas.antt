@@ -21,13 +21,13 @@ use Rattle.vg_machine.specs.Features.{is_usable}
 use Rattle.vg_wire_ext.specs.declared.response.Response.{Response}
 use Rattle.vg_wire.specs.declared.two_d.Command2d.{Command2d}
 use Rattle.vg_wire.specs.declared.two_d.Command2d.TheVariants.{DisplayInfo, Create2d, Unref, SetScanout, Flush, Transfer, Attach, Detach}
-use Rattle.vg_machine.specs.declared.resource.Resource.{Resource}
+use Rattle.vg_resource.specs.declared.resource.Resource.{Resource}
 use Rattle.vg_wire_ext.specs.declared.response.Response.TheVariants as responses
-use Rattle.vg_machine.specs.Backing.{attach, attach_refusals, detach, detach_refusals, detached}
+use Rattle.vg_transfer.specs.Backings.{attach, attach_refusals, detach, detach_refusals, detached}
 use Rattle.vg_machine.specs.Fits.{response_of}
 use Rattle.vg_machine.specs.Receive.{receive, receive_refusal, with_received}
-use Rattle.vg_machine.specs.Refusals.{refusal_of, unless_refused}
-use Rattle.vg_machine.specs.Resource.{create, create_refusals, remove, resource_at, unref_refusals, with_blank, without}
+use Rattle.vg_refusals.specs.Refusals.{refusal_of, unless_refused}
+use Rattle.vg_resource.specs.Resource.{create, create_refusals, remove, resource_at, unref_refusals, with_blank, without}
 use Rattle.vg_machine.specs.Scanout.{ScanoutState, are_too_many, bind, flush, flushed, is_too_large, snap, snapped}
 use Rattle.vg_machine.specs.State.{State}
 use Rattle.vg_machine.specs.Step.{Keeps, acceptance, answer_of, answered, answered_by, answered_with, binding_of, command_step, cursor_step, effect_and_bytes, flush_step, refused_or_ran, request_refusals, set_scanout_step, two_d_step, undone_step}

@@ -12,8 +12,7 @@ pub mod SnapLemmas
 pub mod ShapeLemmas
 pub mod EdidLemmas
 pub mod RemoveLemmas
-pub mod BackingLemmas
-pub mod ResourceLemmas
+pub mod ReceiveLemmas
 pub mod PixelLemmas
 pub mod GrowingLemmas
 pub mod DeniedLemmas

@@ -1,5 +1,5 @@
 -- What a flush shows and a transfer copies, pixel by pixel.
-use Rattle.std.proofs.Common.{◌≡◌, ◌≢◌, ℕ, ◌+◌, ◌-◌, ◌*◌, ◌/◌, ◌%◌, ◌<◌, ◌≤◌, ◌==◌, ◌&&◌, Bool, true, false, not, cond, List, [], ◌∷◌, length, map, min, max, get_or, slice_get, slice_index, take, drop, Option, Some, None, sym, ap, ◌∙◌, refl, subst, arith}
+use Rattle.std.proofs.Common.{◌≡◌, ◌≢◌, ℕ, ◌+◌, ◌-◌, ◌*◌, ◌/◌, ◌%◌, ◌<◌, ◌≤◌, ◌==◌, ◌&&◌, Bool, true, false, not, cond, List, [], ◌∷◌, length, map, min, max, get_or, slice_get, slice_index, take, drop, Option, Some, None, Result, Ok, sym, ap, ◌∙◌, refl, subst, arith}
 use Rattle.std.specs.Prelude.{IfSome, is_none, nat_lt, unwrap_or}
 use Rattle.std.specs.List.{All}
 use Rattle.std.specs.Option.{option_map}
@@ -14,8 +14,7 @@ use Rattle.std.proofs.lemmas.Map.Entries.{All-lookup}
 use Rattle.std.proofs.lemmas.Map.Views.{IfSome-lookup_from_All}
 use Rattle.vg_places.specs.declared.rectangles.Area.{Area}
 use Rattle.vg_places.specs.Rectangles.{place_of, filled}
-use Rattle.vg_places.proofs.Places.{same_from_places}
-use Rattle.vg_places.proofs.Filled.{filled-inside, filled-outside, length-filled, row-ends}
+use Rattle.vg_places.proofs.PixelLemmas.{pixel-in, pixel-out}
 use Rattle.vg_formats.specs.declared.entry.MemEntry.{MemEntry}
 use Rattle.vg_formats.specs.declared.format.Format.{Format}
 use Rattle.vg_formats.specs.declared.rect.Rect.{Rect}
@@ -25,96 +24,22 @@ use Rattle.vg_shown.specs.Shown.{pixel_at, shown_byte}
 use Rattle.vg_shown.proofs.ShownLemmas.{length-shown_bytes}
 use Rattle.vg_pages.specs.Memory.{Memory}
 use Rattle.vg_wire_ext.specs.declared.response.Response.TheVariants as responses
-use Rattle.vg_machine.specs.declared.resource.Resource.{Resource}
+use Rattle.vg_resource.specs.declared.resource.Resource.{Resource}
 use Rattle.vg_machine.specs.Scanout.{Screen}
-use Rattle.vg_machine.specs.Backing.{backing_at, backing_bytes, bytes_of_rect, entries_at, total, transfer_end, transferred}
-use Rattle.vg_machine.specs.Fits.{AreHeld, IsScreen, IsWhole}
-use Rattle.vg_machine.specs.Pixels.{CopiesEachPixel, CopiesPixels, ShowsEachPixel, ShowsScreen, pixel_of}
+use Rattle.vg_transfer.specs.Pixels.{CopiesRect}
+use Rattle.vg_transfer.specs.Backings.{transfer, transfer_refusals, bytes_of_rect, entries_at, transfer_end, transferred}
+use Rattle.vg_backing.specs.Backing.{backing_bytes, total, AreHeld}
+use Rattle.vg_machine.specs.Fits.{IsScreen}
+use Rattle.vg_resource.specs.Resource.{IsWhole, height_of, resource_at, width_of}
+use Rattle.vg_machine.specs.Pixels.{CopiesEachPixel, CopiesPixels, ShowsEachPixel, ShowsScreen}
+use Rattle.vg_places.specs.Pixels.{pixel_of}
 use Rattle.vg_machine.specs.Receive.{receive_refusal, with_received}
-use Rattle.vg_machine.specs.Refusals.{refusal_of}
-use Rattle.vg_machine.specs.Resource.{height_of, resource_at, width_of}
+use Rattle.vg_refusals.specs.Refusals.{refusal_of, unless_refused}
 use Rattle.vg_machine.specs.Scanout.{after_flush, are_too_many, area_of, flushed_pixels, flushed_screen, is_flushed}
 use Rattle.vg_machine.specs.State.{IsConsistent, IsShowing, ShowsResource, State, counted}
 use Rattle.vg_machine.specs.Step.{answered_by, flush_refusals, flush_step, flushed_by, pixels_of, transfer_step}
-use Rattle.vg_machine.proofs.BackingLemmas.{length-backing_bytes}
 use Rattle.vg_machine.proofs.MapLemmas.{set_itself, set_other}
 use Rattle.vg_machine.proofs.ShowingLemmas.{shown-found}
-
-length-four : (xs : List ℕ) (p : ℕ) → p + 4 ≤ length xs → length (take 4 (drop p xs)) ≡ 4
-length-four xs p fits = omega (arith, length-take 4 (drop p xs), length-drop p xs)
-
--- one of four elements
-of-four : (xs : List ℕ) (p c : ℕ) → c < 4 → get_or (take 4 (drop p xs)) c 0 ≡ get_or xs (p + c) 0
-of-four xs p c below = get_or-take 4 (drop p xs) c 0 below ∙ get_or-drop p xs c 0
-
--- four elements are those of another list, each at its place
-four-are : (xs m : List ℕ) (p : ℕ) → p + 4 ≤ length xs → length m ≡ 4 → ((c : ℕ) → c < 4 → get_or xs (p + c) 0 ≡ get_or m c 0) → take 4 (drop p xs) ≡ m
-four-are xs m p fits four same =
-    let long = length-four xs p fits in
-    same_from_places (take 4 (drop p xs)) m (omega (arith, long, four)) (λ k within.
-    let below : k < 4 = omega (arith, within, long) in
-    slice_get-get_or (take 4 (drop p xs)) k 0 within
-    ∙ ap Some (of-four xs p k below ∙ same k below)
-    ∙ sym (slice_get-get_or m k 0 (omega (arith, below, four))))
-
--- a pixel of so many columns and rows has its four bytes
-pixel-fits : (width height x y : ℕ) → x < width → y < height → 4 * (width * y + x) + 4 ≤ 4 * width * height
-pixel-fits width height x y across down =
-    let rows : y * width + width ≤ height * width = row_fits y width height width down (omega arith) in
-    grind arith
-
--- what stands in the rectangle and outside of it
-filled-in : (area : Area) (row_length : ℕ) (value : ℕ → ℕ → ℕ) (old : List ℕ) (i c k : ℕ) → area.column + area.width ≤ row_length → i < area.height → c < area.width
-    → k ≡ place_of area row_length i c → k < length old → get_or (filled area row_length value old) k 0 ≡ value i c
-filled-in area row_length value old i c k wide row column place within =
-    ap (λ n. get_or (filled area row_length value old) n 0) place
-    ∙ get_or_from_slice_get (filled area row_length value old) (place_of area row_length i c) (value i c) 0
-    (filled-inside area row_length value old i c wide row column (omega (arith, place, within)))
-
-filled-out : (area : Area) (row_length : ℕ) (value : ℕ → ℕ → ℕ) (old : List ℕ) (k : ℕ) → ((i c : ℕ) → i < area.height → c < area.width → k ≢ place_of area row_length i c)
-    → get_or (filled area row_length value old) k 0 ≡ get_or old k 0
-filled-out area row_length value old k other =
-    sym (unwrap_or-slice_get (filled area row_length value old) k 0)
-    ∙ ap (λ found. unwrap_or found 0) (filled-outside area row_length value old k other)
-    ∙ unwrap_or-slice_get old k 0
-
--- two places of rows of one length are one place in the same row and column
-same-place : (width y a z b : ℕ) → a < width → b < width → y * width + a ≡ z * width + b → (y ≡ z) × (a ≡ b)
-same-place width y a z b one other same = (
-  sym (div-mul-add y width a one) ∙ ap (λ n. n / width) same ∙ div-mul-add z width b other,
-  sym (mod-mul-add y width a one) ∙ ap (λ n. n % width) same ∙ mod-mul-add z width b other,
-)
-
--- pixel (x, y) of the rectangle's list, of which pixel (i, j) of the rectangle is one
-pub pixel-in : (area : Area) (width height : ℕ) (value : ℕ → ℕ → ℕ) (old m : List ℕ) (left i j x y : ℕ)
-    → length old ≡ 4 * width * height → length m ≡ 4 → area.column ≡ 4 * left → area.column + area.width ≤ 4 * width
-    → x ≡ left + i → y ≡ area.row + j → x < width → y < height → 4 * i + 4 ≤ area.width → j < area.height
-    → ((c : ℕ) → c < 4 → value j (4 * i + c) ≡ get_or m c 0)
-    → pixel_of (filled area (4 * width) value old) width x y ≡ m
-pixel-in area width height value old m left i j x y size four begin wide column row across down inside below same =
-    let fits = pixel-fits width height x y across down in
-    let long = length-filled area (4 * width) value old in
-    four-are (filled area (4 * width) value old) m (4 * (width * y + x)) (omega (arith, fits, long, size)) four (λ c part.
-    let place : 4 * (width * y + x) + c ≡ place_of area (4 * width) j (4 * i + c) = rw (column, row) (grind (arith, begin)) in
-    filled-in area (4 * width) value old j (4 * i + c) (4 * (width * y + x) + c) wide below (omega (arith, part, inside)) place (omega (arith, fits, size, part))
-    ∙ same c part)
-
--- a pixel of the list that is none of the rectangle
-pub pixel-out : (area : Area) (width height : ℕ) (value : ℕ → ℕ → ℕ) (old : List ℕ) (x y : ℕ)
-    → length old ≡ 4 * width * height → x < width → y < height
-    → ((i c k : ℕ) → i < area.height → c < area.width → k < 4 → y ≡ area.row + i → 4 * x + k ≡ area.column + c → ⊥)
-    → (0 < area.width → area.column + area.width ≤ 4 * width)
-    → pixel_of (filled area (4 * width) value old) width x y ≡ pixel_of old width x y
-pixel-out area width height value old x y size across down apart wide =
-    let fits = pixel-fits width height x y across down in
-    let long = length-filled area (4 * width) value old in
-    let p = 4 * (width * y + x) in
-    four-are (filled area (4 * width) value old) (pixel_of old width x y) p (omega (arith, fits, long, size)) (length-four old p (omega (arith, fits, size))) (λ c part.
-    filled-out area (4 * width) value old (p + c) (λ i d row column is.
-    let place : y * (4 * width) + (4 * x + c) ≡ (area.row + i) * (4 * width) + (area.column + d) = grind (arith, is) in
-    let same = same-place (4 * width) y (4 * x + c) (area.row + i) (area.column + d) (omega arith) (omega (arith, wide (omega arith))) place in
-    apart i d c row column part same.0 same.1)
-    ∙ sym (of-four old p c part))
 
 -- a command that was answered OK_NODATA was not refused
 accepted : (refusal : Option ℕ) (state next : State) → (answered_by refusal state next).1 ≡ responses.Nodata → (refusal ≡ None) × ((answered_by refusal state next).0 ≡ next)
@@ -321,80 +246,50 @@ shows-each-pixel rect id state known screens done =
     subst (λ (now : State). ShowsEachPixel rect id state now) (sym went.1)
     (resource, is, shows-at rect id state resource known screens is)
 
-held-entries : (memory : Memory) (found : Option (List MemEntry)) → IfSome found (AreHeld memory) → AreHeld memory (unwrap_or found [])
-held-entries memory (Some entries) held = held
-held-entries memory None held = λ k d within. absurd (omega arith)
+-- a transfer that isn't refused copies
+transfer-went : (memory : Memory) (id : ℕ) (rect : Rect) (offset width height : ℕ) (backings : List (ℕ × List MemEntry)) (pixels : List ℕ)
+    → refusal_of (transfer_refusals true id rect offset width height backings) ≡ None
+    → transfer true memory id rect offset width height backings pixels ≡ (transferred memory (entries_at id backings) rect offset width pixels, Ok tt)
+unfolding transfer
+transfer-went memory id rect offset width height backings pixels none =
+    ap (λ refusal. unless_refused refusal pixels (transferred memory (entries_at id backings) rect offset width pixels)) none
 
--- what a transfer is refused for, once there is the resource and its backing
-abbrev last-transfer : Rect → ℕ → ℕ → List MemEntry → List (Bool × ℕ)
-last-transfer rect offset width entries = (not (is_empty rect) && nat_lt (total entries) (transfer_end rect offset width), 0x1205) ∷ []
-
-abbrev later-transfer : Rect → ℕ → ℕ → ℕ → List MemEntry → List (Bool × ℕ)
-later-transfer rect offset width height entries = (not (is_inside rect width height), 0x1205) ∷ last-transfer rect offset width entries
-
-inside-ends : (rect : Rect) (width height : ℕ) → not (is_inside rect width height) ≡ false → (rect.x + rect.width ≤ width) × (rect.y + rect.height ≤ height)
-inside-ends rect width height inside = (grind (arith, nat_tests), grind (arith, nat_tests))
-
-reads-within : (rect : Rect) (end size : ℕ) → (not (is_empty rect) && nat_lt size end) ≡ false → 0 < rect.width → 0 < rect.height → end ≤ size
-reads-within rect end size few some_width some_height = grind (arith, nat_tests)
-
-copies-in : (memory : Memory) (entries : List MemEntry) (rect : Rect) (offset : ℕ) (resource : Resource) → IsWhole resource → AreHeld memory entries
-    → not (is_inside rect resource.width resource.height) ≡ false → (not (is_empty rect) && nat_lt (total entries) (transfer_end rect offset resource.width)) ≡ false
-    → CopiesPixels rect offset (backing_bytes memory entries) resource (record resource { pixels = transferred memory entries rect offset resource.width resource.pixels })
-copies-in memory entries rect offset resource whole held inside few =
-    let bytes = backing_bytes memory entries in
-    let width = resource.width in
-    let area = bytes_of_rect rect in
-    let value : ℕ → ℕ → ℕ = λ i c. slice_index bytes (offset + 4 * width * i + c) in
-    let ends = inside-ends rect width resource.height inside in
-    let long = length-backing_bytes memory entries held in
-    record {
-      width = refl;
-      height = refl;
-      format = refl;
-      copied = λ i j across down.
-          let end = reads-within rect (transfer_end rect offset width) (total entries) few (omega arith) (omega arith) in
-          let row = row-ends offset (4 * width) rect.height (4 * rect.width) (total entries) j end down in
-          let from = offset + 4 * width * j + 4 * i in
-          pixel-in area width resource.height value resource.pixels (take 4 (drop from bytes)) rect.x i j (rect.x + i) (rect.y + j)
-          whole.0 (length-four bytes from (omega (arith, row, long, across))) refl (omega (arith, ends)) refl refl (omega (arith, ends, across)) (omega (arith, ends, down)) (omega (arith, across)) down
-          (λ c below.
-          let place : offset + 4 * width * j + (4 * i + c) ≡ from + c = omega arith in
-          ap (λ n. get_or bytes n 0) place ∙ sym (of-four bytes from c below));
-      kept = λ x y across down apart.
-          pixel-out area width resource.height value resource.pixels x y whole.0 across down
-          (λ i c k row column four down_is across_is.
-          apart (omega (arith, across_is, four), omega (arith, across_is, column), omega (arith, down_is), omega (arith, down_is, row)))
-          (λ some. omega (arith, ends));
-    }
+-- each transfer from these backings copies its rectangle
+abbrev pub CopyEach : Memory → List (ℕ × List MemEntry) → Type 0
+CopyEach memory backings =
+    (id : ℕ) (rect : Rect) (offset width height : ℕ) (pixels : List ℕ) → length pixels ≡ 4 * width * height
+    → ◌≡◌ {A = Result (Unit {0}) ℕ} (transfer true memory id rect offset width height backings pixels).1 (Ok tt)
+    → CopiesRect rect offset width height (backing_bytes memory (entries_at id backings)) pixels (transfer true memory id rect offset width height backings pixels).0
 
 copies-found : (rect : Rect) (offset id : ℕ) (memory : Memory) (resources : List (ℕ × Resource)) (backings : List (ℕ × List MemEntry)) (found : Option Resource)
-    → resource_at id resources ≡ found → receive_refusal id rect offset backings found ≡ None → IfSome found IsWhole → AreHeld memory (entries_at id backings)
+    → resource_at id resources ≡ found → receive_refusal id rect offset backings found ≡ None → IfSome found IsWhole → CopyEach memory backings
     → (resource : Resource) × (next : Resource) × (resource_at id resources ≡ Some resource) × (resource_at id (with_received memory id rect offset backings found resources) ≡ Some next)
     × CopiesPixels rect offset (backing_bytes memory (entries_at id backings)) resource next
     × ((other : ℕ) → other ≢ id → resource_at other (with_received memory id rect offset backings found resources) ≡ resource_at other resources)
-copies-found rect offset id memory resources backings None is went whole held = cc
-copies-found rect offset id memory resources backings (Some resource) is went whole held =
+copies-found rect offset id memory resources backings None is went whole copy = cc
+copies-found rect offset id memory resources backings (Some resource) is went whole copy =
     let entries = entries_at id backings in
+    let bytes = backing_bytes memory entries in
     let next : Resource = record resource { pixels = transferred memory entries rect offset resource.width resource.pixels } in
-    let first = none-holds (is_none (backing_at id backings)) 0x1200 (later-transfer rect offset resource.width resource.height entries) went in
-    let second = none-holds (not (is_inside rect resource.width resource.height)) 0x1205 (last-transfer rect offset resource.width entries) first.1 in
-    let third = none-holds (not (is_empty rect) && nat_lt (total entries) (transfer_end rect offset resource.width)) 0x1205 [] second.1 in (
+    let done = transfer-went memory id rect offset resource.width resource.height backings resource.pixels went in
+    let copies = copy id rect offset resource.width resource.height resource.pixels whole.0 (ap (λ (pair : List ℕ × Result (Unit {0}) ℕ). pair.1) done) in
+    let now : CopiesRect rect offset resource.width resource.height bytes resource.pixels next.pixels =
+    subst (λ (pair : List ℕ × Result (Unit {0}) ℕ). CopiesRect rect offset resource.width resource.height bytes resource.pixels pair.0) done copies
+    in (
       resource,
       next,
       is,
       set_itself id resource next resources is,
-      copies-in memory entries rect offset resource whole held second.0 third.0,
+      record { width = refl; height = refl; format = refl; copied = now.copied; kept = now.kept },
       λ other apart. set_other other id next apart resources,
     )
 
-pub copies-each-pixel : (rect : Rect) (offset id : ℕ) (state : State) → IsConsistent state → All IsWhole (values_of state.resources)
+pub copies-each-pixel : (rect : Rect) (offset id : ℕ) (state : State) → All IsWhole (values_of state.resources) → CopyEach state.memory state.backings
     → (transfer_step state rect offset id).1 ≡ responses.Nodata → CopiesEachPixel rect offset id state (transfer_step state rect offset id).0
-copies-each-pixel rect offset id state known whole done =
+copies-each-pixel rect offset id state whole copy done =
     let found = resource_at id state.resources in
     let next : State = record state { resources = with_received state.memory id rect offset state.backings found state.resources } in
     let went = accepted (receive_refusal id rect offset state.backings found) state next done in
     let one = IfSome-lookup_from_All IsWhole (is_at (nat_cmp id)) state.resources whole in
-    let held = held-entries state.memory (backing_at id state.backings) (All-lookup (AreHeld state.memory) _ state.backings known.backings) in
     subst (λ (now : State). CopiesEachPixel rect offset id state now) (sym went.1)
-    (copies-found rect offset id state.memory state.resources state.backings found refl went.0 one held)
+    (copies-found rect offset id state.memory state.resources state.backings found refl went.0 one copy)

@@ -18,7 +18,7 @@ use Rattle.vg_pages.specs.Memory.{AreGivable, AreTakeable, Memory, fresh_memory,
 use Rattle.vg_machine.specs.declared.share.Buffer.{Buffer}
 use Rattle.vg_machine.specs.declared.share.ShareRefusal.TheVariants.{NotHeld, OutOfRange}
 use Rattle.vg_machine.specs.Cells.{pages_of}
-use Rattle.vg_machine.specs.Refusals.{refusal_of}
+use Rattle.vg_refusals.specs.Refusals.{refusal_of}
 use Rattle.vg_machine.specs.Share.{HaveNoPageInCommon, SharesPages, ShareState, buffer_at, is_holder, pages_at, pages_in, place_refusal, refused_by, released_buffer, released_entries}
 
 -- ---- lists

@@ -7,13 +7,13 @@ use Rattle.vg_formats.specs.declared.entry.MemEntry.{MemEntry}
 use Rattle.vg_formats.specs.declared.format.Format.{Format}
 use Rattle.vg_formats.specs.declared.rect.Rect.{Rect}
 use Rattle.vg_formats.specs.Formats.{format_of}
-use Rattle.vg_machine.specs.declared.resource.Resource.{Resource}
+use Rattle.vg_resource.specs.declared.resource.Resource.{Resource}
 use Rattle.vg_machine.specs.declared.scanout.Binding.{Binding}
 use Rattle.vg_machine.specs.Scanout.{Screen}
 use Rattle.vg_pages.specs.Memory.{Memory}
 use Rattle.vg_machine.specs.Receive.{receive, receive_refusal, with_received}
-use Rattle.vg_machine.specs.Refusals.{refusal_of, unless_refused}
-use Rattle.vg_machine.specs.Resource.{blank, create, create_refusals, pixel_bytes, resource_at, with_blank, with_pixels}
+use Rattle.vg_refusals.specs.Refusals.{refusal_of, unless_refused}
+use Rattle.vg_resource.specs.Resource.{blank, create, create_refusals, pixel_bytes, resource_at, with_blank, with_pixels}
 use Rattle.vg_machine.specs.State.{IsShowing, ShowsResource, ShowsSome}
 use Rattle.vg_machine.proofs.MapLemmas.{insert_other, set_itself, set_other}
 use Rattle.vg_formats.specs.Pixels.{is_inside}

@@ -6,7 +6,7 @@ use Rattle.std.proofs.lemmas.List.Sums.{sum_by_push}
 use Rattle.std.proofs.lemmas.Option.{slice_get_read}
 use Rattle.vg_machine.specs.declared.scanout.Frame.{Frame}
 use Rattle.vg_machine.specs.Scanout.{Screen}
-use Rattle.vg_machine.specs.Refusals.{refusal_of, unless_refused}
+use Rattle.vg_refusals.specs.Refusals.{refusal_of, unless_refused}
 use Rattle.vg_machine.specs.Scanout.{ScanoutState, are_too_many, frame_bytes, frame_of, screen_at, screen_of, snap, snapped}
 
 found-there : (scanout : ℕ) (state : ScanoutState) (found : Option Screen) → scanout < length state.screens → found ≡ get_or state.screens scanout found

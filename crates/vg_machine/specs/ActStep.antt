@@ -10,7 +10,7 @@ use Rattle.vg_machine.specs.declared.share.ShareRefusal.{ShareRefusal}
 use Rattle.vg_machine.specs.declared.scanout.Binding.{Binding}
 use Rattle.vg_pages.specs.Memory.{after_taking}
 use Rattle.vg_machine.specs.Cells.{loaded, repeated, stored}
-use Rattle.vg_machine.specs.Resource.{resource_at}
+use Rattle.vg_resource.specs.Resource.{resource_at}
 use Rattle.vg_machine.specs.Scanout.{binding_at}
 use Rattle.vg_machine.specs.Share.{drop_refusal, ended, entered, free_refusal, freed, given_back, has_holder, is_leased, leased, new_pages, pages_at, place_refusal, release_refusal, released, reserve_refusal, take_refusal, unleased, with_buffer}
 use Rattle.vg_machine.specs.State.{State, counted}

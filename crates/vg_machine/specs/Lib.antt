@@ -1,10 +1,7 @@
 pub mod Setup
 pub mod Features
 pub mod Lane
-pub mod Refusals
 pub mod Lists
-pub mod Resource
-pub mod Backing
 pub mod Receive
 pub mod Uuids
 pub mod Scanout

@@ -3,15 +3,13 @@ use Rattle.std.specs.Prelude.{◌≡◌, ◌≢◌, ℕ, ◌+◌, ◌*◌, ◌<�
 use Rattle.vg_formats.specs.declared.rect.Rect.{Rect}
 use Rattle.vg_formats.specs.Formats.{shown_bytes}
 use Rattle.vg_formats.specs.Pixels.{Covers}
-use Rattle.vg_machine.specs.declared.resource.Resource.{Resource}
+use Rattle.vg_places.specs.Pixels.{pixel_of}
+use Rattle.vg_resource.specs.declared.resource.Resource.{Resource}
 use Rattle.vg_machine.specs.Scanout.{Screen}
-use Rattle.vg_machine.specs.Backing.{backing_bytes, entries_at}
-use Rattle.vg_machine.specs.Resource.{resource_at}
+use Rattle.vg_backing.specs.Backing.{backing_bytes}
+use Rattle.vg_transfer.specs.Backings.{entries_at}
+use Rattle.vg_resource.specs.Resource.{resource_at}
 use Rattle.vg_machine.specs.State.{State}
-
--- The four bytes of pixel (x, y), of rows of so many pixels.
-abbrev pub pixel_of : List ℕ → ℕ → ℕ → ℕ → List ℕ
-pixel_of pixels width x y = take 4 (drop (4 * (width * y + x)) pixels)
 
 -- RESOURCE_FLUSH (VIRTIO 1.2, 5.7.6.8): a pixel is the resource's at its point where the flush covers that, and else as before.
 abbrev pub ShowsPixel : Rect → Resource → Screen → Screen → ℕ → ℕ → Type 0

@@ -3,10 +3,10 @@ use Rattle.std.specs.Prelude.{ℕ, List, Option, Some, None, Result, is_some}
 use Rattle.vg_formats.specs.declared.entry.MemEntry.{MemEntry}
 use Rattle.vg_formats.specs.declared.rect.Rect.{Rect}
 use Rattle.vg_pages.specs.Memory.{Memory}
-use Rattle.vg_machine.specs.declared.resource.Resource.{Resource}
-use Rattle.vg_machine.specs.Backing.{entries_at, transfer_refusals, transferred}
-use Rattle.vg_machine.specs.Refusals.{refusal_of, unless_refused}
-use Rattle.vg_machine.specs.Resource.{height_of, resource_at, width_of, with_pixels}
+use Rattle.vg_resource.specs.declared.resource.Resource.{Resource}
+use Rattle.vg_transfer.specs.Backings.{entries_at, transfer_refusals, transferred}
+use Rattle.vg_refusals.specs.Refusals.{refusal_of, unless_refused}
+use Rattle.vg_resource.specs.Resource.{height_of, resource_at, width_of, with_pixels}
 
 -- The refusal of a transfer to the resource that was found.
 abbrev pub receive_refusal : ℕ → Rect → ℕ → List (ℕ × List MemEntry) → Option Resource → Option ℕ

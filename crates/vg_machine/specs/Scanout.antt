@@ -8,7 +8,7 @@ use Rattle.vg_shown.specs.Shown.{shown_rows}
 use Rattle.vg_machine.specs.declared.scanout.Binding.{Binding}
 use Rattle.vg_machine.specs.declared.scanout.Frame.{Frame}
 use Rattle.vg_wire.specs.Kinds.{ERR_OUT_OF_MEMORY}
-use Rattle.vg_machine.specs.Refusals.{refusal_of, unless_refused}
+use Rattle.vg_refusals.specs.Refusals.{refusal_of, unless_refused}
 
 -- The screen of a scanout that is bound: the pixels that it shows, in the order blue, green, red, alpha.
 pub record Screen : Type 0 where

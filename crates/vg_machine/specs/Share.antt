@@ -11,7 +11,7 @@ use Rattle.vg_machine.specs.declared.share.ShareRefusal.{ShareRefusal}
 use Rattle.vg_machine.specs.declared.share.ShareRefusal.TheVariants.{GuestFull, UnknownKey, NotHeld, ScanoutHeld, OutOfRange, InUse, ResourceLive}
 use Rattle.vg_machine.specs.Cells.{pages_of}
 use Rattle.vg_machine.specs.Lists.{without_first}
-use Rattle.vg_machine.specs.Refusals.{refusal_of}
+use Rattle.vg_refusals.specs.Refusals.{refusal_of}
 
 -- What the clients share: the live buffers by their keys, rising; how many buffers were reserved so far; of each scanout the
 -- client to which it is leased, if any; and the clients that have come, by their numbers, with whether each has left.

@@ -2,13 +2,13 @@ use Rattle.std.specs.Prelude.{◌≡◌, true, ℕ, ◌+◌, ◌*◌, ◌≤◌,
 use Rattle.std.specs.List.{All}
 use Rattle.vg_formats.specs.declared.entry.MemEntry.{MemEntry}
 use Rattle.vg_pages.specs.Memory.{Memory, fresh_memory}
-use Rattle.vg_machine.specs.declared.resource.Resource.{Resource}
+use Rattle.vg_resource.specs.declared.resource.Resource.{Resource}
 use Rattle.vg_machine.specs.declared.scanout.Binding.{Binding}
 use Rattle.vg_machine.specs.Scanout.{Screen}
 use Rattle.vg_machine.specs.declared.setup.Setup.{Setup}
 use Rattle.vg_formats.specs.Pixels.{is_inside}
-use Rattle.vg_machine.specs.Fits.{AreHeld}
-use Rattle.vg_machine.specs.Resource.{resource_at}
+use Rattle.vg_backing.specs.Backing.{AreHeld}
+use Rattle.vg_resource.specs.Resource.{resource_at}
 use Rattle.vg_machine.specs.Scanout.{ScanoutState}
 use Rattle.vg_machine.specs.Setup.{IsSetup}
 use Rattle.vg_machine.specs.Share.{ShareState, SharesPages}

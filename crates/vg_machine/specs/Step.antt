@@ -18,13 +18,13 @@ use Rattle.vg_formats.specs.declared.rect.Rect.{Rect}
 use Rattle.vg_formats.specs.Formats.{format_of}
 use Rattle.vg_formats.specs.Pixels.{is_empty, is_inside}
 use Rattle.vg_formats.specs.declared.entry.MemEntry.{MemEntry}
-use Rattle.vg_machine.specs.declared.resource.Resource.{Resource}
+use Rattle.vg_resource.specs.declared.resource.Resource.{Resource}
 use Rattle.vg_machine.specs.declared.scanout.Binding.{Binding}
 use Rattle.vg_wire.specs.Kinds.{ERR_INVALID_PARAMETER, ERR_INVALID_RESOURCE_ID, ERR_INVALID_SCANOUT_ID, ERR_OUT_OF_MEMORY, ERR_UNSPEC}
-use Rattle.vg_machine.specs.Refusals.{refusal_of}
-use Rattle.vg_machine.specs.Backing.{attach_refusals, detach_refusals, detached}
+use Rattle.vg_refusals.specs.Refusals.{refusal_of}
+use Rattle.vg_transfer.specs.Backings.{attach_refusals, detach_refusals, detached}
 use Rattle.vg_machine.specs.Receive.{receive_refusal, with_received}
-use Rattle.vg_machine.specs.Resource.{create_refusals, height_of, resource_at, unref_refusals, width_of, with_blank, without}
+use Rattle.vg_resource.specs.Resource.{create_refusals, height_of, resource_at, unref_refusals, width_of, with_blank, without}
 use Rattle.vg_machine.specs.Scanout.{ScanoutState, are_too_many, bound, flushed, is_too_large, snapped, unbound, unbound_from}
 use Rattle.vg_machine.specs.Features.{is_usable}
 use Rattle.vg_machine.specs.Uuids.{assign_refusals, assigned, forgotten, number_for, uuid_bytes}

@@ -7,6 +7,7 @@ ghost use Rattle.vg_machine.specs.Fits as fit_words;
 ghost use Rattle.vg_machine.specs.Step.{attach_step, create_step, detach_step, flush_step, set_scanout_step, transfer_step, two_d_step, unref_step};
 
 use crate::display::Display;
+use crate::receive::receive;
 use crate::scanout::Binding;
 use std::alloc::{AllocError, Global};
 use vg_formats::{MemEntry, Rect};
@@ -158,10 +159,15 @@ impl Display {
     fn transfer(&mut self, rect: &Rect, offset: u64, resource: u32) -> Response
         ensures step { transfer_step self.old rect.now offset resource ≡ (self.new, result) }
     {
-        response_of(
-            self.resources
-                .receive(resource, &self.pages, &self.backings, rect, offset),
-        )
+        let done = receive(
+            &mut self.resources,
+            resource,
+            &self.pages,
+            &self.backings,
+            rect,
+            offset,
+        );
+        response_of(done)
     }
 
     fn attach(

@@ -33,5 +33,6 @@ impl Display {
     {
         let _ = &self.setup;
         self.resources.are_whole();
+        self.backings.a_transfer_copies_each_pixel(&self.pages);
     }
 }

@@ -4,7 +4,6 @@
 
 mod act;
 mod acts;
-mod backing;
 mod cells;
 mod commands;
 mod display;
@@ -17,7 +16,7 @@ mod lane;
 mod laws;
 mod lists;
 mod others;
-mod resource;
+mod receive;
 mod scanout;
 mod setup;
 mod share;
@@ -29,7 +28,7 @@ pub use growing::holds_only_grow;
 pub use history::{Entry, Reply, Request};
 pub use holds::{Holds, denied};
 pub use lane::lane_of;
-pub use resource::Resource;
 pub use scanout::{Binding, Frame};
 pub use setup::Setup;
 pub use share::{Geometry, ShareRefusal};
+pub use vg_resource::Resource;

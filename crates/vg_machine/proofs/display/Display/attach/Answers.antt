@@ -1,6 +1,6 @@
 use Rattle.std.proofs.Common.{◌≡◌, true, rules}
 use Rattle.std.specs.Prelude.{is_some}
-use Rattle.vg_machine.specs.Resource.{resource_at}
+use Rattle.vg_resource.specs.Resource.{resource_at}
 use Rattle.std.proofs.Common.{}
 use Rattle.vg_machine.proofs.KeepLemmas.{lifted-attach}
 use Rattle.vg_machine.proofs.display.Display.attach.Goals as goal

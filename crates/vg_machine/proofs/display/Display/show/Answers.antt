@@ -3,7 +3,7 @@ use Rattle.std.specs.Prelude.{nat_le}
 use Rattle.std.proofs.lemmas.Bool.Decides.{nat_tests}
 use Rattle.vg_formats.specs.Pixels.{is_empty, is_inside}
 use Rattle.std.proofs.Common.{rules, sym}
-use Rattle.vg_machine.specs.Resource.{resource_at}
+use Rattle.vg_resource.specs.Resource.{resource_at}
 use Rattle.vg_machine.specs.Step.{binding_of}
 use Rattle.vg_machine.proofs.KeepLemmas.{step-show}
 use Rattle.vg_machine.proofs.ShowingLemmas.{found-shown}

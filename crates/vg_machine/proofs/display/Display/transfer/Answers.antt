@@ -7,13 +7,13 @@ pub invariant_of-self : goal.invariant_of-self
 invariant_of-self c =
     let was = c.self.invariant in
     let s = c.self.inside in
-    let keeping = keeping-receive s.pages c.args.resource c.args.rect.now c.args.offset s.backings s.resources c.receive.new.self c.receive.result c.receive.ensures in
+    let keeping = keeping-receive s.pages c.args.resource c.args.rect.now c.args.offset s.backings s.resources c.receive-done.new.resources c.receive-done.result c.receive-done.ensures in
     record {
       setup = was.setup;
       pages = was.pages;
       backings = was.backings;
       screens = was.screens;
-      showing = all-showing s.resources c.receive.new.self s.scanouts.screens keeping was.showing;
+      showing = all-showing s.resources c.receive-done.new.resources s.scanouts.screens keeping was.showing;
       leases = was.leases;
       share = was.share;
       reserved = was.reserved;
@@ -27,5 +27,5 @@ returns c =
       step =
           rw (c.response_of.ensures, ← c.self.view_is)
           (lifted-receive (λ resources. record { setup = s.setup; entries = s.entries; memory = s.pages; resources = resources; backings = s.backings; uuids = s.uuids; scanouts = s.scanouts; share = s.share })
-          s.pages c.args.resource c.args.rect.now c.args.offset s.backings s.resources c.receive.new.self c.receive.result c.receive.ensures);
+          s.pages c.args.resource c.args.rect.now c.args.offset s.backings s.resources c.receive-done.new.resources c.receive-done.result c.receive-done.ensures);
     }

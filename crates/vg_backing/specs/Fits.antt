@@ -1,0 +1,22 @@
+-- What the runs that a backing keeps have: for private contracts.
+use Rattle.std.specs.Prelude.{◌≡◌, ℕ, ◌+◌, ◌^◌, ◌<◌, ◌≤◌, List, length, map, take, slice_index_or}
+use Rattle.vg_formats.specs.declared.entry.MemEntry.{MemEntry}
+use Rattle.vg_backing.specs.declared.backing.Run.{Run}
+use Rattle.vg_backing.specs.Backing.{total}
+
+-- The entries of the runs that a backing keeps.
+abbrev pub entries_of : List Run → List MemEntry
+entries_of runs = map (λ run. run.entry) runs
+
+-- The address past an entry's end is one of 64 bits.
+abbrev pub EndsInRange : MemEntry → Type 0
+EndsInRange entry = entry.addr + entry.length < 2 ^ 64
+
+-- Each run starts where the bytes of the runs before it end.
+abbrev pub ArePlaced : List Run → Type 0
+ArePlaced runs = (k : ℕ) (d : Run) → k < length runs
+    → ((slice_index_or runs k d).start ≡ total (take k (entries_of runs))) × EndsInRange (slice_index_or runs k d).entry
+
+-- This run has the byte of number `at`.
+abbrev pub HasByte : List Run → ℕ → ℕ → Type 0
+HasByte runs k at = (k < length runs) × (total (take k (entries_of runs)) ≤ at) × (at < total (take (k + 1) (entries_of runs)))

@@ -1,0 +1,6 @@
+//! Backings: ranges of guest memory whose bytes stand one after another (VIRTIO 1.2, 5.7.6.8).
+#![tactic(auto)]
+
+mod backing;
+
+pub use backing::Backing;

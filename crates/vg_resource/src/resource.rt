@@ -1,0 +1,175 @@
+//! The 2D resources by their ids (VIRTIO 1.2, 5.7.6.8).
+
+ghost use Rattle.std.specs.Prelude.{◌≡◌, ◌<◌, ◌≤◌, [], Some, None, ◌+◌, IfOk, IfErr, OnOk, OnErr, IfSome, ◌*◌, IsSome, option_copied};
+ghost use Rattle.std.specs.Borrow.{sem};
+ghost use Rattle.std.specs.List.{All};
+ghost use Rattle.std.specs.Map.{values_of};
+ghost use Rattle.vg_resource.specs.Lending.{lends_pixels};
+ghost use Rattle.vg_resource.specs.Resource.{IsWhole, blank, create, create_refusals, pixel_bytes, pixels_at, remove, resource_at};
+ghost use Rattle.vg_refusals.specs.Refusals.{refusal_of};
+ghost use Rattle.vg_formats.specs.Formats.{format_of};
+
+use std::alloc::{AllocError, Global};
+use std::collections::BTreeMap;
+use std::marker::Model;
+use vg_formats::{Format, pixel_bytes};
+use vg_list::Seq;
+use vg_places::zeros;
+use vg_wire::kinds::{ERR_INVALID_PARAMETER, ERR_INVALID_RESOURCE_ID, ERR_OUT_OF_MEMORY};
+
+/// How many bytes the pixels of all resources may have.
+pub const MOST_PIXEL_BYTES: u64 = 134_217_728;
+
+/// A 2D resource: width and height in pixels, and its pixels, row by row, four bytes each.
+#[derive(Debug, Drop)]
+pub struct Resource {
+    pub width: u32,
+    pub height: u32,
+    pub format: Format,
+    pub pixels: Seq<u8>,
+}
+
+/// The resources by their ids.
+#[derive(Debug, Drop)]
+pub struct Resources {
+    map: BTreeMap<u32, Resource>,
+    /// How many bytes their pixels have.
+    bytes: u64,
+}
+
+impl Model for Resources {
+    ghost use Rattle.std.specs.Prelude.{◌≡◌, ◌≤◌, ℕ, List};
+    ghost use Rattle.std.specs.List.{All};
+    ghost use Rattle.std.specs.Map.{values_of};
+    ghost use Rattle.vg_resource.specs.declared.resource.Resource.{Resource};
+    ghost use Rattle.vg_resource.specs.Resource.{IsWhole, pixel_bytes};
+
+    ghost Value = { List (ℕ × Resource) };
+
+    ghost view = { λ r. r.map.entries };
+
+    ghost invariant = { λ r. (r.bytes ≡ pixel_bytes r.map.entries) × (r.bytes ≤ 134217728) × All IsWhole (values_of r.map.entries) };
+}
+
+impl Resources {
+    pub fn new(alloc: Global) -> Resources
+        ensures { result ≡ [] }
+    {
+        Resources {
+            map: BTreeMap::new(alloc),
+            bytes: 0,
+        }
+    }
+
+    /// Makes a resource whose bytes are all 0, or answers the code of its refusal.
+    #[tactic(auto, unfolding(crate::specs::Resource::create))]
+    pub fn create(
+        &mut self,
+        alloc: Global,
+        id: u32,
+        width: u32,
+        height: u32,
+        format: u32,
+    ) -> Result<Result<(), u32>, AllocError>
+        ensures done { IfOk result (λ done. (self.new, done) ≡ create id width height format self.old) }
+        ensures err { OnErr result (self.new ≡ self.old) }
+    {
+        let format = match self.judge(id, width, height, format) {
+            Ok(format) => format,
+            Err(code) => return Ok(Err(code)),
+        };
+        let size = pixel_bytes(width, height);
+        let resource = blank(alloc, width, height, format, size as usize)?;
+        self.map.insert(id, resource)?;
+        self.bytes += size as u64;
+        Ok(Ok(()))
+    }
+
+    /// The format of a resource that may be made, or the code of its refusal.
+    fn judge(&self, id: u32, width: u32, height: u32, format: u32) -> Result<Format, u32>
+        ensures ok { IfOk result (λ known. (format_of format ≡ Some known) × (refusal_of (create_refusals id width height format self.now) ≡ None)) }
+        ensures free { OnOk result (resource_at id self.now ≡ None) }
+        ensures room { OnOk result ((0 < width) × (0 < height) × (pixel_bytes self.now + 4 * width * height ≤ 134217728)) }
+        ensures err { IfErr result (λ code. refusal_of (create_refusals id width height format self.now) ≡ Some code) }
+    {
+        if id == 0 || self.map.contains_key(&id) {
+            return Err(ERR_INVALID_RESOURCE_ID);
+        }
+        let Some(known) = Format::of(format) else {
+            return Err(ERR_INVALID_PARAMETER);
+        };
+        if width == 0 || height == 0 {
+            return Err(ERR_INVALID_PARAMETER);
+        }
+        if pixel_bytes(width, height) > u128::from(MOST_PIXEL_BYTES - self.bytes) {
+            return Err(ERR_OUT_OF_MEMORY);
+        }
+        Ok(known)
+    }
+
+    /// Takes the resource away, or answers the code of its refusal.
+    #[tactic(auto, unfolding(crate::specs::Resource::remove))]
+    pub fn remove(&mut self, id: u32) -> Result<(), u32>
+        ensures { (self.new, result) ≡ remove id self.old }
+    {
+        match self.map.remove(&id) {
+            Some(resource) => {
+                self.bytes -= resource.pixels.len() as u64;
+                Ok(())
+            }
+            None => Err(ERR_INVALID_RESOURCE_ID),
+        }
+    }
+
+    /// How many bytes the pixels of all resources have.
+    pub fn bytes(&self) -> u64
+        ensures { result ≡ pixel_bytes self.now }
+    {
+        self.bytes
+    }
+
+    /// A law, and no work: each resource has its pixels.
+    pub fn are_whole(&self)
+        ensures { All IsWhole (values_of self.now) }
+    {
+        let _ = &self.map;
+    }
+
+    /// The resource of this id.
+    pub fn get(&self, id: u32) -> Option<&Resource>
+        ensures value { option_copied result ≡ resource_at id self.now }
+        ensures whole { IfSome result (λ resource. IsWhole resource.now) }
+    {
+        self.map.get(&id)
+    }
+
+    /// The pixels of a resource, row by row, four bytes each, to be written in place.
+    pub fn pixels_mut(&mut self, id: u32) -> &mut [u8]
+        requires there { IsSome (resource_at id self.old) }
+        ensures* writes_back { sem 𝓛 (lends_pixels self.entry id result) }
+        ensures value { Some result.now ≡ pixels_at id self.old }
+    {
+        let resource = self.map.get_mut(&id).unwrap();
+        resource.pixels.as_mut_slice()
+    }
+}
+
+#[tactic(auto, unfolding(crate::specs::Resource::blank))]
+fn blank(
+    alloc: Global,
+    width: u32,
+    height: u32,
+    format: Format,
+    size: usize,
+) -> Result<Resource, AllocError>
+    requires { size ≡ 4 * width * height }
+    ensures { IfOk result (λ resource. resource ≡ blank width height format) }
+{
+    let pixels = Seq::from_vec(zeros(alloc, size)?);
+    Ok(Resource {
+        width,
+        height,
+        format,
+        pixels,
+    })
+}

@@ -1,0 +1,2 @@
+pub mod Backings
+pub mod Pixels

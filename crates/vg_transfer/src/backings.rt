@@ -1,0 +1,216 @@
+//! The backings of resources, and the transfers from them (VIRTIO 1.2, 5.7.6.8).
+
+ghost use Rattle.std.specs.Prelude.{◌≡◌, ◌+◌, ◌*◌, ◌<◌, ◌≤◌, ◌⊎◌, ◌^◌, ℕ, List, [], true, length, IfOk, OnOk, OnErr, Ok, All, option_copied};
+ghost use Rattle.vg_pages.specs.Memory.{Memory};
+ghost use Rattle.vg_formats.specs.declared.rect.Rect.{Rect};
+ghost use Rattle.vg_formats.specs.Pixels.{is_empty};
+ghost use Rattle.vg_backing.specs.Backing.{AreHeld, backing_bytes, total};
+ghost use Rattle.vg_transfer.specs.Backings.{attach, backing_at, detach, detached, entries_at, transfer, transfer_end, transferred};
+ghost use Rattle.vg_transfer.specs.Pixels.{CopiesRect};
+
+use std::alloc::{AllocError, Global};
+use std::collections::BTreeMap;
+use std::marker::Model;
+use vg_backing::Backing;
+use vg_formats::{MemEntry, Rect};
+use vg_pages::Pages;
+use vg_wire::kinds::{ERR_INVALID_PARAMETER, ERR_UNSPEC};
+
+/// The backings by the ids of their resources.
+#[derive(Debug, Drop)]
+pub struct Backings {
+    map: BTreeMap<u32, Backing>,
+}
+
+impl Model for Backings {
+    ghost use Rattle.std.specs.Prelude.{ℕ, List};
+    ghost use Rattle.vg_formats.specs.declared.entry.MemEntry.{MemEntry};
+
+    ghost Value = { List (ℕ × List MemEntry) };
+
+    ghost view = { λ b. b.map.entries };
+}
+
+impl Backings {
+    pub fn new(alloc: Global) -> Backings
+        ensures { result ≡ [] }
+    {
+        Backings {
+            map: BTreeMap::new(alloc),
+        }
+    }
+
+    /// Gives a resource its backing, or answers the code of its refusal.
+    #[tactic(auto, unfolding(crate::specs::Backings::attach))]
+    pub fn attach(
+        &mut self,
+        alloc: Global,
+        pages: &Pages,
+        resource: u32,
+        entries: &[MemEntry],
+    ) -> Result<Result<(), u32>, AllocError>
+        requires number { length entries.now < 2 ^ 32 }
+        ensures done { IfOk result (λ done. (self.new, done) ≡ attach true pages.now resource entries.now self.old) }
+        ensures held { All (λ entry. AreHeld pages.now entry.1) self.old → All (λ entry. AreHeld pages.now entry.1) self.new }
+        ensures err { OnErr result (self.new ≡ self.old) }
+    {
+        if self.map.contains_key(&resource) {
+            return Ok(Err(ERR_UNSPEC));
+        }
+        let Some(backing) = Backing::new(alloc, pages, entries)? else {
+            return Ok(Err(ERR_INVALID_PARAMETER));
+        };
+        self.map.insert(resource, backing)?;
+        Ok(Ok(()))
+    }
+
+    /// Ends a resource's backing, or answers the code of its refusal.
+    #[tactic(auto, unfolding(crate::specs::Backings::detach))]
+    pub fn detach(&mut self, resource: u32) -> Result<(), u32>
+        ensures done { (self.new, result) ≡ detach true resource self.old }
+        ensures held { (memory : Memory) → All (λ entry. AreHeld memory entry.1) self.old → All (λ entry. AreHeld memory entry.1) self.new }
+    {
+        match self.map.remove(&resource) {
+            Some(_) => Ok(()),
+            None => Err(ERR_UNSPEC),
+        }
+    }
+
+    /// Ends a resource's backing, if it has one.
+    pub fn remove(&mut self, resource: u32)
+        ensures after { self.new ≡ detached resource self.old }
+        ensures held { (memory : Memory) → All (λ entry. AreHeld memory entry.1) self.old → All (λ entry. AreHeld memory entry.1) self.new }
+    {
+        self.map.remove(&resource);
+    }
+
+    /// Copies a rectangle of a resource of `width` by `height` pixels from its backing, of which the first byte is that at
+    /// `offset`, or answers the code of its refusal.
+    #[tactic(auto, unfolding(crate::specs::Backings::transfer))]
+    pub fn transfer(
+        &self,
+        pages: &Pages,
+        resource: u32,
+        rect: &Rect,
+        offset: u64,
+        width: u32,
+        height: u32,
+        pixels: &mut [u8],
+    ) -> Result<(), u32>
+        requires held { All (λ entry. AreHeld pages.now entry.1) self.now }
+        requires whole { length pixels.old ≡ 4 * width * height }
+        ensures done { (pixels.new, result) ≡ transfer true pages.now resource rect.now offset width height self.now pixels.old }
+        ensures pixels { OnOk result (CopiesRect rect.now offset width height (backing_bytes pages.now (entries_at resource self.now)) pixels.old pixels.new) }
+    {
+        let Some(backing) = self.get(resource) else {
+            return Err(ERR_UNSPEC);
+        };
+        if !rect.inside(width, height) {
+            return Err(ERR_INVALID_PARAMETER);
+        }
+        if !rect.is_empty() && u128::from(backing.length()) < end_of(rect, offset, width) {
+            return Err(ERR_INVALID_PARAMETER);
+        }
+        copy_rect(backing, pages, rect, offset, width, pixels);
+        Ok(())
+    }
+
+    /// A law, and no work: after a transfer that isn't refused pixel (x + i, y + j) of a resource of this width and height, in
+    /// column i and row j of the rectangle at (x, y), is the four bytes of the backing from
+    /// `offset + 4 * width * j + 4 * i` on, and each other pixel is as before.
+    pub fn a_transfer_copies_each_pixel(&self, pages: &Pages)
+        requires { All (λ entry. AreHeld pages.now entry.1) self.now }
+        ensures { (id : ℕ) (rect : Rect) (offset width height : ℕ) (pixels : List ℕ) → length pixels ≡ 4 * width * height
+            → (transfer true pages.now id rect offset width height self.now pixels).1 ≡ Ok tt
+            → CopiesRect rect offset width height (backing_bytes pages.now (entries_at id self.now)) pixels (transfer true pages.now id rect offset width height self.now pixels).0 }
+    {
+        let _ = &self.map;
+        let _ = pages;
+    }
+
+    /// The backing of a resource.
+    fn get(&self, resource: u32) -> Option<&Backing>
+        ensures value { option_copied result ≡ backing_at resource self.now }
+    {
+        self.map.get(&resource)
+    }
+}
+
+/// Copies a rectangle of pixels, four bytes each, of a resource with `width` pixels a row. The first byte of its first row
+/// is that at `offset`, and the others stand as they do in the resource.
+fn copy_rect(
+    backing: &Backing,
+    pages: &Pages,
+    rect: &Rect,
+    offset: u64,
+    width: u32,
+    pixels: &mut [u8],
+)
+    requires held { AreHeld pages.now backing.now }
+    requires columns { rect.now.x + rect.now.width ≤ width }
+    requires rows { 4 * width * (rect.now.y + rect.now.height) ≤ length pixels.old }
+    requires source { (is_empty rect.now ≡ true) ⊎ (transfer_end rect.now offset width ≤ total backing.now) }
+    ensures { pixels.new ≡ transferred pages.now backing.now rect.now offset width pixels.old }
+{
+    if rect.is_empty() {
+        return;
+    }
+    if rect.width == width {
+        copy_whole_rows(backing, pages, rect, offset, pixels);
+    } else {
+        copy_rows(backing, pages, rect, offset, width, pixels);
+    }
+}
+
+/// Copies rows that are as wide as the resource, and so stand one after another in it and in the backing.
+fn copy_whole_rows(backing: &Backing, pages: &Pages, rect: &Rect, offset: u64, pixels: &mut [u8])
+    requires held { AreHeld pages.now backing.now }
+    requires left { rect.now.x ≡ 0 }
+    requires some { (0 < rect.now.width) × (0 < rect.now.height) }
+    requires rows { 4 * rect.now.width * (rect.now.y + rect.now.height) ≤ length pixels.old }
+    requires source { transfer_end rect.now offset rect.now.width ≤ total backing.now }
+    ensures { pixels.new ≡ transferred pages.now backing.now rect.now offset rect.now.width pixels.old }
+{
+    let row_bytes = 4 * rect.width as usize;
+    let from = row_bytes * rect.y as usize;
+    let size = row_bytes * rect.height as usize;
+    backing.read(pages, offset, &mut pixels[from..from + size]);
+}
+
+/// Copies each row by itself.
+fn copy_rows(
+    backing: &Backing,
+    pages: &Pages,
+    rect: &Rect,
+    offset: u64,
+    width: u32,
+    pixels: &mut [u8],
+)
+    requires held { AreHeld pages.now backing.now }
+    requires columns { rect.now.x + rect.now.width ≤ width }
+    requires rows { 4 * width * (rect.now.y + rect.now.height) ≤ length pixels.old }
+    requires source { transfer_end rect.now offset width ≤ total backing.now }
+    ensures { pixels.new ≡ transferred pages.now backing.now rect.now offset width pixels.old }
+{
+    // The numbers of the bytes fit, since the backing's length does.
+    let end = backing.length();
+    prove!(offset <= end);
+    let stride = 4 * u64::from(width);
+    let row_bytes = 4 * rect.width as usize;
+    let mut to = stride as usize * rect.y as usize + 4 * rect.x as usize;
+    for i in 0..rect.height {
+        let from = offset + stride * u64::from(i);
+        backing.read(pages, from, &mut pixels[to..to + row_bytes]);
+        to += stride as usize;
+    }
+}
+
+/// One past the last byte of the backing that a transfer reads.
+fn end_of(rect: &Rect, offset: u64, width: u32) -> u128
+    requires { 0 < rect.now.height }
+    ensures { result ≡ transfer_end rect.now offset width }
+{
+    u128::from(offset)
+        + 4 * u128::from(width) * (u128::from(rect.height) - 1)
+        + 4 * u128::from(rect.width)
+}
