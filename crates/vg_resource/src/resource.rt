@@ -18,7 +18,7 @@ use vg_places::zeros;
 use vg_wire::kinds::{ERR_INVALID_PARAMETER, ERR_INVALID_RESOURCE_ID, ERR_OUT_OF_MEMORY};
 
 /// How many bytes the pixels of all resources may have.
-pub const MOST_PIXEL_BYTES: u64 = 134_217_728;
+const MOST_PIXEL_BYTES: u64 = 134_217_728;
 
 /// A 2D resource: width and height in pixels, and its pixels, row by row, four bytes each.
 #[derive(Debug, Drop)]
