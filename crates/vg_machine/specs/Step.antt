@@ -58,7 +58,7 @@ answered_with None state next response = (next, response)
 abbrev pub answered_by : Option ℕ → State → State → State × Response
 answered_by refusal state next = answered_with refusal state next responses.Nodata
 
--- RESOURCE_CREATE_2D is refused as `create_refusals` (Resource) says.
+-- RESOURCE_CREATE_2D is refused as `create_refusals` (vg_resource) says.
 abbrev pub create_step : State → ℕ → ℕ → ℕ → ℕ → State × Response
 create_step state resource format width height =
     answered_by (refusal_of (create_refusals resource width height format state.resources)) state
@@ -73,7 +73,7 @@ unreferenced state resource = record state {
   scanouts = unbound_from resource state.scanouts;
 }
 
--- RESOURCE_UNREF is refused as `unref_refusals` (Resource) says.
+-- RESOURCE_UNREF is refused as `unref_refusals` (vg_resource) says.
 abbrev pub unref_step : State → ℕ → State × Response
 unref_step state resource = answered_by (refusal_of (unref_refusals resource state.resources)) state (unreferenced state resource)
 
@@ -139,14 +139,14 @@ abbrev pub flush_step : State → Rect → ℕ → State × Response
 flush_step state rect id =
     answered_by (refusal_of (flush_refusals state rect id)) state (record state { scanouts = flushed_by state rect id })
 
--- TRANSFER_TO_HOST_2D is refused as `transfer_refusals` (Backing) says.
+-- TRANSFER_TO_HOST_2D is refused as `transfer_refusals` (vg_transfer) says.
 abbrev pub transfer_step : State → Rect → ℕ → ℕ → State × Response
 transfer_step state rect offset id =
     let found = resource_at id state.resources in
     answered_by (receive_refusal id rect offset state.backings found) state
     (record state { resources = with_received state.memory id rect offset state.backings found state.resources })
 
--- RESOURCE_ATTACH_BACKING is refused as `attach_refusals` (Backing) says, and RESOURCE_DETACH_BACKING as `detach_refusals`.
+-- RESOURCE_ATTACH_BACKING is refused as `attach_refusals` (vg_transfer) says, and RESOURCE_DETACH_BACKING as `detach_refusals`.
 abbrev pub attach_step : State → ℕ → List MemEntry → State × Response
 attach_step state id entries =
     answered_by (refusal_of (attach_refusals (is_some (resource_at id state.resources)) state.memory id entries state.backings)) state

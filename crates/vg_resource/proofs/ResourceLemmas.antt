@@ -1,6 +1,6 @@
 -- The pixels' bytes of all resources, as one comes, goes or is written to.
-use Rattle.std.proofs.Common.{◌≡◌, ℕ, ◌+◌, ◌*◌, ◌<◌, ◌≤◌, List, ◌++◌, Option, Some, None, length, drop, refl, sym, ap, ◌∙◌, subst, arith}
-use Rattle.std.specs.Prelude.{unwrap_or, IfSome, IfNone}
+use Rattle.std.proofs.Common.{◌≡◌, ℕ, ◌+◌, ◌*◌, ◌<◌, ◌≤◌, List, ◌++◌, Option, Some, None, length, drop, sym, ap, ◌∙◌, subst, arith}
+use Rattle.std.specs.Prelude.{unwrap_or, IfSome}
 use Rattle.std.specs.Option.{option_map}
 use Rattle.std.specs.List.{All}
 use Rattle.std.specs.List.Sorted.{IsStrictlySortedBy}
@@ -12,11 +12,9 @@ use Rattle.std.proofs.lemmas.List.{length-replicate, length-take, length-append,
 use Rattle.vg_list.specs.Seq.{overwritten}
 use Rattle.std.proofs.lemmas.Map.Entries.{sum_by-insert_entry, sum_by-remove_entry, sum_by-set_value}
 use Rattle.std.proofs.lemmas.Map.Views.{All-values-set_value, IfSome-lookup_from_All}
-use Rattle.std.proofs.lemmas.Map.Steps.{set_value_same}
 use Rattle.vg_formats.specs.declared.format.Format.{Format}
-use Rattle.vg_places.proofs.Filled.{length-filled}
 use Rattle.vg_resource.specs.declared.resource.Resource.{Resource}
-use Rattle.vg_resource.specs.Resource.{blank, pixel_bytes, resource_at, with_pixels, without, IsWhole}
+use Rattle.vg_resource.specs.Resource.{blank, pixel_bytes, resource_at, without, IsWhole}
 
 length-overwritten : (old written : List ℕ) → length (overwritten old written) ≡ length old
 length-overwritten old written =

@@ -18,7 +18,7 @@ use vg_places::zeros;
 use vg_wire::kinds::{ERR_INVALID_PARAMETER, ERR_INVALID_RESOURCE_ID, ERR_OUT_OF_MEMORY};
 
 /// How many bytes the pixels of all resources may have.
-pub const MOST_PIXEL_BYTES: u64 = 134_217_728;
+const MOST_PIXEL_BYTES: u64 = 134_217_728;
 
 /// A 2D resource: width and height in pixels, and its pixels, row by row, four bytes each.
 #[derive(Debug, Drop)]
@@ -52,6 +52,7 @@ impl Model for Resources {
 }
 
 impl Resources {
+    /// No resources, which takes no memory.
     pub fn new(alloc: Global) -> Resources
         ensures { result ≡ [] }
     {
@@ -61,7 +62,9 @@ impl Resources {
         }
     }
 
-    /// Makes a resource whose bytes are all 0, or answers the code of its refusal.
+    /// Makes a resource of this size in pixels, whose bytes are all 0, or answers the code of its refusal:
+    /// ERR_INVALID_RESOURCE_ID for an id that is 0 or in use, ERR_INVALID_PARAMETER for an unknown format or no pixels,
+    /// ERR_OUT_OF_MEMORY where the pixels of all resources would pass the limit.
     #[tactic(auto, unfolding(crate::specs::Resource::create))]
     pub fn create(
         &mut self,
@@ -107,7 +110,7 @@ impl Resources {
         Ok(known)
     }
 
-    /// Takes the resource away, or answers the code of its refusal.
+    /// Takes the resource away, or answers ERR_INVALID_RESOURCE_ID where there is none.
     #[tactic(auto, unfolding(crate::specs::Resource::remove))]
     pub fn remove(&mut self, id: u32) -> Result<(), u32>
         ensures { (self.new, result) ≡ remove id self.old }

@@ -1,5 +1,5 @@
 -- What a transfer copies, pixel by pixel, and rows that stand one after another.
-use Rattle.std.proofs.Common.{◌≡◌, ℕ, ◌+◌, ◌-◌, ◌*◌, ◌/◌, ◌%◌, ◌<◌, ◌≤◌, ◌⊎◌, ◌&&◌, inl, inr, Bool, true, false, not, List, [], ◌∷◌, length, get_or, slice_index, take, drop, Option, Some, None, Result, Ok, Err, sym, ap, ◌∙◌, refl, subst, arith, le_refl}
+use Rattle.std.proofs.Common.{◌≡◌, ℕ, ◌+◌, ◌-◌, ◌*◌, ◌/◌, ◌%◌, ◌<◌, ◌≤◌, ◌⊎◌, ◌&&◌, inl, inr, Bool, true, false, not, List, [], ◌∷◌, length, get_or, slice_index, take, drop, Option, Some, None, Result, Ok, sym, ap, ◌∙◌, refl, subst, arith, le_refl}
 use Rattle.std.specs.Prelude.{IfSome, is_none, nat_lt, unwrap_or}
 use Rattle.std.specs.List.{All}
 use Rattle.std.proofs.lemmas.Bool.Decides.{nat_tests}

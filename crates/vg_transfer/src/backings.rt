@@ -32,6 +32,7 @@ impl Model for Backings {
 }
 
 impl Backings {
+    /// No backings, which takes no memory.
     pub fn new(alloc: Global) -> Backings
         ensures { result ≡ [] }
     {
@@ -40,7 +41,8 @@ impl Backings {
         }
     }
 
-    /// Gives a resource its backing, or answers the code of its refusal.
+    /// Gives a resource, of which the caller knows that there is one, its backing, or answers the code of its refusal:
+    /// ERR_UNSPEC where it has one already, ERR_INVALID_PARAMETER where the entries are bad.
     #[tactic(auto, unfolding(crate::specs::Backings::attach))]
     pub fn attach(
         &mut self,
@@ -64,7 +66,7 @@ impl Backings {
         Ok(Ok(()))
     }
 
-    /// Ends a resource's backing, or answers the code of its refusal.
+    /// Ends a resource's backing, or answers ERR_UNSPEC where it has none.
     #[tactic(auto, unfolding(crate::specs::Backings::detach))]
     pub fn detach(&mut self, resource: u32) -> Result<(), u32>
         ensures done { (self.new, result) ≡ detach true resource self.old }
@@ -84,8 +86,10 @@ impl Backings {
         self.map.remove(&resource);
     }
 
-    /// Copies a rectangle of a resource of `width` by `height` pixels from its backing, of which the first byte is that at
-    /// `offset`, or answers the code of its refusal.
+    /// Copies a rectangle of a resource of `width` by `height` pixels, four bytes each, row by row, from its backing, or
+    /// answers the code of its refusal: ERR_UNSPEC without a backing, ERR_INVALID_PARAMETER for a rectangle outside of the
+    /// resource, or bytes past the backing's end. The rectangle's first byte is that of number `offset`, and the others
+    /// stand in the backing as they do in the resource.
     #[tactic(auto, unfolding(crate::specs::Backings::transfer))]
     pub fn transfer(
         &self,

@@ -1,7 +1,6 @@
 -- The rows are one piece of the backing, and one of the resource.
 use Rattle.std.proofs.Common.{◌≡◌, ◌+◌, ◌*◌, ◌-◌, ◌≤◌, length, take, drop, ap, ◌∙◌, refl, arith}
 use Rattle.std.proofs.lemmas.List.{length-take, length-drop}
-use borrow.Rule.Slice.PartMut.{put_mid}
 use Rattle.vg_backing.specs.Backing.{backing_bytes}
 use Rattle.vg_backing.proofs.BackingLemmas.{length-backing_bytes}
 use Rattle.vg_transfer.specs.Backings.{bytes_of_rect, transfer_end}

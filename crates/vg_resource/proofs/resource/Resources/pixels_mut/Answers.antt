@@ -4,8 +4,7 @@ use Rattle.std.specs.Map.{set_value}
 use Rattle.std.specs.BTreeMap.{is_at}
 use Rattle.vg_list.specs.Seq.{overwritten}
 use Rattle.vg_resource.specs.declared.resource.Resource.{Resource}
-use Rattle.vg_resource.specs.Lending.{written}
-use Rattle.vg_resource.specs.Resource.{resource_at, pixels_at}
+use Rattle.vg_resource.specs.Resource.{resource_at}
 use Rattle.vg_resource.proofs.ResourceLemmas.{written-keeps}
 use Rattle.vg_resource.proofs.resource.Resources.pixels_mut.Goals as goal
 
