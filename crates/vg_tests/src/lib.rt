@@ -3,6 +3,12 @@
 #![tactic(auto)]
 
 #[cfg(test)]
+mod chain;
+#[cfg(test)]
+mod config;
+#[cfg(test)]
+mod edid;
+#[cfg(test)]
 mod formats;
 #[cfg(test)]
 mod io;

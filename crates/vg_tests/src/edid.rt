@@ -1,6 +1,6 @@
 //! Blocks that another program (in Python) laid out from the table of the block's parts.
 
-use crate::edid;
+use vg_edid::edid;
 
 /// 640 by 480 on scanout 0.
 static VGA: [u8; 128] = [

@@ -1,7 +1,7 @@
 //! Values worked out by hand from VIRTIO 1.2, 2.1, 2.2, 5.7.3 and 5.7.4.
 
-use crate::{Config, Negotiation, Refused};
 use std::test::Fail;
+use vg_config::{Config, Negotiation, Refused};
 
 /// Features that a driver accepts, and the faulty bits among them.
 static FAULTY: [(u64, u64); 9] = [

@@ -1,12 +1,12 @@
-//! Walks of chains laid out by hand, and of each shape.
+//! Walks of chains laid out by hand, and the descriptors of each shape (VIRTIO 1.2, 2.7.5).
 
-ghost use Rattle.std.specs.Prelude.{◌≡◌, ◌≤◌, ◌<◌, length};
+ghost use Rattle.std.specs.Prelude.{◌≤◌};
 ghost use Rattle.vg_chain.specs.Made.{IsCount};
 
-use super::{Chain, ChainFault, Descriptor, Extent, Parts, Segment, Shape, walk};
 use std::alloc::{AllocError, Global};
 use std::process::Abort;
 use std::test::Fail;
+use vg_chain::{Chain, ChainFault, Descriptor, Extent, Parts, Shape, walk};
 
 const BASE: u64 = 0x1_0000_0000_0000;
 
@@ -195,7 +195,7 @@ fn number_of(walked: &Result<Chain, ChainFault>) -> u8 {
     }
 }
 
-fn walked_of(alloc: Global, rows: [(u64, u32, u16, u16); 6], head: u16) -> Result<u8, AllocError> {
+fn walked_of(alloc: Global, rows: &[(u64, u32, u16, u16); 6], head: u16) -> Result<u8, AllocError> {
     let mut table = Vec::new(alloc);
     for row in &rows[..4] {
         table.push(descriptor_of(*row))?;
@@ -215,8 +215,8 @@ fn walked_of(alloc: Global, rows: [(u64, u32, u16, u16); 6], head: u16) -> Resul
 
 #[test]
 fn walks_end_at_the_first_fault(rt: HostRuntime) -> Result<(), Fail> {
-    for (rows, head, fault) in CASES {
-        assert_eq!(rt; walked_of(rt.alloc(), rows, head)?, fault);
+    for (rows, head, fault) in &CASES {
+        assert_eq!(rt; walked_of(rt.alloc(), rows, *head)?, *fault);
     }
     Ok(())
 }
@@ -334,89 +334,40 @@ static REQUESTS: [u32; 7] = [0, 1, 23, 24, 25, 4832, 49152];
 
 static ROOMS: [u32; 3] = [0, 24, 8192];
 
-static PLACES: [u16; 10] = [5, 3, 15, 0, 9, 8, 1, 14, 7, 2];
-
-fn laid(alloc: Global, shape: Shape, extent: &Extent) -> Result<Vec<Descriptor>, AllocError>
-    requires count { IsCount shape }
-    requires request { extent.now.request ≤ 49152 }
-    requires room { extent.now.room ≤ 8192 }
-    requires base { extent.now.base ≡ BASE }
-{
-    let mut table = vec![in alloc; descriptor_of((1, 1, 1, 1)); 16]?;
-    let next_of = |at: usize| PLACES.get(at).copied().unwrap_or(0);
-    for at in 0..shape.needed(extent.request, extent.room) {
-        let place = next_of(at as usize) as usize;
-        let next = next_of(at as usize + 1);
-        if let Some(descriptor) = shape.descriptor(extent, 16, 5, at, next)
-            && place < table.len()
-        {
-            table[place] = descriptor;
-        }
-    }
-    Ok(table)
-}
-
-/// Whether these are the `len` bytes from `addr`, in order.
-fn are_bytes(segments: &[Segment], addr: u64, len: u32) -> bool {
-    let mut at = addr;
-    for segment in segments {
-        if segment.addr != at {
-            return false;
-        }
-        at = at.wrapping_add(u64::from(segment.len));
-    }
-    at == addr.wrapping_add(u64::from(len))
-}
-
-/// Whether the walk of the shape's layout comes to its fault, or to all bytes.
-fn is_walked(alloc: Global, number: u8, request: u32, room: u32) -> Result<bool, AllocError>
-    requires request { request ≤ 49152 }
-    requires room { room ≤ 8192 }
-{
-    let shape = shape_of(number);
-    let extent = Extent {
-        base: BASE,
-        request,
-        room,
-    };
-    let table = laid(alloc, shape, &extent)?;
-    let tables = shape.tables(alloc, &extent)?;
-    let parts = Parts {
-        base: BASE,
-        request,
-        room,
-        tables: tables.as_slice(),
-    };
-    match walk(alloc, table.as_slice(), 5, &parts)? {
-        Ok(chain) => Ok(
-            number < 10
-                && are_bytes(chain.readable.as_slice(), BASE, request)
-                && are_bytes(chain.writable.as_slice(), ROOM, room),
-        ),
-        Err(fault) => Ok(shape == Shape::Bad { fault }),
-    }
-}
-
-fn check_shape(rt: &impl Abort, alloc: Global, number: u8) -> Result<(), AllocError> {
-    let row = NEEDED.get(number as usize).copied().unwrap_or([0; 21]);
+fn check_needed(rt: &impl Abort, number: u8, row: &[u16; 21]) {
     let mut at = 0;
     for request in REQUESTS {
         for room in ROOMS {
-            let request = request.min(49152);
-            let room = room.min(8192);
             let needed = shape_of(number).needed(request, room);
-            assert_eq!(rt; Some(needed), row.get(at).copied());
-            assert!(rt; is_walked(alloc, number, request, room)?);
+            assert_eq!(rt; Some(needed), row.get(at).copied(), "shape {number}");
             at = at.wrapping_add(1);
         }
     }
-    Ok(())
 }
 
 #[test]
-fn each_shape_is_walked(rt: HostRuntime) -> Result<(), Fail> {
-    for number in 0..17 {
-        check_shape(&rt, rt.alloc(), number)?;
+fn shapes_need_so_many_descriptors(rt: HostRuntime) {
+    let mut number = 0u8;
+    for row in &NEEDED {
+        check_needed(&rt, number, row);
+        number = number.wrapping_add(1);
     }
+}
+
+/// A table of the request's 24 bytes, and of the 8 bytes behind them that the device writes.
+static TABLE: [u8; 32] = [
+    0, 0, 0, 0, 0, 0, 1, 0, 24, 0, 0, 0, 1, 0, 1, 0, 0, 192, 0, 0, 0, 0, 1, 0, 8, 0, 0, 0, 2, 0, 0,
+    0,
+];
+
+#[test]
+fn a_table_is_its_descriptors_in_their_bytes(rt: HostRuntime) -> Result<(), Fail> {
+    let extent = Extent {
+        base: BASE,
+        request: 24,
+        room: 8,
+    };
+    let tables = Shape::Indirect.tables(rt.alloc(), &extent)?;
+    assert_eq!(rt; tables.as_slice(), TABLE.as_slice());
     Ok(())
 }
