@@ -1,12 +1,9 @@
 //! Texts written by hand from the journal's format.
 
-ghost use Rattle.std.specs.Prelude.{None};
-
-use super::run::Sip;
 use std::alloc::{AllocError, Global};
 use std::test::Fail;
 use vg_chain::Shape;
-use vg_io::{Failed, MemSink, Sink};
+use vg_io::MemSink;
 use vg_list::Seq;
 use vg_machine::{Act, ActReply, Entry, Frame, Reply, Request, Setup, ShareRefusal, What};
 use vg_run::{Journal, print};
@@ -113,16 +110,19 @@ const TWO_CLIENTS: &[u8] = b"vgpu-journal 1\n\
     \n\
     end\n";
 
+/// Prints a journal into a sink whose write of this number fails, and says whether all was written. No write has the number 0.
+fn printed(alloc: Global, journal: &Journal, write: u64) -> Result<(bool, MemSink), AllocError> {
+    let mut sink = MemSink::new(alloc, 200_000, vec![in alloc; write]?)?;
+    let whole = print(alloc, journal, &mut sink)?.is_ok();
+    Ok((whole, sink))
+}
+
 #[test]
 fn a_journal_has_this_text(rt: HostRuntime) -> Result<(), Fail> {
-    let alloc = rt.alloc();
-    let journal = two_clients(alloc)?;
-    let mut sink = MemSink::new(alloc, 1000, Vec::new(alloc))?;
-    assert_eq!(rt; print(alloc, &journal, &mut sink)?, Ok(()));
+    let journal = two_clients(rt.alloc())?;
+    let (whole, sink) = printed(rt.alloc(), &journal, 0)?;
+    assert!(rt; whole);
     assert_eq!(rt; sink.bytes(), TWO_CLIENTS);
-    let mut sip = Sip(MemSink::new(alloc, 1000, Vec::new(alloc))?);
-    assert_eq!(rt; print(alloc, &journal, &mut sip)?, Ok(()));
-    assert_eq!(rt; sip.0.bytes(), TWO_CLIENTS);
     Ok(())
 }
 
@@ -165,8 +165,12 @@ fn each_act(alloc: Global) -> Result<Vec<Entry>, AllocError> {
     Ok(entries)
 }
 
-/// The lines of `each_act`.
-const EACH_ACT: &[u8] = b"1 1 1 act reserve 0 0 0 0 = key 8 pages -\n\
+/// The text of `each_act`.
+const EACH_ACT: &[u8] = b"vgpu-journal 1\n\
+    display 0 64 48\n\
+    memory 1\n\
+    clients 1\n\
+    1 1 1 act reserve 0 0 0 0 = key 8 pages -\n\
     2 1 2 act release 7 = kept\n\
     3 1 3 act denied resource 4294967295 = ok\n\
     4 1 4 act free 0 = full 5\n\
@@ -175,28 +179,33 @@ const EACH_ACT: &[u8] = b"1 1 1 act reserve 0 0 0 0 = key 8 pages -\n\
     7 1 7 act free 0 = held 2\n\
     8 1 8 act free 0 = range 32\n\
     9 1 9 act free 0 = inuse 15\n\
-    10 1 10 act free 0 = live\n";
+    10 1 10 act free 0 = live\n\
+    rings 0 0\n\
+    frames 0\n\
+    end\n";
 
-#[test]
-fn acts_and_replies_have_these_texts(rt: HostRuntime) -> Result<(), Fail> {
-    let alloc = rt.alloc();
-    let journal = Journal {
+/// A journal of one client without frames.
+fn journal_of(alloc: Global, entries: Vec<Entry>, control: u64) -> Result<Journal, AllocError> {
+    Ok(Journal {
         setup: Setup {
             displays: Seq::from_vec(vec![in alloc; (64u32, 48u32)]?),
             pages: 1,
             accepted: 0x11000001f,
             clients: 1,
         },
-        entries: Seq::from_vec(each_act(alloc)?),
-        control: 0,
+        entries: Seq::from_vec(entries),
+        control,
         cursor: 0,
         frames: Seq::from_vec(Vec::new(alloc)),
-    };
-    let mut sink = MemSink::new(alloc, 2000, Vec::new(alloc))?;
-    assert_eq!(rt; print(alloc, &journal, &mut sink)?, Ok(()));
-    // A head of 50 bytes is in front, and 23 bytes are behind.
-    assert_eq!(rt; sink.bytes().len(), EACH_ACT.len().saturating_add(73));
-    assert_eq!(rt; part(sink.bytes(), 50, EACH_ACT), EACH_ACT);
+    })
+}
+
+#[test]
+fn acts_and_replies_have_these_texts(rt: HostRuntime) -> Result<(), Fail> {
+    let journal = journal_of(rt.alloc(), each_act(rt.alloc())?, 0)?;
+    let (whole, sink) = printed(rt.alloc(), &journal, 0)?;
+    assert!(rt; whole);
+    assert_eq!(rt; sink.bytes(), EACH_ACT);
     Ok(())
 }
 
@@ -211,100 +220,43 @@ fn two_long_requests(alloc: Global) -> Result<Journal, AllocError> {
     let mut entries = Vec::new(alloc);
     entries.push(command(1, 1, first, Vec::new(alloc)))?;
     entries.push(command(1, 2, second, Vec::new(alloc)))?;
-    Ok(Journal {
-        setup: Setup {
-            displays: Seq::from_vec(vec![in alloc; (64u32, 48u32)]?),
-            pages: 1,
-            accepted: 0x11000001f,
-            clients: 1,
-        },
-        entries: Seq::from_vec(entries),
-        control: 2,
-        cursor: 0,
-        frames: Seq::from_vec(Vec::new(alloc)),
-    })
+    journal_of(alloc, entries, 2)
 }
 
-/// The bytes of `text` from `from` on, as many as `like` has.
-fn part<'a>(text: &'a [u8], from: usize, like: &[u8]) -> &'a [u8] {
-    if from <= text.len() && like.len() <= text.len() - from {
-        &text[from..from + like.len()]
-    } else {
-        &[]
-    }
+/// The text of `two_long_requests`.
+fn long_text(alloc: Global) -> Result<Vec<u8>, AllocError> {
+    let mut text = Vec::new(alloc);
+    text.extend_from_slice(b"vgpu-journal 1\ndisplay 0 64 48\nmemory 1\nclients 1\n")?;
+    text.extend_from_slice(b"1 1 1 cmd 0 1 24 plain ")?;
+    add_times(&mut text, b"ab", 40_000)?;
+    text.extend_from_slice(b" = -\n2 1 2 cmd 0 2 24 plain ")?;
+    add_times(&mut text, b"01", 40_000)?;
+    text.extend_from_slice(b" = -\nrings 2 0\nframes 0\nend\n")?;
+    Ok(text)
 }
 
-#[test]
-fn a_line_longer_than_a_piece_is_whole(rt: HostRuntime) -> Result<(), Fail> {
-    let alloc = rt.alloc();
-    let journal = two_long_requests(alloc)?;
-    let mut sink = MemSink::new(alloc, 200_000, Vec::new(alloc))?;
-    assert_eq!(rt; print(alloc, &journal, &mut sink)?, Ok(()));
-    // A head of 50 bytes, two lines of 80,028 bytes, and 23 bytes behind them.
-    let text = sink.bytes();
-    assert_eq!(rt; text.len(), 160_129);
-    let head = b"vgpu-journal 1\ndisplay 0 64 48\nmemory 1\nclients 1\n".as_slice();
-    let first = b"1 1 1 cmd 0 1 24 plain abab".as_slice();
-    let second = b"abab = -\n2 1 2 cmd 0 2 24 plain 0101".as_slice();
-    let end = b"0101 = -\nrings 2 0\nframes 0\nend\n".as_slice();
-    for (from, want) in [(0, head), (50, first), (80_069, second), (160_097, end)] {
-        assert_eq!(rt; part(text, from, want), want, "at {from}");
+fn add_times(text: &mut Vec<u8>, part: &[u8], times: u32) -> Result<(), AllocError> {
+    for _time in 0..times {
+        text.extend_from_slice(part)?;
     }
     Ok(())
 }
 
-#[test]
-fn a_write_that_fails_leaves_a_front(rt: HostRuntime) -> Result<(), Fail> {
-    let alloc = rt.alloc();
-    let journal = two_long_requests(alloc)?;
-    let mut whole = MemSink::new(alloc, 200_000, Vec::new(alloc))?;
-    assert_eq!(rt; print(alloc, &journal, &mut whole)?, Ok(()));
-    // Each line of 80,028 bytes is longer than a piece, which holds 65,536.
-    let fronts = [
-        (1u64, 0usize),
-        (2, 65_536),
-        (3, 80_078),
-        (4, 145_614),
-        (5, 160_106),
-    ];
-    for (write, front) in fronts {
-        let mut sink = MemSink::new(alloc, 200_000, vec![in alloc; write]?)?;
-        assert_eq!(rt;
-            print(alloc, &journal, &mut sink)?,
-            Err(Failed),
-            "at write {write}"
-        );
-        assert_eq!(rt; sink.bytes().len(), front, "at write {write}");
-        assert!(rt; whole.bytes().starts_with(sink.bytes()));
-    }
-    let mut sink = MemSink::new(alloc, 200_000, vec![in alloc; 6u64]?)?;
-    assert_eq!(rt; print(alloc, &journal, &mut sink)?, Ok(()));
-    Ok(())
-}
-
-/// A sink that takes all and keeps the size of the largest piece.
-#[derive(Drop)]
-struct Widest {
-    bytes: usize,
-}
-
-impl Sink for Widest {
-    ghost held = { λ _. None };
-
-    ghost faults = { λ _. 0 };
-
-    fn write(&mut self, bytes: &[u8]) -> Result<usize, Failed> {
-        self.bytes = self.bytes.max(bytes.len());
-        Ok(bytes.len())
-    }
-}
+/// Writes that fail, and how much is written before. Each line of 80,028 bytes is longer than a piece, which has 65,536 at
+/// most.
+static FRONTS: [(u64, usize); 5] = [(1, 0), (2, 65_536), (3, 80_078), (4, 145_614), (5, 160_106)];
 
 #[test]
-fn no_piece_is_larger_than_65_536_bytes(rt: HostRuntime) -> Result<(), Fail> {
-    let alloc = rt.alloc();
-    let journal = two_long_requests(alloc)?;
-    let mut sink = Widest { bytes: 0 };
-    assert_eq!(rt; print(alloc, &journal, &mut sink)?, Ok(()));
-    assert_eq!(rt; sink.bytes, 65_536);
+fn lines_longer_than_a_piece_are_written_in_pieces(rt: HostRuntime) -> Result<(), Fail> {
+    let journal = two_long_requests(rt.alloc())?;
+    let text = long_text(rt.alloc())?;
+    for (write, front) in &FRONTS {
+        let (whole, sink) = printed(rt.alloc(), &journal, *write)?;
+        assert!(rt; !whole);
+        assert_eq!(rt; Some(sink.bytes()), text.get(..*front), "at write {write}");
+    }
+    let (whole, sink) = printed(rt.alloc(), &journal, 6)?;
+    assert!(rt; whole);
+    assert_eq!(rt; sink.bytes(), text.as_slice());
     Ok(())
 }

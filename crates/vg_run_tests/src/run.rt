@@ -3,7 +3,7 @@
 use std::alloc::{AllocError, Global};
 use std::test::Fail;
 use vg_io::{Failed, MemSink, MemSource, Sink, Source};
-use vg_run::{Status, at_most_one_history, vgpu};
+use vg_run::{Status, vgpu};
 
 /// How many bytes the journal here has at most.
 const ROOM: usize = 3_000;
@@ -19,7 +19,7 @@ fn run_word(alloc: Global) -> Result<Vec<String>, AllocError> {
 
 /// A source or a sink that moves one byte at a time.
 #[derive(Drop)]
-pub(crate) struct Sip<X>(pub(crate) X);
+struct Sip<X>(X);
 
 impl<S: Source> Source for Sip<S> {
     ghost left = { λ s. S.left s.0 };
@@ -43,71 +43,85 @@ impl<K: Sink> Sink for Sip<K> {
     }
 }
 
-/// A run of the script whose reads and writes of these numbers fail, into a sink of this room. No call has the number 0.
-fn ran(alloc: Global, read: u64, write: u64, room: usize) -> Result<(Status, MemSink), AllocError> {
+/// A run of the script whose reads and writes of these numbers fail, into a sink of this room, and what it wrote. No call has
+/// the number 0.
+fn ran(alloc: Global, row: &Row) -> Result<(Status, Vec<u8>), AllocError> {
+    let (read, write, room, _, _) = row;
     let run = run_word(alloc)?;
     let text = Vec::from_slice(alloc, SCRIPT)?;
-    let mut source = MemSource::new(text, vec![in alloc; read]?);
-    let mut sink = MemSink::new(alloc, room, vec![in alloc; write]?)?;
+    let mut source = MemSource::new(text, vec![in alloc; *read]?);
+    let mut sink = MemSink::new(alloc, *room, vec![in alloc; *write]?)?;
     let status = vgpu(alloc, run.as_slice(), &mut source, &mut sink);
-    Ok((status, sink))
+    Ok((status, sink.bytes().to_vec(alloc)?))
 }
 
 /// The same by single bytes.
-fn sipped(alloc: Global, write: u64) -> Result<(Status, MemSink), AllocError> {
+fn sipped(alloc: Global, row: &Row) -> Result<(Status, Vec<u8>), AllocError> {
+    let (read, write, room, _, _) = row;
     let run = run_word(alloc)?;
     let text = Vec::from_slice(alloc, SCRIPT)?;
-    let mut source = Sip(MemSource::new(text, Vec::new(alloc)));
-    let mut sink = Sip(MemSink::new(alloc, ROOM, vec![in alloc; write]?)?);
+    let mut source = Sip(MemSource::new(text, vec![in alloc; *read]?));
+    let mut sink = Sip(MemSink::new(alloc, *room, vec![in alloc; *write]?)?);
     let status = vgpu(alloc, run.as_slice(), &mut source, &mut sink);
-    Ok((status, sink.0))
+    Ok((status, sink.0.bytes().to_vec(alloc)?))
+}
+
+/// The numbers of a read and of a write that fail, the sink's room, how the run ends, and how much of the journal it leaves.
+type Row = (u64, u64, usize, Status, usize);
+
+/// A run that nothing fails in.
+static WHOLE: Row = (0, 0, ROOM, Status::Done, ROOM);
+
+/// By large pieces. A journal as short as this one is written in one.
+static RUNS: [Row; 8] = [
+    (1, 0, ROOM, Status::ReadFault, 0),
+    (2, 0, ROOM, Status::ReadFault, 0),
+    (3, 0, ROOM, Status::Done, ROOM),
+    (0, 1, ROOM, Status::WriteFault, 0),
+    (0, 2, ROOM, Status::Done, ROOM),
+    (0, 0, 0, Status::WriteFault, 0),
+    (0, 0, 1, Status::WriteFault, 1),
+    (0, 0, 1_000, Status::WriteFault, 1_000),
+];
+
+/// By single bytes.
+static SIPS: [Row; 5] = [
+    (0, 0, ROOM, Status::Done, ROOM),
+    (1, 0, ROOM, Status::ReadFault, 0),
+    (30, 0, ROOM, Status::ReadFault, 0),
+    (0, 1, ROOM, Status::WriteFault, 0),
+    (0, 20, ROOM, Status::WriteFault, 19),
+];
+
+/// Whether a run ends as its row says.
+fn is_due(row: &Row, ended: Status, written: &[u8], whole: &[u8]) -> bool {
+    let (_, _, _, status, front) = row;
+    ended == *status && whole.get(..whole.len().min(*front)) == Some(written)
+}
+
+#[test]
+fn faults_leave_a_front(rt: HostRuntime) -> Result<(), Fail> {
+    let (_, whole) = ran(rt.alloc(), &WHOLE)?;
+    assert!(rt; whole.as_slice().starts_with(b"vgpu-journal 1\n"));
+    for row in &RUNS {
+        let (status, written) = ran(rt.alloc(), row)?;
+        assert!(rt;
+            is_due(row, status, written.as_slice(), whole.as_slice()),
+            "{row:?}"
+        );
+    }
+    Ok(())
 }
 
 #[test]
 fn single_bytes_give_the_same(rt: HostRuntime) -> Result<(), Fail> {
-    at_most_one_history();
-    let (status, whole) = ran(rt.alloc(), 0, 0, ROOM)?;
-    assert_eq!(rt; status, Status::Done);
-    let (status, sink) = sipped(rt.alloc(), 0)?;
-    assert_eq!(rt; status, Status::Done);
-    assert_eq!(rt; sink.bytes(), whole.bytes());
-    Ok(())
-}
-
-#[test]
-fn a_fault_of_the_source_writes_nothing(rt: HostRuntime) -> Result<(), Fail> {
-    for read in [1u64, 2] {
-        let (status, sink) = ran(rt.alloc(), read, 0, ROOM)?;
-        assert_eq!(rt; status, Status::ReadFault);
-        assert!(rt; sink.bytes().is_empty());
+    let (_, whole) = ran(rt.alloc(), &WHOLE)?;
+    for row in &SIPS {
+        let (status, written) = sipped(rt.alloc(), row)?;
+        assert!(rt;
+            is_due(row, status, written.as_slice(), whole.as_slice()),
+            "{row:?}"
+        );
     }
-    let (status, _) = ran(rt.alloc(), 3, 0, ROOM)?;
-    assert_eq!(rt; status, Status::Done);
-    Ok(())
-}
-
-/// Each write that fails, and each room that is too small.
-#[test]
-fn a_fault_of_the_sink_leaves_a_front(rt: HostRuntime) -> Result<(), Fail> {
-    // A journal as short as this one is written in one piece.
-    static FAULTS: [(u64, usize); 5] = [(1, ROOM), (0, 0), (0, 1), (0, 100), (0, 1_000)];
-    let (_, whole) = ran(rt.alloc(), 0, 0, ROOM)?;
-    for (write, room) in FAULTS.iter() {
-        let (status, sink) = ran(rt.alloc(), 0, *write, *room)?;
-        assert_eq!(rt; status, Status::WriteFault);
-        assert!(rt; whole.bytes().starts_with(sink.bytes()));
-        assert!(rt; sink.bytes().len() < whole.bytes().len());
-        assert!(rt; *write > 0 || sink.bytes().len() == *room);
-    }
-    let (status, _) = ran(rt.alloc(), 0, 2, ROOM)?;
-    assert_eq!(rt; status, Status::Done);
-    Ok(())
-}
-
-#[test]
-fn a_later_write_that_fails_leaves_what_was_written(rt: HostRuntime) -> Result<(), Fail> {
-    let (status, sink) = sipped(rt.alloc(), 20)?;
-    assert_eq!(rt; status, Status::WriteFault);
-    assert_eq!(rt; sink.bytes(), b"vgpu-journal 1\ndisp".as_slice());
     Ok(())
 }
