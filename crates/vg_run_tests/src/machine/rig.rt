@@ -72,8 +72,8 @@ impl Rig {
         Ok(Rig {
             alloc,
             display: Display::new(alloc, &setup)?,
-            first: no_holds(alloc, 1),
-            second: no_holds(alloc, 2),
+            first: Holds::new(alloc, &setup, 1),
+            second: Holds::new(alloc, &setup, 2),
         })
     }
 
@@ -139,18 +139,6 @@ pub(crate) fn run(rt: &impl Abort, alloc: Global, rows: &[Row<'_>]) -> Result<()
     }
     assert_eq!(rt; rig.display.entries(), rows.len() as u64);
     Ok(())
-}
-
-/// What a client holds before its first act.
-fn no_holds(alloc: Global, client: u32) -> Holds {
-    Holds {
-        client,
-        displays: 2,
-        pages: 16,
-        buffers: Seq::from_vec(Vec::new(alloc)),
-        taking_down: Seq::from_vec(Vec::new(alloc)),
-        scanouts: Seq::from_vec(Vec::new(alloc)),
-    }
 }
 
 /// The bytes of a request with no flags.
