@@ -7,8 +7,6 @@ mod crew;
 mod desk;
 mod meet;
 mod share;
-#[cfg(test)]
-mod tests;
 mod walk;
 
 pub use add::{add_times, all_add};

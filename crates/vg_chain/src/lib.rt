@@ -17,6 +17,3 @@ pub use laws::{a_layout_is_walked, a_walk_has_one_result};
 pub use part::Extent;
 pub use shape::Shape;
 pub use tour::walk;
-
-#[cfg(test)]
-mod tests;

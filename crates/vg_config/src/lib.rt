@@ -6,6 +6,3 @@ mod negotiation;
 
 pub use config::Config;
 pub use negotiation::{Negotiation, Refused};
-
-#[cfg(test)]
-mod tests;

@@ -4,6 +4,3 @@
 mod block;
 
 pub use block::edid;
-
-#[cfg(test)]
-mod tests;

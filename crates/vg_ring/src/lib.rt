@@ -32,6 +32,3 @@ pub use ring::{Made, Ring};
 pub use threads::ends_may_be_sent;
 pub use views::{Answer, DeviceStage, DeviceView, DriverStage, DriverView, Entry, Stored, View};
 pub use words::words_are_bytes;
-
-#[cfg(test)]
-mod tests;

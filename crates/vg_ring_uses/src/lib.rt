@@ -5,8 +5,6 @@ mod answering;
 mod asking;
 mod carrying;
 mod crew;
-#[cfg(test)]
-mod tests;
 mod ticket;
 mod turn;
 

@@ -1,28 +1,24 @@
-//! Tests of the libraries over their public calls: vectors from outside, and what no clause says. They have a crate of
-//! their own, since a crate that has tests is proved once more for them.
+//! Tests of the libraries below the display machine over their public calls: vectors from outside, and what no clause and
+//! no row says. They have a crate of their own, since a crate that has tests is proved once more for them.
 #![tactic(auto)]
 
+#[cfg(test)]
+mod chain;
+#[cfg(test)]
+mod config;
+#[cfg(test)]
+mod edid;
 #[cfg(test)]
 mod formats;
 #[cfg(test)]
 mod io;
 #[cfg(test)]
-mod journal;
-#[cfg(test)]
 mod list;
-#[cfg(test)]
-mod machine;
 #[cfg(test)]
 mod pages;
 #[cfg(test)]
 mod places;
 #[cfg(test)]
-mod run;
+mod requests;
 #[cfg(test)]
-mod script;
-#[cfg(test)]
-mod shown;
-#[cfg(test)]
-mod wire;
-#[cfg(test)]
-mod wire_ext;
+mod responses;

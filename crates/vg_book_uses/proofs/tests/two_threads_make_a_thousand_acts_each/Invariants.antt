@@ -1,5 +1,0 @@
-use Rattle.vg_book_uses.proofs.tests.two_threads_make_a_thousand_acts_each.Given as goal
-
--- The book that was just opened.
-abbrev pub ghosts-adds : goal.ghosts-adds
-ghosts-adds g a = record { table = a.opened.table }

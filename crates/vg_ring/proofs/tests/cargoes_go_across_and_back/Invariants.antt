@@ -1,5 +1,0 @@
-use Rattle.vg_ring.proofs.tests.cargoes_go_across_and_back.Given as goal
-
--- the ring that was just made
-abbrev pub ghosts-carry : goal.ghosts-carry
-ghosts-carry g a = record { ring = a.made.table }

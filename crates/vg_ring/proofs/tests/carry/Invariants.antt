@@ -1,6 +1,0 @@
-use Rattle.std.proofs.Common.{◌≡◌}
-use Rattle.vg_wire.specs.declared.request.Queue.TheVariants.{Control}
-use Rattle.vg_ring.proofs.tests.carry.Given as goal
-
-abbrev pub invariant-loop-turn : goal.invariant-loop-turn
-invariant-loop-turn g l = l.driver.queue ≡ Control

@@ -1,5 +1,0 @@
-use Rattle.std.proofs.Common.{refl, arith}
-use Rattle.vg_ring.proofs.tests.shapes_go_across_and_back.Goals as goal
-
-pub make-requires : goal.make-requires
-make-requires g c = record { least = omega arith; most = omega arith; power = (4, refl) }

@@ -1,5 +1,0 @@
-use Rattle.vg_ring_uses.proofs.tests.seventy_thousand_cargoes_of_one_to_nine_descriptors_go_through.Given as goal
-
--- the ring that was just made
-abbrev pub ghosts-carries : goal.ghosts-carries
-ghosts-carries g a = record { ring = a.made.table }

@@ -1,5 +1,0 @@
-use Rattle.std.proofs.Common.{refl, arith}
-use Rattle.vg_ring_uses.proofs.tests.the_second_cargo_comes_back_first.Goals as goal
-
-pub make-requires : goal.make-requires
-make-requires g c = record { least = omega arith; most = omega arith; power = (2, refl) }

@@ -1,0 +1,9 @@
+//! Tests of the display machine and of whole runs over their public calls: what no clause and no row says.
+#![tactic(auto)]
+
+#[cfg(test)]
+mod journal;
+#[cfg(test)]
+mod machine;
+#[cfg(test)]
+mod run;

@@ -1,0 +1,127 @@
+//! What no row of rows/ can show: reads and writes that fail at each call, and sources and sinks that move single bytes.
+
+use std::alloc::{AllocError, Global};
+use std::test::Fail;
+use vg_io::{Failed, MemSink, MemSource, Sink, Source};
+use vg_run::{Status, vgpu};
+
+/// How many bytes the journal here has at most.
+const ROOM: usize = 3_000;
+
+const SCRIPT: &[u8] = b"display 4 2\nmemory 16\nclient\nbuffer A 4 2 1\ntake 0\nflip 0 A\n";
+
+/// The one word of a call.
+fn run_word(alloc: Global) -> Result<Vec<String>, AllocError> {
+    let mut words = Vec::new(alloc);
+    words.push(String::from_str(alloc, "run")?)?;
+    Ok(words)
+}
+
+/// A source or a sink that moves one byte at a time.
+#[derive(Drop)]
+struct Sip<X>(X);
+
+impl<S: Source> Source for Sip<S> {
+    ghost left = { λ s. S.left s.0 };
+
+    ghost faults = { λ s. S.faults s.0 };
+
+    fn read(&mut self, buf: &mut [u8]) -> Result<usize, Failed> {
+        let most = buf.len().min(1);
+        self.0.read(&mut buf[..most])
+    }
+}
+
+impl<K: Sink> Sink for Sip<K> {
+    ghost held = { λ s. K.held s.0 };
+
+    ghost faults = { λ s. K.faults s.0 };
+
+    fn write(&mut self, bytes: &[u8]) -> Result<usize, Failed> {
+        let most = bytes.len().min(1);
+        self.0.write(&bytes[..most])
+    }
+}
+
+/// A run of the script whose reads and writes of these numbers fail, into a sink of this room, and what it wrote. No call has
+/// the number 0.
+fn ran(alloc: Global, row: &Row) -> Result<(Status, Vec<u8>), AllocError> {
+    let (read, write, room, _, _) = row;
+    let run = run_word(alloc)?;
+    let text = Vec::from_slice(alloc, SCRIPT)?;
+    let mut source = MemSource::new(text, vec![in alloc; *read]?);
+    let mut sink = MemSink::new(alloc, *room, vec![in alloc; *write]?)?;
+    let status = vgpu(alloc, run.as_slice(), &mut source, &mut sink);
+    Ok((status, sink.bytes().to_vec(alloc)?))
+}
+
+/// The same by single bytes.
+fn sipped(alloc: Global, row: &Row) -> Result<(Status, Vec<u8>), AllocError> {
+    let (read, write, room, _, _) = row;
+    let run = run_word(alloc)?;
+    let text = Vec::from_slice(alloc, SCRIPT)?;
+    let mut source = Sip(MemSource::new(text, vec![in alloc; *read]?));
+    let mut sink = Sip(MemSink::new(alloc, *room, vec![in alloc; *write]?)?);
+    let status = vgpu(alloc, run.as_slice(), &mut source, &mut sink);
+    Ok((status, sink.0.bytes().to_vec(alloc)?))
+}
+
+/// The numbers of a read and of a write that fail, the sink's room, how the run ends, and how much of the journal it leaves.
+type Row = (u64, u64, usize, Status, usize);
+
+/// A run that nothing fails in.
+static WHOLE: Row = (0, 0, ROOM, Status::Done, ROOM);
+
+/// By large pieces. A journal as short as this one is written in one.
+static RUNS: [Row; 8] = [
+    (1, 0, ROOM, Status::ReadFault, 0),
+    (2, 0, ROOM, Status::ReadFault, 0),
+    (3, 0, ROOM, Status::Done, ROOM),
+    (0, 1, ROOM, Status::WriteFault, 0),
+    (0, 2, ROOM, Status::Done, ROOM),
+    (0, 0, 0, Status::WriteFault, 0),
+    (0, 0, 1, Status::WriteFault, 1),
+    (0, 0, 1_000, Status::WriteFault, 1_000),
+];
+
+/// By single bytes.
+static SIPS: [Row; 5] = [
+    (0, 0, ROOM, Status::Done, ROOM),
+    (1, 0, ROOM, Status::ReadFault, 0),
+    (30, 0, ROOM, Status::ReadFault, 0),
+    (0, 1, ROOM, Status::WriteFault, 0),
+    (0, 20, ROOM, Status::WriteFault, 19),
+];
+
+/// Whether a run ends as its row says.
+fn is_due(row: &Row, ended: Status, written: &[u8], whole: &[u8]) -> bool {
+    let (_, _, _, status, front) = row;
+    ended == *status && whole.get(..whole.len().min(*front)) == Some(written)
+}
+
+#[test]
+fn faults_leave_a_front(rt: HostRuntime) -> Result<(), Fail> {
+    let (_, whole) = ran(rt.alloc(), &WHOLE)?;
+    assert!(rt; whole.as_slice().starts_with(b"vgpu-journal 1\n"));
+    for row in &RUNS {
+        let (status, written) = ran(rt.alloc(), row)?;
+        assert!(rt;
+            is_due(row, status, written.as_slice(), whole.as_slice()),
+            "{row:?}"
+        );
+    }
+    Ok(())
+}
+
+#[test]
+fn single_bytes_give_the_same(rt: HostRuntime) -> Result<(), Fail> {
+    let (_, whole) = ran(rt.alloc(), &WHOLE)?;
+    for row in &SIPS {
+        let (status, written) = sipped(rt.alloc(), row)?;
+        assert!(rt;
+            is_due(row, status, written.as_slice(), whole.as_slice()),
+            "{row:?}"
+        );
+    }
+    Ok(())
+}
