@@ -1,5 +1,5 @@
 -- What the code keeps of a scanout: its binding, and the number of the frame that has its screen's pixels.
-use Rattle.std.specs.Prelude.{◌≡◌, ℕ, ◌+◌, ◌*◌, ◌<◌, ◌==◌, ◌&&◌, Bool, false, if◌then◌else◌, List, [], ◌∷◌, length, map, replicate, slice_get, Option, Some, None}
+use Rattle.std.specs.Prelude.{◌≡◌, ℕ, ◌+◌, ◌*◌, ◌<◌, ◌≤◌, ◌==◌, ◌&&◌, Bool, false, if◌then◌else◌, List, [], ◌∷◌, length, map, replicate, slice_get, Option, Some, None}
 use Rattle.std.specs.List.{All, sum_by}
 use Rattle.vg_formats.specs.declared.rect.Rect.{Rect}
 use Rattle.vg_formats.specs.Pixels.{are_meeting}
@@ -7,7 +7,7 @@ use Rattle.vg_machine.specs.declared.scanout.Binding.{Binding}
 use Rattle.vg_machine.specs.declared.scanout.Frame.{Frame}
 use Rattle.vg_machine.specs.declared.scanout.Panel.{Panel}
 use Rattle.vg_machine.specs.Fits.{IsScreen}
-use Rattle.vg_machine.specs.Scanout.{Screen, new_frame_bytes, pixels_with}
+use Rattle.vg_machine.specs.Scanout.{Screen, pixels_with}
 
 -- The pixels of a frame, if there is one.
 abbrev pub pixels_of_frame : Option Frame → List ℕ
@@ -74,9 +74,18 @@ unfoldable pub numbered : ℕ → Rect → ℕ → List (Option Panel) → List 
 numbered id rect number [] = []
 numbered id rect number (panel ∷ more) = numbered_one id rect number panel ∷ numbered id rect (next_number id rect number panel) more
 
--- How many bytes the frames have that a flush makes of these.
-abbrev pub bytes_made : ℕ → Rect → List Frame → List (Option Panel) → ℕ
-bytes_made id rect frames panels = sum_by (λ panel. new_frame_bytes id rect (screen_in frames panel)) panels
+-- A screen has no more bytes than a screen may have.
+abbrev pub IsSmall : Option Panel → Type 0
+IsSmall (Some panel) = 4 * panel.binding.rect.width * panel.binding.rect.height ≤ 33554432
+IsSmall None = Unit {0}
+
+-- How many bytes the frame has that a flush makes of this, and of all of these.
+abbrev pub bytes_of : ℕ → Rect → Option Panel → ℕ
+bytes_of id rect (Some panel) = if is_touched id rect (Some panel) then 4 * panel.binding.rect.width * panel.binding.rect.height else 0
+bytes_of id rect None = 0
+
+abbrev pub bytes_made : ℕ → Rect → List (Option Panel) → ℕ
+bytes_made id rect panels = sum_by (bytes_of id rect) panels
 
 -- With this part of a screen shown over them, these pixels are as the screen's own would be.
 pub record IsGround (binding : Binding) (part : Rect) (own pixels : List ℕ) : Type 0 where

@@ -3,8 +3,8 @@
 ghost use Rattle.std.specs.Prelude.{◌≡◌, ◌<◌, ◌≤◌, ◌+◌, ◌-◌, ◌*◌, ◌^◌, [], ◌∷◌, Some, None, All, IfOk, OnErr, if◌then◌else◌, length, map, min, replicate, option_copied, option_to_list};
 ghost use Rattle.vg_formats.specs.Pixels.{HasPixels, LiesWithin, common_of};
 ghost use Rattle.vg_machine.specs.Fits.{FitSurface, FitsSurface, IsScreen};
-ghost use Rattle.vg_machine.specs.Panels.{ArePanels, IsGround, IsPanel, bytes_made, is_touched, next_number, numbered, numbered_one, pixels_in, screen_in, screens_in, unbound_panel};
-ghost use Rattle.vg_machine.specs.Scanout.{bind, binding_at, flush, frame_of, new_frame, new_frame_bytes, new_frames, pixels_with, snap, unbound, unbound_from};
+ghost use Rattle.vg_machine.specs.Panels.{ArePanels, IsGround, IsPanel, IsSmall, bytes_made, bytes_of, is_touched, next_number, numbered, numbered_one, pixels_in, screen_in, screens_in, unbound_panel};
+ghost use Rattle.vg_machine.specs.Scanout.{bind, binding_at, flush, frame_of, new_frame, new_frames, pixels_with, snap, unbound, unbound_from};
 
 use std::alloc::{AllocError, Global};
 use std::marker::Model;
@@ -147,12 +147,12 @@ impl Scanouts {
         ensures done { IfOk result (λ done. (self.new, done) ≡ flush entry resource rect.now surface.now self.old) }
         ensures err { OnErr result (self.new ≡ self.old) }
     {
-        let before = self.frames.as_slice();
         let panels = self.panels.as_slice();
-        let bytes = bytes_after(before, panels, resource, rect, self.bytes);
+        let bytes = bytes_after(panels, resource, rect, self.bytes);
         if bytes > MOST_FRAME_BYTES {
             return Ok(Err(ERR_OUT_OF_MEMORY));
         }
+        let before = self.frames.as_slice();
         let mut frames = make_frames(alloc, entry, resource, rect, surface, before, panels)?;
         let first = before.len();
         // What can fail comes before the first screen changes.
@@ -224,7 +224,7 @@ impl Panel {
 
     /// How many bytes the screen has.
     fn size(&self) -> u64
-        requires { 4 * self.now.binding.rect.width * self.now.binding.rect.height ≤ 33554432 }
+        requires { IsSmall (Some self.now) }
         ensures { result ≡ 4 * self.now.binding.rect.width * self.now.binding.rect.height }
     {
         pixel_bytes(self.binding.rect.width, self.binding.rect.height) as u64
@@ -277,27 +277,21 @@ fn disable(panel: &mut Option<Panel>, resource: u32)
 }
 
 /// How many bytes all frames have after a flush, if they have so many before it; no more than a `u64` can tell.
-fn bytes_after(
-    frames: &[Frame],
-    panels: &[Option<Panel>],
-    resource: u32,
-    rect: &Rect,
-    bytes: u64,
-) -> u64
-    requires { ArePanels frames.now panels.now }
-    ensures { result ≡ min (bytes + bytes_made resource rect.now frames.now panels.now) (2 ^ 64 - 1) }
+fn bytes_after(panels: &[Option<Panel>], resource: u32, rect: &Rect, bytes: u64) -> u64
+    requires { All IsSmall panels.now }
+    ensures { result ≡ min (bytes + bytes_made resource rect.now panels.now) (2 ^ 64 - 1) }
 {
     let mut sum = bytes;
     for panel in panels {
-        sum = sum.saturating_add(bytes_of_frame(frames, panel, resource, rect));
+        sum = sum.saturating_add(bytes_of_frame(panel, resource, rect));
     }
     sum
 }
 
 /// How many bytes the frame has that a flush makes of a screen.
-fn bytes_of_frame(frames: &[Frame], panel: &Option<Panel>, resource: u32, rect: &Rect) -> u64
-    requires { IsPanel frames.now panel.now }
-    ensures { result ≡ new_frame_bytes resource rect.now (screen_in frames.now panel.now) }
+fn bytes_of_frame(panel: &Option<Panel>, resource: u32, rect: &Rect) -> u64
+    requires { IsSmall panel.now }
+    ensures { result ≡ bytes_of resource rect.now panel.now }
 {
     let Some(panel) = panel else { return 0 };
     match panel.touched(resource, rect) {

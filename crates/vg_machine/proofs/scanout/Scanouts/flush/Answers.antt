@@ -2,7 +2,7 @@ use Rattle.std.proofs.Common.{◌≡◌, ◌≤◌, ◌+◌, List, ◌++◌, len
 use Rattle.vg_machine.specs.declared.scanout.Frame.{Frame}
 use Rattle.vg_machine.specs.Panels.{bytes_made, numbered, screens_in}
 use Rattle.vg_machine.specs.Scanout.{frame_bytes, new_bytes, new_frames}
-use Rattle.vg_machine.proofs.PanelLemmas.{are-panels, are-screens, bytes-made, length-numbered, numbered-back, stand-flushed}
+use Rattle.vg_machine.proofs.PanelLemmas.{are-panels, are-screens, are-small, bytes-made, length-numbered, numbered-back, stand-flushed}
 use Rattle.vg_machine.proofs.ScreenLemmas.{flushed-screens, flush-refused, flush-done, bytes-flushed}
 use Rattle.vg_machine.proofs.scanout.Scanouts.flush.Goals as goal
 
@@ -12,8 +12,8 @@ returns-then-bytes-gt-MOST_FRAME_BYTES-clause-done c =
     let a = c.args in
     let frames = c.self.inside.frames.items in
     let panels = c.self.inside.panels.items in
-    let same : bytes_made a.resource a.rect.now c.as_slice-before.result.now c.as_slice-panels.result.now ≡ new_bytes a.resource a.rect.now (screens_in frames panels) =
-    rw (c.as_slice-before.ensures.value, c.as_slice-panels.ensures.value) (bytes-made a.resource a.rect.now frames panels)
+    let same : bytes_made a.resource a.rect.now c.as_slice-panels.result.now ≡ new_bytes a.resource a.rect.now (screens_in frames panels) =
+    rw c.as_slice-panels.ensures.value (bytes-made a.resource a.rect.now frames panels c.self.invariant.2)
     in
     rw (← c.self.view_is)
     (flush-refused a.entry a.resource a.rect.now a.surface.now (record { screens = screens_in frames panels; frames = frames })
@@ -40,8 +40,8 @@ invariant_of-self-2 c =
     let frames = c.self.inside.frames.items in
     let panels = c.self.inside.panels.items in
     let screens = screens_in frames panels in
-    let same : bytes_made a.resource a.rect.now c.as_slice-before.result.now c.as_slice-panels.result.now ≡ new_bytes a.resource a.rect.now screens =
-    rw (c.as_slice-before.ensures.value, c.as_slice-panels.ensures.value) (bytes-made a.resource a.rect.now frames panels)
+    let same : bytes_made a.resource a.rect.now c.as_slice-panels.result.now ≡ new_bytes a.resource a.rect.now screens =
+    rw c.as_slice-panels.ensures.value (bytes-made a.resource a.rect.now frames panels c.self.invariant.2)
     in
     let total : frame_bytes c.append.new.self.items ≡ frame_bytes frames + new_bytes a.resource a.rect.now screens =
     ap frame_bytes (made c) ∙ bytes-flushed a.entry a.resource a.rect.now a.surface.now screens frames
@@ -60,8 +60,8 @@ returns-clause-done c =
     let frames = c.self.inside.frames.items in
     let panels = c.self.inside.panels.items in
     let screens = screens_in frames panels in
-    let same : bytes_made a.resource a.rect.now c.as_slice-before.result.now c.as_slice-panels.result.now ≡ new_bytes a.resource a.rect.now screens =
-    rw (c.as_slice-before.ensures.value, c.as_slice-panels.ensures.value) (bytes-made a.resource a.rect.now frames panels)
+    let same : bytes_made a.resource a.rect.now c.as_slice-panels.result.now ≡ new_bytes a.resource a.rect.now screens =
+    rw c.as_slice-panels.ensures.value (bytes-made a.resource a.rect.now frames panels c.self.invariant.2)
     in
     let stand = stand-flushed a.entry a.resource a.rect.now a.surface.now frames panels c.self.invariant.2 in
     let few : frame_bytes frames + new_bytes a.resource a.rect.now screens ≤ 268435456 =
