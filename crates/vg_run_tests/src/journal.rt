@@ -213,13 +213,18 @@ fn filled(alloc: Global, byte: u8, size: usize) -> Result<Vec<u8>, AllocError> {
     vec![in alloc; byte; size]
 }
 
+/// A request of 40,000 bytes.
+fn long_request(alloc: Global, call: u64, byte: u8) -> Result<Entry, AllocError> {
+    let bytes = filled(alloc, byte, 40_000)?;
+    let request = request(Queue::Control, 0, call, 24, bytes);
+    Ok(command(1, call, request, Vec::new(alloc)))
+}
+
 /// A client whose two requests are of 40,000 bytes.
 fn two_long_requests(alloc: Global) -> Result<Journal, AllocError> {
-    let first = request(Queue::Control, 0, 1, 24, filled(alloc, 0xab, 40_000)?);
-    let second = request(Queue::Control, 0, 2, 24, filled(alloc, 0x01, 40_000)?);
     let mut entries = Vec::new(alloc);
-    entries.push(command(1, 1, first, Vec::new(alloc)))?;
-    entries.push(command(1, 2, second, Vec::new(alloc)))?;
+    entries.push(long_request(alloc, 1, 0xab)?)?;
+    entries.push(long_request(alloc, 2, 0x01)?)?;
     journal_of(alloc, entries, 2)
 }
 
