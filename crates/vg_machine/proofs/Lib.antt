@@ -14,6 +14,6 @@ pub mod RemoveLemmas
 pub mod BackingLemmas
 pub mod ResourceLemmas
 pub mod PixelLemmas
-pub mod GrowingLemmas
 pub mod DeniedLemmas
 pub mod ForeignLemmas
+pub mod NamedLemmas

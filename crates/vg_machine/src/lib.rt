@@ -4,6 +4,7 @@
 
 mod act;
 mod acts;
+mod allowance;
 mod backing;
 mod cells;
 mod commands;
@@ -16,6 +17,8 @@ mod holds;
 mod lane;
 mod laws;
 mod lists;
+mod machine;
+mod named;
 mod others;
 mod resource;
 mod scanout;
@@ -24,11 +27,13 @@ mod share;
 mod uuids;
 
 pub use act::{Act, ActReply, What};
+pub use allowance::allowed;
 pub use display::Display;
 pub use growing::holds_only_grow;
-pub use history::{Entry, Reply, Request};
+pub use history::{Reply, Request};
 pub use holds::{Holds, denied};
 pub use lane::lane_of;
+pub use machine::Entry;
 pub use resource::Resource;
 pub use scanout::{Binding, Frame};
 pub use setup::Setup;
