@@ -14,3 +14,4 @@ pub mod TokenLemmas
 pub mod LaneLemmas
 pub mod RootLemmas
 pub mod Sent
+pub mod OwnLemmas

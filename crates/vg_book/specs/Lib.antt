@@ -6,3 +6,4 @@ pub mod Turns
 pub mod Tokens
 pub mod Opening
 pub mod Outcomes
+pub mod Own

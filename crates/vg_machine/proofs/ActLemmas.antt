@@ -222,7 +222,7 @@ kept-effect state client (Drop scanout) = kept-replied (drop_refusal client scan
 kept-effect state client (Denied what) = tt
 kept-effect state client Leave = tt
 
-pub refused-kept : {E : Type 0} (result : Result ActReply E) (state new : State) (client : ℕ) (act : Act)
-    → IfOk result (λ reply. effect_of state client act ≡ (new, reply)) → IfOk result (λ reply. KeepsIfRefused reply state new)
-refused-kept (Ok reply) state new client act step = subst (λ (done : State × ActReply). KeepsIfRefused done.1 state done.0) step (kept-effect state client act)
-refused-kept (Err error) state new client act step = tt
+pub refused-kept : {V E : Type 0} (result : Result V E) (reply : V → ActReply) (state new : State) (client : ℕ) (act : Act)
+    → IfOk result (λ v. effect_of state client act ≡ (new, reply v)) → IfOk result (λ v. KeepsIfRefused (reply v) state new)
+refused-kept (Ok v) reply state new client act step = subst (λ (done : State × ActReply). KeepsIfRefused done.1 state done.0) step (kept-effect state client act)
+refused-kept (Err error) reply state new client act step = tt

@@ -14,6 +14,6 @@ pub mod EdidLemmas
 pub mod RemoveLemmas
 pub mod ReceiveLemmas
 pub mod PixelLemmas
-pub mod GrowingLemmas
 pub mod DeniedLemmas
 pub mod ForeignLemmas
+pub mod NamedLemmas

@@ -1,5 +1,5 @@
 -- What the acts of clients do and answer. All of it is our own.
-use Rattle.std.specs.Prelude.{◌≡◌, ℕ, ◌+◌, ◌*◌, ◌==◌, ◌&&◌, Bool, false, is_some, List, length, if◌then◌else◌, Option, Some, None}
+use Rattle.std.specs.Prelude.{◌≡◌, ℕ, ◌+◌, ◌*◌, ◌==◌, ◌&&◌, Bool, true, false, is_some, List, length, if◌then◌else◌, Option, Some, None}
 use Rattle.std.specs.List.{find, range_with_len}
 use Rattle.vg_machine.specs.declared.act.Act.{Act}
 use Rattle.vg_machine.specs.declared.act.Act.TheVariants.{Enter, Reserve, Store, Load, Release, Free, Take, Drop, Denied, Leave}
@@ -92,3 +92,17 @@ act_step state client act = effect_of (counted state) client act
 abbrev pub KeepsIfRefused : ActReply → State → State → Type 0
 KeepsIfRefused (act_replies.Refused refusal) old new = new ≡ old
 KeepsIfRefused reply old new = Unit {0}
+
+-- The reply has no list in it.
+abbrev pub HasNoList : ActReply → Type 0
+HasNoList (act_replies.Reserved key pages) = ⊥
+HasNoList (act_replies.Bytes bytes) = ⊥
+HasNoList reply = Unit {0}
+
+-- An act that gives up a hold: a release, a free, the end of a lease, and leave.
+abbrev pub gives_up : Act → Bool
+gives_up (Release key) = true
+gives_up (Free key) = true
+gives_up (Drop scanout) = true
+gives_up Leave = true
+gives_up _ = false

@@ -11,9 +11,13 @@ pub mod Cells
 pub mod Share
 pub mod Holds
 pub mod Foreign
+pub mod Named
 pub mod State
+pub mod Entries
 pub mod Step
 pub mod Pixels
 pub mod ActStep
 pub mod Replay
 pub mod Order
+pub mod Growing
+pub mod Counted

@@ -1,10 +1,11 @@
 use Rattle.std.specs.Prelude.{◌≡◌, ◌≢◌, ◌≤◌, ◌<◌, ◌+◌, ◌-◌, ◌==◌, ℕ, Bool, true, false, List, [], ◌∷◌, ◌++◌, map, filter, count_by, nat_le, if◌then◌else◌}
 use Rattle.std.specs.List.{range_with_len, AllByRecursion, fold}
 use Rattle.vg_machine.specs.declared.setup.Setup.{Setup}
-use Rattle.vg_machine.specs.declared.act.Act.{Act}
-use Rattle.vg_machine.specs.declared.act.Act.TheVariants.{Enter, Release, Free, Drop, Leave}
-use Rattle.vg_machine.specs.declared.history.Entry.{Entry}
-use Rattle.vg_machine.specs.declared.history.Entry.TheVariants as entries
+use Rattle.vg_machine.specs.declared.act.Act.TheVariants.{Enter, Leave}
+use Rattle.vg_history.specs.Entries as history
+use Rattle.vg_machine.specs.Entries.{Entry}
+use Rattle.vg_history.specs.declared.entry.Entry.TheVariants as entries
+use Rattle.vg_machine.specs.ActStep.{gives_up}
 use Rattle.vg_machine.specs.Lane.{lane_of}
 use Rattle.vg_machine.specs.declared.act.Act.TheVariants as acts
 use Rattle.vg_machine.specs.declared.holds.Holds.{Holds}
@@ -12,12 +13,10 @@ use Rattle.vg_machine.specs.Holds.{Allowed, Deniable, first_holds, update}
 use Rattle.vg_machine.specs.Replay.{Agrees}
 
 abbrev pub client_of : Entry → ℕ
-client_of (entries.Act client call act reply) = client
-client_of (entries.Command client call request reply) = client
+client_of entry = history.client_of entry
 
 abbrev pub call_of : Entry → ℕ
-call_of (entries.Act client call act reply) = call
-call_of (entries.Command client call request reply) = call
+call_of entry = history.call_of entry
 
 abbrev pub is_of_lane : ℕ → Entry → Bool
 is_of_lane lane (entries.Act client call act reply) = false
@@ -65,14 +64,6 @@ pub record CallOrder (before : List Entry) (entry : Entry) : Type 0 where
   pub rising : AllByRecursion (λ e. call_of e < call_of entry) (numbers_below entry (of_client (client_of entry) before))
   pub first : of_client (client_of entry) before ≡ [] → IsFirst entry
   pub present : AllByRecursion (λ e. is_leave e ≡ false) (of_client (client_of entry) before)
-
--- An act that gives up a hold: a release, a free, the end of a lease, and leave.
-abbrev pub gives_up : Act → Bool
-gives_up (Release key) = true
-gives_up (Free key) = true
-gives_up (Drop scanout) = true
-gives_up Leave = true
-gives_up _ = false
 
 -- An act that gives up a hold stands after all of its client's earlier calls: those have the numbers below its own, each once.
 abbrev pub GiveUp : List Entry → Entry → Type 0

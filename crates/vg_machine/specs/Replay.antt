@@ -1,14 +1,19 @@
-use Rattle.std.specs.Prelude.{◌≡◌, List, [], ◌∷◌}
+use Rattle.std.specs.Prelude.{◌≡◌, List, is_none}
+use Rattle.vg_history.specs.History as history
+use Rattle.vg_history.specs.declared.machine.Machine.{Ghosts}
 use Rattle.vg_machine.specs.declared.setup.Setup.{Setup}
 use Rattle.vg_chain.specs.declared.shape.Shape.TheVariants.{Bad}
 use Rattle.vg_chain.specs.declared.shape.Shape.{Shape}
-use Rattle.vg_machine.specs.declared.history.Entry.{Entry}
-use Rattle.vg_machine.specs.declared.history.Entry.TheVariants as entries
+use Rattle.vg_machine.specs.Entries.{Entry}
+use Rattle.vg_machine.specs.declared.act.Act.{Act}
+use Rattle.vg_machine.specs.declared.act.ActReply.{ActReply}
+use Rattle.vg_machine.specs.declared.holds.Holds.{Holds}
 use Rattle.vg_machine.specs.declared.history.Request.{Request}
 use Rattle.vg_machine.specs.declared.history.Reply.{Reply}
 use Rattle.vg_machine.specs.declared.history.Reply.TheVariants as replies
 use Rattle.vg_machine.specs.State.{State, counted, start}
-use Rattle.vg_machine.specs.ActStep.{act_step}
+use Rattle.vg_machine.specs.ActStep.{act_step, gives_up}
+use Rattle.vg_machine.specs.Holds.{denied_of, update}
 use Rattle.vg_machine.specs.Step.{step}
 
 -- A request as its bytes say: the display after it, and the reply.
@@ -26,28 +31,39 @@ shaped_step _ state request = plain_step state request
 abbrev pub request_step : State → Request → State × Reply
 request_step state request = shaped_step request.shape state request
 
+-- The display as a machine of which a history is kept.
+abbrev pub display : Ghosts State State Act ActReply Request Reply Holds
+display = record {
+  state = λ d. d;
+  count = λ s. s.entries;
+  acted = λ s client act. (act_step s client act).0;
+  replied = λ s client act. (act_step s client act).1;
+  update = update;
+  requested = λ s request. (request_step s request).0;
+  answered = λ s request. (request_step s request).1;
+  allows = λ h request. is_none (denied_of h request.queue request.bytes);
+  ends_hold = gives_up;
+  tagged = λ request. (request.lane, request.ordinal);
+}
+
 -- The display after one entry more.
 abbrev pub after : State → Entry → State
-after state (entries.Act client call act reply) = (act_step state client act).0
-after state (entries.Command client call request reply) = (request_step state request).0
+after state entry = history.after display state entry
 
 -- The entry's reply is the one that the display gives there.
 abbrev pub HasReply : State → Entry → Type 0
-HasReply state (entries.Act client call act reply) = reply ≡ (act_step state client act).1
-HasReply state (entries.Command client call request reply) = reply ≡ (request_step state request).1
+HasReply state entry = history.HasReply display state entry
 
 -- The display after these entries, and after a whole history.
 abbrev pub replay_from : State → List Entry → State
-replay_from state [] = state
-replay_from state (entry ∷ more) = replay_from (after state entry) more
+replay_from state H = history.replay display state H
 
 abbrev pub replay : Setup → List Entry → State
 replay setup H = replay_from (start setup) H
 
 -- Each entry's reply is the one that the display gives after the entries before it.
 abbrev pub AgreesFrom : State → List Entry → Type 0
-AgreesFrom state [] = Unit {0}
-AgreesFrom state (entry ∷ more) = HasReply state entry × AgreesFrom (after state entry) more
+AgreesFrom state H = history.AgreesFrom display state H
 
 abbrev pub Agrees : Setup → List Entry → Type 0
 Agrees setup H = AgreesFrom (start setup) H

@@ -3,7 +3,7 @@
 ghost use Rattle.std.specs.Prelude.{◌≡◌, ◌^◌, ◌-◌, ◌<◌, IfOk, OnErr};
 ghost use Rattle.vg_machine.specs.declared.act.Act.TheVariants as acts;
 ghost use Rattle.vg_machine.specs.declared.act.ActReply.TheVariants as act_replies;
-ghost use Rattle.vg_machine.specs.ActStep.{drop_step, effect_of, free_step, is_shown_on, load_step, release_step, reserve_step, shown_at, store_step, take_step};
+ghost use Rattle.vg_machine.specs.ActStep.{HasNoList, drop_step, effect_of, free_step, is_shown_on, load_step, release_step, reserve_step, shown_at, store_step, take_step};
 ghost use Rattle.vg_machine.specs.Holds.{has_key, update};
 ghost use Rattle.vg_machine.specs.Lists.{without_first};
 
@@ -17,22 +17,23 @@ use std::alloc::{AllocError, Global};
 use vg_list::Seq;
 
 impl Display {
-    /// Does an act, and gives its reply. What the client holds changes with it.
+    /// Does an act, and gives its reply twice. What the client holds changes with it.
     pub(crate) fn perform(
         &mut self,
         alloc: Global,
         client: u32,
         holds: &mut Holds,
         act: &Act,
-    ) -> Result<ActReply, AllocError>
+    ) -> Result<(ActReply, ActReply), AllocError>
         requires fresh { self.old.share.reserved < self.old.entries }
         requires number { self.old.entries < 2 ^ 31 }
-        ensures step { IfOk result (λ reply. effect_of self.old client act.now ≡ (self.new, reply)) }
-        ensures holds { IfOk result (λ reply. holds.new ≡ update holds.old act.now reply) }
+        ensures step { IfOk result (λ twice. effect_of self.old client act.now ≡ (self.new, twice.0)) }
+        ensures same { IfOk result (λ twice. twice.1 ≡ twice.0) }
+        ensures holds { IfOk result (λ twice. holds.new ≡ update holds.old act.now twice.0) }
         ensures err { OnErr result ((self.new ≡ self.old) × (holds.new ≡ holds.old)) }
     {
         match act {
-            Act::Enter | Act::Denied { .. } => Ok(ActReply::Ok),
+            Act::Enter | Act::Denied { .. } => Ok((ActReply::Ok, ActReply::Ok)),
             Act::Reserve {
                 width,
                 height,
@@ -52,20 +53,20 @@ impl Display {
                 offset,
                 bytes,
                 times,
-            } => self.store(alloc, client, *key, *offset, bytes.as_slice(), *times),
+            } => Ok(twice(self.store(alloc, client, *key, *offset, bytes.as_slice(), *times)?)),
             Act::Load {
                 key,
                 offset,
                 length,
             } => self.load(alloc, client, *key, *offset, *length),
-            Act::Release { key } => self.release(client, holds, *key),
-            Act::Free { key } => Ok(self.free(client, holds, *key)),
-            Act::Take { scanout } => self.take(client, holds, *scanout),
-            Act::Drop { scanout } => Ok(self.end_lease(client, holds, *scanout)),
+            Act::Release { key } => Ok(twice(self.release(client, holds, *key)?)),
+            Act::Free { key } => Ok(twice(self.free(client, holds, *key))),
+            Act::Take { scanout } => Ok(twice(self.take(client, holds, *scanout)?)),
+            Act::Drop { scanout } => Ok(twice(self.end_lease(client, holds, *scanout))),
             Act::Leave => {
                 self.share.enter(client)?;
                 self.share.end(client);
-                Ok(ActReply::Ok)
+                Ok((ActReply::Ok, ActReply::Ok))
             }
         }
     }
@@ -76,30 +77,29 @@ impl Display {
         client: u32,
         holds: &mut Holds,
         geometry: Geometry,
-    ) -> Result<ActReply, AllocError>
+    ) -> Result<(ActReply, ActReply), AllocError>
         requires fresh { self.old.share.reserved < self.old.entries }
         requires number { self.old.entries < 2 ^ 31 }
-        ensures step { IfOk result (λ reply. reserve_step self.old client geometry ≡ (self.new, reply)) }
-        ensures holds { IfOk result (λ reply. holds.new ≡ update holds.old (acts.Reserve geometry.width geometry.height geometry.format geometry.bytes) reply) }
+        ensures step { IfOk result (λ twice. reserve_step self.old client geometry ≡ (self.new, twice.0)) }
+        ensures same { IfOk result (λ twice. twice.1 ≡ twice.0) }
+        ensures holds { IfOk result (λ twice. holds.new ≡ update holds.old (acts.Reserve geometry.width geometry.height geometry.format geometry.bytes) twice.0) }
         ensures err { OnErr result ((self.new ≡ self.old) × (holds.new ≡ holds.old)) }
     {
         let Some(list) = self.pages.lowest(alloc, pages_of(geometry.bytes))? else {
-            return Ok(refused(ShareRefusal::GuestFull {
+            return Ok(refused_twice(ShareRefusal::GuestFull {
                 free: self.pages.free(),
             }));
         };
         let key = self.share.next_key();
         let own = list.as_slice().to_vec(alloc)?;
+        let copy = list.as_slice().to_vec(alloc)?;
         holds.buffers.push((key, Seq::from_vec(own)))?;
         let pages = &mut self.pages;
         match self
             .share
             .reserve(alloc, pages, client, &geometry, list.as_slice())
         {
-            Ok(()) => Ok(ActReply::Reserved {
-                key,
-                pages: Seq::from_vec(list),
-            }),
+            Ok(()) => Ok((reserved(key, list), reserved(key, copy))),
             Err(refused) => {
                 holds.buffers.pop();
                 Err(refused)
@@ -137,15 +137,18 @@ impl Display {
         key: u32,
         offset: u32,
         length: u32,
-    ) -> Result<ActReply, AllocError>
-        ensures step { IfOk result (λ reply. load_step self.old client key offset length ≡ (self.new, reply)) }
+    ) -> Result<(ActReply, ActReply), AllocError>
+        ensures step { IfOk result (λ twice. load_step self.old client key offset length ≡ (self.new, twice.0)) }
+        ensures same { IfOk result (λ twice. twice.1 ≡ twice.0) }
         ensures err { OnErr result (self.new ≡ self.old) }
     {
         match self.share.place(client, key, offset, u128::from(length)) {
-            Ok(pages) => Ok(ActReply::Bytes {
-                bytes: Seq::from_vec(load(alloc, &self.pages, pages, offset, length)?),
-            }),
-            Err(refusal) => Ok(refused(refusal)),
+            Ok(pages) => {
+                let bytes = load(alloc, &self.pages, pages, offset, length)?;
+                let copy = bytes.as_slice().to_vec(alloc)?;
+                Ok((loaded(bytes), loaded(copy)))
+            }
+            Err(refusal) => Ok(refused_twice(refusal)),
         }
     }
 
@@ -236,6 +239,43 @@ fn refused(refusal: ShareRefusal) -> ActReply
     ensures { result ≡ act_replies.Refused refusal }
 {
     ActReply::Refused { refusal }
+}
+
+fn refused_twice(refusal: ShareRefusal) -> (ActReply, ActReply)
+    ensures { result ≡ (act_replies.Refused refusal, act_replies.Refused refusal) }
+{
+    (refused(refusal), refused(refusal))
+}
+
+fn reserved(key: u32, pages: Vec<u32>) -> ActReply
+    ensures { result ≡ act_replies.Reserved key pages.items }
+{
+    ActReply::Reserved {
+        key,
+        pages: Seq::from_vec(pages),
+    }
+}
+
+fn loaded(bytes: Vec<u8>) -> ActReply
+    ensures { result ≡ act_replies.Bytes bytes.items }
+{
+    ActReply::Bytes {
+        bytes: Seq::from_vec(bytes),
+    }
+}
+
+/// A reply without a list twice: that takes no memory.
+fn twice(reply: ActReply) -> (ActReply, ActReply)
+    requires { HasNoList reply }
+    ensures { result ≡ (reply, reply) }
+{
+    match reply {
+        ActReply::Ok => (ActReply::Ok, ActReply::Ok),
+        ActReply::Kept => (ActReply::Kept, ActReply::Kept),
+        ActReply::Last => (ActReply::Last, ActReply::Last),
+        ActReply::Refused { refusal } => refused_twice(refusal),
+        ActReply::Reserved { .. } | ActReply::Bytes { .. } => unreachable!(),
+    }
 }
 
 /// Takes the first pair with this key away, if there is one.

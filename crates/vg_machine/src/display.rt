@@ -4,6 +4,7 @@ ghost use Rattle.std.specs.Prelude.{◌≡◌, ◌==◌, ◌<◌, ◌-◌, ◌^�
 ghost use Rattle.vg_wire_ext.specs.Commands.{FitsEntries};
 ghost use Rattle.vg_machine.specs.Setup.{IsSetup};
 ghost use Rattle.vg_machine.specs.State.{counted, start};
+ghost use Rattle.vg_machine.specs.declared.history.Reply.TheVariants as replies;
 ghost use Rattle.vg_machine.specs.ActStep.{KeepsIfRefused, act_step};
 ghost use Rattle.vg_machine.specs.Holds.{update};
 ghost use Rattle.vg_machine.specs.Replay.{request_step};
@@ -91,24 +92,27 @@ impl Display {
         self.scanouts.into_frames()
     }
 
-    /// Runs a request, and gives its reply. One whose shape is bad isn't run: its reply is the fault.
-    pub fn request(&mut self, alloc: Global, request: &Request) -> Result<Reply, AllocError>
+    /// Runs a request, and gives its reply twice. One whose shape is bad isn't run: its reply is the fault.
+    pub fn request(
+        &mut self,
+        alloc: Global,
+        request: &Request,
+    ) -> Result<(Reply, Reply), AllocError>
         requires { self.old.entries < 2 ^ 31 - 1 }
-        ensures step { IfOk result (λ reply. (self.new, reply) ≡ request_step self.old request.now) }
+        ensures step { IfOk result (λ twice. (self.new, twice.0) ≡ request_step self.old request.now) }
+        ensures same { IfOk result (λ twice. twice.1 ≡ twice.0) }
         ensures err { OnErr result (self.new ≡ self.old) }
     {
         if let Shape::Bad { fault } = request.shape {
             self.entries += 1;
-            return Ok(Reply::Fault { fault });
+            return Ok((Reply::Fault { fault }, Reply::Fault { fault }));
         }
         let bytes = request.bytes.as_slice();
-        let response = self.command(alloc, request.queue, bytes, request.room)?;
-        Ok(Reply::Response {
-            bytes: Seq::from_vec(response),
-        })
+        let (response, copy) = self.command(alloc, request.queue, bytes, request.room)?;
+        Ok((response_of(response), response_of(copy)))
     }
 
-    /// Runs the request that came on this queue, and gives its response as far as `room` bytes hold it.
+    /// Runs the request that came on this queue, and gives its response twice, as far as `room` bytes hold it.
     /// A longer response is cut, and the command runs all the same.
     pub fn command(
         &mut self,
@@ -116,9 +120,10 @@ impl Display {
         queue: Queue,
         request: &[u8],
         room: u32,
-    ) -> Result<Vec<u8>, AllocError>
+    ) -> Result<(Vec<u8>, Vec<u8>), AllocError>
         requires { self.old.entries < 2 ^ 31 - 1 }
-        ensures step { IfOk result (λ bytes. (self.new, bytes.items) ≡ step self.old queue request.now room) }
+        ensures step { IfOk result (λ twice. (self.new, twice.0.items) ≡ step self.old queue request.now room) }
+        ensures same { IfOk result (λ twice. twice.1.items ≡ twice.0.items) }
         ensures refused { OnOk result (Keeps (answer_of (counted self.old) queue request.now).1 (counted self.old) self.new) }
         ensures err { OnErr result (self.new ≡ self.old) }
     {
@@ -130,19 +135,19 @@ impl Display {
         done
     }
 
-    /// Does the act of a client, and gives its reply. What the client holds changes with it.
+    /// Does the act of a client, and gives its reply twice. What the client holds changes with it.
     pub fn act(
         &mut self,
         alloc: Global,
         client: u32,
         holds: &mut Holds,
         act: &Act,
-    ) -> Result<ActReply, AllocError>
-        requires count { self.old.entries < 2 ^ 31 - 1 }
-        requires holds { holds.old.client ≡ client }
-        ensures step { IfOk result (λ reply. (self.new, reply) ≡ act_step self.old client act.now) }
-        ensures refused { IfOk result (λ reply. KeepsIfRefused reply (counted self.old) self.new) }
-        ensures holds { IfOk result (λ reply. holds.new ≡ update holds.old act.now reply) }
+    ) -> Result<(ActReply, ActReply), AllocError>
+        requires { self.old.entries < 2 ^ 31 - 1 }
+        ensures step { IfOk result (λ twice. (self.new, twice.0) ≡ act_step self.old client act.now) }
+        ensures same { IfOk result (λ twice. twice.1 ≡ twice.0) }
+        ensures refused { IfOk result (λ twice. KeepsIfRefused twice.0 (counted self.old) self.new) }
+        ensures holds { IfOk result (λ twice. holds.new ≡ update holds.old act.now twice.0) }
         ensures err { OnErr result ((self.new ≡ self.old) × (holds.new ≡ holds.old)) }
     {
         self.entries += 1;
@@ -153,7 +158,7 @@ impl Display {
         done
     }
 
-    /// What a request does, and its response as far as the room holds it. Memory for the response of a command that
+    /// What a request does, and its response twice, as far as the room holds it. Memory for the response of a command that
     /// changes something is taken before it runs.
     fn answer(
         &mut self,
@@ -161,10 +166,11 @@ impl Display {
         queue: Queue,
         request: &[u8],
         room: u32,
-    ) -> Result<Vec<u8>, AllocError>
+    ) -> Result<(Vec<u8>, Vec<u8>), AllocError>
         requires fresh { self.old.uuids.given < self.old.entries }
         requires entries { self.old.entries < 2 ^ 31 }
-        ensures step { IfOk result (λ bytes. (self.new, bytes.items) ≡ effect_and_bytes self.old queue request.now room) }
+        ensures step { IfOk result (λ twice. (self.new, twice.0.items) ≡ effect_and_bytes self.old queue request.now room) }
+        ensures same { IfOk result (λ twice. twice.1.items ≡ twice.0.items) }
         ensures err { OnErr result (self.new ≡ self.old) }
     {
         let Some(command) = self.read(alloc, queue, request)? else {
@@ -253,17 +259,28 @@ fn ring_of(header: &Header) -> u8
     }
 }
 
-/// The response's bytes, as far as `room` holds them.
+/// The response's bytes twice, as far as `room` holds them.
 fn write_answer(
     alloc: Global,
     request: &[u8],
     room: u32,
     response: &Response,
-) -> Result<Vec<u8>, AllocError>
-    ensures { IfOk result (λ bytes. bytes.items ≡ answered request.now room response.now) }
+) -> Result<(Vec<u8>, Vec<u8>), AllocError>
+    ensures bytes { IfOk result (λ twice. twice.0.items ≡ answered request.now room response.now) }
+    ensures same { IfOk result (λ twice. twice.1.items ≡ twice.0.items) }
 {
     let header = header_of_answer(request, response.kind());
     let mut bytes = write_response(alloc, &header, response)?;
     bytes.truncate(room as usize);
-    Ok(bytes)
+    let copy = bytes.as_slice().to_vec(alloc)?;
+    Ok((bytes, copy))
+}
+
+/// The reply of a command with these bytes as its response.
+fn response_of(bytes: Vec<u8>) -> Reply
+    ensures { result ≡ replies.Response bytes.items }
+{
+    Reply::Response {
+        bytes: Seq::from_vec(bytes),
+    }
 }

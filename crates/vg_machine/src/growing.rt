@@ -6,7 +6,7 @@ ghost use Rattle.vg_machine.specs.declared.act.Act.{Act};
 ghost use Rattle.vg_machine.specs.declared.act.ActReply.{ActReply};
 ghost use Rattle.vg_machine.specs.declared.holds.Holds.{Holds};
 ghost use Rattle.vg_machine.specs.Holds.{Allowed, update};
-ghost use Rattle.vg_machine.specs.Order.{gives_up};
+ghost use Rattle.vg_machine.specs.ActStep.{gives_up};
 
 /// A law, and no work: what a client may ask it may ask still after each act that gives nothing up, whatever the act was
 /// answered. The acts that give something up are release, free, drop and leave.

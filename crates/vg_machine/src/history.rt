@@ -1,6 +1,5 @@
-//! One entry of a history: an act of a client, or a command that the device has run.
+//! A command as it came to the device, and what it is answered.
 
-use crate::act::{Act, ActReply};
 use vg_chain::{ChainFault, Shape};
 use vg_list::Seq;
 use vg_wire::Queue;
@@ -27,21 +26,4 @@ pub enum Reply {
     Response { bytes: Seq<u8> },
     /// The fault of the request's descriptor chain, which was not run.
     Fault { fault: ChainFault },
-}
-
-/// An entry, with the client that it belongs to and the client's own number for it, from 1.
-#[derive(Debug, Drop)]
-pub enum Entry {
-    Act {
-        client: u32,
-        call: u64,
-        act: Act,
-        reply: ActReply,
-    },
-    Command {
-        client: u32,
-        call: u64,
-        request: Request,
-        reply: Reply,
-    },
 }

@@ -144,16 +144,24 @@ fn denied_both(holds: &Holds, resource: u32, scanout: u32) -> Option<What>
     }
 }
 
-/// The resource, if it isn't allowed. No buffer has a key of 2^31 or more, so such a number may be named, but not created.
+/// The resource, if it isn't allowed.
 fn denied_resource(holds: &Holds, creating: bool, n: u32) -> Option<What>
     ensures { result ≡ (if is_allowed_resource holds.now creating n then None else Some (whats.Resource n)) }
 {
-    let is_free = n == 0 || (n >= 0x8000_0000 && !creating);
-    if is_free || has_buffer(holds, n) || holds.taking_down.as_slice().contains(&n) {
+    if is_allowed_resource(holds, creating, n) {
         None
     } else {
         Some(What::Resource { n })
     }
+}
+
+/// Whether the client may name a resource. No buffer has a key of 2^31 or more, so such a number may be named, but not
+/// created.
+pub(crate) fn is_allowed_resource(holds: &Holds, creating: bool, n: u32) -> bool
+    ensures { result ≡ holding.is_allowed_resource holds.now creating n }
+{
+    let is_free = n == 0 || (n >= 0x8000_0000 && !creating);
+    is_free || has_buffer(holds, n) || holds.taking_down.as_slice().contains(&n)
 }
 
 /// Whether the client holds a buffer of this key, or takes it down.
@@ -167,11 +175,18 @@ fn has_buffer(holds: &Holds, key: u32) -> bool
 fn denied_scanout(holds: &Holds, n: u32) -> Option<What>
     ensures { result ≡ (if is_allowed_scanout holds.now n then None else Some (whats.Scanout n)) }
 {
-    if holds.displays <= n || holds.scanouts.as_slice().contains(&n) {
+    if is_allowed_scanout(holds, n) {
         None
     } else {
         Some(What::Scanout { n })
     }
+}
+
+/// Whether the client may name a scanout.
+pub(crate) fn is_allowed_scanout(holds: &Holds, n: u32) -> bool
+    ensures { result ≡ holding.is_allowed_scanout holds.now n }
+{
+    holds.displays <= n || holds.scanouts.as_slice().contains(&n)
 }
 
 /// The context of a request, if it names one and that isn't allowed.
@@ -200,7 +215,7 @@ fn is_of_context(command: &Command) -> bool
 }
 
 /// Whether the client may name a context.
-fn is_allowed_context(holds: &Holds, n: u32) -> bool
+pub(crate) fn is_allowed_context(holds: &Holds, n: u32) -> bool
     ensures { result ≡ holding.is_allowed_context holds.now n }
 {
     let first = 256 * u64::from(holds.client) + 1;

@@ -4,6 +4,7 @@
 
 mod act;
 mod acts;
+mod allowance;
 mod cells;
 mod commands;
 mod display;
@@ -15,6 +16,8 @@ mod holds;
 mod lane;
 mod laws;
 mod lists;
+mod machine;
+mod named;
 mod others;
 mod receive;
 mod scanout;
@@ -23,11 +26,13 @@ mod share;
 mod uuids;
 
 pub use act::{Act, ActReply, What};
+pub use allowance::allowed;
 pub use display::Display;
 pub use growing::holds_only_grow;
-pub use history::{Entry, Reply, Request};
+pub use history::{Reply, Request};
 pub use holds::{Holds, denied};
 pub use lane::lane_of;
+pub use machine::Entry;
 pub use scanout::{Binding, Frame};
 pub use setup::Setup;
 pub use share::{Geometry, ShareRefusal};

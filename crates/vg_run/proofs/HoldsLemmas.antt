@@ -8,8 +8,8 @@ use Rattle.vg_machine.specs.declared.act.Act.{Act}
 use Rattle.vg_machine.specs.declared.act.Act.TheVariants.{Reserve, Release, Free, Take, Drop}
 use Rattle.vg_machine.specs.declared.act.ActReply.{ActReply}
 use Rattle.vg_machine.specs.declared.act.ActReply.TheVariants as act_replies
-use Rattle.vg_machine.specs.declared.history.Entry.{Entry}
-use Rattle.vg_machine.specs.declared.history.Entry.TheVariants as entries
+use Rattle.vg_machine.specs.Entries.{Entry}
+use Rattle.vg_history.specs.declared.entry.Entry.TheVariants as entries
 use Rattle.vg_machine.specs.Holds.{first_holds, update}
 use Rattle.vg_machine.specs.Order.{AreAllowed, IsAllowed, client_of, holds_after, holds_of, of_client, updated}
 use Rattle.vg_run.specs.Session.{IsOwned}

@@ -7,8 +7,8 @@ use Rattle.vg_machine.specs.declared.act.Act.TheVariants.{Enter, Leave, Denied}
 use Rattle.vg_machine.specs.declared.act.ActReply.{ActReply}
 use Rattle.vg_machine.specs.declared.act.ActReply.TheVariants as act_replies
 use Rattle.vg_machine.specs.declared.act.What.{What}
-use Rattle.vg_machine.specs.declared.history.Entry.{Entry}
-use Rattle.vg_machine.specs.declared.history.Entry.TheVariants as entries
+use Rattle.vg_machine.specs.Entries.{Entry}
+use Rattle.vg_history.specs.declared.entry.Entry.TheVariants as entries
 use Rattle.vg_machine.specs.declared.history.Reply.{Reply}
 use Rattle.vg_machine.specs.declared.history.Request.{Request}
 use Rattle.vg_machine.specs.declared.holds.Holds.{Holds}
@@ -62,7 +62,7 @@ begun state before k entry xs left = begun_by state before k entry xs left.count
 
 -- an act is determined, and so is a command
 same_act : (state : State) (before : List Entry) (k client : ℕ) (act : Act) (call call' : ℕ) (reply reply' : ActReply) → Stood state before k (entries.Act client call act reply) → Stood state before k (entries.Act client call' act reply')
-    → entries.Act client call act reply ≡ entries.Act client call' act reply'
+    → ◌≡◌ {A = Entry} (entries.Act client call act reply) (entries.Act client call' act reply')
 same_act state before k client act call call' reply reply' one other =
     let number : call ≡ call' = one.number ∙ sym other.number in
     let answer : reply ≡ reply' = one.reply ∙ sym other.reply in
@@ -75,7 +75,7 @@ record AreByOrdinal (request : ℕ → Request) : Type 0 where
 
 same_command : (state : State) (before : List Entry) (k client : ℕ) (request : ℕ → Request) (call call' ordinal ordinal' : ℕ) (reply reply' : Reply) → AreByOrdinal request
     → Stood state before k (entries.Command client call (request ordinal) reply) → Stood state before k (entries.Command client call' (request ordinal') reply')
-    → entries.Command client call (request ordinal) reply ≡ entries.Command client call' (request ordinal') reply'
+    → ◌≡◌ {A = Entry} (entries.Command client call (request ordinal) reply) (entries.Command client call' (request ordinal') reply')
 same_command state before k client request call call' ordinal ordinal' reply reply' by one other =
     let number : call ≡ call' = one.number ∙ sym other.number in
     let place : ordinal ≡ ordinal' =

@@ -5,8 +5,8 @@ use Rattle.std.proofs.lemmas.List.{drop_all}
 use Rattle.vg_machine.specs.declared.setup.Setup.{Setup}
 use Rattle.vg_machine.specs.declared.act.Act.TheVariants.{Enter, Leave}
 use Rattle.vg_machine.specs.declared.act.ActReply.TheVariants as act_replies
-use Rattle.vg_machine.specs.declared.history.Entry.{Entry}
-use Rattle.vg_machine.specs.declared.history.Entry.TheVariants as entries
+use Rattle.vg_machine.specs.Entries.{Entry}
+use Rattle.vg_history.specs.declared.entry.Entry.TheVariants as entries
 use Rattle.vg_machine.specs.Order.{by_call, call_of, of_client}
 use Rattle.vg_script.specs.declared.types.Line.{Line}
 use Rattle.vg_run.specs.declared.client.Client.{Client}

@@ -7,11 +7,11 @@ use Rattle.vg_machine.specs.declared.act.Act as the_act
 use Rattle.vg_machine.specs.declared.act.Act.TheVariants as acts
 use Rattle.vg_machine.specs.declared.act.ActReply.{ActReply}
 use Rattle.vg_machine.specs.declared.act.ActReply.TheVariants as act_replies
-use Rattle.vg_machine.specs.declared.history.Entry.TheVariants.{Act, Command}
+use Rattle.vg_history.specs.declared.entry.Entry.TheVariants.{Act, Command}
 use Rattle.vg_machine.specs.declared.history.Reply.{Reply}
 use Rattle.vg_machine.specs.declared.history.Request.{Request}
 use Rattle.vg_machine.specs.declared.act.What.{What}
-use Rattle.vg_machine.specs.declared.history.Entry.{Entry}
+use Rattle.vg_machine.specs.Entries.{Entry}
 use Rattle.vg_machine.specs.declared.holds.Holds.{Holds}
 use Rattle.vg_machine.specs.Holds.{Deniable}
 use Rattle.vg_machine.specs.Order.{is_leave, updated}
@@ -331,22 +331,11 @@ pub given-is : (client call : ℕ) (act : the_act.Act) (reply : ActReply) (told 
 given-is client call act reply told given is made = made ∙ ap (λ (b : Bool). cond b givens.Denied (givens.Act reply)) is
 
 -- what stands of one entry where memory lacked: nothing, or the entry
-pub begun-by : {R : Type 0} (old new : Course) (client client' : Client) (entry : R → Entry) (holds : R → Holds) → ((new ≡ old) × (client'.account ≡ client.account)) ⊎ ((r : R) × IsAdded old client.account (entry r) (holds r) new client'.account)
+pub begun-by : {R : Type 0} (old new : Course) (client client' : Client) (entry : R → Entry) → (new ≡ old) × (client'.account ≡ client.account)
     → (mine : List Entry) × ((mine ≡ []) ⊎ ((r : R) × (mine ≡ entry r ∷ []))) × HasAdded old client mine new client'
-begun-by old new client client' entry holds (inl (same, kept)) =
+begun-by old new client client' entry (same, kept) =
     let P : Course → Type 0 = λ k. HasAdded old client [] k client' in
     ([], inl refl, subst P (sym same) (added-same old old client client client' [] (added-none old client) kept))
-begun-by old new client client' entry holds (inr (r, is)) = (
-  entry r ∷ [],
-  inr (r, refl),
-  record {
-    setup = ap (λ (k : Course). k.setup) is.course;
-    clients = ap (λ (k : Course). k.clients) is.course;
-    number = ap (λ a. a.number) is.told;
-    own = is.mine;
-    entries = ap (λ (k : Course). length k.history) is.course ∙ length-append old.history (entry r ∷ []);
-  },
-)
 
 pub map_ok : {T E : Type 0} {P Q : T → Type 0} (r : Result T E) → ((x : T) → P x → Q x) → IfOk r P → IfOk r Q
 map_ok (Ok x) f p = f x p

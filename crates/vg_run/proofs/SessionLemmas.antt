@@ -7,8 +7,8 @@ use Rattle.vg_machine.specs.declared.setup.Setup.{Setup}
 use Rattle.vg_machine.specs.declared.act.Act as the_act
 use Rattle.vg_machine.specs.declared.act.Act.TheVariants as acts
 use Rattle.vg_machine.specs.declared.act.ActReply.{ActReply}
-use Rattle.vg_machine.specs.declared.history.Entry.{Entry}
-use Rattle.vg_machine.specs.declared.history.Entry.TheVariants.{Act, Command}
+use Rattle.vg_machine.specs.Entries.{Entry}
+use Rattle.vg_history.specs.declared.entry.Entry.TheVariants.{Act, Command}
 use Rattle.vg_machine.specs.declared.history.Reply.{Reply}
 use Rattle.vg_machine.specs.declared.history.Request.{Request}
 use Rattle.vg_machine.specs.declared.holds.Holds.{Holds}

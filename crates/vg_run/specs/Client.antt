@@ -1,7 +1,7 @@
 -- A client, and how its calls go on.
 use Rattle.std.specs.Prelude.{◌≡◌, ◌≤◌, ◌<◌, ◌+◌, ◌^◌, ℕ, List, [], ◌∷◌, ◌++◌, length, Result, Ok, Err, Vec}
 use Rattle.std.specs.List.{AllByRecursion}
-use Rattle.vg_machine.specs.declared.history.Entry.{Entry}
+use Rattle.vg_machine.specs.Entries.{Entry}
 use Rattle.vg_machine.specs.declared.act.ActReply.{ActReply}
 use Rattle.vg_machine.specs.declared.act.ActReply.TheVariants.{Reserved}
 use Rattle.vg_machine.specs.declared.act.What.{What}

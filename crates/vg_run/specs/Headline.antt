@@ -1,6 +1,6 @@
 use Rattle.std.specs.Prelude.{◌≡◌, ◌≤◌, ℕ, length, List, [], ◌∷◌, codes, Option, IfSome}
 use Rattle.vg_io.specs.Streams.{IsAtEnd, Takes, TakesPart, TakesSome}
-use Rattle.vg_machine.specs.declared.history.Entry.{Entry}
+use Rattle.vg_machine.specs.Entries.{Entry}
 use Rattle.vg_script.specs.declared.types.Script.{Script}
 use Rattle.vg_script.specs.Grammar.{Parses}
 use Rattle.vg_run.specs.Legal.{Legal, journal_of}

@@ -2,8 +2,8 @@ use Rattle.std.specs.Prelude.{◌≡◌, ◌≤◌, ◌+◌, ℕ, Bool, List, []
 use Rattle.std.specs.List.{All, AllByRecursion}
 use Rattle.vg_wire.specs.declared.request.Queue.{Queue}
 use Rattle.vg_wire.specs.declared.request.Queue.TheVariants.{Control, Cursor}
-use Rattle.vg_machine.specs.declared.history.Entry.{Entry}
-use Rattle.vg_machine.specs.declared.history.Entry.TheVariants as entries
+use Rattle.vg_machine.specs.Entries.{Entry}
+use Rattle.vg_history.specs.declared.entry.Entry.TheVariants as entries
 use Rattle.vg_machine.specs.Replay.{replay}
 use Rattle.vg_machine.specs.Order.{Sound, client_of}
 use Rattle.vg_script.specs.declared.types.Line.{Line}

@@ -1,6 +1,6 @@
 use Rattle.std.specs.Prelude.{◌≡◌, ℕ, ◌<◌, length, List, Option, IfSome}
 use Rattle.vg_io.specs.Streams.{Rose, Takes, TakesPart, TakesSome}
-use Rattle.vg_machine.specs.declared.history.Entry.{Entry}
+use Rattle.vg_machine.specs.Entries.{Entry}
 use Rattle.vg_script.specs.declared.types.Script.{Script}
 use Rattle.vg_run.specs.declared.top.Status.{Status}
 use Rattle.vg_run.specs.declared.top.Status.TheVariants.{Done, Usage, ReadFault, WriteFault, TooLong, NoMemory}

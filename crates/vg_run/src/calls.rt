@@ -1,7 +1,7 @@
 //! The calls that lines of a script make.
 
 ghost use Rattle.std.specs.Prelude.{◌≡◌, ◌≤◌, ◌<◌, ◌+◌, ◌-◌, ◌^◌, List, length, IfOk, OnErr, OnOk};
-ghost use Rattle.vg_machine.specs.declared.history.Entry.{Entry as Entries};
+ghost use Rattle.vg_machine.specs.Entries.{Entry as Entries};
 ghost use Rattle.vg_script.specs.Limits.{StepInLimits};
 ghost use Rattle.vg_chain.specs.declared.shape.Shape.TheVariants as shapes;
 ghost use Rattle.vg_run.specs.Calls as calls;

@@ -4,8 +4,8 @@ ghost use Rattle.std.specs.Prelude.{◌≡◌, ◌==◌, ◌<◌, ◌≤◌, ◌
 ghost use Rattle.vg_machine.specs.Setup.{IsSetup};
 ghost use Rattle.vg_machine.specs.declared.act.Act.TheVariants as acts;
 ghost use Rattle.vg_machine.specs.declared.act.ActReply.TheVariants as act_replies;
-ghost use Rattle.vg_machine.specs.declared.history.Entry.{Entry as Entries};
-ghost use Rattle.vg_machine.specs.declared.history.Entry.TheVariants as entries;
+ghost use Rattle.vg_machine.specs.Entries.{Entry as Entries};
+ghost use Rattle.vg_history.specs.declared.entry.Entry.TheVariants as entries;
 ghost use Rattle.vg_run.specs.Calls.{Begins, BeginsTasks, Gives, GivesTasks, Plays, newest};
 ghost use Rattle.vg_run.specs.Client.{HasAdded, HasGoneOn, IsCallFit, IsFitPlan, IsReady, known, planned};
 ghost use Rattle.vg_run.specs.Known.{Known as Knowns, first_known};

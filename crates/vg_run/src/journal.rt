@@ -14,7 +14,7 @@ use vg_list::Seq;
 use vg_machine::{Entry, Frame, Setup};
 
 /// A run: its setup, its history, how many of its commands were on each queue, and its frames.
-#[derive(Debug, Drop)]
+#[derive(Drop)]
 pub struct Journal {
     pub setup: Setup,
     pub entries: Seq<Entry>,

@@ -2,7 +2,7 @@
 
 ghost use Rattle.std.specs.Prelude.{◌≡◌, ◌≤◌, List, length};
 ghost use Rattle.vg_script.specs.declared.types.Script.{Script as Scripts};
-ghost use Rattle.vg_machine.specs.declared.history.Entry.{Entry as Entries};
+ghost use Rattle.vg_machine.specs.Entries.{Entry as Entries};
 ghost use Rattle.vg_run.specs.Legal.{AreFinished, Legal};
 
 /// A script of at most one client, none of whose commands is left unfinished, has at most one legal

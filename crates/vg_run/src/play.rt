@@ -4,8 +4,8 @@ ghost use Rattle.std.specs.Prelude.{◌≡◌, ◌⊎◌, ◌<◌, ◌≤◌, �
 ghost use Rattle.std.specs.List.{AllByRecursion};
 ghost use Rattle.vg_machine.specs.Holds.{Deniable, denied_of};
 ghost use Rattle.vg_machine.specs.declared.act.ActReply.{ActReply as ActReplies};
-ghost use Rattle.vg_machine.specs.declared.history.Entry.{Entry as Entries};
-ghost use Rattle.vg_machine.specs.declared.history.Entry.TheVariants as entries;
+ghost use Rattle.vg_machine.specs.Entries.{Entry as Entries};
+ghost use Rattle.vg_history.specs.declared.entry.Entry.TheVariants as entries;
 ghost use Rattle.vg_machine.specs.declared.history.Reply.{Reply as Replies};
 ghost use Rattle.vg_run.specs.Calls.{IsAsked, IsBegun, IsDenial, IsDone, IsFrontOf, IsFrontOfAsked, Plays};
 ghost use Rattle.vg_run.specs.Client.{HasAdded, HasDone, HasGoneOn, IsFewPages, IsReady, known, weights};

@@ -167,7 +167,7 @@ fn run_client(
     Ok(())
 }
 
-/// Whether the entry is a command on this queue.
+/// Whether the entry is a command on the control queue.
 fn is_control(entry: &Entry) -> bool
     ensures { result ≡ legal.is_on_control entry.now }
 {
@@ -197,12 +197,26 @@ fn is_cursor(entry: &Entry) -> bool
 fn count_control(entries: &[Entry]) -> u64
     ensures { result ≡ count_by legal.is_on_control entries.now }
 {
-    entries.iter().filter(|entry| is_control(entry)).count() as u64
+    let mut count = 0;
+    for entry in entries {
+        count += one_if(is_control(entry));
+    }
+    count
 }
 
 /// How many commands are on the cursor queue.
 fn count_cursor(entries: &[Entry]) -> u64
     ensures { result ≡ count_by legal.is_on_cursor entries.now }
 {
-    entries.iter().filter(|entry| is_cursor(entry)).count() as u64
+    let mut count = 0;
+    for entry in entries {
+        count += one_if(is_cursor(entry));
+    }
+    count
+}
+
+fn one_if(yes: bool) -> u64
+    ensures { result ≡ (if yes then 1 else 0) }
+{
+    if yes { 1 } else { 0 }
 }

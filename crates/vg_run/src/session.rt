@@ -6,8 +6,6 @@ ghost use Rattle.vg_machine.specs.Setup.{IsSetup};
 ghost use Rattle.vg_machine.specs.Replay.{Agrees, replay};
 ghost use Rattle.vg_machine.specs.Order.{Sound, is_of_lane};
 ghost use Rattle.vg_machine.specs.Holds.{first_holds};
-ghost use Rattle.vg_machine.specs.declared.act.ActReply.{ActReply as ActReplies};
-ghost use Rattle.vg_machine.specs.declared.history.Reply.{Reply as Replies};
 ghost use Rattle.vg_run.specs.Session.{IsAccount, IsAddedAct, IsAddedCommand, IsOwned, MayAct, MayAsk};
 
 use std::alloc::{AllocError, Global};
@@ -24,7 +22,7 @@ pub(crate) struct Account {
 }
 
 /// A display, with the history of the acts and commands that made it what it is.
-#[derive(Debug, Drop)]
+#[derive(Drop)]
 pub(crate) struct Session {
     display: Display,
     history: Vec<Entry>,
@@ -85,7 +83,7 @@ impl Session {
     }
 
     /// Adds an act of a client, and gives the number of the entry and the reply. Room for the entry is made before the
-    /// display changes. Where memory lacks for the caller's copy of the reply alone, the entry stands.
+    /// display changes, so where memory lacks nothing does.
     pub(crate) fn act(
         &mut self,
         alloc: Global,
@@ -96,14 +94,12 @@ impl Session {
         requires next { MayAct self.old account.old act }
         ensures number { IfOk result (λ done. done.0 ≡ length self.new.history) }
         ensures added { IfOk result (λ done. IsAddedAct self.old account.old act done.1 self.new account.new) }
-        ensures err { OnErr result (((self.new ≡ self.old) × (account.new ≡ account.old))
-            ⊎ ((reply : ActReplies) × IsAddedAct self.old account.old act reply self.new account.new)) }
+        ensures err { OnErr result ((self.new ≡ self.old) × (account.new ≡ account.old)) }
     {
         self.history.reserve(1)?;
-        let reply = self
+        let (reply, copy) = self
             .display
             .act(alloc, account.number, &mut account.holds, &act)?;
-        let copy = copy_of_answer(&reply);
         account.used += 1;
         let entry = Entry::Act {
             client: account.number,
@@ -112,11 +108,11 @@ impl Session {
             reply,
         };
         self.history.push(entry).unwrap();
-        Ok((self.history.len() as u64, copy?))
+        Ok((self.history.len() as u64, copy))
     }
 
     /// Adds a command of a client, and gives the number of the entry and the reply. Room for the entry is made before the
-    /// display changes. Where memory lacks for the caller's copy of the reply alone, the entry stands.
+    /// display changes, so where memory lacks nothing does.
     pub(crate) fn command(
         &mut self,
         alloc: Global,
@@ -127,12 +123,10 @@ impl Session {
         requires next { MayAsk self.old account.old request }
         ensures number { IfOk result (λ done. done.0 ≡ length self.new.history) }
         ensures added { IfOk result (λ done. IsAddedCommand self.old account.old request done.1 self.new account.new) }
-        ensures err { OnErr result (((self.new ≡ self.old) × (account.new ≡ account.old))
-            ⊎ ((reply : Replies) × IsAddedCommand self.old account.old request reply self.new account.new)) }
+        ensures err { OnErr result ((self.new ≡ self.old) × (account.new ≡ account.old)) }
     {
         self.history.reserve(1)?;
-        let reply = self.display.request(alloc, &request)?;
-        let copy = copy_of_reply(alloc, &reply);
+        let (reply, copy) = self.display.request(alloc, &request)?;
         self.counts[request.lane as usize] += 1;
         account.used += 1;
         let entry = Entry::Command {
@@ -142,7 +136,7 @@ impl Session {
             reply,
         };
         self.history.push(entry).unwrap();
-        Ok((self.history.len() as u64, copy?))
+        Ok((self.history.len() as u64, copy))
     }
 
     /// The history and the frames.
@@ -158,25 +152,6 @@ impl Session {
             ..
         } = self;
         (history, display.into_frames())
-    }
-}
-
-/// A copy of what an act was answered.
-fn copy_of_answer(reply: &ActReply) -> Result<ActReply, AllocError>
-    ensures { IfOk result (λ copy. copy ≡ reply.now) }
-{
-    reply.clone()
-}
-
-/// A copy of what a command was answered.
-fn copy_of_reply(alloc: Global, reply: &Reply) -> Result<Reply, AllocError>
-    ensures { IfOk result (λ copy. copy ≡ reply.now) }
-{
-    match reply {
-        Reply::Response { bytes } => Ok(Reply::Response {
-            bytes: Seq::from_vec(bytes.as_slice().to_vec(alloc)?),
-        }),
-        Reply::Fault { fault } => Ok(Reply::Fault { fault: *fault }),
     }
 }
 

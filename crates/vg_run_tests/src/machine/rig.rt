@@ -96,23 +96,23 @@ impl Rig {
     ) -> Result<(), AllocError> {
         let request = request(self.alloc, kind, fields)?;
         assert!(rt; self.display.entries() < 1000);
-        let answer = self
+        let (answer, copy) = self
             .display
             .command(self.alloc, Queue::Control, request.as_slice(), 408)?;
         assert_eq!(rt; answer.as_slice(), plain_header(code).as_slice(), "{name}");
+        assert_eq!(rt; copy.as_slice(), answer.as_slice(), "{name}");
         Ok(())
     }
 
     /// Does an act of client 1 or 2, and gives its reply.
     fn act(&mut self, rt: &impl Abort, client: u32, act: &Act) -> Result<ActReply, AllocError> {
         assert!(rt; self.display.entries() < 1000);
-        if client == 1 {
-            assert!(rt; self.first.client == 1);
-            self.display.act(self.alloc, 1, &mut self.first, act)
+        let (reply, _) = if client == 1 {
+            self.display.act(self.alloc, 1, &mut self.first, act)?
         } else {
-            assert!(rt; self.second.client == 2);
-            self.display.act(self.alloc, 2, &mut self.second, act)
-        }
+            self.display.act(self.alloc, 2, &mut self.second, act)?
+        };
+        Ok(reply)
     }
 
     /// Does an act of client 1 or 2, whose reply is the one that is due.

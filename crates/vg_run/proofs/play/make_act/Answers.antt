@@ -1,5 +1,5 @@
 use Rattle.std.proofs.Common.{◌+◌, refl}
-use Rattle.vg_machine.specs.declared.history.Entry.TheVariants as entries
+use Rattle.vg_history.specs.declared.entry.Entry.TheVariants as entries
 use Rattle.vg_machine.specs.Holds.{update}
 use Rattle.vg_machine.specs.Replay.{replay}
 use Rattle.vg_run.proofs.ReplyLemmas.{few-act}

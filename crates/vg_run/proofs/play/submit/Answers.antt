@@ -1,5 +1,5 @@
 use Rattle.std.proofs.Common.{◌+◌}
-use Rattle.vg_machine.specs.declared.history.Entry.TheVariants as entries
+use Rattle.vg_history.specs.declared.entry.Entry.TheVariants as entries
 use Rattle.vg_machine.specs.declared.history.Reply.{Reply}
 use Rattle.vg_run.proofs.PlayLemmas.{begun-by}
 use Rattle.vg_run.proofs.PrintingLemmas.{on_err}
@@ -8,4 +8,4 @@ use Rattle.vg_run.proofs.play.submit.Goals as goal
 pub returns-in_err-_number-clause-begun : goal.returns-in_err-_number-clause-begun
 returns-in_err-_number-clause-begun c =
     let account = c.args.client.now.account in
-    on_err _ (begun-by c.args.session.now c.command.new.self c.args.client.now _ (λ (reply : Reply). entries.Command account.number (account.used + 1) c.args.request reply) (λ (reply : Reply). account.holds) c.in_err-_number.ensures.err)
+    on_err _ (begun-by c.args.session.now c.command.new.self c.args.client.now _ (λ (reply : Reply). entries.Command account.number (account.used + 1) c.args.request reply) c.in_err-_number.ensures.err)

@@ -1,7 +1,7 @@
 use Rattle.std.proofs.Common.{◌∙◌, ℕ, ap, subst, sym, count_by, length, List}
 use Rattle.std.specs.List.{AllByRecursion}
 use Rattle.vg_script.specs.declared.types.Line.{Line}
-use Rattle.vg_machine.specs.declared.history.Entry.{Entry}
+use Rattle.vg_machine.specs.Entries.{Entry}
 use Rattle.vg_machine.specs.Setup.{IsSetup}
 use Rattle.vg_run.specs.Legal.{FollowAll, is_on_control, is_on_cursor}
 use Rattle.vg_run.specs.Session.{Course, IsOwned}

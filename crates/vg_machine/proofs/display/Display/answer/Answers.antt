@@ -11,14 +11,15 @@ on_err (Err error) p = p
 pub returns-in-Nodata-clause-step : goal.returns-in-Nodata-clause-step
 returns-in-Nodata-clause-step c =
     let expected = accepted-is c.args.self.now c.run.new.self c.in-Some.command c.in_ok-other.other c.in_ok-other.ensures.step c.in-Nodata.is in
-    answered-given c.args.self.now c.run.new.self c.args.queue c.args.request.now c.args.room _ c.in_ok-other.other c.in_ok-accepted.accepted.items
+    answered-given c.args.self.now c.run.new.self c.args.queue c.args.request.now c.args.room _ c.in_ok-other.other c.in_ok-accepted.accepted.0.items
     (c.in_ok-command.ensures.answer ∙ ap (ran c.args.self.now) c.in-Some.is) c.in_ok-other.ensures.step
-    (c.in_ok-accepted.ensures ∙ ap (answered c.args.request.now c.args.room) (c.acceptance.ensures ∙ expected))
+    (c.in_ok-accepted.ensures.bytes ∙ ap (answered c.args.request.now c.args.room) (c.acceptance.ensures ∙ expected))
 
 pub returns : goal.returns
 returns c = record {
   step =
-      answered-ok c.write_answer-in_default-2.result (λ bytes. bytes.items) c.args.self.now c.run.new.self c.args.queue c.args.request.now c.args.room _ c.in_ok-other.other
-      (c.in_ok-command.ensures.answer ∙ ap (ran c.args.self.now) c.in-Some.is) c.in_ok-other.ensures.step c.write_answer-in_default-2.ensures;
+      answered-ok c.write_answer-in_default-2.result (λ twice. twice.0.items) c.args.self.now c.run.new.self c.args.queue c.args.request.now c.args.room _ c.in_ok-other.other
+      (c.in_ok-command.ensures.answer ∙ ap (ran c.args.self.now) c.in-Some.is) c.in_ok-other.ensures.step c.write_answer-in_default-2.ensures.bytes;
+  same = c.write_answer-in_default-2.ensures.same;
   err = on_err c.write_answer-in_default-2.result (kept-given c.args.self.now c.run.new.self c.in-Some.command c.in_ok-other.other c.in_ok-other.ensures.step c.in_default-2.not-Nodata c.in_default-2.not-Uuid);
 }

@@ -1,8 +1,16 @@
+use Rattle.std.proofs.Common.{◌∙◌, ap, refl, sym}
+use Rattle.vg_machine.specs.declared.history.Reply.{Reply}
+use Rattle.vg_machine.specs.declared.history.Reply.TheVariants as replies
 use Rattle.vg_machine.proofs.ShapeLemmas.{request-given}
 use Rattle.vg_machine.proofs.display.Display.request.Goals as goal
 
 pub returns : goal.returns
-returns c = record {
-  step = request-given c.args.self.now c.command.new.self c.args.request.now c.as_slice-bytes.result.now c.in_ok-response.response.items c.from_vec.result c.in_default.not-Bad c.as_slice-bytes.ensures c.in_ok-response.ensures.step c.from_vec.ensures;
-  err = tt;
-}
+returns c =
+    let items = c.in_ok-response.response.items in
+    record {
+      step =
+          ap (λ (r : Reply). (c.command.new.self, r)) c.response_of.ensures
+          ∙ request-given c.args.self.now c.command.new.self c.args.request.now c.as_slice-bytes.result.now items items c.in_default.not-Bad c.as_slice-bytes.ensures c.in_ok-response.ensures.step refl;
+      same = c.response_of-2.ensures ∙ ap replies.Response c.in_ok-response.ensures.same ∙ sym c.response_of.ensures;
+      err = tt;
+    }

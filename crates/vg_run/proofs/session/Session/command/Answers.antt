@@ -1,5 +1,5 @@
 use Rattle.std.proofs.Common.{◌≡◌, ◌<◌, ◌∙◌, ◌+◌, ◌++◌, ◌∷◌, [], sym, ap, refl, subst, inr, arith, ℕ, List, get_or, length, slice_set}
-use Rattle.vg_machine.specs.declared.history.Entry.{Entry}
+use Rattle.vg_machine.specs.Entries.{Entry}
 use Rattle.vg_machine.specs.declared.history.Request.{Request}
 use Rattle.vg_machine.specs.Lane.{lane_of}
 use Rattle.vg_machine.specs.Order.{is_of_lane}
@@ -36,26 +36,6 @@ overflow_add-index_mut c =
     let few = count-few (is_of_lane request.lane) c.self.inside.history.items in
     omega (arith, is, counted_is, few, c.requires.room, ap (λ (k : Course). length k.history) c.self.view_is)
 
-pub invariant_of-self-in_err-copy : goal.invariant_of-self-in_err-copy
-invariant_of-self-in_err-copy c =
-    let request = c.args.request in
-    let counts = c.self.inside.counts.items in
-    let pushed = rw c.unwrap.ensures at c.push.ensures.items in
-    let within = lane request counts c.requires.next.next.lane c.self.invariant.lanes in
-    let P : List ℕ → Type 0 = λ xs. IsCourse c.request.new.self c.push.new.self.items c.self.inside.clients xs in
-    subst P (sym (counted counts request.lane c.index_mut.result.now within c.index_mut.ensures.value))
-    (command-course c.args.self.now c.self.inside.clients c.self.inside.display c.request.new.self c.self.inside.history.items c.push.new.self.items counts c.args.account.now request c.in_ok-reply.reply
-    (sym c.self.view_is) c.self.invariant c.requires.next (omega (arith, within, c.self.invariant.lanes)) c.in_ok-reply.ensures.step (grown _ _ _ _ pushed c.reserve.ensures.items))
-
-pub returns-in_err-copy-clause-err : goal.returns-in_err-copy-clause-err
-returns-in_err-copy-clause-err c =
-    let pushed = rw c.unwrap.ensures at c.push.ensures.items in
-    on_err _ (inr (
-      c.in_ok-reply.reply,
-      command-added c.args.self.now _ c.self.inside.clients c.self.inside.display c.request.new.self c.self.inside.history.items c.push.new.self.items c.self.inside.counts.items c.args.account.now _ c.args.request c.in_ok-reply.reply
-          (sym c.self.view_is) c.self.invariant c.requires.next c.in_ok-reply.ensures.step (grown _ _ _ _ pushed c.reserve.ensures.items) refl refl,
-    ))
-
 pub invariant_of-self-2 : goal.invariant_of-self-2
 invariant_of-self-2 c =
     let request = c.args.request in
@@ -70,6 +50,6 @@ invariant_of-self-2 c =
 pub returns-clause-added : goal.returns-clause-added
 returns-clause-added c =
     let pushed = rw c.unwrap.ensures at c.push.ensures.items in
-    rw c.in_ok-copy.ensures
+    rw c.in_ok-reply.ensures.same
     (command-added c.args.self.now _ c.self.inside.clients c.self.inside.display c.request.new.self c.self.inside.history.items c.push.new.self.items c.self.inside.counts.items c.args.account.now _ c.args.request c.in_ok-reply.reply
     (sym c.self.view_is) c.self.invariant c.requires.next c.in_ok-reply.ensures.step (grown _ _ _ _ pushed c.reserve.ensures.items) refl refl)

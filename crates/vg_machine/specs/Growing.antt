@@ -15,7 +15,7 @@ use Rattle.vg_machine.specs.declared.act.ActReply.TheVariants as replies
 use Rattle.vg_machine.specs.declared.act.What.{What}
 use Rattle.vg_machine.specs.declared.act.What.TheVariants.{Name, Resource, Scanout, Context, Page}
 use Rattle.vg_machine.specs.declared.holds.Holds.{Holds}
-use Rattle.vg_machine.specs.Order.{gives_up}
+use Rattle.vg_machine.specs.ActStep.{gives_up}
 use Rattle.vg_machine.specs.Holds.{Allowed, denied_request, first_denied, has_key, has_number, has_page, is_allowed, is_creating, is_number, key_of, names_of, update}
 
 false_is_true : false ≡ true → ⊥

@@ -1,0 +1,89 @@
+//! The display as a machine of which a history is kept.
+
+use crate::act::{Act, ActReply};
+use crate::allowance::allowed;
+use crate::display::Display;
+use crate::history::{Reply, Request};
+use crate::holds::Holds;
+use std::alloc::{AllocError, Global};
+use vg_history::Machine;
+
+/// An entry of a display's history.
+pub type Entry = vg_history::Entry<Display>;
+
+impl Machine for Display {
+    type State = Display;
+
+    type Act = Act;
+
+    type ActReply = ActReply;
+
+    type Request = Request;
+
+    type Reply = Reply;
+
+    type Holds = Holds;
+
+    ghost use Rattle.std.specs.Prelude.{is_none};
+    ghost use Rattle.vg_machine.specs.ActStep.{act_step};
+    ghost use Rattle.vg_machine.specs.Holds as holding;
+    ghost use Rattle.vg_machine.specs.Holds.{denied_of};
+    ghost use Rattle.vg_machine.specs.ActStep as acts;
+    ghost use Rattle.vg_machine.specs.Replay.{request_step};
+    ghost use Rattle.vg_machine.specs.Counted.{act-counts, keeps-allowed, request-counts};
+
+    ghost state = { λ d. d };
+
+    ghost count = { λ s. s.entries };
+
+    ghost acted = { λ s client a. (act_step s client a).0 };
+
+    ghost replied = { λ s client a. (act_step s client a).1 };
+
+    ghost update = { holding.update };
+
+    ghost requested = { λ s q. (request_step s q).0 };
+
+    ghost answered = { λ s q. (request_step s q).1 };
+
+    ghost allows = { λ h q. is_none (denied_of h q.queue q.bytes) };
+
+    ghost ends_hold = { acts.gives_up };
+
+    ghost tagged = { λ q. (q.lane, q.ordinal) };
+
+    fn act(
+        &mut self,
+        alloc: Global,
+        client: u32,
+        holds: &mut Holds,
+        act: &Act,
+    ) -> Result<(ActReply, ActReply), AllocError> {
+        Display::act(self, alloc, client, holds, act)
+    }
+
+    fn request(&mut self, alloc: Global, request: &Request) -> Result<(Reply, Reply), AllocError> {
+        Display::request(self, alloc, request)
+    }
+
+    fn allowed(holds: &Holds, request: &Request) -> bool {
+        allowed(holds, request.queue, request.bytes.as_slice())
+    }
+
+    fn gives_up(act: &Act) -> bool {
+        match act {
+            Act::Release { .. } | Act::Free { .. } | Act::Drop { .. } | Act::Leave => true,
+            _ => false,
+        }
+    }
+
+    fn tag(request: &Request) -> (u32, u64) {
+        (request.lane, request.ordinal)
+    }
+
+    ghost acts_count = { λ s c a. act-counts s c a };
+
+    ghost requests_count = { λ s q. request-counts s q };
+
+    ghost keeps_holds = { λ h a r q. keeps-allowed h a r q };
+}
