@@ -18,14 +18,14 @@ use Rattle.vg_machine.specs.declared.act.ActReply.{ActReply}
 use Rattle.vg_machine.specs.declared.act.What.{What}
 use Rattle.vg_machine.specs.declared.holds.Holds.{Holds}
 use Rattle.vg_machine.specs.declared.share.ShareRefusal.{ShareRefusal}
-use Rattle.vg_machine.specs.declared.resource.Resource.{Resource}
+use Rattle.vg_resource.specs.declared.resource.Resource.{Resource}
 use Rattle.vg_machine.specs.ActStep.{act_step, effect_of, replied_by, shown_at}
-use Rattle.vg_machine.specs.Resource.{resource_at}
+use Rattle.vg_resource.specs.Resource.{resource_at}
 use Rattle.vg_machine.specs.Scanout.{binding_at}
 use Rattle.vg_machine.specs.Share.{drop_refusal, free_refusal, place_refusal, release_refusal, reserve_refusal, take_refusal}
 use Rattle.vg_machine.specs.declared.history.Request.{Request}
 use Rattle.vg_machine.specs.State.{State, counted}
-use Rattle.vg_machine.specs.Refusals.{refusal_of}
+use Rattle.vg_refusals.specs.Refusals.{refusal_of}
 use Rattle.vg_machine.specs.Step.{answer_of, answered_with, command_step, ran, refused_or_ran, request_refusals, two_d_step, with_shown}
 use Rattle.vg_machine.specs.Replay.{request_step, shaped_step}
 use Rattle.vg_machine.specs.Holds.{denied_of, update}
