@@ -4,3 +4,6 @@
 mod backings;
 
 pub use backings::Backings;
+
+#[cfg(test)]
+mod tests;
