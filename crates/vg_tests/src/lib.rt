@@ -22,3 +22,5 @@ mod places;
 mod requests;
 #[cfg(test)]
 mod responses;
+#[cfg(test)]
+mod transfers;
