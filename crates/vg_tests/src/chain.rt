@@ -195,7 +195,7 @@ fn number_of(walked: &Result<Chain, ChainFault>) -> u8 {
     }
 }
 
-fn walked_of(alloc: Global, rows: &[(u64, u32, u16, u16); 6], head: u16) -> Result<u8, AllocError> {
+fn walked_of(alloc: Global, rows: [(u64, u32, u16, u16); 6], head: u16) -> Result<u8, AllocError> {
     let mut table = Vec::new(alloc);
     for row in &rows[..4] {
         table.push(descriptor_of(*row))?;
@@ -215,8 +215,8 @@ fn walked_of(alloc: Global, rows: &[(u64, u32, u16, u16); 6], head: u16) -> Resu
 
 #[test]
 fn walks_end_at_the_first_fault(rt: HostRuntime) -> Result<(), Fail> {
-    for (rows, head, fault) in &CASES {
-        assert_eq!(rt; walked_of(rt.alloc(), rows, *head)?, *fault);
+    for (rows, head, fault) in CASES {
+        assert_eq!(rt; walked_of(rt.alloc(), rows, head)?, fault);
     }
     Ok(())
 }
