@@ -1,5 +1,5 @@
 -- Blocks, and what is left behind the last one.
-use Rattle.std.proofs.Common.{◌≡◌, ◌*◌, ◌/◌, ◌%◌, ◌+◌, ◌∙◌, ◌++◌, [], ap, length, arith, List, ℕ}
+use Rattle.std.proofs.Common.{◌≡◌, ◌*◌, ◌/◌, ◌%◌, ◌∙◌, ◌++◌, ap, length, arith, List, ℕ}
 use Rattle.std.proofs.Math.Nat.{div-add-mod}
 use Rattle.std.proofs.lemmas.Bool.Decides.{nat_tests}
 use Rattle.vg_machine.specs.Cells.{repeated}
