@@ -1,25 +1,22 @@
 -- What a flush shows and a transfer copies, pixel by pixel.
-use Rattle.std.proofs.Common.{◌≡◌, ◌≢◌, ℕ, ◌+◌, ◌-◌, ◌*◌, ◌/◌, ◌%◌, ◌<◌, ◌≤◌, ◌==◌, ◌&&◌, Bool, true, false, not, cond, List, [], ◌∷◌, length, map, min, max, get_or, slice_get, slice_index, take, drop, Option, Some, None, Result, Ok, sym, ap, ◌∙◌, refl, subst, arith}
-use Rattle.std.specs.Prelude.{IfSome, is_none, nat_lt, unwrap_or}
+use Rattle.std.proofs.Common.{◌≡◌, ◌≢◌, ℕ, ◌+◌, ◌-◌, ◌*◌, ◌%◌, ◌<◌, ◌≤◌, ◌==◌, ◌&&◌, Bool, true, false, not, cond, List, [], ◌∷◌, length, map, min, max, get_or, slice_get, slice_index, take, drop, Option, Some, None, Result, Ok, sym, ap, ◌∙◌, refl, subst, arith}
+use Rattle.std.specs.Prelude.{IfSome, is_none}
 use Rattle.std.specs.List.{All}
 use Rattle.std.specs.Option.{option_map}
 use Rattle.std.specs.Map.{values_of}
 use Rattle.std.specs.Ordering.{nat_cmp}
 use Rattle.std.specs.BTreeMap.{is_at}
 use Rattle.std.proofs.lemmas.Bool.Decides.{nat_tests}
-use Rattle.std.proofs.lemmas.List.{get_or-take, get_or-drop, length-take, length-drop, drop-drop}
-use Rattle.std.proofs.lemmas.Nat.{div-mul-add, mod-mul-add, row_fits}
-use Rattle.std.proofs.lemmas.Option.{get_or_from_slice_get, slice_get_within, slice_get-get_or, slice_get-map, unwrap_or-slice_get}
-use Rattle.std.proofs.lemmas.Map.Entries.{All-lookup}
+use Rattle.std.proofs.lemmas.List.{drop-drop}
+use Rattle.std.proofs.lemmas.Nat.{div-mul-add, mod-mul-add}
+use Rattle.std.proofs.lemmas.Option.{get_or_from_slice_get, slice_get_within, slice_get-map}
 use Rattle.std.proofs.lemmas.Map.Views.{IfSome-lookup_from_All}
-use Rattle.vg_places.specs.declared.rectangles.Area.{Area}
-use Rattle.vg_places.specs.Rectangles.{place_of, filled}
 use Rattle.vg_places.proofs.PixelLemmas.{pixel-in, pixel-out}
 use Rattle.vg_formats.specs.declared.entry.MemEntry.{MemEntry}
 use Rattle.vg_formats.specs.declared.format.Format.{Format}
 use Rattle.vg_formats.specs.declared.rect.Rect.{Rect}
 use Rattle.vg_formats.specs.Formats.{shown_bytes}
-use Rattle.vg_formats.specs.Pixels.{Covers, are_meeting, common_of, is_empty, is_inside}
+use Rattle.vg_formats.specs.Pixels.{Covers, are_meeting, common_of, is_inside}
 use Rattle.vg_shown.specs.Shown.{pixel_at, shown_byte}
 use Rattle.vg_shown.proofs.ShownLemmas.{length-shown_bytes}
 use Rattle.vg_pages.specs.Memory.{Memory}
@@ -27,8 +24,8 @@ use Rattle.vg_wire_ext.specs.declared.response.Response.TheVariants as responses
 use Rattle.vg_resource.specs.declared.resource.Resource.{Resource}
 use Rattle.vg_machine.specs.Scanout.{Screen}
 use Rattle.vg_transfer.specs.Pixels.{CopiesRect}
-use Rattle.vg_transfer.specs.Backings.{transfer, transfer_refusals, bytes_of_rect, entries_at, transfer_end, transferred}
-use Rattle.vg_backing.specs.Backing.{backing_bytes, total, AreHeld}
+use Rattle.vg_transfer.specs.Backings.{transfer, transfer_refusals, entries_at, transferred}
+use Rattle.vg_backing.specs.Backing.{backing_bytes}
 use Rattle.vg_machine.specs.Fits.{IsScreen}
 use Rattle.vg_resource.specs.Resource.{IsWhole, height_of, resource_at, width_of}
 use Rattle.vg_machine.specs.Pixels.{CopiesEachPixel, CopiesPixels, ShowsEachPixel, ShowsScreen}
