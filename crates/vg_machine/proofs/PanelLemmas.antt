@@ -17,7 +17,7 @@ use Rattle.vg_machine.specs.declared.scanout.Binding.{Binding}
 use Rattle.vg_machine.specs.declared.scanout.Frame.{Frame}
 use Rattle.vg_machine.specs.declared.scanout.Panel.{Panel}
 use Rattle.vg_machine.specs.Fits.{IsScreen}
-use Rattle.vg_machine.specs.Panels.{IsAmong, IsPanel, ArePanels, ShowsFrame, IsGround, IsSmall, bytes_made, bytes_of, is_panel_of, is_touched, next_number, numbered, numbered_one, pixels_of_frame, pixels_shown, pixels_in, screen_in, screens_in, unbound_panel}
+use Rattle.vg_machine.specs.Panels.{IsAmong, IsPanel, ArePanels, ShowsFrame, IsGround, bytes_made, bytes_of, is_panel_of, is_touched, next_number, numbered, numbered_one, pixels_of_frame, pixels_shown, pixels_in, screen_in, screens_in, unbound_panel}
 use Rattle.std.specs.Prelude.{Result, Ok, nat_lt}
 use Rattle.vg_machine.specs.Scanout.{ScanoutState, Screen, after_flush, area_of, pixels_with, bind, fresh_screen, new_bytes, new_frame_bytes, flushed_pixels, frame_bytes, frame_of, new_frames, unbound_screen}
 
@@ -226,13 +226,6 @@ pub screen-at : (frames : List Frame) (panels : List (Option Panel)) (scanout : 
     → screen_in frames panel ≡ get_or (screens_in frames panels) scanout (screen_in frames panel)
 screen-at frames panels scanout panel within is =
     ap (screen_in frames) is ∙ sym (get_or-map (screen_in frames) panels scanout panel (screen_in frames panel) within)
-
-small-one : (frames : List Frame) (panel : Option Panel) → IsPanel frames panel → IsSmall panel
-small-one frames (Some panel) is = omega (arith, is.1.0, is.1.1)
-small-one frames None is = tt
-
-pub are-small : (frames : List Frame) (panels : List (Option Panel)) → ArePanels frames panels → All IsSmall panels
-are-small frames panels are = λ k d within. small-one frames (get_or panels k d) (are k d within)
 
 bytes-chosen : (touched : Bool) (m n : ℕ) → m ≡ n → cond touched m 0 ≡ cond touched n 0
 bytes-chosen true m n same = same

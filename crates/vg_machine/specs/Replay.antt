@@ -1,4 +1,4 @@
-use Rattle.std.specs.Prelude.{◌≡◌, List, is_none}
+use Rattle.std.specs.Prelude.{List, is_none}
 use Rattle.vg_history.specs.History as history
 use Rattle.vg_history.specs.declared.machine.Machine.{Ghosts}
 use Rattle.vg_machine.specs.declared.setup.Setup.{Setup}

@@ -2,7 +2,7 @@ use Rattle.std.proofs.Common.{◌≡◌, ◌≤◌, ◌+◌, List, ◌++◌, len
 use Rattle.vg_machine.specs.declared.scanout.Frame.{Frame}
 use Rattle.vg_machine.specs.Panels.{bytes_made, numbered, screens_in}
 use Rattle.vg_machine.specs.Scanout.{frame_bytes, new_bytes, new_frames}
-use Rattle.vg_machine.proofs.PanelLemmas.{are-panels, are-screens, are-small, bytes-made, length-numbered, numbered-back, stand-flushed}
+use Rattle.vg_machine.proofs.PanelLemmas.{are-panels, are-screens, bytes-made, length-numbered, numbered-back, stand-flushed}
 use Rattle.vg_machine.proofs.ScreenLemmas.{flushed-screens, flush-refused, flush-done, bytes-flushed}
 use Rattle.vg_machine.proofs.scanout.Scanouts.flush.Goals as goal
 
