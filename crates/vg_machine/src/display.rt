@@ -108,13 +108,30 @@ impl Display {
             return Ok((Reply::Fault { fault }, Reply::Fault { fault }));
         }
         let bytes = request.bytes.as_slice();
-        let (response, copy) = self.command(alloc, request.queue, bytes, request.room)?;
+        let (response, copy) = self.respond(alloc, request.queue, bytes, request.room)?;
         Ok((response_of(response), response_of(copy)))
     }
 
-    /// Runs the request that came on this queue, and gives its response twice, as far as `room` bytes hold it.
+    /// Runs the request that came on this queue, and gives its response as far as `room` bytes hold it.
     /// A longer response is cut, and the command runs all the same.
     pub fn command(
+        &mut self,
+        alloc: Global,
+        queue: Queue,
+        request: &[u8],
+        room: u32,
+    ) -> Result<Vec<u8>, AllocError>
+        requires { self.old.entries < 2 ^ 31 - 1 }
+        ensures step { IfOk result (λ bytes. (self.new, bytes.items) ≡ step self.old queue request.now room) }
+        ensures refused { OnOk result (Keeps (answer_of (counted self.old) queue request.now).1 (counted self.old) self.new) }
+        ensures err { OnErr result (self.new ≡ self.old) }
+    {
+        let (response, _copy) = self.respond(alloc, queue, request, room)?;
+        Ok(response)
+    }
+
+    /// Runs a request, and gives its response twice, as far as `room` bytes hold it.
+    fn respond(
         &mut self,
         alloc: Global,
         queue: Queue,

@@ -9,8 +9,8 @@ returns c =
     let items = c.in_ok-response.response.items in
     record {
       step =
-          ap (λ (r : Reply). (c.command.new.self, r)) c.response_of.ensures
-          ∙ request-given c.args.self.now c.command.new.self c.args.request.now c.as_slice-bytes.result.now items items c.in_default.not-Bad c.as_slice-bytes.ensures c.in_ok-response.ensures.step refl;
+          ap (λ (r : Reply). (c.respond.new.self, r)) c.response_of.ensures
+          ∙ request-given c.args.self.now c.respond.new.self c.args.request.now c.as_slice-bytes.result.now items items c.in_default.not-Bad c.as_slice-bytes.ensures c.in_ok-response.ensures.step refl;
       same = c.response_of-2.ensures ∙ ap replies.Response c.in_ok-response.ensures.same ∙ sym c.response_of.ensures;
       err = tt;
     }

@@ -1,5 +1,5 @@
 use Rattle.vg_machine.proofs.KeepLemmas.{command-kept}
-use Rattle.vg_machine.proofs.display.Display.command.Goals as goal
+use Rattle.vg_machine.proofs.display.Display.respond.Goals as goal
 
 pub returns-else-is_err-clause-refused : goal.returns-else-is_err-clause-refused
 returns-else-is_err-clause-refused c =
