@@ -1,0 +1,4 @@
+pub mod CursorLemmas
+pub mod SpanLemmas
+pub mod RowLemmas
+pub mod BlendLemmas

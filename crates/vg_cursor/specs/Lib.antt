@@ -1,0 +1,4 @@
+pub mod Cursor
+pub mod Blended
+pub mod Span
+pub mod Rows
