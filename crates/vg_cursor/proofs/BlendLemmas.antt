@@ -1,5 +1,5 @@
 -- The rows of an image over a screen, row by row, and as the definition tells them place by place.
-use Rattle.std.proofs.Common.{◌≡◌, ℕ, ◌+◌, ◌-◌, ◌*◌, ◌/◌, ◌%◌, ◌<◌, ◌≤◌, ◌⊎◌, ◌==◌, ◌&&◌, Bool, true, false, cond, List, length, get_or, slice_index, take, drop, sym, ap, ◌∙◌, refl, inl, inr, arith, le_refl}
+use Rattle.std.proofs.Common.{◌≡◌, ℕ, ◌+◌, ◌-◌, ◌*◌, ◌/◌, ◌%◌, ◌<◌, ◌≤◌, ◌⊎◌, ◌==◌, ◌&&◌, true, false, cond, List, length, get_or, slice_index, take, drop, sym, ap, ◌∙◌, refl, inl, inr, arith, le_refl}
 use Rattle.std.specs.Prelude.{ℤ, pos, negsuc, nat_lt}
 use Rattle.std.proofs.lemmas.Bool.{cases_lt}
 use Rattle.std.proofs.lemmas.Bool.Decides.{nat_tests}
@@ -9,7 +9,7 @@ use Rattle.std.proofs.Math.Nat.{mul-le-mul_right}
 use borrow.Rule.Slice.PartMut.{put_mid}
 use Rattle.vg_places.specs.declared.rectangles.Area.{Area}
 use Rattle.vg_places.specs.Places.{tabulate}
-use Rattle.vg_places.specs.Rectangles.{filled, place_of}
+use Rattle.vg_places.specs.Rectangles.{place_of}
 use Rattle.vg_places.proofs.Places.{tabulate_from_places}
 use Rattle.vg_places.proofs.Filled.{filled_more, length-filled}
 use Rattle.vg_places.proofs.PixelLemmas.{filled-in, filled-out}
@@ -71,14 +71,14 @@ rows-more image a row_length from old screen part h to m start n place wide fits
     ∙ ap (λ p. byte_over image (from + 256 * h) c (get_or old p 0)) there)
 
 -- whether the image has a place in both of its axes
-covered-here : (image : List ℕ) (z w : ℤ) (i j c screen : ℕ) → z ≡ pos i → w ≡ pos j → i < 64 → j < 64 → covered image z w c screen ≡ over image i j c screen
+pub covered-here : (image : List ℕ) (z w : ℤ) (i j c screen : ℕ) → z ≡ pos i → w ≡ pos j → i < 64 → j < 64 → covered image z w c screen ≡ over image i j c screen
 covered-here image z w i j c screen across down left low =
     let both : (nat_lt i 64 && nat_lt j 64) ≡ true = grind (arith, nat_tests) in
     ap (λ z. covered image z w c screen) across
     ∙ ap (λ w. covered image (pos i) w c screen) down
     ∙ ap (λ b. cond b (over image i j c screen) screen) both
 
-not-covered : (image : List ℕ) (z w : ℤ) (c screen : ℕ) → (IsOnImage z → IsOnImage w → ⊥) → covered image z w c screen ≡ screen
+pub not-covered : (image : List ℕ) (z w : ℤ) (c screen : ℕ) → (IsOnImage z → IsOnImage w → ⊥) → covered image z w c screen ≡ screen
 not-covered image (pos i) (pos j) c screen off =
     let none : (nat_lt i 64 && nat_lt j 64) ≡ false =
     elim (cases_lt i 64) [

@@ -2,3 +2,4 @@ pub mod CursorLemmas
 pub mod SpanLemmas
 pub mod RowLemmas
 pub mod BlendLemmas
+pub mod LawLemmas

@@ -1,10 +1,9 @@
 -- A row of an image over a row of a screen, pixel by pixel.
-use Rattle.std.proofs.Common.{◌≡◌, ◌≢◌, ℕ, zero, suc, ◌+◌, ◌-◌, ◌*◌, ◌/◌, ◌%◌, ◌<◌, ◌≤◌, ◌==◌, List, [], ◌∷◌, length, get_or, slice_index, take, drop, cond, sym, ap, ◌∙◌, refl, inr, arith}
-use Rattle.std.proofs.lemmas.Nat.{div-mul-add, mod-mul-add, div-add-mod', mod_below}
+use Rattle.std.proofs.Common.{◌≡◌, ℕ, zero, suc, ◌+◌, ◌*◌, ◌/◌, ◌%◌, ◌<◌, ◌≤◌, ◌==◌, List, [], ◌∷◌, length, get_or, slice_index, cond, sym, ap, ◌∙◌, refl, inr, arith}
+use Rattle.std.proofs.lemmas.Nat.{div-mul-add, mod-mul-add, div-add-mod'}
 use borrow.Rule.Slice.PartMut.{put_mid}
 use Rattle.vg_places.specs.declared.rectangles.Area.{Area}
-use Rattle.vg_places.specs.Places.{tabulate}
-use Rattle.vg_places.specs.Rectangles.{filled, place_of}
+use Rattle.vg_places.specs.Rectangles.{filled}
 use Rattle.vg_places.proofs.Places.{length-tabulate, get_or-tabulate}
 use Rattle.vg_places.proofs.Filled.{filled_empty, filled_more, filled_whole}
 use Rattle.vg_places.proofs.PixelLemmas.{filled-out}

@@ -1,8 +1,7 @@
 -- The span of an image along one axis, by the sign of its position.
-use Rattle.std.proofs.Common.{◌≡◌, ℕ, ◌+◌, ◌-◌, ◌<◌, ◌≤◌, ◌⊎◌, min, inl, inr, ap, refl, arith}
+use Rattle.std.proofs.Common.{◌≡◌, ℕ, ◌+◌, ◌-◌, ◌≤◌, min, inl, inr, ap, refl, arith}
 use Rattle.std.specs.Prelude.{ℤ, pos, negsuc}
 use Rattle.std.proofs.lemmas.Int.{ints}
-use Rattle.vg_cursor.specs.declared.span.Span.{Span}
 use Rattle.vg_cursor.specs.Blended.{image_place, IsOnImage}
 use Rattle.vg_cursor.specs.Span.{IsSpan, sides}
 

@@ -1,5 +1,5 @@
 -- What an image and a screen have in common along one axis.
-use Rattle.std.specs.Prelude.{◌≡◌, ◌≤◌, ◌<◌, ◌⊎◌, ℕ, ◌+◌, ◌-◌, ℤ, pos, negsuc}
+use Rattle.std.specs.Prelude.{◌≡◌, ◌≤◌, ◌<◌, ◌⊎◌, ℕ, ◌+◌, ℤ, pos, negsuc}
 use Rattle.vg_cursor.specs.declared.span.Span.{Span}
 use Rattle.vg_cursor.specs.Blended.{image_place, IsOnImage}
 

@@ -3,6 +3,8 @@
 
 mod blend;
 mod cursor;
+mod laws;
 mod span;
 
 pub use cursor::{Cursor, Cursors};
+pub use laws::cover_each_pixel;

@@ -1,5 +1,5 @@
 -- One pixel more of the row is blended.
-use Rattle.std.proofs.Common.{◌≡◌, ◌+◌, ◌-◌, ◌*◌, ◌/◌, ◌≤◌, length, ap, ◌∙◌, refl, arith}
+use Rattle.std.proofs.Common.{◌≡◌, ◌+◌, ◌-◌, ◌*◌, ◌/◌, ◌≤◌, length, ap, ◌∙◌, arith}
 use Rattle.std.proofs.lemmas.Nat.{div-add-mod'}
 use Rattle.vg_cursor.proofs.RowLemmas.{row_front, row-none, row-more, row-all}
 use Rattle.vg_cursor.proofs.blend.blend_row.Goals as goal
