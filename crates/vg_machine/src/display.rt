@@ -152,8 +152,27 @@ impl Display {
         done
     }
 
-    /// Does the act of a client, and gives its reply twice. What the client holds changes with it.
+    /// Does the act of a client, whose holds these are, and gives its reply twice. What the client holds changes with it.
     pub fn act(
+        &mut self,
+        alloc: Global,
+        client: u32,
+        holds: &mut Holds,
+        act: &Act,
+    ) -> Result<(ActReply, ActReply), AllocError>
+        requires entries { self.old.entries < 2 ^ 31 - 1 }
+        requires whose { holds.old.client ≡ client }
+        ensures step { IfOk result (λ twice. (self.new, twice.0) ≡ act_step self.old client act.now) }
+        ensures same { IfOk result (λ twice. twice.1 ≡ twice.0) }
+        ensures refused { IfOk result (λ twice. KeepsIfRefused twice.0 (counted self.old) self.new) }
+        ensures holds { IfOk result (λ twice. holds.new ≡ update holds.old act.now twice.0) }
+        ensures err { OnErr result ((self.new ≡ self.old) × (holds.new ≡ holds.old)) }
+    {
+        self.act_as(alloc, client, holds, act)
+    }
+
+    /// Does an act in a client's name: whoever calls this sees to it that the holds are that client's.
+    pub(crate) fn act_as(
         &mut self,
         alloc: Global,
         client: u32,

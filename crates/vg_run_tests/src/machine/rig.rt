@@ -107,8 +107,10 @@ impl Rig {
     fn act(&mut self, rt: &impl Abort, client: u32, act: &Act) -> Result<ActReply, AllocError> {
         assert!(rt; self.display.entries() < 1000);
         let (reply, _) = if client == 1 {
+            assert!(rt; self.first.client == 1);
             self.display.act(self.alloc, 1, &mut self.first, act)?
         } else {
+            assert!(rt; self.second.client == 2);
             self.display.act(self.alloc, 2, &mut self.second, act)?
         };
         Ok(reply)

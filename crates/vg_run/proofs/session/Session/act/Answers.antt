@@ -4,6 +4,9 @@ use Rattle.vg_run.proofs.PrintingLemmas.{on_err}
 use Rattle.vg_run.proofs.SessionLemmas.{account-owner, act-added, act-course, few-used}
 use Rattle.vg_run.proofs.session.Session.act.Goals as goal
 
+pub act-requires-clause-whose : goal.act-requires-clause-whose
+act-requires-clause-whose c = account-owner c.args.self.now c.args.account.now c.requires.next.account_is
+
 pub overflow_add-account : goal.overflow_add-account
 overflow_add-account c = omega (arith, few-used c.args.self.now c.args.account.now c.requires.next.account_is, c.requires.room)
 
