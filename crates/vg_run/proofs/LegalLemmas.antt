@@ -1,5 +1,5 @@
 -- The journal of what a session gives.
-use Rattle.std.proofs.Common.{◌≡◌, ◌<◌, ◌≤◌, ◌+◌, ◌∙◌, ap, subst, arith, ℕ, Bool, true, false, cond, List, count_by, get_or, length, take}
+use Rattle.std.proofs.Common.{◌≡◌, ◌<◌, ◌≤◌, ◌+◌, ◌∙◌, ap, subst, arith, ℕ, Bool, true, false, cond, List, Option, count_by, get_or, length, take}
 use Rattle.std.specs.List.{AllByRecursion}
 use Rattle.std.proofs.lemmas.List.{length-take}
 use Rattle.std.proofs.lemmas.List.Sums.{count_by-le-length, count_by_more_no, count_by_more_yes}
@@ -11,7 +11,15 @@ use Rattle.vg_machine.specs.Replay.{replay}
 use Rattle.vg_script.specs.declared.types.Script.{Script}
 use Rattle.vg_script.specs.declared.types.Line.{Line}
 use Rattle.vg_run.specs.Legal.{FollowAll, IsLegalJournal, Legal, is_on_control, is_on_cursor}
+use Rattle.vg_io.specs.Streams.{Takes, TakesPart, TakesSome}
+use Rattle.vg_run.specs.declared.journal.Journal.{Journal}
+use Rattle.vg_run.specs.declared.top.Status.{Status}
+use Rattle.vg_run.specs.declared.top.Status.TheVariants as statuses
+use Rattle.vg_run.specs.declared.top.Status.TheVariants.{Done, Usage, ReadFault, WriteFault, TooLong, NoMemory}
+use Rattle.vg_run.specs.Printing.{Written}
 use Rattle.vg_run.specs.Run.{IsOwned, IsRunOf}
+use Rattle.vg_run.specs.Status.{Ended}
+use Rattle.vg_run.specs.Text.{text_of}
 use Rattle.vg_run.specs.Setup.{setup_of}
 
 pub legal-journal : (script : Script) (setup : Setup) (clients : List (List Line)) (H entries : List Entry) (frames frames' : List Frame) (control cursor : ℕ) → setup ≡ setup_of script → clients ≡ script.clients → IsRunOf setup clients H frames
@@ -49,3 +57,20 @@ count-small test H i =
 pub one-most : (b : Bool) (n : ℕ) → n ≡ cond b 1 0 → n ≤ 1
 one-most true n is = omega (arith, is)
 one-most false n is = omega (arith, is)
+
+-- a journal that was written is that of a run that ended so
+pub written-ends : (status : Status) (script : Script) (journal : Journal) (held held' : Option (List ℕ)) (faults faults' : ℕ) → IsLegalJournal script journal → Written status (text_of journal) held held' faults faults'
+    → Ended status script held held' faults faults'
+written-ends Done script journal held held' faults faults' (H, legal, is) (takes, same) =
+    let P : Journal → Type 0 = λ j. Takes held held' (text_of j) in
+    ((H, legal, subst P is takes), same)
+written-ends WriteFault script journal held held' faults faults' (H, legal, is) (rose, takes) =
+    let P : Journal → Type 0 = λ j. TakesSome held held' (text_of j) in
+    (rose, (H, legal, subst P is takes))
+written-ends NoMemory script journal held held' faults faults' (H, legal, is) (takes, same) =
+    let P : Journal → Type 0 = λ j. TakesPart held held' (text_of j) in
+    ((H, legal, subst P is takes), same)
+written-ends Usage script journal held held' faults faults' legal written = written
+written-ends (statuses.Script line kind) script journal held held' faults faults' legal written = written
+written-ends ReadFault script journal held held' faults faults' legal written = written
+written-ends TooLong script journal held held' faults faults' legal written = written

@@ -5,9 +5,11 @@ ghost use Rattle.vg_io.specs.Streams.{GivesUpTo, IsAtEnd, Rose};
 ghost use Rattle.vg_script.specs.Grammar.{Faulty, Parses};
 ghost use Rattle.vg_script.specs.Limits.{ScriptInLimits};
 ghost use Rattle.vg_run.specs.Headline.{IsRun, IsWithin, Runs, RunsNotToItsEnd, RunsPartly};
+ghost use Rattle.vg_run.specs.Printing.{Written};
 ghost use Rattle.vg_run.specs.Status.{Ended, IsFaultless, Unread};
+ghost use Rattle.vg_run.specs.Text.{text_of};
 
-use crate::journal::print;
+use crate::journal::{Journal, print};
 use crate::run::run;
 use std::alloc::Global;
 use std::sync::Wait;
@@ -129,11 +131,18 @@ fn write_run<R: Wait, K: Sink>(rt: &R, alloc: Global, script: &Script, sink: &mu
         ⊎ ((result ≡ Status.NoMemory) × (sink.new ≡ sink.old)) }
     ensures count { K.faults sink.old ≤ K.faults sink.new }
 {
-    let journal = match run(rt, alloc, script) {
-        Ok(journal) => journal,
-        Err(_) => return Status::NoMemory,
-    };
-    match print(alloc, &journal, sink) {
+    match run(rt, alloc, script) {
+        Ok(journal) => write(alloc, &journal, sink),
+        Err(_) => Status::NoMemory,
+    }
+}
+
+/// Writes a journal.
+fn write<K: Sink>(alloc: Global, journal: &Journal, sink: &mut K) -> Status
+    ensures written { Written result (text_of journal.now) (K.held sink.old) (K.held sink.new) (K.faults sink.old) (K.faults sink.new) }
+    ensures count { K.faults sink.old ≤ K.faults sink.new }
+{
+    match print(alloc, journal, sink) {
         Ok(Ok(())) => Status::Done,
         Ok(Err(_)) => Status::WriteFault,
         Err(_) => Status::NoMemory,
