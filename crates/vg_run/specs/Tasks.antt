@@ -1,5 +1,5 @@
 -- The tasks of each call of a client, one after another. A task gives one entry.
-use Rattle.std.specs.Prelude.{ℕ, zero, suc, ◌+◌, ◌==◌, Bool, false, if◌then◌else◌, List, [], ◌∷◌, ◌++◌, map, Option, Some, None, Result, Ok, Err}
+use Rattle.std.specs.Prelude.{ℕ, ℤ, zero, suc, ◌+◌, ◌==◌, Bool, false, if◌then◌else◌, List, [], ◌∷◌, ◌++◌, map, Option, Some, None, Result, Ok, Err}
 use Rattle.vg_formats.specs.declared.rect.Rect.{Rect}
 use Rattle.vg_machine.specs.declared.act.What.{What}
 use Rattle.vg_machine.specs.declared.act.What.TheVariants.{Name, Scanout}
@@ -11,7 +11,7 @@ use Rattle.vg_run.specs.declared.names.NameRef.{NameRef}
 use Rattle.vg_run.specs.declared.task.Task.{Task}
 use Rattle.vg_run.specs.Known.{Known}
 use Rattle.vg_run.specs.Names.{found}
-use Rattle.vg_run.specs.Table.{clear_task, drop_task, edid_task, flush_task, hide_cursor_task, hide_task, info_task, load_task, raw_task, release_task, reserve_task, send_task, show_task, store_task, take_task, uuid_task}
+use Rattle.vg_run.specs.Table.{clear_task, cursor_task, drop_task, edid_task, flush_task, hide_cursor_task, hide_task, info_task, load_task, move_task, raw_task, release_task, reserve_task, send_task, show_task, store_task, take_task, uuid_task}
 
 -- The tasks of a call on a name: where the name isn't current the call is denied for it.
 abbrev pub if_current : Option Held → (Held → List Task) → Result (List Task) What
@@ -27,6 +27,11 @@ whole_of held = record { x = 0; y = 0; width = held.width; height = held.height 
 
 abbrev pub flip_tasks : ℕ → Held → List Task
 flip_tasks scanout held = send_task held (whole_of held) ∷ show_task scanout held.key (whole_of held) ∷ flush_task held.key (whole_of held) ∷ []
+
+-- A cursor shows the buffer of a name; where there is no name it is hidden.
+abbrev pub cursor_tasks : Known → ℕ → Option NameRef → ℤ → ℤ → ℕ → ℕ → Result (List Task) What
+cursor_tasks known scanout None x y hot_x hot_y = Ok (cursor_task scanout 0 x y hot_x hot_y ∷ [])
+cursor_tasks known scanout (Some name) x y hot_x hot_y = with_held known name (λ held. cursor_task scanout held.key x y hot_x hot_y ∷ [])
 
 -- A scanout is disabled, and its cursor hidden, before its lease ends.
 abbrev pub give_back : ℕ → List Task
@@ -62,6 +67,8 @@ tasks_of known (calls.Drop scanout) = drop_tasks known scanout
 tasks_of known (calls.Hide scanout) = Ok (hide_task scanout ∷ [])
 tasks_of known (calls.Show scanout name rect) = with_held known name (λ held. show_task scanout held.key rect ∷ [])
 tasks_of known (calls.Flip scanout name) = with_held known name (flip_tasks scanout)
+tasks_of known (calls.Cursor scanout name x y hot_x hot_y) = cursor_tasks known scanout name x y hot_x hot_y
+tasks_of known (calls.Move scanout x y) = Ok (move_task scanout x y ∷ [])
 tasks_of known (calls.Uuid name) = with_held known name (λ held. uuid_task held.key ∷ [])
 tasks_of known (calls.Raw queue room shape bytes) = Ok (raw_task queue room shape bytes ∷ [])
 tasks_of known (calls.Close name) = with_held known name (close_tasks known)
