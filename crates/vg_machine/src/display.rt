@@ -14,16 +14,17 @@ use crate::act::{Act, ActReply};
 use crate::features::is_usable;
 use crate::history::{Reply, Request};
 use crate::holds::Holds;
-use crate::scanout::{Frame, Scanouts};
 use crate::setup::Setup;
 use crate::share::Share;
 use crate::uuids::Uuids;
 use std::alloc::{AllocError, Global};
 use std::marker::Model;
 use vg_chain::Shape;
+use vg_cursor::Cursors;
 use vg_list::Seq;
 use vg_pages::Pages;
 use vg_resource::Resources;
+use vg_scanout::{Frame, Scanouts};
 use vg_transfer::Backings;
 use vg_wire::kinds::ERR_UNSPEC;
 use vg_wire::{Header, Queue, read_header};
@@ -38,6 +39,7 @@ pub struct Display {
     pub(crate) resources: Resources,
     pub(crate) backings: Backings,
     pub(crate) uuids: Uuids,
+    pub(crate) cursors: Cursors,
     pub(crate) scanouts: Scanouts,
     pub(crate) share: Share,
 }
@@ -47,9 +49,9 @@ impl Model for Display {
 
     ghost Value = { State };
 
-    ghost view = { λ d. record { setup = d.setup; entries = d.entries; memory = d.pages; resources = d.resources; backings = d.backings; uuids = d.uuids; scanouts = d.scanouts; share = d.share } };
+    ghost view = { λ d. record { setup = d.setup; entries = d.entries; memory = d.pages; resources = d.resources; backings = d.backings; uuids = d.uuids; cursors = d.cursors; scanouts = d.scanouts.state; share = d.share } };
 
-    ghost invariant = { λ d. IsConsistent (record { setup = d.setup; entries = d.entries; memory = d.pages; resources = d.resources; backings = d.backings; uuids = d.uuids; scanouts = d.scanouts; share = d.share }) };
+    ghost invariant = { λ d. IsConsistent (record { setup = d.setup; entries = d.entries; memory = d.pages; resources = d.resources; backings = d.backings; uuids = d.uuids; cursors = d.cursors; scanouts = d.scanouts.state; share = d.share }) };
 }
 
 impl Display {
@@ -66,6 +68,7 @@ impl Display {
             resources: Resources::new(alloc),
             backings: Backings::new(alloc),
             uuids: Uuids::new(alloc),
+            cursors: Cursors::new(alloc, count)?,
             scanouts: Scanouts::new(alloc, count)?,
             share: Share::new(alloc, count)?,
         })

@@ -19,7 +19,7 @@ use Rattle.vg_machine.specs.declared.share.ShareRefusal.{ShareRefusal}
 use Rattle.vg_resource.specs.declared.resource.Resource.{Resource}
 use Rattle.vg_machine.specs.ActStep.{effect_of, replied_by, shown_at}
 use Rattle.vg_resource.specs.Resource.{resource_at}
-use Rattle.vg_machine.specs.Scanout.{binding_at}
+use Rattle.vg_scanout.specs.Scanout.{binding_at}
 use Rattle.vg_machine.specs.Share.{drop_refusal, free_refusal, place_refusal, release_refusal, reserve_refusal, take_refusal}
 use Rattle.vg_machine.specs.Entries.{Entry}
 use Rattle.vg_history.specs.declared.entry.Entry.TheVariants as entries
