@@ -1,5 +1,5 @@
 -- The tasks of each call of a client, one after another. A task gives one entry.
-use Rattle.std.specs.Prelude.{ℕ, zero, suc, ◌+◌, ◌==◌, Bool, false, if◌then◌else◌, List, [], ◌∷◌, ◌++◌, map, Option, Some, None, Result, Ok, Err}
+use Rattle.std.specs.Prelude.{ℕ, ℤ, zero, suc, ◌+◌, ◌==◌, Bool, false, if◌then◌else◌, List, [], ◌∷◌, ◌++◌, map, Option, Some, None, Result, Ok, Err}
 use Rattle.vg_formats.specs.declared.rect.Rect.{Rect}
 use Rattle.vg_machine.specs.declared.act.What.{What}
 use Rattle.vg_machine.specs.declared.act.What.TheVariants.{Name, Scanout}
@@ -12,7 +12,7 @@ use Rattle.vg_run.specs.declared.names.NameRef.{NameRef}
 use Rattle.vg_run.specs.declared.task.Task.{Task}
 use Rattle.vg_run.specs.Known.{Known}
 use Rattle.vg_run.specs.Names.{NamesState, found}
-use Rattle.vg_run.specs.Table.{clear_task, drop_task, edid_task, flush_task, hide_cursor_task, hide_task, info_task, load_task, raw_task, release_task, reserve_task, send_task, show_task, store_task, take_task, uuid_task}
+use Rattle.vg_run.specs.Table.{clear_task, cursor_task, drop_task, edid_task, flush_task, hide_cursor_task, hide_task, info_task, load_task, move_task, raw_task, release_task, reserve_task, send_task, show_task, store_task, take_task, uuid_task}
 
 -- The tasks of a call on a name: where the name isn't current the call is denied for it.
 abbrev pub if_current : Option Held → (Held → List Task) → Result (List Task) What
@@ -28,6 +28,11 @@ whole_of held = record { x = 0; y = 0; width = held.width; height = held.height 
 
 abbrev pub flip_tasks : ℕ → Held → List Task
 flip_tasks scanout held = send_task held (whole_of held) ∷ show_task scanout held.key (whole_of held) ∷ flush_task held.key (whole_of held) ∷ []
+
+-- A cursor shows the buffer of a name; where there is no name it is hidden.
+abbrev pub cursor_tasks : NamesState → ℕ → Option NameRef → ℤ → ℤ → ℕ → ℕ → Result (List Task) What
+cursor_tasks names scanout None x y hot_x hot_y = Ok (cursor_task scanout 0 x y hot_x hot_y ∷ [])
+cursor_tasks names scanout (Some name) x y hot_x hot_y = with_held names name (λ held. cursor_task scanout held.key x y hot_x hot_y ∷ [])
 
 -- A scanout is disabled, and its cursor hidden, before its lease ends.
 abbrev pub give_back : ℕ → List Task
@@ -63,6 +68,8 @@ tasks_of known (calls.Drop scanout) = drop_tasks known.holds scanout
 tasks_of known (calls.Hide scanout) = Ok (hide_task scanout ∷ [])
 tasks_of known (calls.Show scanout name rect) = with_held known.names name (λ held. show_task scanout held.key rect ∷ [])
 tasks_of known (calls.Flip scanout name) = with_held known.names name (flip_tasks scanout)
+tasks_of known (calls.Cursor scanout name x y hot_x hot_y) = cursor_tasks known.names scanout name x y hot_x hot_y
+tasks_of known (calls.Move scanout x y) = Ok (move_task scanout x y ∷ [])
 tasks_of known (calls.Uuid name) = with_held known.names name (λ held. uuid_task held.key ∷ [])
 tasks_of known (calls.Raw queue room shape bytes) = Ok (raw_task queue room shape bytes ∷ [])
 tasks_of known (calls.Close name) = with_held known.names name (close_tasks known.shows)

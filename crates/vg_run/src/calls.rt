@@ -1,6 +1,6 @@
 //! The calls that lines of a script make.
 
-ghost use Rattle.std.specs.Prelude.{◌≡◌, ◌≤◌, ◌<◌, ◌+◌, ◌-◌, ◌^◌, List, length, IfOk, OnErr, OnOk};
+ghost use Rattle.std.specs.Prelude.{◌≡◌, ◌≤◌, ◌<◌, ◌+◌, ◌-◌, ◌^◌, List, length, option_map, IfOk, OnErr, OnOk};
 ghost use Rattle.vg_machine.specs.Entries.{Entry as Entries};
 ghost use Rattle.vg_script.specs.Limits.{StepInLimits};
 ghost use Rattle.vg_chain.specs.declared.shape.Shape.TheVariants as shapes;
@@ -8,7 +8,7 @@ ghost use Rattle.vg_run.specs.Calls as calls;
 ghost use Rattle.vg_run.specs.Calls.{Begins, Gives, newest, refs_after};
 ghost use Rattle.vg_run.specs.Client.{HasAdded, HasGoneOn, IsReady, known};
 ghost use Rattle.vg_run.specs.Session.{mine_of};
-ghost use Rattle.vg_run.specs.Refs.{IsFitWith, generation_of, refs_of, unplaced};
+ghost use Rattle.vg_run.specs.Refs.{IsFitWith, generation_of, refs_of, unplaced, without_place};
 
 use crate::call::Call;
 use crate::client::{Client, call};
@@ -124,6 +124,16 @@ fn bad(fault: ChainFault) -> Shape
     Shape::Bad { fault }
 }
 
+/// The name that a word was last given to, where there is a word.
+fn ref_or_none(refs: &Refs, word: &Option<Seq<u8>>) -> Option<NameRef>
+    ensures { option_map without_place result ≡ option_map (calls.ref_of (refs_of refs.now)) word.now }
+{
+    match word {
+        Some(word) => Some(ref_of(refs, word.as_slice())),
+        None => None,
+    }
+}
+
 /// The call that a line makes.
 fn call_of(alloc: Global, refs: &Refs, step: &Step) -> Result<Call, AllocError>
     ensures same { IfOk result (λ call. unplaced call ≡ calls.call_of_step (refs_of refs.now) step.now) }
@@ -185,6 +195,26 @@ fn call_of(alloc: Global, refs: &Refs, step: &Step) -> Result<Call, AllocError>
         Step::Flip { scanout, name } => Call::Flip {
             scanout: *scanout,
             name: ref_of(refs, name.as_slice()),
+        },
+        Step::Cursor {
+            scanout,
+            name,
+            x,
+            y,
+            hot_x,
+            hot_y,
+        } => Call::Cursor {
+            scanout: *scanout,
+            name: ref_or_none(refs, name),
+            x: *x,
+            y: *y,
+            hot_x: *hot_x,
+            hot_y: *hot_y,
+        },
+        Step::Move { scanout, x, y } => Call::Move {
+            scanout: *scanout,
+            x: *x,
+            y: *y,
         },
         Step::Uuid { name } => Call::Uuid {
             name: ref_of(refs, name.as_slice()),

@@ -13,8 +13,9 @@ ghost use Rattle.vg_run.specs.Tasks.{clear_tasks, leases_back, with_held};
 use crate::call::Call;
 use crate::names::{Held, NameRef, Names};
 use crate::task::{
-    Task, act_task, clear_task, drop_task, edid_task, flush_task, hide_cursor_task, hide_task,
-    info_task, raw_task, release_task, reserve_task, send_task, show_task, store_task, uuid_task,
+    Task, act_task, clear_task, cursor_task, drop_task, edid_task, flush_task, hide_cursor_task,
+    hide_task, info_task, move_task, raw_task, release_task, reserve_task, send_task, show_task,
+    store_task, uuid_task,
 };
 use std::alloc::{AllocError, Global};
 use vg_formats::Rect;
@@ -63,6 +64,15 @@ pub(crate) fn tasks_of(
             rect,
         } => show_tasks(alloc, names, *scanout, *name, *rect),
         Call::Flip { scanout, name } => flip_tasks(alloc, names, *scanout, *name),
+        Call::Cursor {
+            scanout,
+            name,
+            x,
+            y,
+            hot_x,
+            hot_y,
+        } => cursor_tasks(alloc, names, *scanout, *name, *x, *y, *hot_x, *hot_y),
+        Call::Move { scanout, x, y } => one(alloc, move_task(*scanout, *x, *y)),
         Call::Uuid { name } => uuid_tasks(alloc, names, *name),
         Call::Raw {
             queue,
@@ -211,6 +221,28 @@ fn flip_held(alloc: Global, scanout: u32, held: Held) -> Result<Result<Vec<Task>
     let show = show_task(scanout, held.key, rect);
     let flush = flush_task(held.key, rect);
     Ok(Ok(vec![in alloc; send, show, flush]?))
+}
+
+fn cursor_tasks(
+    alloc: Global,
+    names: &Names,
+    scanout: u32,
+    name: Option<NameRef>,
+    x: i32,
+    y: i32,
+    hot_x: u32,
+    hot_y: u32,
+) -> Result<Result<Vec<Task>, What>, AllocError>
+    ensures plans { Plans (plan.cursor_tasks names.now scanout name x y hot_x hot_y) result }
+    ensures denied { IfOk result (λ done. IfErr done (λ what. what ≡ whats.Name)) }
+{
+    let Some(name) = name else {
+        return one(alloc, cursor_task(scanout, 0, x, y, hot_x, hot_y));
+    };
+    match names.find(name.generation) {
+        Some(held) => one(alloc, cursor_task(scanout, held.key, x, y, hot_x, hot_y)),
+        None => Ok(Err(What::Name)),
+    }
 }
 
 fn drop_tasks(
