@@ -7,7 +7,7 @@ use Rattle.vg_machine.specs.declared.act.Act.TheVariants.{Enter, Leave}
 use Rattle.vg_machine.specs.declared.act.ActReply.TheVariants as act_replies
 use Rattle.vg_machine.specs.Entries.{Entry}
 use Rattle.vg_history.specs.declared.entry.Entry.TheVariants as entries
-use Rattle.vg_machine.specs.declared.scanout.Frame.{Frame}
+use Rattle.vg_scanout.specs.declared.scanout.Frame.{Frame}
 use Rattle.vg_machine.specs.Order.{AreAllowed, AreInOrder, Sound, by_call, call_of, client_of, of_client}
 use Rattle.vg_machine.specs.State.{State, start}
 use Rattle.vg_script.specs.declared.types.Line.{Line}

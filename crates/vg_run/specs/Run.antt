@@ -2,7 +2,7 @@
 use Rattle.std.specs.Prelude.{◌≡◌, ◌≤◌, ℕ, List, length}
 use Rattle.std.specs.List.{AllByRecursion}
 use Rattle.vg_machine.specs.declared.setup.Setup.{Setup}
-use Rattle.vg_machine.specs.declared.scanout.Frame.{Frame}
+use Rattle.vg_scanout.specs.declared.scanout.Frame.{Frame}
 use Rattle.vg_machine.specs.Entries.{Entry}
 use Rattle.vg_machine.specs.Order.{Sound, client_of}
 use Rattle.vg_machine.specs.Replay.{replay}
