@@ -1,5 +1,5 @@
 -- The names that words were last given to, after one more was given, and calls on them.
-use Rattle.std.proofs.Common.{◌≡◌, inr, ℕ, Bool, true, false, cond, List, [], refl, subst, ◌∙◌, ap, Bor, bytes_eq, Option, Some, Result, Ok, Err}
+use Rattle.std.proofs.Common.{◌≡◌, inr, ℕ, Bool, true, false, cond, List, [], refl, subst, ◌∙◌, ap, Bor, bytes_eq, Option, None, Some, Result, Ok, Err}
 use mathlib.Core.Path.{fun_ext}
 use Rattle.std.proofs.lemmas.Map.Text.{is_eq-slice_cmp}
 use Rattle.std.specs.BTreeMap.{BTreeMap, UpdatesBy, get_by}
