@@ -53,6 +53,7 @@ impl<B: Naming> Session<B> {
         requires fresh { IsFresh (Some (start setup.now)) self.old }
         ensures { IsMade setup.now self.old result self.new }
     {
+        // A law, and no work: the client sees its entries in the order in which it made them.
         entries_in_step::<Display>();
         let holds = Holds::new(alloc, setup, 1);
         self.root.client(&self.book, holds)
@@ -79,6 +80,7 @@ impl<B: Naming> Session<B> {
         ensures added { IfOk result (λ reply. IsAddedAct self.now token.old act reply token.new) }
         ensures err { OnErr result (IsUnadded self.now token.old self.now token.new) }
     {
+        // A law, and no work: the client sees its entries in the order in which it made them.
         entries_in_step::<Display>();
         match token.act(rt, alloc, &self.book, act) {
             Ok((_, reply)) => Ok(reply),
@@ -100,6 +102,7 @@ impl<B: Naming> Session<B> {
         ensures added { IfOk result (λ reply. IsAddedCommand self.old token.old request reply self.new token.new) }
         ensures err { OnErr result (IsUnadded self.old token.old self.new token.new) }
     {
+        // A law, and no work: the client sees its entries in the order in which it made them.
         entries_in_step::<Display>();
         let lane = request.lane as usize;
         let pass = token.pass(&self.book, request);
@@ -120,6 +123,7 @@ impl<B: Naming> Session<B> {
         ensures history { result.0.items ≡ mine_of token }
         ensures replayed { IsReplayed self.start result.0.items result.1.items }
     {
+        // A law, and no work: the one client's entries are the history.
         history_in_step::<Display>();
         let Session {
             book,
