@@ -1,0 +1,295 @@
+-- What is kept of a queue, from call to call.
+use Rattle.std.proofs.Common.{◌≡◌, ◌≢◌, ℕ, zero, suc, ◌+◌, ◌-◌, ◌<◌, ◌≤◌, ◌⊎◌, Bool, true, false, List, [], ◌∷◌, ◌++◌, Some, None, map, take, drop, length, get_or, set, add-one, refl, sym, ap, subst, inl, inr, ◌∙◌, arith, length-append, append-nil, append_assoc}
+use Rattle.std.specs.Prelude.{Option, is_some}
+use Rattle.std.proofs.lemmas.Bool.{cases_eq, ne_eqb}
+use Rattle.std.proofs.lemmas.List.{get_or-set_other, get_or-set_same, get_or-take, get_or_default}
+use Rattle.vg_ring.specs.declared.views.Entry.{Entry}
+use Rattle.vg_ring.specs.declared.views.Answer.{Answer}
+use Rattle.vg_ring.specs.Cargo.{CargoData, IsLane}
+use Rattle.vg_ring.specs.Entries.{head_of, head_in, entries, weigh, heads, without, answer_with, Has, InOrder}
+use Rattle.vg_ring.specs.DeviceEnds.{DeviceLists, Fetches, FetchesNone, RightData, HasAt, IsCargoOf, TakesIn, completing}
+use Rattle.vg_ring.proofs.Counts.{weigh-append, entries-append, length-entries}
+use Rattle.vg_ring.proofs.Heads.{has_heads}
+use Rattle.vg_front.specs.Lanes.{AreLanes, AreWaiting, IsDesk, IsHome, IsWaiting, of_lane}
+use Rattle.vg_front.specs.Desks.{DeskData, HasFetched, IsAway, IsFirstReady, Takes}
+use Rattle.vg_front.proofs.LaneLemmas.{of_lane-append, of_lane-here, of_lane-mid, of_lane-mid_skip, of_lane-skip, ordinal_at, ordinals_rise}
+use Rattle.vg_front.proofs.WaitLemmas.{IsSplit, has_here, has_mid, has_snoc, lane_of_cargo, lane_within, lanes_of, none_not_some, none_of_lane, set_long, some_of, some_same, split_at, take_short, waiting-snoc, weigh_mid}
+
+-- a lane's home doesn't change where its lists stay
+home_same : {T : Type 0} (lane_of count_of : T → ℕ) (halted : Bool) (done done' lent lent' : List Entry) (lane : ℕ) (home : Option T) → of_lane lane done' ≡ of_lane lane done → of_lane lane lent' ≡ of_lane lane lent
+    → IsHome lane_of count_of halted done lent lane home → IsHome lane_of count_of halted done' lent' lane home
+home_same lane_of count_of halted done done' lent lent' lane None same_done same_lent is = (is.0, same_lent ∙ is.1)
+home_same lane_of count_of halted done done' lent lent' lane (Some token) same_done same_lent is = (same_lent ∙ is.0, is.1, λ running. is.2 running ∙ ap {B = ℕ} length (sym same_done))
+
+module _ {P T : Type 0} (wanted : P → Bool) (lane_of count_of : T → ℕ) (lists : DeviceLists) (first : ℕ) (homes : List (Option T)) (waiting : List (ℕ × CargoData P)) (halted : Bool) (waits : List Entry) (k : IsDesk wanted lane_of count_of lists first homes waiting halted waits) where
+  -- a command more waits
+  pub desk_fetched : (head : ℕ) (cargo : CargoData P) (new : DeviceLists) (f : Fetches wanted lists head cargo new) → IsDesk wanted lane_of count_of new first homes (waiting ++ (head, cargo) ∷ []) halted (waits ++ f.entry ∷ [])
+  desk_fetched head cargo new f =
+      let e = f.entry in
+      record {
+        lanes = subst (λ q. AreLanes q first (length homes)) (sym f.same.0) k.lanes;
+        flows = λ lane. (
+            let grown = ap (of_lane lane) f.fetched ∙ of_lane-append lane lists.fetched (e ∷ []) in
+            let old = ap (λ (xs : List Entry). xs ++ of_lane lane (e ∷ [])) (k.flows lane) in
+            let done_is = ap (λ (xs : List Answer). of_lane lane (entries xs)) (sym f.completed) in
+            let lent_is = ap (of_lane lane) (sym f.lent) in
+            let front = ap (λ (xs : List Entry). xs ++ of_lane lane lists.lent) done_is ∙ ap (λ (xs : List Entry). of_lane lane (entries new.completed) ++ xs) lent_is in
+            grown ∙ (old ∙ (append_assoc (of_lane lane (entries lists.completed) ++ of_lane lane lists.lent) (of_lane lane waits) (of_lane lane (e ∷ [])) ∙ (ap (λ (xs : List Entry). xs ++ (of_lane lane waits ++ of_lane lane (e ∷ []))) front ∙ ap (λ (xs : List Entry). (of_lane lane (entries new.completed) ++ of_lane lane new.lent) ++ xs) (sym (of_lane-append lane waits (e ∷ []))))))
+            );
+        waits_are = waiting-snoc wanted waiting waits (head, cargo) e k.waits_are ((f.fresh.entry, f.fresh.head_is), f.head_is, f.fresh.wanted_is);
+        waits_held = λ x has. subst (Has x) (sym f.held) (elim (has_snoc x e waits has) [ inl old ↦ inr (k.waits_held x old) | inr same ↦ inl same ]);
+        held = λ g. (
+            let now = ap (weigh g) f.held in
+            let lent_is = ap (weigh g) f.lent in
+            let old = k.held g in
+            let more = weigh-append g waits (e ∷ []) in
+            omega (arith, now, lent_is, old, more)
+            );
+        once = λ h. (
+            let now = ap (heads h) f.held in
+            let old = k.once h in
+            elim (cases_eq (head_of e) h) [
+              | inl same ↦ (let alone = f.alone in let at = ap (λ (i : ℕ). heads i new.held) (sym same ∙ sym f.head_is) in omega (arith, alone, at))
+              | inr other ↦ (let here : head_in h e ≡ 0 = rw (ne_eqb (head_of e) h other) refl in omega (arith, now, old, here))
+            ]
+            );
+        ordered = f.ordered;
+        count = (
+            let grown = ap {B = ℕ} length f.fetched ∙ length-append lists.fetched (e ∷ []) in
+            let waits_more = length-append waiting ((head, cargo) ∷ []) in
+            let old = k.count in
+            let done_is = ap {B = ℕ} length f.completed in
+            let lent_is = ap {B = ℕ} length f.lent in
+            omega (arith, grown, waits_more, old, done_is, lent_is)
+            );
+        within = λ x has. elim (subst (Has x) f.held has) [
+          | inl same ↦ (
+              let P : Entry → Type 0 = λ (y : Entry). (first ≤ y.lane) × (y.lane < first + length homes) in
+              subst P same (lane_within e.queue first (length homes) e.lane (subst (λ q. AreLanes q first (length homes)) (sym f.of_queue) k.lanes) f.lane)
+              )
+          | inr old ↦ k.within x old
+        ];
+        homes_are = λ i less. home_same lane_of count_of halted (entries lists.completed) (entries new.completed) lists.lent new.lent (first + i) (get_or homes i None) (ap (λ (xs : List Answer). of_lane (first + i) (entries xs)) f.completed) (ap (of_lane (first + i)) f.lent) (k.homes_are i less);
+      }
+
+  -- there is room for it
+  pub room_is : (head : ℕ) (cargo : CargoData P) (new : DeviceLists) → Fetches wanted lists head cargo new → length waiting < new.size
+  room_is head cargo new f =
+      let grown = ap {B = ℕ} length f.fetched ∙ length-append lists.fetched (f.entry ∷ []) in
+      let old = k.count in
+      let most = f.most in
+      let done_is = ap {B = ℕ} length f.completed in
+      omega (arith, grown, old, most, done_is)
+
+  -- where there is none, nothing changes but what was seen
+  pub desk_none : (new : DeviceLists) → FetchesNone lists new → IsDesk wanted lane_of count_of new first homes waiting halted waits
+  desk_none new n = record {
+    lanes = subst (λ q. AreLanes q first (length homes)) (sym n.same.0) k.lanes;
+    flows = λ lane. ap (of_lane lane) n.fetched ∙ (k.flows lane ∙ (ap (λ (xs : List Answer). (of_lane lane (entries xs) ++ of_lane lane lists.lent) ++ of_lane lane waits) (sym n.completed) ∙ ap (λ (xs : List Entry). (of_lane lane (entries new.completed) ++ of_lane lane xs) ++ of_lane lane waits) (sym n.lent)));
+    waits_are = k.waits_are;
+    waits_held = λ x has. subst (Has x) (sym n.held) (k.waits_held x has);
+    held = λ g. (let now = ap (weigh g) n.held in let lent_is = ap (weigh g) n.lent in let old = k.held g in omega (arith, now, lent_is, old));
+    once = λ h. (let now = ap (heads h) n.held in let old = k.once h in omega (arith, now, old));
+    ordered = subst (InOrder []) (sym n.fetched) k.ordered;
+    count = (let a = ap {B = ℕ} length n.fetched in let b = ap {B = ℕ} length n.completed in let c = ap {B = ℕ} length n.lent in let old = k.count in omega (arith, a, b, c, old));
+    within = λ x has. k.within x (subst (Has x) n.held has);
+    homes_are = λ i less. home_same lane_of count_of halted (entries lists.completed) (entries new.completed) lists.lent new.lent (first + i) (get_or homes i None) (ap (λ (xs : List Answer). of_lane (first + i) (entries xs)) n.completed) (ap (of_lane (first + i)) n.lent) (k.homes_are i less);
+  }
+
+  -- what is known of the first command whose lane has its token at home
+  pub record IsReady (place : ℕ) (f : ℕ × CargoData P) : Type 0 where
+    pub split : IsSplit wanted waiting waits place f
+    pub has : Has split.entry lists.held
+    pub unlent : heads f.0 lists.lent ≡ 0
+    pub lane_is : f.1.parcel.lane ≡ split.entry.lane
+    pub low : first ≤ split.entry.lane
+    pub high : split.entry.lane - first < length homes
+    pub token : T
+    pub home : get_or homes (split.entry.lane - first) None ≡ Some token
+    pub lent : of_lane split.entry.lane lists.lent ≡ []
+    pub token_lane : lane_of token ≡ split.entry.lane
+    pub count : halted ≡ false → count_of token ≡ length (of_lane split.entry.lane (entries lists.completed))
+    pub front : of_lane split.entry.lane split.front ≡ []
+
+  pub ready_is : (place : ℕ) (f : ℕ × CargoData P) → f ≡ get_or waiting place f → IsFirstReady first homes waiting place → IsReady place f
+  ready_is place f at r =
+      let split = subst (IsSplit wanted waiting waits place) (sym at) (split_at wanted waiting waits place f r.there k.waits_are) in
+      let e = split.entry in
+      let lane_is = lane_of_cargo wanted f e split.is in
+      let has = k.waits_held e (subst (Has e) (sym split.cut) (has_here e split.front split.back)) in
+      let within = k.within e has in
+      let low = within.0 in
+      let high : e.lane - first < length homes = (let top = within.1 in omega (arith, low, top)) in
+      let back : first + (e.lane - first) ≡ e.lane = omega (arith, low) in
+      let token = some_of (get_or homes (e.lane - first) None) (ap (λ (l : ℕ). is_some (get_or homes (l - first) None)) (sym lane_is) ∙ (ap (λ (x : ℕ × CargoData P). is_some (get_or homes (x.1.parcel.lane - first) None)) at ∙ r.ready f)) in
+      let home : IsHome lane_of count_of halted (entries lists.completed) lists.lent e.lane (Some token.0) = subst (IsHome lane_of count_of halted (entries lists.completed) lists.lent e.lane) token.1 (subst (λ l. IsHome lane_of count_of halted (entries lists.completed) lists.lent l (get_or homes (e.lane - first) None)) back (k.homes_are (e.lane - first) high)) in
+      record {
+        split = split;
+        has = has;
+        unlent = (
+            let all = k.held (head_in f.0) in
+            let once = k.once f.0 in
+            let some = has_heads e waits (subst (Has e) (sym split.cut) (has_here e split.front split.back)) in
+            let same = ap (λ (h : ℕ). heads h waits) split.is.1 in
+            omega (arith, all, once, some, same)
+            );
+        lane_is = lane_is;
+        low = low;
+        high = high;
+        token = token.0;
+        home = token.1;
+        lent = home.0;
+        token_lane = home.1;
+        count = home.2;
+        front = none_of_lane wanted e.lane (take place waiting) split.front split.before (λ j d less same. (
+            let short = take_short place waiting in
+            let inside : j < place = omega (arith, less, short) in
+            let there = ap (λ (x : ℕ × CargoData P). get_or homes (x.1.parcel.lane - first) None) (get_or-take place waiting j d inside) in
+            let away = r.before j d (omega arith) inside in
+            let at_lane = ap (λ (l : ℕ). get_or homes (l - first) None) same in
+            none_not_some token.0 (sym away ∙ (sym there ∙ (at_lane ∙ token.1)))
+            ));
+      }
+
+  -- the command that is taken is the next of its lane
+  pub next_is : (place : ℕ) (f : ℕ × CargoData P) (r : IsReady place f) → halted ≡ false → r.split.entry.ordinal ≡ count_of r.token + 1
+  next_is place f r running =
+      let l = r.split.entry.lane in
+      let done = of_lane l (entries lists.completed) in
+      let flows = k.flows l ∙ (ap (λ (xs : List Entry). (done ++ xs) ++ of_lane l waits) r.lent ∙ (ap (λ (xs : List Entry). xs ++ of_lane l waits) (append-nil done) ∙ ap (λ (xs : List Entry). done ++ xs) (ap (of_lane l) r.split.cut ∙ (of_lane-mid l r.split.front r.split.entry r.split.back refl ∙ ap (λ (xs : List Entry). xs ++ r.split.entry ∷ of_lane l r.split.back) r.front)))) in
+      let at = ordinal_at l [] lists.fetched done r.split.entry (of_lane l r.split.back) k.ordered flows in
+      let count = r.count running in
+      omega (arith, at, count)
+
+  pub desk_taken : (place : ℕ) (f : ℕ × CargoData P) (r : IsReady place f) → IsDesk wanted lane_of count_of (record lists { lent = r.split.entry ∷ lists.lent }) first (set homes (r.split.entry.lane - first) None) (take place waiting ++ drop (suc place) waiting) halted (r.split.front ++ r.split.back)
+  desk_taken place f r =
+      let e = r.split.entry in
+      let i = e.lane - first in
+      let long = set_long homes i None in
+      let A = r.split.front in
+      let B = r.split.back in
+      record {
+        lanes = subst (λ n. AreLanes lists.queue first n) (sym long) k.lanes;
+        flows = λ lane. elim (cases_eq e.lane lane) [
+          | inl same ↦ subst (λ l. of_lane l lists.fetched ≡ (of_lane l (entries lists.completed) ++ of_lane l (e ∷ lists.lent)) ++ of_lane l (A ++ B)) same (
+              let done = of_lane e.lane (entries lists.completed) in
+              let old = k.flows e.lane ∙ (ap (λ (xs : List Entry). (done ++ xs) ++ of_lane e.lane waits) r.lent ∙ (ap (λ (xs : List Entry). xs ++ of_lane e.lane waits) (append-nil done) ∙ ap (λ (xs : List Entry). done ++ xs) (ap (of_lane e.lane) r.split.cut ∙ (of_lane-mid e.lane A e B refl ∙ ap (λ (xs : List Entry). xs ++ e ∷ of_lane e.lane B) r.front)))) in
+              let lent_is : of_lane e.lane (e ∷ lists.lent) ≡ e ∷ [] = of_lane-here e.lane e lists.lent refl ∙ ap (λ (xs : List Entry). e ∷ xs) r.lent in
+              let waits_is : of_lane e.lane (A ++ B) ≡ of_lane e.lane B = of_lane-append e.lane A B ∙ ap (λ (xs : List Entry). xs ++ of_lane e.lane B) r.front in
+              old ∙ (sym (append_assoc done (e ∷ []) (of_lane e.lane B)) ∙ (ap (λ (xs : List Entry). (done ++ xs) ++ of_lane e.lane B) (sym lent_is) ∙ ap (λ (xs : List Entry). (done ++ of_lane e.lane (e ∷ lists.lent)) ++ xs) (sym waits_is)))
+              )
+          | inr other ↦ (
+              let done = of_lane lane (entries lists.completed) in
+              let lent_is : of_lane lane (e ∷ lists.lent) ≡ of_lane lane lists.lent = of_lane-skip lane e lists.lent other in
+              let waits_is : of_lane lane waits ≡ of_lane lane (A ++ B) = ap (of_lane lane) r.split.cut ∙ of_lane-mid_skip lane A e B other in
+              k.flows lane ∙ (ap (λ (xs : List Entry). (done ++ xs) ++ of_lane lane waits) (sym lent_is) ∙ ap (λ (xs : List Entry). (done ++ of_lane lane (e ∷ lists.lent)) ++ xs) waits_is)
+              )
+        ];
+        waits_are = r.split.rest;
+        waits_held = λ x has. k.waits_held x (subst (Has x) (sym r.split.cut) (has_mid x e A B has));
+        held = λ g. (let old = k.held g in let cut = ap (weigh g) r.split.cut ∙ weigh_mid g A e B in omega (arith, old, cut));
+        once = k.once;
+        ordered = k.ordered;
+        count = (
+            let old = k.count in
+            let cut = ap {B = ℕ} length r.split.cargoes ∙ length-append (take place waiting) (f ∷ drop (suc place) waiting) in
+            let both = length-append (take place waiting) (drop (suc place) waiting) in
+            omega (arith, old, cut, both)
+            );
+        within = λ x has. (let old = k.within x has in let low = old.0 in let high = old.1 in (low, omega (arith, high, long)));
+        homes_are = λ j less. (
+            let inside : j < length homes = omega (arith, less, long) in
+            elim (cases_eq j i) [
+              | inl same ↦ (
+                  let lane_at : first + j ≡ e.lane = (let low = r.low in omega (arith, same, low)) in
+                  let none : get_or (set homes i None) j None ≡ None = ap (λ (x : ℕ). get_or (set homes i None) x None) same ∙ get_or-set_same homes i None None r.high in
+                  subst (λ h. IsHome lane_of count_of halted (entries lists.completed) (e ∷ lists.lent) (first + j) h) (sym none) (e, ap (λ (l : ℕ). of_lane l (e ∷ lists.lent)) lane_at ∙ (of_lane-here e.lane e lists.lent refl ∙ ap (λ (xs : List Entry). e ∷ xs) r.lent))
+                  )
+              | inr other ↦ (
+                  let away : e.lane ≢ first + j = λ is. other (let low = r.low in omega (arith, is, low)) in
+                  subst (λ h. IsHome lane_of count_of halted (entries lists.completed) (e ∷ lists.lent) (first + j) h) (sym (get_or-set_other homes i j None None other))
+                  (home_same lane_of count_of halted (entries lists.completed) (entries lists.completed) lists.lent (e ∷ lists.lent) (first + j) (get_or homes j None) refl (of_lane-skip (first + j) e lists.lent away) (k.homes_are j inside))
+                  )
+            ]
+            );
+      }
+
+  -- the same as a body has it
+  pub first_here : (place : ℕ) (homes' : List (Option T)) (waiting' : List (ℕ × CargoData P)) → homes' ≡ homes → waiting' ≡ waiting → IsFirstReady first homes' waiting' place → IsFirstReady first homes waiting place
+  first_here place homes' waiting' same_homes same_waiting r = subst (λ ws. IsFirstReady first homes ws place) same_waiting (subst (λ hs. IsFirstReady first hs waiting' place) same_homes r)
+
+  pub ready_here : (place : ℕ) (f : ℕ × CargoData P) (homes' : List (Option T)) (waiting' : List (ℕ × CargoData P)) → homes' ≡ homes → waiting' ≡ waiting → f ≡ get_or waiting place f → IsFirstReady first homes' waiting' place → IsReady place f
+  ready_here place f homes' waiting' same_homes same_waiting at r = ready_is place f at (first_here place homes' waiting' same_homes same_waiting r)
+
+  pub lanes_all : (homes' : List (Option T)) (waiting' : List (ℕ × CargoData P)) → homes' ≡ homes → waiting' ≡ waiting → (i : ℕ) (d : ℕ × CargoData P) → i < length waiting' → (first ≤ (get_or waiting' i d).1.parcel.lane) × ((get_or waiting' i d).1.parcel.lane < first + length homes')
+  lanes_all homes' waiting' same_homes same_waiting = subst (λ ws. (i : ℕ) (d : ℕ × CargoData P) → i < length ws → (first ≤ (get_or ws i d).1.parcel.lane) × ((get_or ws i d).1.parcel.lane < first + length homes')) (sym same_waiting)
+      (subst (λ hs. (i : ℕ) (d : ℕ × CargoData P) → i < length waiting → (first ≤ (get_or waiting i d).1.parcel.lane) × ((get_or waiting i d).1.parcel.lane < first + length hs)) (sym same_homes) (lanes_of wanted first (length homes) waiting waits k.waits_are (λ e has. k.within e (k.waits_held e has))))
+
+  module _ (place : ℕ) (f : ℕ × CargoData P) (r : IsReady place f) (lane : ℕ) (lane_is : lane ≡ f.1.parcel.lane) where
+    same_lane : lane ≡ r.split.entry.lane
+    same_lane = lane_is ∙ r.lane_is
+
+    pub taken_low : first ≤ lane
+    taken_low = (let same = same_lane in let low = r.low in omega (arith, same, low))
+
+    pub taken_high : lane - first < length homes
+    taken_high = (let same = same_lane in let high = r.high in subst (λ l. l - first < length homes) (sym same) high)
+
+    pub taken_token : (x : Option T) → x ≡ get_or homes (lane - first) x → x ≡ Some r.token
+    taken_token x at = at ∙ (get_or_default homes (lane - first) x None taken_high ∙ (ap (λ (l : ℕ). get_or homes (l - first) None) same_lane ∙ r.home))
+
+    module _ (entry : Entry) (entry_is : entry ≡ r.split.entry) (lists' : DeviceLists) (lists_are : lists' ≡ record lists { lent = entry ∷ lists.lent }) (gone : Option T) (none : gone ≡ None) (left : List (ℕ × CargoData P)) (left_is : left ≡ take place waiting ++ drop (place + 1) waiting) where
+      left_at : left ≡ take place waiting ++ drop (suc place) waiting
+      left_at = left_is ∙ ap (λ (n : ℕ). take place waiting ++ drop n waiting) (add-one place)
+
+      homes_at : set homes (lane - first) gone ≡ set homes (r.split.entry.lane - first) None
+      homes_at = ap (λ (x : Option T). set homes (lane - first) x) none ∙ ap (λ (l : ℕ). set homes (l - first) None) same_lane
+
+      lists_at : lists' ≡ record lists { lent = r.split.entry ∷ lists.lent }
+      lists_at = lists_are ∙ ap (λ (e : Entry). record lists { lent = e ∷ lists.lent }) entry_is
+
+      pub desk_taken_at : IsDesk wanted lane_of count_of lists' first (set homes (lane - first) gone) left halted (r.split.front ++ r.split.back)
+      desk_taken_at =
+          subst (λ ls. IsDesk wanted lane_of count_of ls first (set homes (lane - first) gone) left halted (r.split.front ++ r.split.back)) (sym lists_at)
+          (subst (λ hs. IsDesk wanted lane_of count_of (record lists { lent = r.split.entry ∷ lists.lent }) first hs left halted (r.split.front ++ r.split.back)) (sym homes_at)
+          (subst (λ ws. IsDesk wanted lane_of count_of (record lists { lent = r.split.entry ∷ lists.lent }) first (set homes (r.split.entry.lane - first) None) ws halted (r.split.front ++ r.split.back)) (sym left_at) (desk_taken place f r)))
+
+      pub has_taken : IsFirstReady first homes waiting place → (token : T) → Some token ≡ Some r.token
+          → Takes wanted lane_of count_of (record { lists = lists; first = first; homes = homes; waiting = waiting; halted = halted }) token (record { entry = entry; walked = false }) f.1 (record { lists = lists'; first = first; homes = set homes (lane - first) gone; waiting = left; halted = halted })
+      has_taken ready token token_is =
+          let same_token : token ≡ r.token = some_same token r.token token_is in
+          let moved : entry.lane ≡ r.split.entry.lane = ap (λ (e : Entry). e.lane) entry_is in
+          record {
+            lane = ap lane_of same_token ∙ (r.token_lane ∙ sym moved);
+            cargo_is = subst (λ e. IsCargoOf e f.1) (sym entry_is) r.split.is.0;
+            wanted_is = r.split.is.2;
+            walked = refl;
+            next = λ running. (let at = next_is place f r running in let ordinal = ap (λ (e : Entry). e.ordinal) entry_is in let count = ap count_of same_token in omega (arith, at, ordinal, count));
+            lists = lists_are;
+            head = f.0;
+            front = take place waiting;
+            back = drop (suc place) waiting;
+            waited = r.split.cargoes;
+            left = left_at;
+            oldest = λ j d less. (
+                let short = take_short place waiting in
+                let inside : j < place = omega (arith, less, short) in
+                subst (λ x. IsAway first homes x) (sym (get_or-take place waiting j d inside)) (ready.before j d (omega arith) inside)
+                );
+            home = ap (λ (l : ℕ). get_or homes (l - first) None) moved ∙ (r.home ∙ sym token_is);
+            homes = homes_at ∙ ap (λ (l : ℕ). set homes (l - first) None) (sym moved);
+            same = (refl, refl);
+          }
+
+-- what a fetch does
+pub has_fetched : {P T : Type 0} (wanted : P → Bool) (old new : DeskData P T) (head : ℕ) (cargo : CargoData P) → Fetches wanted old.lists head cargo new.lists → new.waiting ≡ old.waiting ++ (head, cargo) ∷ [] → new.first ≡ old.first → new.homes ≡ old.homes → new.halted ≡ old.halted
+    → HasFetched old new
+has_fetched wanted old new head cargo f waiting first homes halted = record {
+  cargo = (head, cargo);
+  waiting = waiting;
+  entry = f.entry;
+  fetched = f.fetched;
+  completed = f.completed;
+  lent = f.lent;
+  same = (first, homes, halted);
+}
