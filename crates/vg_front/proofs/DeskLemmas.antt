@@ -1,5 +1,5 @@
 -- What is kept of a queue, from call to call.
-use Rattle.std.proofs.Common.{◌≡◌, ◌≢◌, ℕ, zero, suc, ◌+◌, ◌-◌, ◌<◌, ◌≤◌, ◌⊎◌, Bool, true, false, List, [], ◌∷◌, ◌++◌, Some, None, map, take, drop, length, get_or, set, add-one, refl, sym, ap, subst, inl, inr, ◌∙◌, arith, length-append, append-nil, append_assoc}
+use Rattle.std.proofs.Common.{◌≡◌, ◌≢◌, ℕ, zero, suc, ◌+◌, ◌-◌, ◌<◌, ◌≤◌, ◌⊎◌, Bool, true, false, List, [], ◌∷◌, ◌++◌, Some, None, map, take, drop, length, get_or, set, true≢false, add-one, refl, sym, ap, subst, inl, inr, ◌∙◌, arith, length-append, append-nil, append_assoc}
 use Rattle.std.specs.Prelude.{Option, is_some}
 use Rattle.std.proofs.lemmas.Bool.{cases_eq, ne_eqb}
 use Rattle.std.proofs.lemmas.List.{get_or-set_other, get_or-set_same, get_or-take, get_or_default}
@@ -9,10 +9,12 @@ use Rattle.vg_ring.specs.Cargo.{CargoData, IsLane}
 use Rattle.vg_ring.specs.Entries.{head_of, head_in, entries, weigh, heads, without, answer_with, Has, InOrder}
 use Rattle.vg_ring.specs.DeviceEnds.{DeviceLists, Fetches, FetchesNone, RightData, HasAt, IsCargoOf, TakesIn, completing}
 use Rattle.vg_ring.proofs.Counts.{weigh-append, entries-append, length-entries}
-use Rattle.vg_ring.proofs.Heads.{has_heads}
+use Rattle.vg_ring.proofs.Heads.{has_heads, held_cut, held_is}
+use Rattle.vg_ring.proofs.RightSteps.{has_without, heads_without}
+use Rattle.vg_ring.proofs.TendedLemmas.{has_left}
 use Rattle.vg_front.specs.Lanes.{AreLanes, AreWaiting, IsDesk, IsHome, IsWaiting, of_lane}
-use Rattle.vg_front.specs.Desks.{DeskData, HasFetched, IsAway, IsFirstReady, Takes}
-use Rattle.vg_front.proofs.LaneLemmas.{of_lane-append, of_lane-here, of_lane-mid, of_lane-mid_skip, of_lane-skip, ordinal_at, ordinals_rise}
+use Rattle.vg_front.specs.Desks.{DeskData, Finishes, HasFetched, IsAway, IsFirstReady, Takes}
+use Rattle.vg_front.proofs.LaneLemmas.{alone_of, has_of_lane, of_lane-append, of_lane-here, of_lane-mid, of_lane-mid_skip, of_lane-skip, ordinal_at, ordinals_rise}
 use Rattle.vg_front.proofs.WaitLemmas.{IsSplit, has_here, has_mid, has_snoc, lane_of_cargo, lane_within, lanes_of, none_not_some, none_of_lane, set_long, some_of, some_same, split_at, take_short, waiting-snoc, weigh_mid}
 
 -- a lane's home doesn't change where its lists stay
@@ -20,6 +22,11 @@ home_same : {T : Type 0} (lane_of count_of : T → ℕ) (halted : Bool) (done do
     → IsHome lane_of count_of halted done lent lane home → IsHome lane_of count_of halted done' lent' lane home
 home_same lane_of count_of halted done done' lent lent' lane None same_done same_lent is = (is.0, same_lent ∙ is.1)
 home_same lane_of count_of halted done done' lent lent' lane (Some token) same_done same_lent is = (same_lent ∙ is.0, is.1, λ running. is.2 running ∙ ap {B = ℕ} length (sym same_done))
+
+-- where a command of a lane is lent, the lane's token is away, and nothing else of it is lent
+away_is : {T : Type 0} (lane_of count_of : T → ℕ) (halted : Bool) (done lent : List Entry) (lane : ℕ) (home : Option T) (e : Entry) → IsHome lane_of count_of halted done lent lane home → Has e lent → e.lane ≡ lane → of_lane lane lent ≡ e ∷ []
+away_is lane_of count_of halted done lent lane None e is has same = elim (subst (Has e) is.1 (has_of_lane lane e lent has same)) [ inl here ↦ is.1 ∙ ap (λ (x : Entry). x ∷ []) here | inr none ↦ absurd none ]
+away_is lane_of count_of halted done lent lane (Some token) e is has same = absurd (subst (Has e) is.0 (has_of_lane lane e lent has same))
 
 module _ {P T : Type 0} (wanted : P → Bool) (lane_of count_of : T → ℕ) (lists : DeviceLists) (first : ℕ) (homes : List (Option T)) (waiting : List (ℕ × CargoData P)) (halted : Bool) (waits : List Entry) (k : IsDesk wanted lane_of count_of lists first homes waiting halted waits) where
   -- a command more waits
@@ -280,6 +287,150 @@ module _ {P T : Type 0} (wanted : P → Bool) (lane_of count_of : T → ℕ) (li
             homes = homes_at ∙ ap (λ (l : ℕ). set homes (l - first) None) (sym moved);
             same = (refl, refl);
           }
+
+  module _ (right : RightData) (mid : DeviceLists) (t : TakesIn lists right mid) where
+    back_has : Has right.entry lists.held
+    back_has = subst (Has right.entry) (ap (λ (x : DeviceLists). x.held) t.left) t.held
+
+    lent_has : Has right.entry lists.lent
+    lent_has = subst (Has right.entry) (sym t.lent) (has_here right.entry t.front t.back)
+
+    pub back_low : first ≤ right.entry.lane
+    back_low = (k.within right.entry back_has).0
+
+    pub back_high : right.entry.lane - first < length homes
+    back_high = (let low = back_low in let top = (k.within right.entry back_has).1 in omega (arith, low, top))
+
+    lane_back : first + (right.entry.lane - first) ≡ right.entry.lane
+    lane_back = (let low = back_low in omega (arith, low))
+
+    alone : of_lane right.entry.lane lists.lent ≡ right.entry ∷ []
+    alone = away_is lane_of count_of halted (entries lists.completed) lists.lent right.entry.lane (get_or homes (right.entry.lane - first) None) right.entry
+        (subst (λ l. IsHome lane_of count_of halted (entries lists.completed) lists.lent l (get_or homes (right.entry.lane - first) None)) lane_back (k.homes_are (right.entry.lane - first) back_high)) lent_has refl
+
+    none_left : of_lane right.entry.lane (t.front ++ t.back) ≡ []
+    none_left =
+        let l = right.entry.lane in
+        let around = alone_of (of_lane l t.front) right.entry right.entry (of_lane l t.back) (sym (of_lane-mid l t.front right.entry t.back refl) ∙ (ap (of_lane l) (sym t.lent) ∙ alone)) in
+        of_lane-append l t.front t.back ∙ (ap (λ (xs : List Entry). xs ++ of_lane l t.back) around.0 ∙ around.1)
+
+    flows_back : of_lane right.entry.lane lists.fetched ≡ of_lane right.entry.lane (entries lists.completed) ++ right.entry ∷ of_lane right.entry.lane waits
+    flows_back =
+        let l = right.entry.lane in
+        let done = of_lane l (entries lists.completed) in
+        k.flows l ∙ (ap (λ (xs : List Entry). (done ++ xs) ++ of_lane l waits) alone ∙ append_assoc done (right.entry ∷ []) (of_lane l waits))
+
+    module _ (token : T) (len : ℕ) (cargo : CargoData P) (token_lane : lane_of token ≡ right.entry.lane) (turn : (halted ≡ true) ⊎ (count_of token ≡ right.entry.ordinal)) where
+      abbrev pub after : DeviceLists
+      after = record lists { completed = lists.completed ++ answer_with right.entry len cargo ∷ []; held = without (head_of right.entry) lists.held; lent = t.front ++ t.back }
+
+      one : heads (head_of right.entry) lists.held ≡ 1
+      one = (let once = k.once (head_of right.entry) in let some = has_heads right.entry lists.held back_has in omega (arith, once, some))
+
+      done_more : (l : ℕ) → of_lane l (entries (lists.completed ++ answer_with right.entry len cargo ∷ [])) ≡ of_lane l (entries lists.completed) ++ of_lane l (right.entry ∷ [])
+      done_more l = ap (of_lane l) (entries-append lists.completed (answer_with right.entry len cargo ∷ [])) ∙ of_lane-append l (entries lists.completed) (right.entry ∷ [])
+
+      counted : halted ≡ false → count_of token ≡ length (of_lane right.entry.lane (entries (lists.completed ++ answer_with right.entry len cargo ∷ [])))
+      counted running =
+          let l = right.entry.lane in
+          let at = ordinal_at l [] lists.fetched (of_lane l (entries lists.completed)) right.entry (of_lane l waits) k.ordered flows_back in
+          let long = ap {B = ℕ} length (done_more l ∙ ap (λ (xs : List Entry). of_lane l (entries lists.completed) ++ xs) (of_lane-here l right.entry [] refl)) ∙ length-append (of_lane l (entries lists.completed)) (right.entry ∷ []) in
+          elim turn [ inl stopped ↦ absurd (true≢false (sym stopped ∙ running)) | inr next ↦ omega (arith, at, long, next) ]
+
+      pub desk_finished : IsDesk wanted lane_of count_of after first (set homes (right.entry.lane - first) (Some token)) waiting halted waits
+      desk_finished =
+          let e = right.entry in
+          let i = e.lane - first in
+          let long = set_long homes i (Some token) in
+          let done' = entries (lists.completed ++ answer_with e len cargo ∷ []) in
+          record {
+            lanes = subst (λ n. AreLanes lists.queue first n) (sym long) k.lanes;
+            flows = λ lane. elim (cases_eq e.lane lane) [
+              | inl same ↦ subst (λ l. of_lane l lists.fetched ≡ (of_lane l done' ++ of_lane l (t.front ++ t.back)) ++ of_lane l waits) same (
+                  let done = of_lane e.lane (entries lists.completed) in
+                  let more = done_more e.lane ∙ ap (λ (xs : List Entry). done ++ xs) (of_lane-here e.lane e [] refl) in
+                  flows_back ∙ (sym (append_assoc done (e ∷ []) (of_lane e.lane waits)) ∙ (ap (λ (xs : List Entry). xs ++ of_lane e.lane waits) (sym more ∙ sym (append-nil (of_lane e.lane done'))) ∙ ap (λ (xs : List Entry). (of_lane e.lane done' ++ xs) ++ of_lane e.lane waits) (sym none_left)))
+                  )
+              | inr other ↦ (
+                  let done = of_lane lane (entries lists.completed) in
+                  let same_done : of_lane lane done' ≡ done = done_more lane ∙ (ap (λ (xs : List Entry). done ++ xs) (of_lane-skip lane e [] other) ∙ append-nil done) in
+                  let same_lent : of_lane lane lists.lent ≡ of_lane lane (t.front ++ t.back) = ap (of_lane lane) t.lent ∙ of_lane-mid_skip lane t.front e t.back other in
+                  k.flows lane ∙ (ap (λ (xs : List Entry). (xs ++ of_lane lane lists.lent) ++ of_lane lane waits) (sym same_done) ∙ ap (λ (xs : List Entry). (of_lane lane done' ++ xs) ++ of_lane lane waits) same_lent)
+                  )
+            ];
+            waits_are = k.waits_are;
+            waits_held = λ x has. has_without x (head_of e) lists.held (λ same. (
+                let all = k.held (head_in (head_of e)) in
+                let once = k.once (head_of e) in
+                let here = has_heads e lists.lent lent_has in
+                let there = has_heads x waits has in
+                let moved = ap (λ (h : ℕ). heads h waits) same in
+                omega (arith, all, once, here, there, moved)
+                )) (k.waits_held x has);
+            held = λ g. (
+                let cut = held_cut (head_of e) lists.held one in
+                let is = held_is e lists.held back_has (k.once (head_of e)) in
+                let old = k.held g in
+                let whole = ap (weigh g) cut.2 ∙ (ap (λ (x : Entry). weigh g (cut.0 ++ x ∷ cut.1)) is ∙ weigh_mid g cut.0 e cut.1) in
+                let left = ap (weigh g) cut.3 in
+                let lent_is = ap (weigh g) t.lent ∙ weigh_mid g t.front e t.back in
+                omega (arith, old, whole, left, lent_is)
+                );
+            once = λ h. (let fewer = heads_without h (head_of e) lists.held in let old = k.once h in omega (arith, fewer, old));
+            ordered = k.ordered;
+            count = (
+                let old = k.count in
+                let more = length-append lists.completed (answer_with e len cargo ∷ []) in
+                let cut = ap {B = ℕ} length t.lent ∙ length-append t.front (e ∷ t.back) in
+                let both = length-append t.front t.back in
+                omega (arith, old, more, cut, both)
+                );
+            within = λ x has. (let old = k.within x (has_left x (head_of e) lists.held has) in let low = old.0 in let high = old.1 in (low, omega (arith, high, long)));
+            homes_are = λ j less. (
+                let inside : j < length homes = omega (arith, less, long) in
+                elim (cases_eq j i) [
+                  | inl same ↦ (
+                      let lane_at : e.lane ≡ first + j = (let low = back_low in omega (arith, same, low)) in
+                      let some : get_or (set homes i (Some token)) j None ≡ Some token = ap (λ (x : ℕ). get_or (set homes i (Some token)) x None) same ∙ get_or-set_same homes i (Some token) None back_high in
+                      subst (λ h. IsHome lane_of count_of halted done' (t.front ++ t.back) (first + j) h) (sym some)
+                      (subst (λ l. IsHome lane_of count_of halted done' (t.front ++ t.back) l (Some token)) lane_at (none_left, token_lane, counted))
+                      )
+                  | inr other ↦ (
+                      let away : e.lane ≢ first + j = λ is. other (let low = back_low in omega (arith, is, low)) in
+                      let same_done : of_lane (first + j) done' ≡ of_lane (first + j) (entries lists.completed) = done_more (first + j) ∙ (ap (λ (xs : List Entry). of_lane (first + j) (entries lists.completed) ++ xs) (of_lane-skip (first + j) e [] away) ∙ append-nil (of_lane (first + j) (entries lists.completed))) in
+                      let same_lent : of_lane (first + j) (t.front ++ t.back) ≡ of_lane (first + j) lists.lent = sym (ap (of_lane (first + j)) t.lent ∙ of_lane-mid_skip (first + j) t.front e t.back away) in
+                      subst (λ h. IsHome lane_of count_of halted done' (t.front ++ t.back) (first + j) h) (sym (get_or-set_other homes i j (Some token) None other))
+                      (home_same lane_of count_of halted (entries lists.completed) done' lists.lent (t.front ++ t.back) (first + j) (get_or homes j None) same_done same_lent (k.homes_are j inside))
+                      )
+                ]
+                );
+          }
+
+      -- the same as a body has it
+      module _ (new : DeviceLists) (head : ℕ) (head_is : head ≡ head_of right.entry) (completes : (e : Entry) → HasAt e head mid.held → new ≡ completing mid e len cargo) (lane : ℕ) (lane_is : lane ≡ right.entry.lane) where
+        after_is : new ≡ after
+        after_is = completes right.entry (t.held, sym head_is) ∙ ap (λ (m : DeviceLists). completing m right.entry len cargo) t.left
+
+        homes_are_set : set homes (lane - first) (Some token) ≡ set homes (right.entry.lane - first) (Some token)
+        homes_are_set = ap (λ (l : ℕ). set homes (l - first) (Some token)) lane_is
+
+        pub desk_finished_at : IsDesk wanted lane_of count_of new first (set homes (lane - first) (Some token)) waiting halted waits
+        desk_finished_at = subst (λ ls. IsDesk wanted lane_of count_of ls first (set homes (lane - first) (Some token)) waiting halted waits) (sym after_is) (subst (λ hs. IsDesk wanted lane_of count_of after first hs waiting halted waits) (sym homes_are_set) desk_finished)
+
+        pub finishes : Finishes (record { lists = lists; first = first; homes = homes; waiting = waiting; halted = halted }) token right len cargo (record { lists = new; first = first; homes = set homes (lane - first) (Some token); waiting = waiting; halted = halted })
+        finishes = record {
+          completed = ap (λ (x : DeviceLists). x.completed) after_is;
+          fetched = ap (λ (x : DeviceLists). x.fetched) after_is;
+          front = t.front;
+          back = t.back;
+          lent = t.lent;
+          left = ap (λ (x : DeviceLists). x.lent) after_is;
+          homes = homes_are_set;
+          same = (refl, refl, refl);
+        }
+
+        pub size_same : new.size ≡ lists.size
+        size_same = ap (λ (x : DeviceLists). x.size) after_is
 
 -- what a fetch does
 pub has_fetched : {P T : Type 0} (wanted : P → Bool) (old new : DeskData P T) (head : ℕ) (cargo : CargoData P) → Fetches wanted old.lists head cargo new.lists → new.waiting ≡ old.waiting ++ (head, cargo) ∷ [] → new.first ≡ old.first → new.homes ≡ old.homes → new.halted ≡ old.halted

@@ -4,7 +4,7 @@ use Rattle.std.specs.List.{range_with_len}
 use Rattle.std.proofs.lemmas.Bool.{eq-eqb, ne_eqb}
 use Rattle.std.proofs.lemmas.Bool.Decides.{eqb_tells}
 use Rattle.vg_ring.specs.declared.views.Entry.{Entry}
-use Rattle.vg_ring.specs.Entries.{lane_count, InOrder}
+use Rattle.vg_ring.specs.Entries.{lane_count, InOrder, Has}
 use Rattle.vg_ring.proofs.KeptLemmas.{lane_count-snoc}
 use Rattle.vg_front.specs.Lanes.{of_lane}
 
@@ -37,7 +37,7 @@ abbrev rest_of : List Entry → List Entry
 rest_of [] = []
 rest_of (x ∷ xs) = xs
 
-nothing_there : (xs : List Entry) (e : Entry) (ys : List Entry) → [] ≡ xs ++ e ∷ ys → ⊥
+pub nothing_there : (xs : List Entry) (e : Entry) (ys : List Entry) → [] ≡ xs ++ e ∷ ys → ⊥
 nothing_there xs e ys same = (let long = ap {B = ℕ} length same in let two = length-append xs (e ∷ ys) in omega (arith, long, two))
 
 at_head : (lane : ℕ) (before : List Entry) (f : Entry) (es xs : List Entry) (e : Entry) (ys : List Entry) → f.ordinal ≡ lane_count f.lane before + 1 → f ∷ of_lane lane es ≡ xs ++ e ∷ ys → f.lane ≡ lane
@@ -90,3 +90,15 @@ ordinals_rise lane before (f ∷ es) order = elim (eqb_tells f.lane lane) [
       subst P (sym (of_lane-skip lane f es w.1)) (rest ∙ ap (λ (k : ℕ). range_with_len k (length (of_lane lane es))) next)
       )
 ]
+
+pub has_of_lane : (lane : ℕ) (e : Entry) (es : List Entry) → Has e es → e.lane ≡ lane → Has e (of_lane lane es)
+has_of_lane lane e [] has same = absurd has
+has_of_lane lane e (f ∷ es) has same = elim (eqb_tells f.lane lane) [
+  | inl w ↦ subst (Has e) (sym (of_lane-here lane f es w.1)) (elim has [ inl here ↦ inl here | inr rest ↦ inr (has_of_lane lane e es rest same) ])
+  | inr w ↦ subst (Has e) (sym (of_lane-skip lane f es w.1)) (elim has [ inl here ↦ absurd (w.1 (ap (λ (x : Entry). x.lane) here ∙ same)) | inr rest ↦ has_of_lane lane e es rest same ])
+]
+
+-- an entry that is alone of its lane has none around it
+pub alone_of : (xs : List Entry) (e f : Entry) (ys : List Entry) → xs ++ e ∷ ys ≡ f ∷ [] → (xs ≡ []) × (ys ≡ [])
+alone_of [] e f ys same = (refl, ap rest_of same)
+alone_of (x ∷ xs) e f ys same = absurd (nothing_there xs e ys (sym (ap rest_of same)))

@@ -96,9 +96,10 @@ impl<P: Tagged, T: Turn + Drop, N: Naming> Desk<P, T, N> {
         ensures { Finishes self.old token right len cargo self.new }
     {
         let head = right.head();
-        let lane = right.tag().lane - self.first;
+        let tag = right.tag();
         self.end.take_in(right);
         self.end.complete(head, len, cargo);
+        let lane = tag.lane - self.first;
         self.homes[lane as usize] = Some(token);
     }
 
