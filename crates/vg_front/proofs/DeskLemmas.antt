@@ -1,8 +1,11 @@
 -- What is kept of a queue, from call to call.
 use Rattle.std.proofs.Common.{◌≡◌, ◌≢◌, ℕ, zero, suc, ◌+◌, ◌-◌, ◌<◌, ◌≤◌, ◌⊎◌, Bool, true, false, List, [], ◌∷◌, ◌++◌, Some, None, map, take, drop, length, get_or, set, true≢false, add-one, refl, sym, ap, subst, inl, inr, ◌∙◌, arith, length-append, append-nil, append_assoc}
 use Rattle.std.specs.Prelude.{Option, is_some}
-use Rattle.std.proofs.lemmas.Bool.{cases_eq, ne_eqb}
-use Rattle.std.proofs.lemmas.List.{get_or-set_other, get_or-set_same, get_or-take, get_or_default}
+use Rattle.std.specs.List.{range_with_len}
+use Rattle.vg_wire.specs.declared.request.Queue.{Queue}
+use Rattle.vg_ring.specs.Making.{IsNewDevice}
+use Rattle.std.proofs.lemmas.Bool.{cases_eq, cases_lt, ne_eqb}
+use Rattle.std.proofs.lemmas.List.{get_or-set_other, get_or-set_same, get_or-take, get_or_default, get_or_past, length-map}
 use Rattle.vg_ring.specs.declared.views.Entry.{Entry}
 use Rattle.vg_ring.specs.declared.views.Answer.{Answer}
 use Rattle.vg_ring.specs.Cargo.{CargoData, IsLane}
@@ -13,9 +16,9 @@ use Rattle.vg_ring.proofs.Heads.{has_heads, held_cut, held_is}
 use Rattle.vg_ring.proofs.RightSteps.{has_without, heads_without}
 use Rattle.vg_ring.proofs.TendedLemmas.{has_left}
 use Rattle.vg_front.specs.Lanes.{AreLanes, AreWaiting, IsDesk, IsHome, IsWaiting, of_lane}
-use Rattle.vg_front.specs.Desks.{DeskData, Finishes, HasFetched, IsAway, IsFirstReady, Takes}
+use Rattle.vg_front.specs.Desks.{AddsTokens, AreNew, DeskData, Finishes, HasFetched, HasRunAll, IsAway, IsFirstReady, Takes, any_waits, is_busy, is_some_away}
 use Rattle.vg_front.proofs.LaneLemmas.{alone_of, has_of_lane, of_lane-append, of_lane-here, of_lane-mid, of_lane-mid_skip, of_lane-skip, ordinal_at, ordinals_rise}
-use Rattle.vg_front.proofs.WaitLemmas.{IsSplit, has_here, has_mid, has_snoc, lane_of_cargo, lane_within, lanes_of, none_not_some, none_of_lane, set_long, some_of, some_same, split_at, take_short, waiting-snoc, weigh_mid}
+use Rattle.vg_front.proofs.WaitLemmas.{IsSplit, has_here, has_mid, has_snoc, lane_of_cargo, lane_within, absurd_length, head_or, lanes_of, none_wait, or_first, or_second, tail_of, none_not_some, none_of_lane, set_long, some_of, some_same, split_at, take_short, waiting-snoc, weigh_mid}
 
 -- a lane's home doesn't change where its lists stay
 home_same : {T : Type 0} (lane_of count_of : T → ℕ) (halted : Bool) (done done' lent lent' : List Entry) (lane : ℕ) (home : Option T) → of_lane lane done' ≡ of_lane lane done → of_lane lane lent' ≡ of_lane lane lent
@@ -431,6 +434,72 @@ module _ {P T : Type 0} (wanted : P → Bool) (lane_of count_of : T → ℕ) (li
 
         pub size_same : new.size ≡ lists.size
         size_same = ap (λ (x : DeviceLists). x.size) after_is
+
+  -- at the end, each token has run all that was completed of its lane
+  pub has_run_all : any_waits waiting ≡ false → (i : ℕ) (token : T) → get_or homes i None ≡ Some token → HasRunAll lane_of count_of halted (entries lists.completed) (first + i) token
+  has_run_all idle i token at =
+      let inside : i < length homes = elim (cases_lt i (length homes)) [ inl less ↦ less | inr past ↦ absurd (none_not_some token (sym (get_or_past homes i None past) ∙ at)) ] in
+      let home : IsHome lane_of count_of halted (entries lists.completed) lists.lent (first + i) (Some token) = subst (IsHome lane_of count_of halted (entries lists.completed) lists.lent (first + i)) at (k.homes_are i inside) in
+      let l = first + i in
+      let done = of_lane l (entries lists.completed) in
+      let none = none_wait wanted waiting waits k.waits_are idle in
+      let flows : of_lane l lists.fetched ≡ done = k.flows l ∙ (ap (λ (xs : List Entry). (done ++ xs) ++ of_lane l waits) home.0 ∙ (ap (λ (xs : List Entry). (done ++ []) ++ of_lane l xs) none ∙ (append-nil (done ++ []) ∙ append-nil done))) in
+      let rise = ordinals_rise l [] lists.fetched k.ordered in
+      let P : List Entry → Type 0 = λ (xs : List Entry). map (λ (e : Entry). e.ordinal) xs ≡ range_with_len 1 (length xs) in
+      record {
+        lane_is = home.1;
+        ordinals = λ running. subst P flows rise ∙ ap (λ (n : ℕ). range_with_len 1 n) (sym (home.2 running));
+      }
+
+-- a queue of which nothing was fetched
+new_home : {T : Type 0} (lane_of count_of : T → ℕ) (first : ℕ) (tokens : List T) (i : ℕ) → AreNew lane_of count_of first tokens → i < length (map Some tokens) → IsHome lane_of count_of false [] [] (first + i) (get_or (map Some tokens) i None)
+new_home lane_of count_of first [] i new less = absurd (omega (arith, less))
+new_home lane_of count_of first (token ∷ tokens) zero new less = (refl, (let is = new.0 in omega (arith, is)), λ _. new.1)
+new_home lane_of count_of first (token ∷ tokens) (suc i) new less =
+    let lane : first + 1 + i ≡ first + suc i = omega arith in
+    subst (λ l. IsHome lane_of count_of false [] [] l (get_or (map Some tokens) i None)) lane (new_home lane_of count_of (first + 1) tokens i new.2 (omega (arith, less)))
+
+pub desk_new : {P T : Type 0} (wanted : P → Bool) (lane_of count_of : T → ℕ) (lists : DeviceLists) (first : ℕ) (tokens : List T) (queue : Queue) (size : ℕ) → IsNewDevice queue size lists → AreLanes lists.queue first (length tokens) → AreNew lane_of count_of first tokens
+    → (homes : List (Option T)) → homes ≡ map Some tokens → (waiting : List (ℕ × CargoData P)) → waiting ≡ [] → IsDesk wanted lane_of count_of lists first homes waiting false []
+desk_new {P} {T} wanted lane_of count_of lists first tokens queue size new lanes are homes homes_is waiting waiting_is =
+    let long : length homes ≡ length tokens = ap {B = ℕ} length homes_is ∙ length-map tokens Some in
+    let no_held : (e : Entry) → Has e lists.held → ⊥ = λ e has. subst (Has e) new.held has in
+    record {
+      lanes = subst (λ n. AreLanes lists.queue first n) (sym long) lanes;
+      flows = λ lane. ap (of_lane lane) new.fetched ∙ sym (ap (λ (xs : List Answer). (of_lane lane (entries xs) ++ of_lane lane lists.lent) ++ []) new.completed ∙ ap (λ (xs : List Entry). of_lane lane xs ++ []) new.lent);
+      waits_are = subst (λ ws. AreWaiting wanted ws []) (sym waiting_is) tt;
+      waits_held = λ e has. absurd has;
+      held = λ g. (let a = ap (weigh g) new.held in let b = ap (weigh g) new.lent in omega (arith, a, b));
+      once = λ h. (let a = ap (heads h) new.held in omega (arith, a));
+      ordered = subst (InOrder []) (sym new.fetched) tt;
+      count = (let a = ap {B = ℕ} length new.fetched in let b = ap {B = ℕ} length new.completed in let c = ap {B = ℕ} length new.lent in let d = ap {B = ℕ} length waiting_is in omega (arith, a, b, c, d));
+      within = λ e has. absurd (no_held e has);
+      homes_are = λ i less. subst (λ done. IsHome lane_of count_of false (entries done) lists.lent (first + i) (get_or homes i None)) (sym new.completed)
+        (subst (λ lent. IsHome lane_of count_of false [] lent (first + i) (get_or homes i None)) (sym new.lent)
+        (subst (λ hs. IsHome lane_of count_of false [] [] (first + i) (get_or hs i None)) (sym homes_is) (new_home lane_of count_of first tokens i are (let same = ap {B = ℕ} length homes_is in omega (arith, less, same)))));
+    }
+
+-- the tokens that were put behind others
+tokens_of : {T : Type 0} (old new : List T) (homes : List (Option T)) → map Some new ≡ map Some old ++ homes → (tokens : List T) × (new ≡ old ++ tokens) × (map Some tokens ≡ homes)
+tokens_of [] new homes same = (new, refl, same)
+tokens_of (x ∷ old) [] homes same = absurd (absurd_length same)
+tokens_of {T} (x ∷ old) (y ∷ new) homes same =
+    let rest = tokens_of old new homes (ap tail_of same) in
+    let first : y ≡ x = some_same y x (ap (head_or None) same) in
+    (rest.0, ap (λ (z : T). z ∷ new) first ∙ ap (λ (zs : List T). x ∷ zs) rest.1, rest.2)
+
+pub adds_tokens : {P T : Type 0} (wanted : P → Bool) (lane_of count_of : T → ℕ) (d : DeskData P T) (waits : List Entry) → IsDesk wanted lane_of count_of d.lists d.first d.homes d.waiting d.halted waits → is_busy d ≡ false → (old new : List T) → map Some new ≡ map Some old ++ d.homes → AddsTokens lane_of count_of d old new
+adds_tokens wanted lane_of count_of d waits k idle old new put =
+    let tokens = tokens_of old new d.homes put in
+    record {
+      tokens = tokens.0;
+      added = tokens.1;
+      homes = tokens.2;
+      run = has_run_all wanted lane_of count_of d.lists d.first d.homes d.waiting d.halted waits k (or_first (any_waits d.waiting) (is_some_away d.homes) idle);
+    }
+
+pub none_away : {P T : Type 0} (d : DeskData P T) → is_busy d ≡ false → is_some_away d.homes ≡ false
+none_away d idle = or_second (any_waits d.waiting) (is_some_away d.homes) idle
 
 -- what a fetch does
 pub has_fetched : {P T : Type 0} (wanted : P → Bool) (old new : DeskData P T) (head : ℕ) (cargo : CargoData P) → Fetches wanted old.lists head cargo new.lists → new.waiting ≡ old.waiting ++ (head, cargo) ∷ [] → new.first ≡ old.first → new.homes ≡ old.homes → new.halted ≡ old.halted

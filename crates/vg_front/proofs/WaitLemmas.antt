@@ -1,5 +1,5 @@
 -- Tokens at home, and cargoes that wait for entries.
-use Rattle.std.proofs.Common.{◌≡◌, ◌≢◌, ℕ, zero, suc, ◌+◌, ◌<◌, ◌≤◌, ◌⊎◌, Bool, true, false, cond, List, [], ◌∷◌, ◌++◌, Some, None, map, take, drop, length, get_or, set, true≢false, add-one, refl, sym, ap, subst, inl, inr, ◌∙◌, arith, length-append, append_assoc}
+use Rattle.std.proofs.Common.{◌≡◌, ◌≢◌, ℕ, zero, suc, ◌+◌, ◌<◌, ◌≤◌, ◌⊎◌, Bool, true, false, ◌||◌, cond, List, [], ◌∷◌, ◌++◌, Some, None, map, take, drop, length, get_or, set, true≢false, add-one, refl, sym, ap, subst, inl, inr, ◌∙◌, arith, length-append, append_assoc}
 use Rattle.std.specs.Prelude.{Option, IsSome, is_none, is_some}
 use Rattle.std.proofs.lemmas.List.{get_or_default}
 use Rattle.vg_wire.specs.declared.request.Queue.{Queue}
@@ -9,7 +9,7 @@ use Rattle.vg_ring.specs.Cargo.{CargoData, IsLane}
 use Rattle.vg_ring.specs.Entries.{weigh, Has}
 use Rattle.vg_ring.proofs.Counts.{weigh-append}
 use Rattle.vg_front.specs.Lanes.{AreLanes, AreWaiting, IsWaiting, of_lane}
-use Rattle.vg_front.specs.Desks.{is_some_away}
+use Rattle.vg_front.specs.Desks.{any_waits, is_some_away}
 use Rattle.vg_front.proofs.LaneLemmas.{of_lane-skip}
 
 -- where no token is away, each is at home
@@ -70,6 +70,25 @@ taken_is homes now i x same long less at = at ∙ (get_or_default now i x None (
 pub some_of : {T : Type 0} (x : Option T) → is_some x ≡ true → (token : T) × (x ≡ Some token)
 some_of None some = absurd (true≢false (sym some))
 some_of (Some token) some = (token, refl)
+
+abbrev pub head_or : {A : Type 0} → A → List A → A
+head_or d [] = d
+head_or d (x ∷ xs) = x
+
+abbrev pub tail_of : {A : Type 0} → List A → List A
+tail_of [] = []
+tail_of (x ∷ xs) = xs
+
+pub absurd_length : {A : Type 0} {x : A} {xs : List A} → [] ≡ x ∷ xs → ⊥
+absurd_length same = (let long = ap {B = ℕ} length same in omega (arith, long))
+
+pub or_first : (a b : Bool) → a || b ≡ false → a ≡ false
+or_first true b same = same
+or_first false b same = refl
+
+pub or_second : (a b : Bool) → a || b ≡ false → b ≡ false
+or_second true b same = absurd (true≢false same)
+or_second false b same = same
 
 abbrev token_or : {T : Type 0} → T → Option T → T
 token_or d None = d
@@ -163,3 +182,8 @@ module _ {P : Type 0} (wanted : P → Bool) where
   lanes_of first count (g ∷ fs) [] are within i d less = absurd are
   lanes_of first count (g ∷ fs) (x ∷ es) are within zero d less = subst (λ l. (first ≤ l) × (l < first + count)) (sym (lane_of_cargo wanted g x are.0)) (within x (inl refl))
   lanes_of first count (g ∷ fs) (x ∷ es) are within (suc i) d less = lanes_of first count fs es are.1 (λ e has. within e (inr has)) i d (omega (arith, less))
+
+  pub none_wait : (fs : List (ℕ × CargoData P)) (es : List Entry) → AreWaiting wanted fs es → any_waits fs ≡ false → es ≡ []
+  none_wait [] [] are idle = refl
+  none_wait [] (x ∷ es) are idle = absurd are
+  none_wait (g ∷ fs) es are idle = absurd (true≢false idle)

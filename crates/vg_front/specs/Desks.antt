@@ -89,12 +89,12 @@ abbrev pub is_some_away : {T : Type 0} → List (Option T) → Bool
 is_some_away [] = false
 is_some_away (home ∷ more) = is_none home || is_some_away more
 
-abbrev pub waits : {A : Type 0} → List A → Bool
-waits [] = false
-waits (f ∷ more) = true
+abbrev pub any_waits : {A : Type 0} → List A → Bool
+any_waits [] = false
+any_waits (f ∷ more) = true
 
 abbrev pub is_busy : {P T : Type 0} → DeskData P T → Bool
-is_busy d = waits d.waiting || is_some_away d.homes
+is_busy d = any_waits d.waiting || is_some_away d.homes
 
 -- A lane's token at the end: until commands went back without being run, it has run all that were completed.
 pub record HasRunAll {T : Type 0} (lane_of count_of : T → ℕ) (halted : Bool) (done : List Entry) (lane : ℕ) (token : T) : Type 0 where
