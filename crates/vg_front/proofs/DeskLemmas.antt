@@ -422,12 +422,10 @@ module _ {P T : Type 0} (wanted : P → Bool) (lane_of count_of : T → ℕ) (li
 
         pub finishes : Finishes (record { lists = lists; first = first; homes = homes; waiting = waiting; halted = halted }) token right len cargo (record { lists = new; first = first; homes = set homes (lane - first) (Some token); waiting = waiting; halted = halted })
         finishes = record {
-          completed = ap (λ (x : DeviceLists). x.completed) after_is;
-          fetched = ap (λ (x : DeviceLists). x.fetched) after_is;
           front = t.front;
           back = t.back;
           lent = t.lent;
-          left = ap (λ (x : DeviceLists). x.lent) after_is;
+          lists = after_is;
           homes = homes_are_set;
           same = (refl, refl, refl);
         }
@@ -503,13 +501,5 @@ none_away d idle = or_second (any_waits d.waiting) (is_some_away d.homes) idle
 
 -- what a fetch does
 pub has_fetched : {P T : Type 0} (wanted : P → Bool) (old new : DeskData P T) (head : ℕ) (cargo : CargoData P) → Fetches wanted old.lists head cargo new.lists → new.waiting ≡ old.waiting ++ (head, cargo) ∷ [] → new.first ≡ old.first → new.homes ≡ old.homes → new.halted ≡ old.halted
-    → HasFetched old new
-has_fetched wanted old new head cargo f waiting first homes halted = record {
-  cargo = (head, cargo);
-  waiting = waiting;
-  entry = f.entry;
-  fetched = f.fetched;
-  completed = f.completed;
-  lent = f.lent;
-  same = (first, homes, halted);
-}
+    → HasFetched wanted old new
+has_fetched wanted old new head cargo f waiting first homes halted = record { head = head; cargo = cargo; fetches = f; waiting = waiting; same = (first, homes, halted) }

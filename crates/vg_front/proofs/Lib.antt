@@ -1,3 +1,4 @@
 pub mod LaneLemmas
 pub mod WaitLemmas
 pub mod DeskLemmas
+pub mod FrontLemmas

@@ -3,8 +3,8 @@ use Rattle.std.specs.Prelude.{◌≡◌, ℕ, ◌+◌, ◌-◌, ◌<◌, ◌≤�
 use Rattle.std.specs.List.{All, AllWithin, range_with_len}
 use Rattle.vg_ring.specs.declared.views.Entry.{Entry}
 use Rattle.vg_ring.specs.Cargo.{CargoData}
-use Rattle.vg_ring.specs.Entries.{entries, answer_with}
-use Rattle.vg_ring.specs.DeviceEnds.{DeviceLists, FetchesNone, RightData, IsCargoOf}
+use Rattle.vg_ring.specs.Entries.{head_of, entries, answer_with, without}
+use Rattle.vg_ring.specs.DeviceEnds.{DeviceLists, Fetches, FetchesNone, RightData, IsCargoOf}
 use Rattle.vg_front.specs.Lanes.{of_lane}
 
 -- A queue at the device: the lists of its end, the number of its first lane, each lane's token where nobody works on the
@@ -16,23 +16,21 @@ pub record DeskData (P T : Type 0) : Type 0 where
   pub waiting : List (ℕ × CargoData P)
   pub halted : Bool
 
--- A cargo more waits, and nothing else changes but what was fetched; or there is none.
-pub record HasFetched {P T : Type 0} (old new : DeskData P T) : Type 0 where
-  pub cargo : ℕ × CargoData P
-  pub waiting : new.waiting ≡ old.waiting ++ cargo ∷ []
-  pub entry : Entry
-  pub fetched : new.lists.fetched ≡ old.lists.fetched ++ entry ∷ []
-  pub completed : new.lists.completed ≡ old.lists.completed
-  pub lent : new.lists.lent ≡ old.lists.lent
+-- A cargo that was fetched waits; or there is none.
+pub record HasFetched {P T : Type 0} (wanted : P → Bool) (old new : DeskData P T) : Type 0 where
+  pub head : ℕ
+  pub cargo : CargoData P
+  pub fetches : Fetches wanted old.lists head cargo new.lists
+  pub waiting : new.waiting ≡ old.waiting ++ (head, cargo) ∷ []
   pub same : (new.first ≡ old.first) × (new.homes ≡ old.homes) × (new.halted ≡ old.halted)
 
 pub record HasNone {P T : Type 0} (old new : DeskData P T) : Type 0 where
   pub none : FetchesNone old.lists new.lists
   pub same : (new.first ≡ old.first) × (new.homes ≡ old.homes) × (new.waiting ≡ old.waiting) × (new.halted ≡ old.halted)
 
-abbrev pub Looks : {P T : Type 0} → DeskData P T → DeskData P T → Bool → Type 0
-Looks old new true = HasFetched old new
-Looks old new false = HasNone old new
+abbrev pub Looks : {P T : Type 0} → (P → Bool) → DeskData P T → DeskData P T → Bool → Type 0
+Looks wanted old new true = HasFetched wanted old new
+Looks wanted old new false = HasNone old new
 
 -- Somebody works on the lane of each command that waits.
 abbrev pub IsAway : {P T : Type 0} → ℕ → List (Option T) → ℕ × CargoData P → Type 0
@@ -75,12 +73,10 @@ pub record Takes {P T : Type 0} (wanted : P → Bool) (lane_of count_of : T → 
 
 -- A command that was taken is completed, and its lane's token is back.
 pub record Finishes {P T : Type 0} (old : DeskData P T) (token : T) (right : RightData) (len : ℕ) (cargo : CargoData P) (new : DeskData P T) : Type 0 where
-  pub completed : new.lists.completed ≡ old.lists.completed ++ answer_with right.entry len cargo ∷ []
-  pub fetched : new.lists.fetched ≡ old.lists.fetched
   pub front : List Entry
   pub back : List Entry
   pub lent : old.lists.lent ≡ front ++ right.entry ∷ back
-  pub left : new.lists.lent ≡ front ++ back
+  pub lists : new.lists ≡ record old.lists { completed = old.lists.completed ++ answer_with right.entry len cargo ∷ []; held = without (head_of right.entry) old.lists.held; lent = front ++ back }
   pub homes : new.homes ≡ set old.homes (right.entry.lane - old.first) (Some token)
   pub same : (new.first ≡ old.first) × (new.waiting ≡ old.waiting) × (new.halted ≡ old.halted)
 

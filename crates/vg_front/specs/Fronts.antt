@@ -21,8 +21,8 @@ pub record IsNewFront {P T : Type 0} (control cursor : DeviceLists) (tokens : Li
   pub halted : (f.control.halted ≡ false) × (f.cursor.halted ≡ false)
 
 -- A command more of either queue.
-abbrev pub StepsOn : {P T : Type 0} → FrontData P T → FrontData P T → Type 0
-StepsOn old new = (HasFetched old.control new.control × (new.cursor ≡ old.cursor)) ⊎ (HasNone old.control new.control × HasFetched old.cursor new.cursor)
+abbrev pub StepsOn : {P T : Type 0} → (P → Bool) → FrontData P T → FrontData P T → Type 0
+StepsOn wanted old new = (HasFetched wanted old.control new.control × (new.cursor ≡ old.cursor)) ⊎ (HasNone old.control new.control × HasFetched wanted old.cursor new.cursor)
 
 -- Neither ring had anything new.
 abbrev pub HasNothing : {P T : Type 0} → FrontData P T → FrontData P T → Type 0
@@ -34,7 +34,7 @@ TakesOf wanted lane_of count_of mid token (loans.Control right) cargo new = Take
 TakesOf wanted lane_of count_of mid token (loans.Cursor right) cargo new = IsIdle mid.control × Takes wanted lane_of count_of mid.cursor token right cargo new.cursor × (new.control ≡ mid.control)
 
 abbrev pub Steps : {P T N : Type 0} → (P → Bool) → (T → ℕ) → (T → ℕ) → FrontData P T → Work P T N → FrontData P T → Type 0
-Steps wanted lane_of count_of old Fetched new = StepsOn old new
+Steps wanted lane_of count_of old Fetched new = StepsOn wanted old new
 Steps {P} {T} {N} wanted lane_of count_of old (Run token right cargo) new = (mid : FrontData P T) × HasNothing old mid × TakesOf wanted lane_of count_of mid token right cargo new
 Steps wanted lane_of count_of old Idle new = HasNothing old new × IsIdle new.control × IsIdle new.cursor
 

@@ -46,7 +46,7 @@ impl<P: Tagged, T: Turn + Drop, N: Naming> Model for Desk<P, T, N> {
 impl<P: Tagged, T: Turn + Drop, N: Naming> Desk<P, T, N> {
     /// Fetches what was published next. False where there is nothing.
     pub(crate) fn fetch(&mut self) -> bool
-        ensures { Looks self.old self.new result }
+        ensures { Looks P.is_wanted self.old self.new result }
     {
         match self.end.fetch() {
             None => false,
@@ -101,6 +101,13 @@ impl<P: Tagged, T: Turn + Drop, N: Naming> Desk<P, T, N> {
         self.end.complete(head, len, cargo);
         let lane = tag.lane - self.first;
         self.homes[lane as usize] = Some(token);
+    }
+
+    /// Does nothing: it tells which lanes a queue has.
+    pub(crate) fn are_lanes(&self)
+        ensures { AreLanes self.now.lists.queue self.now.first (length self.now.homes) }
+    {
+        let _ = &self.homes;
     }
 
     /// From now on commands go back without being run.

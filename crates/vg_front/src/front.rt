@@ -46,13 +46,14 @@ pub struct Front<P: Tagged, T: Turn + Drop, N: Rings> {
 
 impl<P: Tagged, T: Turn + Drop, N: Rings> Model for Front<P, T, N> {
     ghost use Rattle.std.specs.Prelude.{◌≡◌, ◌≤◌, [], vec_capacity};
+    ghost use Rattle.vg_wire.specs.declared.request.Queue.TheVariants.{Control, Cursor};
     ghost use Rattle.vg_front.specs.Fronts.{FrontData};
 
     ghost Value = { FrontData P T };
 
     ghost view = { λ f. record { control = f.control; cursor = f.cursor } };
 
-    ghost invariant = { λ f. (f.cursor.halted ≡ f.control.halted) × (f.spare.items ≡ []) × (66 ≤ vec_capacity f.spare) };
+    ghost invariant = { λ f. (f.control.lists.queue ≡ Control) × (f.cursor.lists.queue ≡ Cursor) × (f.cursor.halted ≡ f.control.halted) × (f.spare.items ≡ []) × (66 ≤ vec_capacity f.spare) };
 }
 
 impl<P: Tagged, T: Turn + Drop, N: Rings> Front<P, T, N> {
@@ -172,6 +173,8 @@ impl<P: Tagged, T: Turn + Drop, N: Rings> Front<P, T, N> {
             cursor,
             spare,
         } = self;
+        control.are_lanes();
+        cursor.are_lanes();
         let mut tokens = spare;
         let control = control.close(&mut tokens);
         let cursor = cursor.close(&mut tokens);

@@ -38,4 +38,4 @@ returns-in-Some g c =
     let pushed = rw c.unwrap.ensures at c.push.ensures.items in
     let old : DeskData g.row.P.Denot g.row.T.Denot = record { lists = d.end; first = d.first; homes = d.homes.items; waiting = d.waiting.items; halted = d.halted } in
     let new : DeskData g.row.P.Denot g.row.T.Denot = record { lists = c.fetch.new.self; first = d.first; homes = d.homes.items; waiting = c.push.new.self.items; halted = d.halted } in
-    subst (λ o. HasFetched o new) c.self.view_is (has_fetched g.P.Tagged.is_wanted old new c.in-Some.field-0.head c.in-Some.field-0.cargo f pushed refl refl refl)
+    subst (λ o. HasFetched g.P.Tagged.is_wanted o new) c.self.view_is (has_fetched g.P.Tagged.is_wanted old new c.in-Some.field-0.head c.in-Some.field-0.cargo f pushed refl refl refl)
