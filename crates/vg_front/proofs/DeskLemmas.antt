@@ -8,14 +8,14 @@ use Rattle.std.proofs.lemmas.Bool.{cases_eq, cases_lt, ne_eqb}
 use Rattle.std.proofs.lemmas.List.{get_or-set_other, get_or-set_same, get_or-take, get_or_default, get_or_past, length-map}
 use Rattle.vg_ring.specs.declared.views.Entry.{Entry}
 use Rattle.vg_ring.specs.declared.views.Answer.{Answer}
-use Rattle.vg_ring.specs.Cargo.{CargoData, IsLane}
+use Rattle.vg_ring.specs.Cargo.{CargoData}
 use Rattle.vg_ring.specs.Entries.{head_of, head_in, entries, weigh, heads, without, answer_with, Has, InOrder}
 use Rattle.vg_ring.specs.DeviceEnds.{DeviceLists, Fetches, FetchesNone, RightData, HasAt, IsCargoOf, TakesIn, completing}
-use Rattle.vg_ring.proofs.Counts.{weigh-append, entries-append, length-entries}
+use Rattle.vg_ring.proofs.Counts.{weigh-append, entries-append}
 use Rattle.vg_ring.proofs.Heads.{has_heads, held_cut, held_is}
 use Rattle.vg_ring.proofs.RightSteps.{has_without, heads_without}
 use Rattle.vg_ring.proofs.TendedLemmas.{has_left}
-use Rattle.vg_front.specs.Lanes.{AreLanes, AreWaiting, IsDesk, IsHome, IsWaiting, of_lane}
+use Rattle.vg_front.specs.Lanes.{AreLanes, AreWaiting, IsDesk, IsHome, of_lane}
 use Rattle.vg_front.specs.Desks.{AddsTokens, AreNew, DeskData, Finishes, HasFetched, HasRunAll, IsAway, IsFirstReady, Takes, any_waits, is_busy, is_some_away}
 use Rattle.vg_front.proofs.LaneLemmas.{alone_of, has_of_lane, of_lane-append, of_lane-here, of_lane-mid, of_lane-mid_skip, of_lane-skip, ordinal_at, ordinals_rise}
 use Rattle.vg_front.proofs.WaitLemmas.{IsSplit, has_here, has_mid, has_snoc, lane_of_cargo, lane_within, absurd_length, head_or, lanes_of, none_wait, or_first, or_second, tail_of, none_not_some, none_of_lane, set_long, some_of, some_same, split_at, take_short, waiting-snoc, weigh_mid}

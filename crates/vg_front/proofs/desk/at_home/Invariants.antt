@@ -1,4 +1,4 @@
-use Rattle.std.proofs.Common.{◌≡◌, ◌+◌, ◌≤◌, Some, map, length}
+use Rattle.std.proofs.Common.{◌≡◌, Some, map}
 use Rattle.vg_front.proofs.desk.at_home.Given as goal
 
 abbrev pub invariant-loop-token : goal.invariant-loop-token

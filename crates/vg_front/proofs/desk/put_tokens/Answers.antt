@@ -1,4 +1,4 @@
-use Rattle.std.proofs.Common.{◌≡◌, ◌<◌, ◌∙◌, ◌++◌, ◌∷◌, [], Some, length, sym, arith}
+use Rattle.std.proofs.Common.{◌<◌, ◌∙◌, length, sym, arith}
 use Rattle.vg_front.proofs.WaitLemmas.{home_there, is_there, left_next, set_long, taken_is, token_more}
 use Rattle.vg_front.proofs.desk.put_tokens.Goals as goal
 

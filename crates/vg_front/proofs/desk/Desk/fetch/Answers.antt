@@ -1,4 +1,4 @@
-use Rattle.std.proofs.Common.{◌≡◌, ◌∙◌, ◌++◌, ◌∷◌, [], length, refl, sym, ap, subst, arith}
+use Rattle.std.proofs.Common.{◌++◌, ◌∷◌, [], refl, sym, subst, arith}
 use Rattle.vg_ring.specs.DeviceEnds.{Fetches, FetchesNone}
 use Rattle.vg_front.specs.Lanes.{IsDesk}
 use Rattle.vg_front.specs.Desks.{DeskData, HasFetched}

@@ -1,4 +1,4 @@
-use Rattle.std.proofs.Common.{◌≡◌, ◌∙◌, ◌-◌, ◌<◌, ◌⊎◌, true, Some, slice_set, refl, sym, ap, subst, arith}
+use Rattle.std.proofs.Common.{◌≡◌, ◌-◌, ◌⊎◌, true, Some, slice_set, sym, ap, subst, arith}
 use Rattle.vg_front.specs.Desks.{DeskData, Finishes}
 use Rattle.vg_front.proofs.DeskLemmas.{back_high, back_low, desk_finished_at, finishes, size_same}
 use Rattle.vg_front.proofs.desk.Desk.finish.Goals as goal

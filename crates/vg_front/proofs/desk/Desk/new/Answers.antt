@@ -1,4 +1,4 @@
-use Rattle.std.proofs.Common.{[], ◌≡◌, length, sym, ap, subst, arith}
+use Rattle.std.proofs.Common.{[], length, sym, ap, subst, arith}
 use Rattle.vg_ring.specs.DeviceEnds.{DeviceLists}
 use Rattle.vg_ring.specs.Making.{IsNewDevice}
 use Rattle.vg_front.specs.Lanes.{AreLanes}

@@ -1,5 +1,4 @@
-use Rattle.std.proofs.Common.{◌≡◌, ◌∙◌, ◌++◌, ◌∷◌, ◌+◌, [], ℕ, List, length, length-append, sym, ap, subst, arith}
-use Rattle.std.specs.Prelude.{option_to_list}
+use Rattle.std.proofs.Common.{◌≡◌, ◌∙◌, ◌++◌, ◌∷◌, ◌+◌, [], ℕ, length, length-append, sym, ap, subst, arith}
 use Rattle.vg_front.specs.Desks.{AreNew}
 use Rattle.vg_front.proofs.FrontLemmas.{new_apart}
 use Rattle.vg_front.proofs.front.Front.new.Goals as goal

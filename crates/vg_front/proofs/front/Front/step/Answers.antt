@@ -1,5 +1,5 @@
-use Rattle.std.proofs.Common.{◌≡◌, refl, sym, ap, subst}
-use Rattle.vg_front.specs.Desks.{DeskData, HasNone, IsIdle, Takes}
+use Rattle.std.proofs.Common.{refl, subst}
+use Rattle.vg_front.specs.Desks.{HasNone}
 use Rattle.vg_front.specs.Fronts.{FrontData}
 use Rattle.vg_front.proofs.front.Front.step.Goals as goal
 
