@@ -2,3 +2,4 @@ pub mod LaneLemmas
 pub mod WaitLemmas
 pub mod DeskLemmas
 pub mod FrontLemmas
+pub mod Sent

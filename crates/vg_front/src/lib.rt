@@ -9,7 +9,9 @@ mod desk;
 mod front;
 mod loan;
 mod rings;
+mod threads;
 
 pub use front::{Front, Work};
 pub use loan::Loan;
 pub use rings::{ControlOf, CursorOf, Rings};
+pub use threads::fronts_may_be_sent;
