@@ -1,5 +1,5 @@
 -- What the calls of a front do.
-use Rattle.std.specs.Prelude.{◌≡◌, ℕ, ◌⊎◌, ◌<◌, Bool, true, false, Some, None, List, [], ◌++◌, map, length, get_or}
+use Rattle.std.specs.Prelude.{◌≡◌, ℕ, ◌+◌, ◌⊎◌, ◌<◌, Bool, true, false, Some, None, List, [], ◌++◌, map, length, get_or}
 use Rattle.vg_ring.specs.Cargo.{CargoData}
 use Rattle.vg_ring.specs.Entries.{entries, Has}
 use Rattle.vg_ring.specs.DeviceEnds.{DeviceLists}
@@ -7,6 +7,7 @@ use Rattle.vg_front.specs.declared.loan.Loan.{Loan}
 use Rattle.vg_front.specs.declared.loan.Loan.TheVariants as loans
 use Rattle.vg_front.specs.declared.front.Work.{Work}
 use Rattle.vg_front.specs.declared.front.Work.TheVariants.{Fetched, Run, Idle}
+use Rattle.vg_front.specs.Loans.{right_of}
 use Rattle.vg_front.specs.Desks.{DeskData, Finishes, HasFetched, HasNone, HasRunAll, IsIdle, Takes}
 
 -- Both queues of a device.
@@ -33,9 +34,13 @@ abbrev pub TakesOf : {P T N : Type 0} → (P → Bool) → (T → ℕ) → (T �
 TakesOf wanted lane_of count_of mid token (loans.Control right) cargo new = Takes wanted lane_of count_of mid.control token right cargo new.control × (new.cursor ≡ mid.cursor)
 TakesOf wanted lane_of count_of mid token (loans.Cursor right) cargo new = IsIdle mid.control × Takes wanted lane_of count_of mid.cursor token right cargo new.cursor × (new.control ≡ mid.control)
 
+-- Until the front is halted, the command is the next that its lane's token runs.
+abbrev pub IsNext : {T N : Type 0} → (T → ℕ) → Bool → T → Loan N → Type 0
+IsNext count_of halted token right = halted ≡ false → (right_of right).entry.ordinal ≡ count_of token + 1
+
 abbrev pub Steps : {P T N : Type 0} → (P → Bool) → (T → ℕ) → (T → ℕ) → FrontData P T → Work P T N → FrontData P T → Type 0
 Steps wanted lane_of count_of old Fetched new = StepsOn wanted old new
-Steps {P} {T} {N} wanted lane_of count_of old (Run token right cargo) new = (mid : FrontData P T) × HasNothing old mid × TakesOf wanted lane_of count_of mid token right cargo new
+Steps {P} {T} {N} wanted lane_of count_of old (Run token right cargo) new = (mid : FrontData P T) × HasNothing old mid × TakesOf wanted lane_of count_of mid token right cargo new × IsNext count_of old.control.halted token right
 Steps wanted lane_of count_of old Idle new = HasNothing old new × IsIdle new.control × IsIdle new.cursor
 
 abbrev pub IsLent : {P T N : Type 0} → FrontData P T → Loan N → Type 0
