@@ -1,5 +1,5 @@
 -- What is known of a command that was given out.
-use Rattle.std.proofs.Common.{◌≡◌, ℕ, Bool, false, ◌∙◌, sym, refl}
+use Rattle.std.proofs.Common.{◌≡◌, Bool, refl}
 use Rattle.vg_ring.specs.Cargo.{CargoData}
 use Rattle.vg_ring_uses.specs.declared.ticket.Ticket.{Ticket}
 use Rattle.vg_front.specs.declared.loan.Loan.{Loan}

@@ -1,5 +1,5 @@
 -- Tokens that have run nothing, and one more.
-use Rattle.std.proofs.Common.{◌≡◌, ℕ, suc, ◌+◌, List, [], ◌∷◌, ◌++◌, length, arith}
+use Rattle.std.proofs.Common.{◌≡◌, ℕ, ◌+◌, List, [], ◌∷◌, ◌++◌, length, arith}
 use Rattle.vg_front.specs.Desks.{AreNew}
 use Rattle.vg_front_tests.specs.declared.rig.Token.{Token}
 use Rattle.vg_front_tests.specs.Held.{count_in, lane_in}

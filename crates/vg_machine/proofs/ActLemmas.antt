@@ -23,9 +23,8 @@ use Rattle.vg_machine.specs.declared.act.Act.TheVariants.{Enter, Reserve, Store,
 use Rattle.vg_machine.specs.declared.act.ActReply.{ActReply}
 use Rattle.vg_machine.specs.declared.act.ActReply.TheVariants as act_replies
 use Rattle.vg_resource.specs.Resource.{resource_at}
-use Rattle.vg_machine.specs.Scanout.{binding_at}
 use Rattle.vg_machine.specs.State.{State}
-use Rattle.vg_machine.specs.ActStep.{KeepsIfRefused, effect_of, replied_by, shown_at}
+use Rattle.vg_machine.specs.ActStep.{KeepsIfRefused, effect_of, is_in_use, replied_by, shown_at}
 
 -- what clients share, beside guest memory, so many scanouts and so many entries
 pub record ShareFits (memory : Memory) (count entries : ℕ) (share : ShareState) : Type 0 where
@@ -218,7 +217,7 @@ kept-effect state client (Release key) =
     kept-replied (release_refusal client key (shown_at client key state) state.share) state _ _ (kept-held (has_holder key (released client key state.share)) state _)
 kept-effect state client (Free key) = kept-replied (free_refusal client key (is_some (resource_at key state.resources)) state.share) state _ _ tt
 kept-effect state client (Take scanout) = kept-replied (take_refusal scanout state.share) state _ _ tt
-kept-effect state client (Drop scanout) = kept-replied (drop_refusal client scanout (is_some (binding_at scanout state.scanouts)) state.share) state _ _ tt
+kept-effect state client (Drop scanout) = kept-replied (drop_refusal client scanout (is_in_use state scanout) state.share) state _ _ tt
 kept-effect state client (Denied what) = tt
 kept-effect state client Leave = tt
 

@@ -6,17 +6,18 @@ use Rattle.std.proofs.lemmas.List.{length-map, length-set}
 use Rattle.std.proofs.lemmas.List.Elements.{All-map, All-replicate, All-set}
 use Rattle.vg_formats.specs.declared.rect.Rect.{Rect}
 use Rattle.vg_resource.specs.declared.resource.Resource.{Resource}
-use Rattle.vg_machine.specs.declared.scanout.Binding.{Binding}
-use Rattle.vg_machine.specs.Scanout.{Screen}
+use Rattle.vg_cursor.specs.declared.cursor.Cursor.{Cursor}
+use Rattle.vg_scanout.specs.declared.scanout.Binding.{Binding}
+use Rattle.vg_scanout.specs.Scanout.{Screen}
 use Rattle.vg_refusals.specs.Refusals.{refusal_of, unless_refused}
 use Rattle.vg_resource.specs.Resource.{resource_at, without, IsWhole}
-use Rattle.vg_machine.specs.Scanout.{ScanoutState, after_flush, bind, bound, flush, flushed, flushed_screen, are_too_many, fresh_screen, is_bound_to, is_flushed, is_too_large, unbound_from}
+use Rattle.vg_scanout.specs.Scanout.{ScanoutState, after_flush, bind, bound, flush, flushed, flushed_screen, are_too_many, fresh_screen, is_bound_to, is_flushed, is_too_large, unbound_from}
 use Rattle.vg_machine.specs.State.{IsShowing, ShowsResource, ShowsSome}
 use Rattle.vg_machine.specs.Step.{binding_of}
 use Rattle.vg_machine.proofs.MapLemmas.{remove_other}
 use Rattle.vg_machine.proofs.ShowingLemmas.{found-shown, shown-found}
 use Rattle.vg_formats.specs.Pixels.{is_empty, is_inside}
-use Rattle.vg_machine.specs.Fits.{FitSurface, FitsSurface}
+use Rattle.vg_scanout.specs.Fits.{FitSurface, FitsSurface}
 
 -- as many screens, which show resources that there are
 pub record AreShowing (resources : List (ℕ × Resource)) (count : ℕ) (screens : List (Option Screen)) : Type 0 where
@@ -72,12 +73,12 @@ showing-flushed-one resources rect surface true (Some screen) showing = showing
 showing-flushed-one resources rect surface true None showing = tt
 showing-flushed-one resources rect surface false screen showing = showing
 
-pub showing-flush : (resources : List (ℕ × Resource)) (entry id : ℕ) (rect : Rect) (surface : List ℕ) (old now : ScanoutState) (done : Result (Unit {0}) ℕ) (count : ℕ)
-    → ◌≡◌ {A = ScanoutState × Result (Unit {0}) ℕ} (now, done) (flush entry id rect surface old)
+pub showing-flush : (resources : List (ℕ × Resource)) (entry id : ℕ) (rect : Rect) (surface : List ℕ) (cursors : List Cursor) (old now : ScanoutState) (done : Result (Unit {0}) ℕ) (count : ℕ)
+    → ◌≡◌ {A = ScanoutState × Result (Unit {0}) ℕ} (now, done) (flush entry id rect surface cursors old)
     → AreShowing resources count old.screens → AreShowing resources count now.screens
 unfolding flush
-showing-flush resources entry id rect surface old now done count step were =
-    showing-after resources count (refusal_of ((are_too_many (flushed entry id rect surface old).frames, 0x1201) ∷ [])) old now (flushed entry id rect surface old) done step were
+showing-flush resources entry id rect surface cursors old now done count step were =
+    showing-after resources count (refusal_of ((are_too_many (flushed entry id rect surface cursors old).frames, 0x1201) ∷ [])) old now (flushed entry id rect surface cursors old) done step were
     (record {
       count_is = length-map old.screens (after_flush id rect surface) ∙ were.count_is;
       showing = All-map (IsShowing resources) (after_flush id rect surface) old.screens

@@ -28,9 +28,9 @@ use Rattle.vg_machine.specs.Fits.{response_of}
 use Rattle.vg_machine.specs.Receive.{receive, receive_refusal, with_received}
 use Rattle.vg_refusals.specs.Refusals.{refusal_of, unless_refused}
 use Rattle.vg_resource.specs.Resource.{create, create_refusals, remove, resource_at, unref_refusals, with_blank, without}
-use Rattle.vg_machine.specs.Scanout.{ScanoutState, are_too_many, bind, flush, flushed, is_too_large, snap, snapped}
+use Rattle.vg_scanout.specs.Scanout.{ScanoutState, are_too_many, bind, flush, flushed, is_too_large}
 use Rattle.vg_machine.specs.State.{State}
-use Rattle.vg_machine.specs.Step.{Keeps, acceptance, answer_of, answered, answered_by, answered_with, binding_of, command_step, cursor_step, effect_and_bytes, flush_step, refused_or_ran, request_refusals, set_scanout_step, two_d_step, undone_step}
+use Rattle.vg_machine.specs.Step.{Keeps, acceptance, answer_of, answered, answered_by, answered_with, binding_of, command_step, effect_and_bytes, flush_step, refused_or_ran, request_refusals, set_scanout_step, two_d_step, undone_step}
 
 -- what a part did by its own refusals is what the display does by them
 pub lifted : {S : Type 0} (around : S → State) (refusal : Option ℕ) (old new next : S) (done : Result (Unit {0}) ℕ)
@@ -77,7 +77,7 @@ keeps-command state (CtxAttach resource) = refl
 keeps-command state (CtxDetach resource) = refl
 keeps-command state (Submit size) = refl
 keeps-command state (UpdateCursor scanout x y resource hot_x hot_y) = keeps-answered _ state _
-keeps-command state (MoveCursor scanout x y) = refl
+keeps-command state (MoveCursor scanout x y) = keeps-answered _ state _
 
 keeps-ran : (refusal : Option ℕ) (state : State) (command : Option Command)
     → Keeps (refused_or_ran refusal state command).1 state (refused_or_ran refusal state command).0
@@ -144,7 +144,7 @@ expects-command state (CtxAttach resource) = tt
 expects-command state (CtxDetach resource) = tt
 expects-command state (Submit size) = tt
 expects-command state (UpdateCursor scanout x y resource hot_x hot_y) = expects-answered _ state _
-expects-command state (MoveCursor scanout x y) = tt
+expects-command state (MoveCursor scanout x y) = expects-answered _ state _
 
 expects-given : (state now : State) (command : Command) (response : Response) → command_step state command ≡ (now, response) → Expects (acceptance state command) response
 expects-given state now command response step = subst (λ (done : State × Response). Expects (acceptance state command) done.1) step (expects-command state command)
@@ -239,18 +239,11 @@ step-show state rect scanout id resource new done there some found fits step =
 
 pub step-flush : (state : State) (rect : Rect) (id : ℕ) (resource : Resource) (new : ScanoutState) (done : Result (Unit {0}) ℕ)
     → resource_at id state.resources ≡ Some resource → is_inside rect resource.width resource.height ≡ true
-    → ◌≡◌ {A = ScanoutState × Result (Unit {0}) ℕ} (new, done) (flush state.entries id rect resource.pixels state.scanouts)
+    → ◌≡◌ {A = ScanoutState × Result (Unit {0}) ℕ} (new, done) (flush state.entries id rect resource.pixels state.cursors state.scanouts)
     → flush_step state rect id ≡ (record state { scanouts = new }, response_of done)
 unfolding flush
 step-flush state rect id resource new done found inside step =
-    rw (found, inside) (lifted (λ scanouts. record state { scanouts = scanouts }) (refusal_of ((are_too_many (flushed state.entries id rect resource.pixels state.scanouts).frames, 0x1201) ∷ [])) state.scanouts new _ done step)
-
-pub step-cursor : (state : State) (scanout id : ℕ) (new : ScanoutState) (done : Result (Unit {0}) ℕ) → (id == 0) ≡ true → nat_le (length state.setup.displays) scanout ≡ false
-    → ◌≡◌ {A = ScanoutState × Result (Unit {0}) ℕ} (new, done) (snap state.entries scanout state.scanouts)
-    → cursor_step state scanout id ≡ (record state { scanouts = new }, response_of done)
-unfolding snap
-step-cursor state scanout id new done none there step =
-    rw (none, there) (lifted (λ scanouts. record state { scanouts = scanouts }) (refusal_of ((are_too_many (snapped state.entries scanout state.scanouts).frames, 0x1201) ∷ [])) state.scanouts new _ done step)
+    rw (found, inside) (lifted (λ scanouts. record state { scanouts = scanouts }) (refusal_of ((are_too_many (flushed state.entries id rect resource.pixels state.cursors state.scanouts).frames, 0x1201) ∷ [])) state.scanouts new _ done step)
 
 -- a resource that was taken away, or wasn't
 refused-apart : (code : ℕ) → ◌≡◌ {A = Result (Unit {0}) ℕ} (Err code) (Ok tt) → ⊥

@@ -6,9 +6,6 @@ pub mod BoundLemmas
 pub mod ActLemmas
 pub mod CellLemmas
 pub mod ShareLemmas
-pub mod ScreenLemmas
-pub mod PanelLemmas
-pub mod SnapLemmas
 pub mod ShapeLemmas
 pub mod EdidLemmas
 pub mod RemoveLemmas
@@ -17,3 +14,5 @@ pub mod PixelLemmas
 pub mod DeniedLemmas
 pub mod ForeignLemmas
 pub mod NamedLemmas
+pub mod CursorLemmas
+pub mod FrameLemmas

@@ -22,17 +22,17 @@ use Rattle.vg_shown.proofs.ShownLemmas.{length-shown_bytes}
 use Rattle.vg_pages.specs.Memory.{Memory}
 use Rattle.vg_wire_ext.specs.declared.response.Response.TheVariants as responses
 use Rattle.vg_resource.specs.declared.resource.Resource.{Resource}
-use Rattle.vg_machine.specs.Scanout.{Screen}
+use Rattle.vg_scanout.specs.Scanout.{Screen}
 use Rattle.vg_transfer.specs.Pixels.{CopiesRect}
 use Rattle.vg_transfer.specs.Backings.{transfer, transfer_refusals, entries_at, transferred}
 use Rattle.vg_backing.specs.Backing.{backing_bytes}
-use Rattle.vg_machine.specs.Fits.{IsScreen}
+use Rattle.vg_scanout.specs.Fits.{IsScreen}
 use Rattle.vg_resource.specs.Resource.{IsWhole, height_of, resource_at, width_of}
 use Rattle.vg_machine.specs.Pixels.{CopiesEachPixel, CopiesPixels, ShowsEachPixel, ShowsScreen}
 use Rattle.vg_places.specs.Pixels.{pixel_of}
 use Rattle.vg_machine.specs.Receive.{receive_refusal, with_received}
 use Rattle.vg_refusals.specs.Refusals.{refusal_of, unless_refused}
-use Rattle.vg_machine.specs.Scanout.{after_flush, are_too_many, area_of, flushed_pixels, flushed_screen, is_flushed}
+use Rattle.vg_scanout.specs.Scanout.{after_flush, are_too_many, area_of, flushed_pixels, flushed_screen, is_flushed}
 use Rattle.vg_machine.specs.State.{IsConsistent, IsShowing, ShowsResource, State, counted}
 use Rattle.vg_machine.specs.Step.{answered_by, flush_refusals, flush_step, flushed_by, pixels_of, transfer_step}
 use Rattle.vg_machine.proofs.MapLemmas.{set_itself, set_other}
@@ -230,6 +230,7 @@ consistent-counted state was = record {
   share = was.share;
   reserved = omega (arith, was.reserved);
   given = omega (arith, was.given);
+  cursors = was.cursors;
 }
 
 pub shows-each-pixel : (rect : Rect) (id : ℕ) (state : State) → IsConsistent state → All IsScreen state.scanouts.screens

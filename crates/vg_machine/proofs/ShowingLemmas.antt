@@ -8,8 +8,8 @@ use Rattle.vg_formats.specs.declared.format.Format.{Format}
 use Rattle.vg_formats.specs.declared.rect.Rect.{Rect}
 use Rattle.vg_formats.specs.Formats.{format_of}
 use Rattle.vg_resource.specs.declared.resource.Resource.{Resource}
-use Rattle.vg_machine.specs.declared.scanout.Binding.{Binding}
-use Rattle.vg_machine.specs.Scanout.{Screen}
+use Rattle.vg_scanout.specs.declared.scanout.Binding.{Binding}
+use Rattle.vg_scanout.specs.Scanout.{Screen}
 use Rattle.vg_pages.specs.Memory.{Memory}
 use Rattle.vg_machine.specs.Receive.{receive, receive_refusal, with_received}
 use Rattle.vg_refusals.specs.Refusals.{refusal_of, unless_refused}

@@ -1,5 +1,5 @@
 -- What the acts of clients do and answer. All of it is our own.
-use Rattle.std.specs.Prelude.{◌≡◌, ℕ, ◌+◌, ◌*◌, ◌==◌, ◌&&◌, Bool, true, false, is_some, List, length, if◌then◌else◌, Option, Some, None}
+use Rattle.std.specs.Prelude.{◌≡◌, ℕ, ◌+◌, ◌*◌, ◌==◌, ◌&&◌, ◌||◌, Bool, true, false, is_some, List, length, if◌then◌else◌, Option, Some, None}
 use Rattle.std.specs.List.{find, range_with_len}
 use Rattle.vg_machine.specs.declared.act.Act.{Act}
 use Rattle.vg_machine.specs.declared.act.Act.TheVariants.{Enter, Reserve, Store, Load, Release, Free, Take, Drop, Denied, Leave}
@@ -7,11 +7,12 @@ use Rattle.vg_machine.specs.declared.act.ActReply.{ActReply}
 use Rattle.vg_machine.specs.declared.act.ActReply.TheVariants as act_replies
 use Rattle.vg_machine.specs.declared.share.Geometry.{Geometry}
 use Rattle.vg_machine.specs.declared.share.ShareRefusal.{ShareRefusal}
-use Rattle.vg_machine.specs.declared.scanout.Binding.{Binding}
+use Rattle.vg_scanout.specs.declared.scanout.Binding.{Binding}
 use Rattle.vg_pages.specs.Memory.{after_taking}
 use Rattle.vg_machine.specs.Cells.{loaded, repeated, stored}
 use Rattle.vg_resource.specs.Resource.{resource_at}
-use Rattle.vg_machine.specs.Scanout.{binding_at}
+use Rattle.vg_cursor.specs.Cursor.{cursor_of}
+use Rattle.vg_scanout.specs.Scanout.{binding_at}
 use Rattle.vg_machine.specs.Share.{drop_refusal, ended, entered, free_refusal, freed, given_back, has_holder, is_leased, leased, new_pages, pages_at, place_refusal, release_refusal, released, reserve_refusal, take_refusal, unleased, with_buffer}
 use Rattle.vg_machine.specs.State.{State, counted}
 
@@ -66,9 +67,13 @@ abbrev pub take_step : State → ℕ → ℕ → State × ActReply
 take_step state client scanout =
     replied_by (take_refusal scanout state.share) state (record state { share = leased client scanout state.share }) act_replies.Ok
 
+-- The scanout shows something: it is bound, or its cursor is shown.
+abbrev pub is_in_use : State → ℕ → Bool
+is_in_use state scanout = is_some (binding_at scanout state.scanouts) || (cursor_of state.cursors scanout).visible
+
 abbrev pub drop_step : State → ℕ → ℕ → State × ActReply
 drop_step state client scanout =
-    replied_by (drop_refusal client scanout (is_some (binding_at scanout state.scanouts)) state.share) state
+    replied_by (drop_refusal client scanout (is_in_use state scanout) state.share) state
     (record state { share = unleased scanout state.share }) act_replies.Ok
 
 -- What an act does and answers, once it is counted.

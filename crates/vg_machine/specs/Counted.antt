@@ -19,9 +19,8 @@ use Rattle.vg_machine.specs.declared.act.What.{What}
 use Rattle.vg_machine.specs.declared.holds.Holds.{Holds}
 use Rattle.vg_machine.specs.declared.share.ShareRefusal.{ShareRefusal}
 use Rattle.vg_resource.specs.declared.resource.Resource.{Resource}
-use Rattle.vg_machine.specs.ActStep.{act_step, effect_of, replied_by, shown_at}
+use Rattle.vg_machine.specs.ActStep.{act_step, effect_of, is_in_use, replied_by, shown_at}
 use Rattle.vg_resource.specs.Resource.{resource_at}
-use Rattle.vg_machine.specs.Scanout.{binding_at}
 use Rattle.vg_machine.specs.Share.{drop_refusal, free_refusal, place_refusal, release_refusal, reserve_refusal, take_refusal}
 use Rattle.vg_machine.specs.declared.history.Request.{Request}
 use Rattle.vg_machine.specs.State.{State, counted}
@@ -77,7 +76,7 @@ command-like state (CtxAttach resource) = like-itself state
 command-like state (CtxDetach resource) = like-itself state
 command-like state (Submit size) = like-itself state
 command-like state (UpdateCursor scanout x y resource hot_x hot_y) = like-answered _ state _ _ (record { setup = refl; entries = refl })
-command-like state (MoveCursor scanout x y) = like-itself state
+command-like state (MoveCursor scanout x y) = like-answered _ state _ _ (record { setup = refl; entries = refl })
 
 ran-like : (state : State) (command : Option Command) → IsLike state (ran state command).0
 ran-like state (Some command) = command-like state command
@@ -111,7 +110,7 @@ effect-like state client (Load key offset n) = like-replied (place_refusal clien
 effect-like state client (Release key) = like-replied (release_refusal client key (shown_at client key state) state.share) state _ _ (record { setup = refl; entries = refl })
 effect-like state client (Free key) = like-replied (free_refusal client key (is_some (resource_at key state.resources)) state.share) state _ _ (record { setup = refl; entries = refl })
 effect-like state client (Take scanout) = like-replied (take_refusal scanout state.share) state _ _ (record { setup = refl; entries = refl })
-effect-like state client (Drop scanout) = like-replied (drop_refusal client scanout (is_some (binding_at scanout state.scanouts)) state.share) state _ _ (record { setup = refl; entries = refl })
+effect-like state client (Drop scanout) = like-replied (drop_refusal client scanout (is_in_use state scanout) state.share) state _ _ (record { setup = refl; entries = refl })
 effect-like state client (Denied what) = like-itself state
 effect-like state client Leave = record { setup = refl; entries = refl }
 

@@ -4,9 +4,7 @@ pub mod Lane
 pub mod Lists
 pub mod Receive
 pub mod Uuids
-pub mod Scanout
 pub mod Fits
-pub mod Panels
 pub mod Cells
 pub mod Share
 pub mod Holds
@@ -15,6 +13,7 @@ pub mod Named
 pub mod State
 pub mod Entries
 pub mod Step
+pub mod Change
 pub mod Pixels
 pub mod ActStep
 pub mod Replay

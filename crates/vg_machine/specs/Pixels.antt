@@ -5,7 +5,7 @@ use Rattle.vg_formats.specs.Formats.{shown_bytes}
 use Rattle.vg_formats.specs.Pixels.{Covers}
 use Rattle.vg_places.specs.Pixels.{pixel_of}
 use Rattle.vg_resource.specs.declared.resource.Resource.{Resource}
-use Rattle.vg_machine.specs.Scanout.{Screen}
+use Rattle.vg_scanout.specs.Scanout.{Screen}
 use Rattle.vg_backing.specs.Backing.{backing_bytes}
 use Rattle.vg_transfer.specs.Backings.{entries_at}
 use Rattle.vg_resource.specs.Resource.{resource_at}

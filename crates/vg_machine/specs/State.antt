@@ -3,13 +3,15 @@ use Rattle.std.specs.List.{All}
 use Rattle.vg_formats.specs.declared.entry.MemEntry.{MemEntry}
 use Rattle.vg_pages.specs.Memory.{Memory, fresh_memory}
 use Rattle.vg_resource.specs.declared.resource.Resource.{Resource}
-use Rattle.vg_machine.specs.declared.scanout.Binding.{Binding}
-use Rattle.vg_machine.specs.Scanout.{Screen}
+use Rattle.vg_cursor.specs.declared.cursor.Cursor.{Cursor}
+use Rattle.vg_cursor.specs.Cursor.{unset}
+use Rattle.vg_scanout.specs.declared.scanout.Binding.{Binding}
+use Rattle.vg_scanout.specs.Scanout.{Screen}
 use Rattle.vg_machine.specs.declared.setup.Setup.{Setup}
 use Rattle.vg_formats.specs.Pixels.{is_inside}
 use Rattle.vg_backing.specs.Backing.{AreHeld}
 use Rattle.vg_resource.specs.Resource.{resource_at}
-use Rattle.vg_machine.specs.Scanout.{ScanoutState}
+use Rattle.vg_scanout.specs.Scanout.{ScanoutState}
 use Rattle.vg_machine.specs.Setup.{IsSetup}
 use Rattle.vg_machine.specs.Share.{ShareState, SharesPages}
 use Rattle.vg_machine.specs.Uuids.{UuidState}
@@ -22,6 +24,7 @@ pub record State : Type 0 where
   pub resources : List (ℕ × Resource)
   pub backings : List (ℕ × List MemEntry)
   pub uuids : UuidState
+  pub cursors : List Cursor
   pub scanouts : ScanoutState
   pub share : ShareState
 
@@ -34,6 +37,7 @@ start setup = record {
   resources = [];
   backings = [];
   uuids = record { numbers = []; given = 0 };
+  cursors = replicate (length setup.displays) unset;
   scanouts = record { screens = replicate (length setup.displays) None; frames = [] };
   share = record { buffers = []; reserved = 0; leases = replicate (length setup.displays) None; clients = [] };
 }
@@ -71,3 +75,4 @@ pub record IsConsistent (state : State) : Type 0 where
   pub share : SharesPages state.memory state.share
   pub reserved : state.share.reserved ≤ state.entries
   pub given : state.uuids.given ≤ state.entries
+  pub cursors : length state.cursors ≡ length state.setup.displays

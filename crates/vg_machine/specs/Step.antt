@@ -1,7 +1,7 @@
-use Rattle.std.specs.Prelude.{◌≡◌, ℕ, ◌*◌, ◌==◌, ◌&&◌, ◌||◌, not, true, Bool, is_none, is_some, List, [], ◌∷◌, length, take, drop, map, nat_le, nat_lt, slice_get, if◌then◌else◌, Option, Some, None, bit_and}
+use Rattle.std.specs.Prelude.{◌≡◌, ℕ, ℤ, ◌*◌, ◌==◌, ◌&&◌, ◌||◌, not, true, Bool, is_none, is_some, List, [], ◌∷◌, ◌++◌, length, take, drop, map, nat_le, nat_lt, slice_get, if◌then◌else◌, Option, Some, None, bit_and}
 use Rattle.vg_wire.specs.declared.request.Queue.{Queue}
 use Rattle.vg_wire_ext.specs.declared.command.Command.{Command}
-use Rattle.vg_wire_ext.specs.declared.command.Command.TheVariants.{TwoD, CapsetInfo, Capset, Edid, AssignUuid, UpdateCursor}
+use Rattle.vg_wire_ext.specs.declared.command.Command.TheVariants.{TwoD, CapsetInfo, Capset, Edid, AssignUuid, UpdateCursor, MoveCursor}
 use Rattle.vg_wire.specs.declared.two_d.Command2d.{Command2d}
 use Rattle.vg_wire.specs.declared.two_d.Command2d.TheVariants.{DisplayInfo, Create2d, Unref, SetScanout, Flush, Transfer, Attach, Detach}
 use Rattle.vg_wire.specs.declared.header.Header.{Header}
@@ -19,13 +19,16 @@ use Rattle.vg_formats.specs.Formats.{format_of}
 use Rattle.vg_formats.specs.Pixels.{is_empty, is_inside}
 use Rattle.vg_formats.specs.declared.entry.MemEntry.{MemEntry}
 use Rattle.vg_resource.specs.declared.resource.Resource.{Resource}
-use Rattle.vg_machine.specs.declared.scanout.Binding.{Binding}
+use Rattle.vg_scanout.specs.declared.scanout.Binding.{Binding}
 use Rattle.vg_wire.specs.Kinds.{ERR_INVALID_PARAMETER, ERR_INVALID_RESOURCE_ID, ERR_INVALID_SCANOUT_ID, ERR_OUT_OF_MEMORY, ERR_UNSPEC}
 use Rattle.vg_refusals.specs.Refusals.{refusal_of}
 use Rattle.vg_transfer.specs.Backings.{attach_refusals, detach_refusals, detached}
 use Rattle.vg_machine.specs.Receive.{receive_refusal, with_received}
 use Rattle.vg_resource.specs.Resource.{create_refusals, height_of, resource_at, unref_refusals, width_of, with_blank, without}
-use Rattle.vg_machine.specs.Scanout.{ScanoutState, are_too_many, bound, flushed, is_too_large, snapped, unbound, unbound_from}
+use Rattle.vg_cursor.specs.declared.cursor.Cursor.{Cursor}
+use Rattle.vg_cursor.specs.Cursor.{changed, hidden_at, placed_at, shown_as}
+use Rattle.vg_shown.specs.Shown.{shown_row}
+use Rattle.vg_scanout.specs.Scanout.{ScanoutState, are_too_many, bound, flushed, is_past_limit, is_too_large, snapped, unbound, unbound_from}
 use Rattle.vg_machine.specs.Features.{is_usable}
 use Rattle.vg_machine.specs.Uuids.{assign_refusals, assigned, forgotten, number_for, uuid_bytes}
 use Rattle.vg_machine.specs.declared.setup.Setup.{Setup}
@@ -122,9 +125,10 @@ abbrev pub pixels_of : Option Resource → List ℕ
 pixels_of (Some resource) = resource.pixels
 pixels_of None = []
 
--- The scanouts after a rectangle of the resource was flushed. The frames have the number of the entry that is being made.
+-- The scanouts after a rectangle of the resource was flushed. The frames have the number of the entry that is being made, and the
+-- cursors that are shown.
 abbrev pub flushed_by : State → Rect → ℕ → ScanoutState
-flushed_by state rect id = flushed state.entries id rect (pixels_of (resource_at id state.resources)) state.scanouts
+flushed_by state rect id = flushed state.entries id rect (pixels_of (resource_at id state.resources)) state.cursors state.scanouts
 
 -- RESOURCE_FLUSH is refused for a resource that there isn't; a rectangle outside of it; too many bytes of frames with the new ones.
 abbrev pub flush_refusals : State → Rect → ℕ → List (Bool × ℕ)
@@ -197,22 +201,54 @@ assign_step state id =
     (record state { uuids = assigned id state.uuids })
     (responses.Uuid (uuid_bytes (number_for id state.uuids)))
 
--- The scanouts after a frame of one of them. The frame has the number of the entry that is being made.
-abbrev pub snapped_by : State → ℕ → ScanoutState
-snapped_by state scanout = snapped state.entries scanout state.scanouts
-
--- UPDATE_CURSOR is refused with a resource, since no cursor can be shown yet; for a scanout that there isn't; for too many bytes of
--- frames with the new one. With resource 0 it hides the cursor, which makes a frame where the scanout is bound.
-abbrev pub cursor_refusals : State → ℕ → ℕ → List (Bool × ℕ)
-cursor_refusals state scanout id =
-    (not (id == 0), ERR_UNSPEC)
-    ∷ (nat_le (length state.setup.displays) scanout, ERR_INVALID_SCANOUT_ID)
-    ∷ (are_too_many (snapped_by state scanout).frames, ERR_OUT_OF_MEMORY)
+-- A resource is an image unless there isn't one; it hasn't 64 rows of 64 pixels, or the hot spot isn't one of these.
+abbrev pub image_refusals : Option Resource → ℕ → ℕ → List (Bool × ℕ)
+image_refusals found hot_x hot_y =
+    (is_none found, ERR_INVALID_RESOURCE_ID)
+    ∷ (not (width_of found == 64 && height_of found == 64 && nat_lt hot_x 64 && nat_lt hot_y 64), ERR_INVALID_PARAMETER)
     ∷ []
 
-abbrev pub cursor_step : State → ℕ → ℕ → State × Response
-cursor_step state scanout id =
-    answered_by (refusal_of (cursor_refusals state scanout id)) state (record state { scanouts = snapped_by state scanout })
+-- UPDATE_CURSOR is refused for a scanout that there isn't; then, with a resource other than 0, as `image_refusals` say; then for too
+-- many bytes of frames with one of the scanout.
+abbrev pub cursor_refusals : State → ℕ → ℕ → ℕ → ℕ → List (Bool × ℕ)
+cursor_refusals state scanout id hot_x hot_y =
+    (nat_le (length state.setup.displays) scanout, ERR_INVALID_SCANOUT_ID)
+    ∷ (if id == 0 then [] else image_refusals (resource_at id state.resources) hot_x hot_y)
+    ++ (is_past_limit scanout state.scanouts, ERR_OUT_OF_MEMORY)
+    ∷ []
+
+-- A resource's pixels as they are shown now.
+abbrev pub image_of : Option Resource → List ℕ
+image_of (Some resource) = shown_row resource.format resource.pixels
+image_of None = []
+
+-- The scanout's cursor is changed so, and makes a frame where the scanout is bound. The frame has the number of the entry that is being
+-- made.
+abbrev pub with_cursor : State → ℕ → (Cursor → Cursor) → State
+with_cursor state scanout change =
+    let cursors = changed change scanout state.cursors in
+    record state { cursors = cursors; scanouts = snapped state.entries cursors scanout state.scanouts }
+
+-- UPDATE_CURSOR shows a copy of a resource's pixels, or hides the cursor with resource 0.
+abbrev pub cursor_change : State → ℤ → ℤ → ℕ → ℕ → ℕ → Cursor → Cursor
+cursor_change state x y id hot_x hot_y =
+    if id == 0 then hidden_at x y else shown_as (image_of (resource_at id state.resources)) x y hot_x hot_y
+
+abbrev pub cursor_step : State → ℕ → ℤ → ℤ → ℕ → ℕ → ℕ → State × Response
+cursor_step state scanout x y id hot_x hot_y =
+    answered_by (refusal_of (cursor_refusals state scanout id hot_x hot_y)) state
+    (with_cursor state scanout (cursor_change state x y id hot_x hot_y))
+
+-- MOVE_CURSOR is refused for a scanout that there isn't; for too many bytes of frames with one of the scanout.
+abbrev pub move_refusals : State → ℕ → List (Bool × ℕ)
+move_refusals state scanout =
+    (nat_le (length state.setup.displays) scanout, ERR_INVALID_SCANOUT_ID)
+    ∷ (is_past_limit scanout state.scanouts, ERR_OUT_OF_MEMORY)
+    ∷ []
+
+abbrev pub move_step : State → ℕ → ℤ → ℤ → State × Response
+move_step state scanout x y =
+    answered_by (refusal_of (move_refusals state scanout)) state (with_cursor state scanout (placed_at x y))
 
 -- A command that the display doesn't do yet.
 abbrev pub undone_refusals : List (Bool × ℕ)
@@ -221,14 +257,15 @@ undone_refusals = (true, ERR_UNSPEC) ∷ []
 abbrev pub undone_step : State → State × Response
 undone_step state = answered_by (refusal_of undone_refusals) state state
 
--- What a command does and answers. MOVE_CURSOR, and the commands of blobs and contexts, are to come.
+-- What a command does and answers. The commands of blobs and contexts are to come.
 abbrev pub command_step : State → Command → State × Response
 command_step state (TwoD command) = two_d_step state command
 command_step state (CapsetInfo index) = capset_step state
 command_step state (Capset id version) = capset_step state
 command_step state (Edid scanout) = edid_step state scanout
 command_step state (AssignUuid resource) = assign_step state resource
-command_step state (UpdateCursor scanout x y resource hot_x hot_y) = cursor_step state scanout resource
+command_step state (UpdateCursor scanout x y resource hot_x hot_y) = cursor_step state scanout x y resource hot_x hot_y
+command_step state (MoveCursor scanout x y) = move_step state scanout x y
 command_step state _ = undone_step state
 
 -- What a command that changes something is answered where it isn't refused.

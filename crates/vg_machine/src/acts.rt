@@ -224,7 +224,7 @@ impl Display {
         ensures step { drop_step self.old client scanout ≡ (self.new, result) }
         ensures holds { holds.new ≡ update holds.old (acts.Drop scanout) result }
     {
-        let shown = self.scanouts.binding(scanout).is_some();
+        let shown = self.scanouts.binding(scanout).is_some() || self.has_cursor(scanout);
         match self.share.drop_scanout(client, scanout, shown) {
             Ok(()) => {
                 remove_number(&mut holds.scanouts, scanout);

@@ -8,9 +8,9 @@ ghost use Rattle.vg_machine.specs.Step.{attach_step, create_step, detach_step, f
 
 use crate::display::Display;
 use crate::receive::receive;
-use crate::scanout::Binding;
 use std::alloc::{AllocError, Global};
 use vg_formats::{MemEntry, Rect};
+use vg_scanout::Binding;
 use vg_wire::kinds::{ERR_INVALID_PARAMETER, ERR_INVALID_RESOURCE_ID, ERR_INVALID_SCANOUT_ID};
 use vg_wire::{Command2d, Modes};
 use vg_wire_ext::Response;
@@ -152,7 +152,7 @@ impl Display {
         let pixels = surface.pixels.as_slice();
         let done = self
             .scanouts
-            .flush(alloc, self.entries, resource, rect, pixels)?;
+            .flush(alloc, self.entries, resource, rect, pixels, &self.cursors)?;
         Ok(response_of(done))
     }
 

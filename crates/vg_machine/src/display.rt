@@ -14,16 +14,17 @@ use crate::act::{Act, ActReply};
 use crate::features::is_usable;
 use crate::history::{Reply, Request};
 use crate::holds::Holds;
-use crate::scanout::{Frame, Scanouts};
 use crate::setup::Setup;
 use crate::share::Share;
 use crate::uuids::Uuids;
 use std::alloc::{AllocError, Global};
 use std::marker::Model;
 use vg_chain::Shape;
+use vg_cursor::Cursors;
 use vg_list::Seq;
 use vg_pages::Pages;
 use vg_resource::Resources;
+use vg_scanout::{Frame, Scanouts};
 use vg_transfer::Backings;
 use vg_wire::kinds::ERR_UNSPEC;
 use vg_wire::{Header, Queue, read_header};
@@ -38,6 +39,7 @@ pub struct Display {
     pub(crate) resources: Resources,
     pub(crate) backings: Backings,
     pub(crate) uuids: Uuids,
+    pub(crate) cursors: Cursors,
     pub(crate) scanouts: Scanouts,
     pub(crate) share: Share,
 }
@@ -47,9 +49,9 @@ impl Model for Display {
 
     ghost Value = { State };
 
-    ghost view = { λ d. record { setup = d.setup; entries = d.entries; memory = d.pages; resources = d.resources; backings = d.backings; uuids = d.uuids; scanouts = d.scanouts; share = d.share } };
+    ghost view = { λ d. record { setup = d.setup; entries = d.entries; memory = d.pages; resources = d.resources; backings = d.backings; uuids = d.uuids; cursors = d.cursors; scanouts = d.scanouts.state; share = d.share } };
 
-    ghost invariant = { λ d. IsConsistent (record { setup = d.setup; entries = d.entries; memory = d.pages; resources = d.resources; backings = d.backings; uuids = d.uuids; scanouts = d.scanouts; share = d.share }) };
+    ghost invariant = { λ d. IsConsistent (record { setup = d.setup; entries = d.entries; memory = d.pages; resources = d.resources; backings = d.backings; uuids = d.uuids; cursors = d.cursors; scanouts = d.scanouts.state; share = d.share }) };
 }
 
 impl Display {
@@ -66,6 +68,7 @@ impl Display {
             resources: Resources::new(alloc),
             backings: Backings::new(alloc),
             uuids: Uuids::new(alloc),
+            cursors: Cursors::new(alloc, count)?,
             scanouts: Scanouts::new(alloc, count)?,
             share: Share::new(alloc, count)?,
         })
@@ -152,8 +155,27 @@ impl Display {
         done
     }
 
-    /// Does the act of a client, and gives its reply twice. What the client holds changes with it.
+    /// Does the act of a client, whose holds these are, and gives its reply twice. What the client holds changes with it.
     pub fn act(
+        &mut self,
+        alloc: Global,
+        client: u32,
+        holds: &mut Holds,
+        act: &Act,
+    ) -> Result<(ActReply, ActReply), AllocError>
+        requires entries { self.old.entries < 2 ^ 31 - 1 }
+        requires whose { holds.old.client ≡ client }
+        ensures step { IfOk result (λ twice. (self.new, twice.0) ≡ act_step self.old client act.now) }
+        ensures same { IfOk result (λ twice. twice.1 ≡ twice.0) }
+        ensures refused { IfOk result (λ twice. KeepsIfRefused twice.0 (counted self.old) self.new) }
+        ensures holds { IfOk result (λ twice. holds.new ≡ update holds.old act.now twice.0) }
+        ensures err { OnErr result ((self.new ≡ self.old) × (holds.new ≡ holds.old)) }
+    {
+        self.act_as(alloc, client, holds, act)
+    }
+
+    /// Does an act in a client's name: whoever calls this sees to it that the holds are that client's.
+    pub(crate) fn act_as(
         &mut self,
         alloc: Global,
         client: u32,

@@ -1,13 +1,15 @@
-//! What the 2D commands mean for each pixel (VIRTIO 1.2, 5.7.6.8): laws on a display's own steps, each the contract of a
+//! What commands mean for each pixel (VIRTIO 1.2, 5.7.6.8 and 5.7.6.10): laws on a display's own steps, each the contract of a
 //! function that does no work.
 
-ghost use Rattle.std.specs.Prelude.{◌≡◌, ℕ};
+ghost use Rattle.std.specs.Prelude.{◌≡◌, ◌+◌, ℕ};
 ghost use Rattle.vg_formats.specs.declared.rect.Rect.{Rect};
+ghost use Rattle.vg_scanout.specs.FrameOf.{MakesFrames};
+ghost use Rattle.vg_wire_ext.specs.declared.command.Command.{Command};
 ghost use Rattle.vg_wire_ext.specs.declared.response.Response.TheVariants as responses;
 ghost use Rattle.vg_wire.specs.declared.two_d.Command2d.TheVariants as commands;
 ghost use Rattle.vg_machine.specs.Pixels.{CopiesEachPixel, ShowsEachPixel};
 ghost use Rattle.vg_machine.specs.State.{counted};
-ghost use Rattle.vg_machine.specs.Step.{two_d_step};
+ghost use Rattle.vg_machine.specs.Step.{command_step, two_d_step};
 
 use crate::display::Display;
 
@@ -34,5 +36,14 @@ impl Display {
         let _ = &self.setup;
         self.resources.are_whole();
         self.backings.a_transfer_copies_each_pixel(&self.pages);
+    }
+
+    /// A law, and no work: each frame that a command makes shows its scanout's screen, pixel by pixel, and over it the scanout's
+    /// cursor where that is shown, both as they are once the command is done. The frames of before stay.
+    pub fn each_frame_is_of_its_screen(&self)
+        ensures { (command : Command) → MakesFrames (self.now.entries + 1) (command_step (counted self.now) command).0.cursors self.now.scanouts (command_step (counted self.now) command).0.scanouts }
+    {
+        let _ = &self.setup;
+        self.scanouts.each_frame_is_of_its_screen();
     }
 }

@@ -59,7 +59,7 @@ impl Machine for Display {
         holds: &mut Holds,
         act: &Act,
     ) -> Result<(ActReply, ActReply), AllocError> {
-        Display::act(self, alloc, client, holds, act)
+        self.act_as(alloc, client, holds, act)
     }
 
     fn request(&mut self, alloc: Global, request: &Request) -> Result<(Reply, Reply), AllocError> {

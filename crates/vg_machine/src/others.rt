@@ -1,10 +1,9 @@
-//! What the commands beside the 2D ones do (VIRTIO 1.2, 5.7.6.8 and 5.7.6.10), one function each.
+//! What the commands beside the 2D ones do (VIRTIO 1.2, 5.7.6.8), one function each.
 
 ghost use Rattle.std.specs.Prelude.{◌≡◌, ◌<◌, ◌-◌, ◌^◌, IfOk, OnErr};
 ghost use Rattle.vg_wire_ext.specs.Commands.{FitsEntries};
-ghost use Rattle.vg_machine.specs.Step.{assign_step, command_step, cursor_step, edid_step};
+ghost use Rattle.vg_machine.specs.Step.{assign_step, command_step, edid_step};
 
-use crate::commands::response_of;
 use crate::display::Display;
 use std::alloc::{AllocError, Global};
 use vg_edid::edid;
@@ -31,9 +30,13 @@ impl Display {
             Command::AssignUuid { resource } => self.assign_uuid(*resource),
             Command::UpdateCursor {
                 scanout,
+                x,
+                y,
                 resource,
-                ..
-            } => self.update_cursor(alloc, *scanout, *resource),
+                hot_x,
+                hot_y,
+            } => self.update_cursor(alloc, *scanout, *x, *y, *resource, *hot_x, *hot_y),
+            Command::MoveCursor { scanout, x, y } => self.move_cursor(alloc, *scanout, *x, *y),
             _ => Ok(Response::Error { code: ERR_UNSPEC }),
         }
     }
@@ -67,27 +70,5 @@ impl Display {
         Ok(Response::Uuid {
             bytes: uuid.into_bytes(),
         })
-    }
-
-    /// Hides a cursor: a resource can't be shown as one yet.
-    fn update_cursor(
-        &mut self,
-        alloc: Global,
-        scanout: u32,
-        resource: u32,
-    ) -> Result<Response, AllocError>
-        ensures step { IfOk result (λ response. cursor_step self.old scanout resource ≡ (self.new, response)) }
-        ensures err { OnErr result (self.new ≡ self.old) }
-    {
-        if resource != 0 {
-            return Ok(Response::Error { code: ERR_UNSPEC });
-        }
-        if self.setup.displays.len() <= scanout as usize {
-            return Ok(Response::Error {
-                code: ERR_INVALID_SCANOUT_ID,
-            });
-        }
-        let done = self.scanouts.snap(alloc, self.entries, scanout)?;
-        Ok(response_of(done))
     }
 }

@@ -1,6 +1,6 @@
 -- What a client holds after one entry more, and what was allowed to it.
-use Rattle.std.proofs.Common.{◌≡◌, ◌+◌, ◌<◌, ◌==◌, ◌∙◌, sym, ap, refl, subst, arith, ℕ, Bool, true, false, cond, List, [], ◌∷◌, ◌++◌, append_assoc, append-nil}
-use Rattle.std.specs.List.{AllByRecursion, fold}
+use Rattle.std.proofs.Common.{◌≡◌, ◌==◌, ◌∙◌, ap, refl, subst, arith, ℕ, Bool, true, false, cond, List, [], ◌∷◌, ◌++◌, append_assoc, append-nil}
+use Rattle.std.specs.List.{fold}
 use Rattle.std.proofs.lemmas.Bool.Decides.{nat_tests}
 use Rattle.vg_machine.specs.declared.setup.Setup.{Setup}
 use Rattle.vg_machine.specs.declared.holds.Holds.{Holds}
@@ -11,8 +11,7 @@ use Rattle.vg_machine.specs.declared.act.ActReply.TheVariants as act_replies
 use Rattle.vg_machine.specs.Entries.{Entry}
 use Rattle.vg_history.specs.declared.entry.Entry.TheVariants as entries
 use Rattle.vg_machine.specs.Holds.{first_holds, update}
-use Rattle.vg_machine.specs.Order.{AreAllowed, IsAllowed, client_of, holds_after, holds_of, of_client, updated}
-use Rattle.vg_run.specs.Session.{IsOwned}
+use Rattle.vg_machine.specs.Order.{AreAllowed, IsAllowed, client_of, holds_after, holds_of, updated}
 use Rattle.vg_run.proofs.ReplayLemmas.{fold-more}
 
 -- an act changes neither whose the holds are nor how many displays there are
@@ -56,20 +55,3 @@ allowed-more setup before (first ∷ more) entry allowed here =
     let moved : before ++ (first ∷ more) ≡ (before ++ first ∷ []) ++ more = simp append_assoc in
     let P : List Entry → Type 0 = λ xs. IsAllowed (holds_of setup (client_of entry) xs) entry in
     (allowed.0, allowed-more setup (before ++ first ∷ []) more entry allowed.1 (subst P moved here))
-
--- a client of a greater number than any that has entries holds nothing yet
-none-held : (holds : Holds) (clients : ℕ) (H : List Entry) → clients < holds.client → AllByRecursion (IsOwned clients) H → fold holds_after holds H ≡ holds
-none-held holds clients [] above owners = refl
-none-held holds clients (entry ∷ more) above owners =
-    let test : (client_of entry == holds.client) ≡ false = grind (arith, nat_tests, owners.0.1) in
-    rw test (none-held holds clients more above owners.1)
-
-pub new-holds : (setup : Setup) (clients : ℕ) (H : List Entry) → AllByRecursion (IsOwned clients) H → first_holds setup (clients + 1) ≡ holds_of setup (clients + 1) H
-new-holds setup clients H owners = sym (none-held (first_holds setup (clients + 1)) clients H (omega arith) owners)
-
--- and none of the entries are its own
-pub new-mine : (clients : ℕ) (H : List Entry) → AllByRecursion (IsOwned clients) H → of_client (clients + 1) H ≡ []
-new-mine clients [] owners = refl
-new-mine clients (entry ∷ more) owners =
-    let test : (client_of entry == clients + 1) ≡ false = grind (arith, nat_tests, owners.0.1) in
-    rw test (new-mine clients more owners.1)

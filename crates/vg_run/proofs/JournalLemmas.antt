@@ -1,6 +1,6 @@
 use Rattle.std.proofs.Common.{ℕ, codes, ◌≡◌, List, [], ◌++◌, length, Option, ap, ◌∙◌, refl, subst, arith, sym, append_assoc, length-append}
 use Rattle.vg_io.specs.Streams.{TakesPart, TakesSome}
-use Rattle.vg_machine.specs.declared.scanout.Frame.{Frame}
+use Rattle.vg_scanout.specs.declared.scanout.Frame.{Frame}
 use Rattle.vg_machine.specs.Entries.{Entry}
 use Rattle.vg_run.specs.declared.journal.Journal.{Journal}
 use Rattle.vg_run.specs.Printing.{Printed, PrintedSome}

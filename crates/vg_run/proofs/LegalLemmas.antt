@@ -1,33 +1,43 @@
 -- The journal of what a session gives.
-use Rattle.std.proofs.Common.{◌≡◌, ◌<◌, ◌≤◌, ◌+◌, ◌∙◌, ap, subst, arith, ℕ, Bool, true, false, cond, List, count_by, get_or, length, take}
+use Rattle.std.proofs.Common.{◌≡◌, ◌<◌, ◌≤◌, ◌+◌, ◌∙◌, ap, subst, arith, ℕ, Bool, true, false, cond, List, Option, count_by, get_or, length, take}
 use Rattle.std.specs.List.{AllByRecursion}
 use Rattle.std.proofs.lemmas.List.{length-take}
 use Rattle.std.proofs.lemmas.List.Sums.{count_by-le-length, count_by_more_no, count_by_more_yes}
 use Rattle.vg_machine.specs.declared.setup.Setup.{Setup}
-use Rattle.vg_machine.specs.declared.scanout.Frame.{Frame}
+use Rattle.vg_scanout.specs.declared.scanout.Frame.{Frame}
 use Rattle.vg_machine.specs.Entries.{Entry}
 use Rattle.vg_machine.specs.Order.{Sound}
 use Rattle.vg_machine.specs.Replay.{replay}
 use Rattle.vg_script.specs.declared.types.Script.{Script}
-use Rattle.vg_run.specs.Legal.{FollowAll, IsLegalJournal, IsOfClients, Legal, is_on_control, is_on_cursor}
+use Rattle.vg_script.specs.declared.types.Line.{Line}
+use Rattle.vg_run.specs.Legal.{FollowAll, IsLegalJournal, Legal, is_on_control, is_on_cursor}
+use Rattle.vg_io.specs.Streams.{Takes, TakesPart, TakesSome}
+use Rattle.vg_run.specs.declared.journal.Journal.{Journal}
+use Rattle.vg_run.specs.declared.top.Status.{Status}
+use Rattle.vg_run.specs.declared.top.Status.TheVariants as statuses
+use Rattle.vg_run.specs.declared.top.Status.TheVariants.{Done, Usage, ReadFault, WriteFault, TooLong, NoMemory}
+use Rattle.vg_run.specs.Printing.{Written}
+use Rattle.vg_run.specs.Run.{IsOwned, IsRunOf}
+use Rattle.vg_run.specs.Status.{Ended}
+use Rattle.vg_run.specs.Text.{text_of}
 use Rattle.vg_run.specs.Setup.{setup_of}
 
-pub legal-journal : (script : Script) (setup ran : Setup) (H entries : List Entry) (frames : List Frame) (control cursor : ℕ) → setup ≡ setup_of script → ran ≡ setup → entries ≡ H
-    → Sound ran H → FollowAll setup 1 script.clients H → AllByRecursion (IsOfClients script) H
-    → frames ≡ (replay ran H).scanouts.frames → control ≡ count_by is_on_control entries → cursor ≡ count_by is_on_cursor entries
-    → IsLegalJournal script (record { setup = setup; entries = entries; control = control; cursor = cursor; frames = frames })
-legal-journal script setup ran H entries frames control cursor is_setup is_ran is_history sound follows owners is_frames is_control is_cursor =
+pub legal-journal : (script : Script) (setup : Setup) (clients : List (List Line)) (H entries : List Entry) (frames frames' : List Frame) (control cursor : ℕ) → setup ≡ setup_of script → clients ≡ script.clients → IsRunOf setup clients H frames
+    → entries ≡ H → frames' ≡ frames → control ≡ count_by is_on_control entries → cursor ≡ count_by is_on_cursor entries
+    → IsLegalJournal script (record { setup = setup; entries = entries; control = control; cursor = cursor; frames = frames' })
+legal-journal script setup clients H entries frames frames' control cursor is_setup are_clients run is_history is_frames is_control is_cursor =
     let Sounds : Setup → Type 0 = λ s. Sound s H in
-    let Follow : Setup → Type 0 = λ s. FollowAll s 1 script.clients H in
+    let Follow : Setup → List (List Line) → Type 0 = λ s cs. FollowAll s 1 cs H in
+    let Own : List (List Line) → Type 0 = λ cs. AllByRecursion (IsOwned (length cs)) H in
     let legal : Legal script H = record {
-      sound = subst Sounds (is_ran ∙ is_setup) sound;
-      follows = subst Follow is_setup follows;
-      clients = owners;
+      sound = subst Sounds is_setup run.sound;
+      follows = subst (λ (cs : List (List Line)). Follow (setup_of script) cs) are_clients (subst (λ (s : Setup). Follow s clients) is_setup run.follows);
+      clients = subst Own are_clients run.owners;
     } in (
       H,
       legal,
-      ap (λ (s : Setup). record { setup = s; entries = entries; control = control; cursor = cursor; frames = frames }) is_setup
-          ∙ ap (λ (fs : List Frame). record { setup = setup_of script; entries = entries; control = control; cursor = cursor; frames = fs }) (is_frames ∙ ap (λ (s : Setup). (replay s H).scanouts.frames) (is_ran ∙ is_setup))
+      ap (λ (s : Setup). record { setup = s; entries = entries; control = control; cursor = cursor; frames = frames' }) is_setup
+          ∙ ap (λ (fs : List Frame). record { setup = setup_of script; entries = entries; control = control; cursor = cursor; frames = fs }) (is_frames ∙ run.frames_are ∙ ap (λ (s : Setup). (replay s H).scanouts.frames) is_setup)
           ∙ ap (λ (n : ℕ). record { setup = setup_of script; entries = entries; control = n; cursor = cursor; frames = (replay (setup_of script) H).scanouts.frames }) is_control
           ∙ ap (λ (n : ℕ). record { setup = setup_of script; entries = entries; control = count_by is_on_control entries; cursor = n; frames = (replay (setup_of script) H).scanouts.frames }) is_cursor
           ∙ ap (λ (es : List Entry). record { setup = setup_of script; entries = es; control = count_by is_on_control es; cursor = count_by is_on_cursor es; frames = (replay (setup_of script) H).scanouts.frames }) is_history,
@@ -47,3 +57,20 @@ count-small test H i =
 pub one-most : (b : Bool) (n : ℕ) → n ≡ cond b 1 0 → n ≤ 1
 one-most true n is = omega (arith, is)
 one-most false n is = omega (arith, is)
+
+-- a journal that was written is that of a run that ended so
+pub written-ends : (status : Status) (script : Script) (journal : Journal) (held held' : Option (List ℕ)) (faults faults' : ℕ) → IsLegalJournal script journal → Written status (text_of journal) held held' faults faults'
+    → Ended status script held held' faults faults'
+written-ends Done script journal held held' faults faults' (H, legal, is) (takes, same) =
+    let P : Journal → Type 0 = λ j. Takes held held' (text_of j) in
+    ((H, legal, subst P is takes), same)
+written-ends WriteFault script journal held held' faults faults' (H, legal, is) (rose, takes) =
+    let P : Journal → Type 0 = λ j. TakesSome held held' (text_of j) in
+    (rose, (H, legal, subst P is takes))
+written-ends NoMemory script journal held held' faults faults' (H, legal, is) (takes, same) =
+    let P : Journal → Type 0 = λ j. TakesPart held held' (text_of j) in
+    ((H, legal, subst P is takes), same)
+written-ends Usage script journal held held' faults faults' legal written = written
+written-ends (statuses.Script line kind) script journal held held' faults faults' legal written = written
+written-ends ReadFault script journal held held' faults faults' legal written = written
+written-ends TooLong script journal held held' faults faults' legal written = written

@@ -5,6 +5,7 @@ pub mod RefLemmas
 pub mod TaskLemmas
 pub mod HoldsLemmas
 pub mod SessionLemmas
+pub mod LaneLemmas
 pub mod RequestLemmas
 pub mod ReplyLemmas
 pub mod SetupLemmas

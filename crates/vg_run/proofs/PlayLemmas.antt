@@ -31,7 +31,7 @@ use Rattle.vg_run.specs.Known.{Known}
 use Rattle.vg_run.specs.Names.{NamesState, is_generation, without_name}
 use Rattle.vg_run.specs.Requests.{IsFit}
 use Rattle.vg_run.specs.Table.{page_entry}
-use Rattle.vg_run.specs.Session.{Course, IsActive, IsAdded, IsPresent, leaves, mine_of}
+use Rattle.vg_run.specs.Session.{Course, IsActive, IsAdded, IsPresent, IsUnadded, Token, leaves, mine_of}
 use Rattle.vg_run.proofs.HoldsLemmas.{updated-kept}
 use Rattle.vg_run.proofs.OrderLemmas.{all-more}
 use Rattle.vg_run.proofs.TaskLemmas.{fit-append, weights-append}
@@ -138,28 +138,30 @@ small-more used used' known known' task entry small next learns =
     })
 
 -- how far a client has come with these tasks
-pub record IsPlaying (stops : Bool) (tasks0 : List Task) (old : Course) (client0 : Client) (now : Course) (client : Client) (left : List Task) : Type 0 where
+pub record IsPlaying {B : Type 0} (stops : Bool) (tasks0 : List Task) (old : Course) (client0 : Client B) (now : Course) (client : Client B) (left : List Task) : Type 0 where
   pub mine : List Entry
   pub on : HasGoneOn old client0 mine now client
   pub fit : AllByRecursion IsFit left
   pub room : length mine + weights left ≤ weights tasks0
-  pub played : Plays client0.account.number stops (known client0) tasks0 mine (known client) left
+  pub played : Plays client0.token.account.number stops (known client0) tasks0 mine (known client) left
 
 -- nothing is added
-pub added-none : (old : Course) (client : Client) → HasAdded old client [] old client
-added-none old client = record { setup = refl; clients = refl; number = refl; own = sym (append-nil _); entries = omega arith }
+pub added-none : {B : Type 0} (old : Course) (client : Client B) → HasAdded old client [] old client
+added-none old client = record { start = refl; clients = refl; number = refl; own = sym (append-nil _) }
+
+pub added-length : {B : Type 0} {old new : Course} {client client' : Client B} {mine : List Entry} → HasAdded old client mine new client' → length (mine_of client'.token) ≡ length (mine_of client.token) + length mine
+added-length {client = client} {mine = mine} added = ap (λ (xs : List Entry). length xs) added.own ∙ length-append (mine_of client.token) mine
 
 -- what is added, and then more
-pub added-then : (old now new : Course) (client0 client client' : Client) (mine more : List Entry) → HasAdded old client0 mine now client → HasAdded now client more new client' → HasAdded old client0 (mine ++ more) new client'
+pub added-then : {B : Type 0} (old now new : Course) (client0 client client' : Client B) (mine more : List Entry) → HasAdded old client0 mine now client → HasAdded now client more new client' → HasAdded old client0 (mine ++ more) new client'
 added-then old now new client0 client client' mine more one other = record {
-  setup = other.setup ∙ one.setup;
+  start = other.start ∙ one.start;
   clients = other.clients ∙ one.clients;
   number = other.number ∙ one.number;
   own = other.own ∙ ap (λ (xs : List Entry). xs ++ more) one.own ∙ append_assoc _ mine more;
-  entries = let both = length-append mine more in omega (arith, one.entries, other.entries, both);
 }
 
-pub playing-first : (stops : Bool) (tasks : List Task) (course : Course) (client : Client) → IsReady course client → AllByRecursion IsFit tasks → IsPlaying stops tasks course client course client tasks
+pub playing-first : {B : Type 0} (stops : Bool) (tasks : List Task) (course : Course) (client : Client B) → IsReady course client → AllByRecursion IsFit tasks → IsPlaying stops tasks course client course client tasks
 playing-first stops tasks course client ready fit = record {
   mine = [];
   on = record { added = added-none course client; displays = refl; made = omega arith; ready = ready };
@@ -175,33 +177,32 @@ learned-is known0 known task entry holds names shows =
     ∙ ap (λ (ns : NamesState). record { holds = updated known0.holds entry; names = ns; shows = known.shows }) names
     ∙ ap (λ (ss : List (Option ℕ)). record { holds = updated known0.holds entry; names = names_after task.change (given_of entry) known0.names; shows = ss }) shows
 
--- the client after it learned from a task that was done; it has the account that it had
-pub added-same : (old new : Course) (client client' client'' : Client) (mine : List Entry) → HasAdded old client mine new client' → client''.account ≡ client'.account → HasAdded old client mine new client''
+-- the client after it learned from a task that was done; it has the token that it had
+pub added-same : {B : Type 0} (old new : Course) (client client' client'' : Client B) (mine : List Entry) → HasAdded old client mine new client' → client''.token ≡ client'.token → HasAdded old client mine new client''
 added-same old new client client' client'' mine added same = record {
-  setup = added.setup;
+  start = added.start;
   clients = added.clients;
-  number = ap (λ a. a.number) same ∙ added.number;
-  own = ap (λ a. mine_of a new) same ∙ added.own;
-  entries = added.entries;
+  number = ap (λ (t : Token). t.account.number) same ∙ added.number;
+  own = ap mine_of same ∙ added.own;
 }
 
 -- the tasks with the next one done
-next-plays : (stops : Bool) (tasks0 : List Task) (old now : Course) (client0 client : Client) (left left1 : List Task) (task : Task) (entry : Entry) → (playing : IsPlaying stops tasks0 old client0 now client left) → left ≡ task ∷ left1
-    → IsDone client.account.number client.account.holds task.deed entry
-    → Plays client0.account.number stops (known client0) tasks0 (playing.mine ++ entry ∷ []) (learned (known client) task entry) (left_after stops task.change (given_of entry) left1)
+next-plays : {B : Type 0} (stops : Bool) (tasks0 : List Task) (old now : Course) (client0 client : Client B) (left left1 : List Task) (task : Task) (entry : Entry) → (playing : IsPlaying stops tasks0 old client0 now client left) → left ≡ task ∷ left1
+    → IsDone client.token.account.number client.token.account.holds task.deed entry
+    → Plays client0.token.account.number stops (known client0) tasks0 (playing.mine ++ entry ∷ []) (learned (known client) task entry) (left_after stops task.change (given_of entry) left1)
 next-plays stops tasks0 old now client0 client left left1 task entry playing first made =
-    let Left : List Task → Type 0 = λ ts. Plays client0.account.number stops (known client0) tasks0 playing.mine (known client) ts in
-    let Owner : ℕ → Type 0 = λ n. IsDone n client.account.holds task.deed entry in
-    plays-more client0.account.number stops (known client0) tasks0 playing.mine (known client) task left1 entry (subst Left first playing.played) (subst Owner playing.on.added.number made)
+    let Left : List Task → Type 0 = λ ts. Plays client0.token.account.number stops (known client0) tasks0 playing.mine (known client) ts in
+    let Owner : ℕ → Type 0 = λ n. IsDone n client.token.account.holds task.deed entry in
+    plays-more client0.token.account.number stops (known client0) tasks0 playing.mine (known client) task left1 entry (subst Left first playing.played) (subst Owner playing.on.added.number made)
 
-pub playing-more : (stops : Bool) (tasks0 : List Task) (old now new : Course) (client0 client client' client'' : Client) (left left1 left' : List Task) (task : Task) (entry : Entry) (given : Given)
-    → IsPlaying stops tasks0 old client0 now client left → left ≡ task ∷ left1 → IsDone client.account.number client.account.holds task.deed entry → HasDone now client entry given new client' → IsFewPages given
-    → client''.account ≡ client'.account → client''.names ≡ names_after task.change given client'.names → client''.shows.items ≡ shows_after task.change given client'.shows.items → left' ≡ left_after stops task.change given left1
+pub playing-more : {B : Type 0} (stops : Bool) (tasks0 : List Task) (old now new : Course) (client0 client client' client'' : Client B) (left left1 left' : List Task) (task : Task) (entry : Entry) (given : Given)
+    → IsPlaying stops tasks0 old client0 now client left → left ≡ task ∷ left1 → IsDone client.token.account.number client.token.account.holds task.deed entry → HasDone now client entry given new client' → IsFewPages given
+    → client''.token ≡ client'.token → client''.names ≡ names_after task.change given client'.names → client''.shows.items ≡ shows_after task.change given client'.shows.items → left' ≡ left_after stops task.change given left1
     → IsPlaying stops tasks0 old client0 new client'' left'
 playing-more stops tasks0 old now new client0 client client' client'' left left1 left' task entry given playing first made done few same names shows leaves =
     let is = done.given_is in
     let learns : known client'' ≡ learned (known client) task entry =
-    learned-is (known client) (known client'') task entry (ap (λ a. a.holds) same ∙ done.holds)
+    learned-is (known client) (known client'') task entry (ap (λ (t : Token). t.account.holds) same ∙ done.holds)
     (names ∙ ap (λ (g : Given). names_after task.change g client'.names) is ∙ ap (names_after task.change (given_of entry)) done.names)
     (shows ∙ ap (λ (g : Given). shows_after task.change g client'.shows.items) is ∙ ap (shows_after task.change (given_of entry)) done.shows) in
     let left_is : left' ≡ left_after stops task.change (given_of entry) left1 = leaves ∙ ap (λ (g : Given). left_after stops task.change g left1) is in
@@ -214,21 +215,20 @@ playing-more stops tasks0 old now new client0 client client' client'' left left1
     let other : weights left ≡ weights (task ∷ left1) = ap weights first in
     omega (arith, one, other, step) in
     let longer = length-append playing.mine (entry ∷ []) in
-    let used : client''.account.used ≡ client.account.used + 1 = ap (λ a. a.used) same ∙ done.used in
+    let used : client''.token.account.used ≡ client.token.account.used + 1 = ap (λ (t : Token). t.account.used) same ∙ done.used in
     let added = added-then old now new client0 client client'' playing.mine (entry ∷ []) playing.on.added (added-same now new client client' client'' (entry ∷ []) done.added same) in
     let little = names-little task.change (given_of entry) client.names playing.on.ready.small.current in
     let made_is : client''.names.made ≡ (names_after task.change (given_of entry) client.names).made = ap (λ (k : Known). k.names.made) learns in
-    let Ready : Client → Type 0 = λ k. IsActive new k.account in
-    let Plays_to : Known → List Task → Type 0 = λ k ts. Plays client0.account.number stops (known client0) tasks0 (playing.mine ++ entry ∷ []) k ts in
+    let Plays_to : Known → List Task → Type 0 = λ k ts. Plays client0.token.account.number stops (known client0) tasks0 (playing.mine ++ entry ∷ []) k ts in
     record {
       mine = playing.mine ++ entry ∷ [];
       on = record {
         added = added;
-        displays = ap (λ (k : Known). k.holds.displays) learns ∙ (updated-kept client.account.holds entry).displays ∙ playing.on.displays;
+        displays = ap (λ (k : Known). k.holds.displays) learns ∙ (updated-kept client.token.account.holds entry).displays ∙ playing.on.displays;
         made = omega (arith, little.2, made_is, playing.on.made);
         ready = record {
-          active = subst (λ a. IsActive new a) (sym same) done.active;
-          small = small-more client.account.used client''.account.used (known client) (known client'') task entry playing.on.ready.small used learns;
+          active = subst (λ (t : Token). IsActive new t) (sym same) done.active;
+          small = small-more client.token.account.used client''.token.account.used (known client) (known client'') task entry playing.on.ready.small used learns;
         };
       };
       fit = subst Fit (sym left_is) (left-fit stops task.change (given_of entry) left1 (subst Few is few) fits.1);
@@ -238,25 +238,25 @@ playing-more stops tasks0 old now new client0 client client' client'' left left1
     }
 
 -- what stands where memory lacks
-abbrev pub Stood : Bool → List Task → Course → Client → Course → Client → Type 0
-Stood stops tasks0 old client0 new client' = (mine : List Entry) × IsFrontOf client0.account.number stops (known client0) tasks0 mine × HasAdded old client0 mine new client'
+abbrev pub Stood : {B : Type 0} → Bool → List Task → Course → Client B → Course → Client B → Type 0
+Stood stops tasks0 old client0 new client' = (mine : List Entry) × IsFrontOf client0.token.account.number stops (known client0) tasks0 mine × HasAdded old client0 mine new client'
 
-pub stood-make : (stops : Bool) (tasks0 : List Task) (old now new : Course) (client0 client client' : Client) (left left1 : List Task) (task : Task) (more : List Entry)
-    → IsPlaying stops tasks0 old client0 now client left → left ≡ task ∷ left1 → IsBegun client.account.number client.account.holds task.deed more → HasAdded now client more new client' → Stood stops tasks0 old client0 new client'
+pub stood-make : {B : Type 0} (stops : Bool) (tasks0 : List Task) (old now new : Course) (client0 client client' : Client B) (left left1 : List Task) (task : Task) (more : List Entry)
+    → IsPlaying stops tasks0 old client0 now client left → left ≡ task ∷ left1 → IsBegun client.token.account.number client.token.account.holds task.deed more → HasAdded now client more new client' → Stood stops tasks0 old client0 new client'
 stood-make stops tasks0 old now new client0 client client' left left1 task more playing first (inl none) added =
-    let All : List Entry → Type 0 = λ xs. Plays client0.account.number stops (known client0) tasks0 xs (known client) left in
+    let All : List Entry → Type 0 = λ xs. Plays client0.token.account.number stops (known client0) tasks0 xs (known client) left in
     let same : playing.mine ++ more ≡ playing.mine = ap (λ (xs : List Entry). playing.mine ++ xs) none ∙ append-nil playing.mine in
     (playing.mine ++ more, (known client, left, subst All (sym same) playing.played), added-then old now new client0 client client' playing.mine more playing.on.added added)
 stood-make stops tasks0 old now new client0 client client' left left1 task more playing first (inr (entry, made, is)) added =
-    let All : List Entry → Type 0 = λ xs. Plays client0.account.number stops (known client0) tasks0 xs (learned (known client) task entry) (left_after stops task.change (given_of entry) left1) in
+    let All : List Entry → Type 0 = λ xs. Plays client0.token.account.number stops (known client0) tasks0 xs (learned (known client) task entry) (left_after stops task.change (given_of entry) left1) in
     let same : playing.mine ++ more ≡ playing.mine ++ entry ∷ [] = ap (λ (xs : List Entry). playing.mine ++ xs) is in (
       playing.mine ++ more,
       (learned (known client) task entry, left_after stops task.change (given_of entry) left1, subst All (sym same) (next-plays stops tasks0 old now client0 client left left1 task entry playing first made)),
       added-then old now new client0 client client' playing.mine more playing.on.added added,
     )
 
-pub stood-done : (stops : Bool) (tasks0 : List Task) (old now new : Course) (client0 client client' client'' : Client) (left left1 : List Task) (task : Task) (entry : Entry) (given : Given)
-    → IsPlaying stops tasks0 old client0 now client left → left ≡ task ∷ left1 → IsDone client.account.number client.account.holds task.deed entry → HasDone now client entry given new client' → client''.account ≡ client'.account
+pub stood-done : {B : Type 0} (stops : Bool) (tasks0 : List Task) (old now new : Course) (client0 client client' client'' : Client B) (left left1 : List Task) (task : Task) (entry : Entry) (given : Given)
+    → IsPlaying stops tasks0 old client0 now client left → left ≡ task ∷ left1 → IsDone client.token.account.number client.token.account.holds task.deed entry → HasDone now client entry given new client' → client''.token ≡ client'.token
     → Stood stops tasks0 old client0 new client''
 stood-done stops tasks0 old now new client0 client client' client'' left left1 task entry given playing first made done same = (
   playing.mine ++ entry ∷ [],
@@ -265,10 +265,10 @@ stood-done stops tasks0 old now new client0 client client' client'' left left1 t
 )
 
 -- all tasks are done
-pub played-all : (stops : Bool) (tasks0 : List Task) (old now : Course) (client0 client : Client) (left : List Task) → left ≡ [] → IsPlaying stops tasks0 old client0 now client left
-    → (mine : List Entry) × Plays client0.account.number stops (known client0) tasks0 mine (known client) [] × HasGoneOn old client0 mine now client × (length mine ≤ weights tasks0)
+pub played-all : {B : Type 0} (stops : Bool) (tasks0 : List Task) (old now : Course) (client0 client : Client B) (left : List Task) → left ≡ [] → IsPlaying stops tasks0 old client0 now client left
+    → (mine : List Entry) × Plays client0.token.account.number stops (known client0) tasks0 mine (known client) [] × HasGoneOn old client0 mine now client × (length mine ≤ weights tasks0)
 played-all stops tasks0 old now client0 client left none playing =
-    let Left : List Task → Type 0 = λ ts. Plays client0.account.number stops (known client0) tasks0 playing.mine (known client) ts in
+    let Left : List Task → Type 0 = λ ts. Plays client0.token.account.number stops (known client0) tasks0 playing.mine (known client) ts in
     (playing.mine, subst Left none playing.played, playing.on, omega (arith, playing.room))
 
 pub left-smaller : (stops : Bool) (task : Task) (given : Given) (left left1 left' : List Task) → left ≡ task ∷ left1 → left' ≡ left_after stops task.change given left1 → weights left' < weights left
@@ -292,34 +292,21 @@ plan-fits holds plan (Ok tasks) plans may = (plans.1, plans.2)
 plan-fits holds plan (Err what) plans may = may
 
 -- one entry more of a client, that it made by a task or to tell a denial
-pub done-by : (old new : Course) (client client' : Client) (entry : Entry) (holds : Holds) (given : Given) → IsAdded old client.account entry holds new client'.account → holds ≡ updated client.account.holds entry → IsPresent old client.account → is_leave entry ≡ false
+pub done-by : {B : Type 0} (old new : Course) (client client' : Client B) (entry : Entry) (given : Given) → IsAdded old client.token entry new client'.token → IsPresent client.token → is_leave entry ≡ false
     → client'.names ≡ client.names → client'.shows.items ≡ client.shows.items → given ≡ given_of entry → HasDone old client entry given new client'
-done-by old new client client' entry holds given is update present stays names shows given_is =
-    let used : client'.account.used ≡ client.account.used + 1 = ap (λ a. a.used) is.told in
-    let longer = length-append old.history (entry ∷ []) in
-    let grown : length new.history ≡ length old.history + 1 = ap (λ (k : Course). length k.history) is.course ∙ longer in
-    record {
-      added = added-by old new client client' entry holds is;
-      active = record {
-        account_is = is.account_is;
-        begun = omega (arith, used);
-        present = let P : List Entry → Type 0 = λ xs. AllByRecursion (λ e. is_leave e ≡ false) xs in subst P (sym is.mine) (all-more (λ e. is_leave e ≡ false) (mine_of client.account old) entry present stays);
-      };
-      used = used;
-      holds = ap (λ a. a.holds) is.told ∙ update;
-      names = names;
-      shows = shows;
-      given_is = given_is;
-    }
-  where
-    added-by : (old new : Course) (client client' : Client) (entry : Entry) (holds : Holds) → IsAdded old client.account entry holds new client'.account → HasAdded old client (entry ∷ []) new client'
-    added-by old new client client' entry holds is = record {
-      setup = ap (λ (k : Course). k.setup) is.course;
-      clients = ap (λ (k : Course). k.clients) is.course;
-      number = ap (λ a. a.number) is.told;
-      own = is.mine;
-      entries = ap (λ (k : Course). length k.history) is.course ∙ length-append old.history (entry ∷ []);
-    }
+done-by old new client client' entry given is present stays names shows given_is = record {
+  added = record { start = is.start; clients = is.clients; number = is.number; own = is.mine };
+  active = record {
+    account_is = is.account_is;
+    begun = let used = is.used in omega (arith, used);
+    present = let P : List Entry → Type 0 = λ xs. AllByRecursion (λ e. is_leave e ≡ false) xs in subst P (sym is.mine) (all-more (λ e. is_leave e ≡ false) (mine_of client.token) entry present stays);
+  };
+  used = is.used;
+  holds = is.holds;
+  names = names;
+  shows = shows;
+  given_is = given_is;
+}
 
 -- an act that doesn't leave is no leave
 pub stays-act : (client call : ℕ) (act : the_act.Act) (reply : ActReply) → leaves act ≡ false → is_leave (Act client call act reply) ≡ false
@@ -330,12 +317,10 @@ stays-act client call act reply e = refl
 pub given-is : (client call : ℕ) (act : the_act.Act) (reply : ActReply) (told : Bool) (given : Given) → told ≡ tells_denial act → given ≡ cond told givens.Denied (givens.Act reply) → given ≡ given_of (Act client call act reply)
 given-is client call act reply told given is made = made ∙ ap (λ (b : Bool). cond b givens.Denied (givens.Act reply)) is
 
--- what stands of one entry where memory lacked: nothing, or the entry
-pub begun-by : {R : Type 0} (old new : Course) (client client' : Client) (entry : R → Entry) → (new ≡ old) × (client'.account ≡ client.account)
+-- what stands of one entry where memory lacked: nothing
+pub begun-by : {B : Type 0} {R : Type 0} (old new : Course) (client client' : Client B) (entry : R → Entry) → IsUnadded old client.token new client'.token
     → (mine : List Entry) × ((mine ≡ []) ⊎ ((r : R) × (mine ≡ entry r ∷ []))) × HasAdded old client mine new client'
-begun-by old new client client' entry (same, kept) =
-    let P : Course → Type 0 = λ k. HasAdded old client [] k client' in
-    ([], inl refl, subst P (sym same) (added-same old old client client client' [] (added-none old client) kept))
+begun-by old new client client' entry kept = ([], inl refl, record { start = kept.start; clients = kept.clients; number = kept.number; own = kept.mine ∙ sym (append-nil _) })
 
 pub map_ok : {T E : Type 0} {P Q : T → Type 0} (r : Result T E) → ((x : T) → P x → Q x) → IfOk r P → IfOk r Q
 map_ok (Ok x) f p = f x p
@@ -346,24 +331,24 @@ map_err (Ok x) f a = tt
 map_err (Err e) f a = f a
 
 -- a denial that stands, or nothing, is what a request begins with that is denied
-pub begun-denied : (old new : Course) (client client' : Client) (requests : ℕ → Request) (denied : Option What) (what : What) → denied ≡ Some what
-    → (mine : List Entry) × ((mine ≡ []) ⊎ ((reply : ActReply) × (mine ≡ Act client.account.number (client.account.used + 1) (acts.Denied what) reply ∷ []))) × HasAdded old client mine new client'
-    → (mine : List Entry) × IsFrontOfAsked client.account.number denied requests mine × HasAdded old client mine new client'
+pub begun-denied : {B : Type 0} (old new : Course) (client client' : Client B) (requests : ℕ → Request) (denied : Option What) (what : What) → denied ≡ Some what
+    → (mine : List Entry) × ((mine ≡ []) ⊎ ((reply : ActReply) × (mine ≡ Act client.token.account.number (client.token.account.used + 1) (acts.Denied what) reply ∷ []))) × HasAdded old client mine new client'
+    → (mine : List Entry) × IsFrontOfAsked client.token.account.number denied requests mine × HasAdded old client mine new client'
 begun-denied old new client client' requests denied what is_denied (mine, inl none, added) = (mine, inl none, added)
 begun-denied old new client client' requests denied what is_denied (mine, inr (reply, is), added) =
-    let entry : Entry = Act client.account.number (client.account.used + 1) (acts.Denied what) reply in
-    let P : Option What → Type 0 = λ d. IsAsked client.account.number d requests entry in
-    (mine, inr (entry, subst P (sym is_denied) (client.account.used + 1, reply, refl), is), added)
+    let entry : Entry = Act client.token.account.number (client.token.account.used + 1) (acts.Denied what) reply in
+    let P : Option What → Type 0 = λ d. IsAsked client.token.account.number d requests entry in
+    (mine, inr (entry, subst P (sym is_denied) (client.token.account.used + 1, reply, refl), is), added)
 
 -- and one that was asked
-pub begun-asked : (old new : Course) (client client' : Client) (request : Request) (denied : Option What) → denied ≡ None
-    → (mine : List Entry) × ((mine ≡ []) ⊎ ((reply : Reply) × (mine ≡ Command client.account.number (client.account.used + 1) request reply ∷ []))) × HasAdded old client mine new client'
-    → (mine : List Entry) × IsFrontOfAsked client.account.number denied (λ _. request) mine × HasAdded old client mine new client'
+pub begun-asked : {B : Type 0} (old new : Course) (client client' : Client B) (request : Request) (denied : Option What) → denied ≡ None
+    → (mine : List Entry) × ((mine ≡ []) ⊎ ((reply : Reply) × (mine ≡ Command client.token.account.number (client.token.account.used + 1) request reply ∷ []))) × HasAdded old client mine new client'
+    → (mine : List Entry) × IsFrontOfAsked client.token.account.number denied (λ _. request) mine × HasAdded old client mine new client'
 begun-asked old new client client' request denied is_asked (mine, inl none, added) = (mine, inl none, added)
 begun-asked old new client client' request denied is_asked (mine, inr (reply, is), added) =
-    let entry : Entry = Command client.account.number (client.account.used + 1) request reply in
-    let P : Option What → Type 0 = λ d. IsAsked client.account.number d (λ _. request) entry in
-    (mine, inr (entry, subst P (sym is_asked) (client.account.used + 1, 0, reply, refl), is), added)
+    let entry : Entry = Command client.token.account.number (client.token.account.used + 1) request reply in
+    let P : Option What → Type 0 = λ d. IsAsked client.token.account.number d (λ _. request) entry in
+    (mine, inr (entry, subst P (sym is_asked) (client.token.account.used + 1, 0, reply, refl), is), added)
 
 -- what was asked as this request was asked as one of those that differ by their ordinals
 pub asked-as : (client ordinal : ℕ) (denied denied' : Option What) (request : Request) (requests : ℕ → Request) (entry : Entry) → denied ≡ denied' → request ≡ requests ordinal
@@ -376,37 +361,37 @@ asked-as client ordinal None denied' request requests entry same made asked =
     subst P same (asked.0, ordinal, asked.2, asked.3 ∙ ap (λ (r : Request). Command client asked.0 r asked.2) made)
 
 -- the same of an entry that was made
-pub done-asked : (old new : Course) (client client' : Client) (request : Request) (denied : Option What) → denied ≡ None → (given : Given)
-    → (reply : Reply) × HasDone old client (Command client.account.number (client.account.used + 1) request reply) given new client' × IsFewPages given
-    → (entry : Entry) × IsAsked client.account.number denied (λ _. request) entry × HasDone old client entry given new client' × IsFewPages given
+pub done-asked : {B : Type 0} (old new : Course) (client client' : Client B) (request : Request) (denied : Option What) → denied ≡ None → (given : Given)
+    → (reply : Reply) × HasDone old client (Command client.token.account.number (client.token.account.used + 1) request reply) given new client' × IsFewPages given
+    → (entry : Entry) × IsAsked client.token.account.number denied (λ _. request) entry × HasDone old client entry given new client' × IsFewPages given
 done-asked old new client client' request denied is_asked given (reply, done, few) =
-    let entry : Entry = Command client.account.number (client.account.used + 1) request reply in
-    let P : Option What → Type 0 = λ d. IsAsked client.account.number d (λ _. request) entry in
-    (entry, subst P (sym is_asked) (client.account.used + 1, 0, reply, refl), done, few)
+    let entry : Entry = Command client.token.account.number (client.token.account.used + 1) request reply in
+    let P : Option What → Type 0 = λ d. IsAsked client.token.account.number d (λ _. request) entry in
+    (entry, subst P (sym is_asked) (client.token.account.used + 1, 0, reply, refl), done, few)
 
-pub done-as : (old new : Course) (client client' : Client) (ordinal : ℕ) (denied denied' : Option What) (request : Request) (requests : ℕ → Request) → denied ≡ denied' → request ≡ requests ordinal → (given : Given)
-    → (entry : Entry) × IsAsked client.account.number denied (λ _. request) entry × HasDone old client entry given new client' × IsFewPages given
-    → (entry : Entry) × IsAsked client.account.number denied' requests entry × HasDone old client entry given new client' × IsFewPages given
+pub done-as : {B : Type 0} (old new : Course) (client client' : Client B) (ordinal : ℕ) (denied denied' : Option What) (request : Request) (requests : ℕ → Request) → denied ≡ denied' → request ≡ requests ordinal → (given : Given)
+    → (entry : Entry) × IsAsked client.token.account.number denied (λ _. request) entry × HasDone old client entry given new client' × IsFewPages given
+    → (entry : Entry) × IsAsked client.token.account.number denied' requests entry × HasDone old client entry given new client' × IsFewPages given
 done-as old new client client' ordinal denied denied' request requests same made given (entry, asked, done, few) =
-    (entry, asked-as client.account.number ordinal denied denied' request requests entry same made asked, done, few)
+    (entry, asked-as client.token.account.number ordinal denied denied' request requests entry same made asked, done, few)
 
-pub front-as : (old new : Course) (client client' : Client) (ordinal : ℕ) (denied denied' : Option What) (request : Request) (requests : ℕ → Request) → denied ≡ denied' → request ≡ requests ordinal
-    → (mine : List Entry) × IsFrontOfAsked client.account.number denied (λ _. request) mine × HasAdded old client mine new client'
-    → (mine : List Entry) × IsFrontOfAsked client.account.number denied' requests mine × HasAdded old client mine new client'
+pub front-as : {B : Type 0} (old new : Course) (client client' : Client B) (ordinal : ℕ) (denied denied' : Option What) (request : Request) (requests : ℕ → Request) → denied ≡ denied' → request ≡ requests ordinal
+    → (mine : List Entry) × IsFrontOfAsked client.token.account.number denied (λ _. request) mine × HasAdded old client mine new client'
+    → (mine : List Entry) × IsFrontOfAsked client.token.account.number denied' requests mine × HasAdded old client mine new client'
 front-as old new client client' ordinal denied denied' request requests same made (mine, inl none, added) = (mine, inl none, added)
 front-as old new client client' ordinal denied denied' request requests same made (mine, inr (entry, asked, is), added) =
-    (mine, inr (entry, asked-as client.account.number ordinal denied denied' request requests entry same made asked, is), added)
+    (mine, inr (entry, asked-as client.token.account.number ordinal denied denied' request requests entry same made asked, is), added)
 
 -- nothing stands yet
-pub begun-none : (course : Course) (client : Client) (deed : Deed) → (mine : List Entry) × IsBegun client.account.number client.account.holds deed mine × HasAdded course client mine course client
+pub begun-none : {B : Type 0} (course : Course) (client : Client B) (deed : Deed) → (mine : List Entry) × IsBegun client.token.account.number client.token.account.holds deed mine × HasAdded course client mine course client
 begun-none course client deed = ([], inl refl, added-none course client)
 
 -- an act that stands, or nothing, is what an act begins with
-pub begun-act : (old new : Course) (client client' : Client) (deed : Deed) (act : the_act.Act) → deed ≡ deeds.Act act
-    → (mine : List Entry) × ((mine ≡ []) ⊎ ((reply : ActReply) × (mine ≡ Act client.account.number (client.account.used + 1) act reply ∷ []))) × HasAdded old client mine new client'
-    → (mine : List Entry) × IsBegun client.account.number client.account.holds deed mine × HasAdded old client mine new client'
+pub begun-act : {B : Type 0} (old new : Course) (client client' : Client B) (deed : Deed) (act : the_act.Act) → deed ≡ deeds.Act act
+    → (mine : List Entry) × ((mine ≡ []) ⊎ ((reply : ActReply) × (mine ≡ Act client.token.account.number (client.token.account.used + 1) act reply ∷ []))) × HasAdded old client mine new client'
+    → (mine : List Entry) × IsBegun client.token.account.number client.token.account.holds deed mine × HasAdded old client mine new client'
 begun-act old new client client' deed act is (mine, inl none, added) = (mine, inl none, added)
 begun-act old new client client' deed act is (mine, inr (reply, one), added) =
-    let entry : Entry = Act client.account.number (client.account.used + 1) act reply in
-    let P : Deed → Type 0 = λ d. IsDone client.account.number client.account.holds d entry in
-    (mine, inr (entry, subst P (sym is) (client.account.used + 1, reply, refl), one), added)
+    let entry : Entry = Act client.token.account.number (client.token.account.used + 1) act reply in
+    let P : Deed → Type 0 = λ d. IsDone client.token.account.number client.token.account.holds d entry in
+    (mine, inr (entry, subst P (sym is) (client.token.account.used + 1, reply, refl), one), added)

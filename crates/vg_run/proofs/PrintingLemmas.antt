@@ -2,7 +2,7 @@ use Rattle.std.proofs.Common.{ℕ, codes, ◌≡◌, ◌+◌, ◌<◌, List, get
 use Rattle.std.proofs.lemmas.List.{take-append-drop, take_at}
 use Rattle.vg_io.specs.Streams.{Takes, TakesPart, TakesSome}
 use Rattle.vg_run.specs.Printing.{Printed, PrintedSome}
-use Rattle.vg_machine.specs.declared.scanout.Frame.{Frame}
+use Rattle.vg_scanout.specs.declared.scanout.Frame.{Frame}
 use Rattle.vg_run.specs.Text.{numbered, frame_line, frame_text}
 use Rattle.vg_run.proofs.NumberedLemmas.{numbered_append, written_more}
 

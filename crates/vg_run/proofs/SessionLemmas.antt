@@ -1,7 +1,7 @@
--- One entry more of a client keeps that the session's history is sound, and that the account tells of it.
-use Rattle.std.proofs.Common.{◌≡◌, ◌≢◌, ◌+◌, ◌<◌, ◌≤◌, ◌==◌, ◌&&◌, ◌∙◌, nat_le, bit_and, sym, ap, refl, subst, arith, ℕ, zero, suc, Bool, true, false, cond, List, [], ◌∷◌, ◌++◌, length, map, count_by, length-append, get_or, slice_set, replicate}
+-- One entry more of a client keeps what its token says of it.
+use Rattle.std.proofs.Common.{◌≡◌, ◌≢◌, ◌+◌, ◌<◌, ◌≤◌, ◌==◌, ◌&&◌, ◌∙◌, nat_le, bit_and, sym, ap, refl, subst, arith, ℕ, Bool, true, false, cond, List, [], ◌∷◌, ◌++◌, length, map, count_by, get_or, slice_set, Some}
 use Rattle.std.specs.List.{AllByRecursion, fold, range_with_len}
-use Rattle.std.proofs.lemmas.List.{get_or-set_other, get_or-set_same, length-set}
+use Rattle.std.proofs.lemmas.List.{get_or-set_other, get_or-set_same}
 use Rattle.std.proofs.lemmas.Bool.Decides.{nat_tests}
 use Rattle.vg_machine.specs.declared.setup.Setup.{Setup}
 use Rattle.vg_machine.specs.declared.act.Act as the_act
@@ -12,36 +12,33 @@ use Rattle.vg_history.specs.declared.entry.Entry.TheVariants.{Act, Command}
 use Rattle.vg_machine.specs.declared.history.Reply.{Reply}
 use Rattle.vg_machine.specs.declared.history.Request.{Request}
 use Rattle.vg_machine.specs.declared.holds.Holds.{Holds}
-use Rattle.vg_machine.specs.ActStep.{act_step}
-use Rattle.vg_machine.specs.Holds.{first_holds, update}
+use Rattle.vg_machine.specs.Holds.{first_holds}
 use Rattle.vg_machine.specs.Lane.{lane_of, lane_of_header}
 use Rattle.vg_wire.specs.declared.header.Header.{Header}
 use Rattle.vg_wire.specs.declared.request.Queue.{Queue}
 use Rattle.vg_wire.specs.declared.request.Queue.TheVariants.{Control, Cursor}
 use Rattle.vg_wire.specs.Header.{header_of}
 use Rattle.vg_machine.specs.State.{State, start}
-use Rattle.vg_machine.specs.Replay.{Agrees, HasReply, after, replay, request_step}
-use Rattle.vg_machine.specs.Order.{AreAllowed, IsAllowed, IsFirst, IsInOrder, call_of, client_of, holds_of, is_of_lane, of_client, updated}
-use Rattle.vg_run.specs.declared.session.Account.{Account}
-use Rattle.vg_run.specs.Session.{Course, IsAccount, IsAdded, IsAddedAct, IsAddedCommand, IsCourse, IsOwned, MayAct, MayAsk, MayBeDenied, mine_of, with_number}
-use Rattle.vg_run.proofs.HoldsLemmas.{allowed-more, fold-client, holds-more, new-holds, new-mine}
-use Rattle.vg_run.proofs.OrderLemmas.{all-more, in_order, numbered-length, numbered-more, of_client-few, of_client-more, order-more}
-use Rattle.vg_run.proofs.ReplayLemmas.{after-entries, after-setup, agrees-more, count_by-more, replay_from-more}
+use Rattle.vg_machine.specs.Replay.{AgreesFrom, display}
+use Rattle.vg_machine.specs.Order.{AreAllowed, AreInOrder, IsAllowed, IsFirst, IsInOrder, LaneOrder, call_of, client_of, holds_of, is_leave, is_of_lane, of_client, updated}
+use Rattle.vg_book.specs.Own.{IsInStep}
+use Rattle.vg_book.specs.Tokens.{Acted, Done, Drawn, MakesClient, TakesBack, TakesUnrun, Watched, finished_of}
+use Rattle.vg_book.specs.Views.{drawn, ordered_of, settled}
+use Rattle.vg_run.specs.Session.{Account, Course, IsAccount, IsAdded, IsAddedAct, IsAddedCommand, IsFresh, IsMade, IsPresent, IsReply, IsUnadded, MayAct, MayAsk, MayBeDenied, Pass, Root, Token, mine_of}
+use Rattle.vg_run.proofs.HoldsLemmas.{allowed-more, holds-more}
+use Rattle.vg_run.proofs.OrderLemmas.{all-more, in_order, numbered-length, numbered-more, of_client-all, order-more}
+use Rattle.vg_run.proofs.ReplayLemmas.{agrees-last, count_by-more}
 
 -- the counts of the lanes with one entry more
-pub record IsCountedMore (counts : List ℕ) (entry : Entry) (counts' : List ℕ) : Type 0 where
-  pub lanes : length counts' ≡ 66
-  pub more : (lane : ℕ) → lane < 66 → get_or counts' lane 0 ≡ get_or counts lane 0 + cond (is_of_lane lane entry) 1 0
+abbrev pub AreCountedMore : List ℕ → Entry → List ℕ → Type 0
+AreCountedMore counts entry counts' = (lane : ℕ) → lane < 66 → get_or counts' lane 0 ≡ get_or counts lane 0 + cond (is_of_lane lane entry) 1 0
 
-pub counted-act : (counts : List ℕ) (client call : ℕ) (act : the_act.Act) (reply : ActReply) → length counts ≡ 66 → IsCountedMore counts (Act client call act reply) counts
-counted-act counts client call act reply lanes = record { lanes = lanes; more = λ lane small. omega arith }
+pub counted-act : (counts : List ℕ) (client call : ℕ) (act : the_act.Act) (reply : ActReply) → AreCountedMore counts (Act client call act reply) counts
+counted-act counts client call act reply = λ lane small. omega arith
 
 pub counted-command : (counts : List ℕ) (client call : ℕ) (request : Request) (reply : Reply) → length counts ≡ 66 → request.lane < 66
-    → IsCountedMore counts (Command client call request reply) (slice_set counts request.lane (get_or counts request.lane 0 + 1))
-counted-command counts client call request reply lanes small = record {
-  lanes = length-set counts request.lane _ ∙ lanes;
-  more = λ lane within. by_test lane (request.lane == lane) refl;
-}
+    → AreCountedMore counts (Command client call request reply) (slice_set counts request.lane (get_or counts request.lane 0 + 1))
+counted-command counts client call request reply long small = λ lane within. by_test lane (request.lane == lane) refl
   where
     by_test : (lane : ℕ) (b : Bool) → (request.lane == lane) ≡ b → get_or (slice_set counts request.lane (get_or counts request.lane 0 + 1)) lane 0 ≡ get_or counts lane 0 + cond b 1 0
     by_test lane true is =
@@ -51,81 +48,65 @@ counted-command counts client call request reply lanes small = record {
         let other : lane ≢ request.lane = grind (arith, nat_tests, is) in
         get_or-set_other counts request.lane lane (get_or counts request.lane 0 + 1) 0 other ∙ omega arith
 
--- one entry more keeps the history sound
-pub course-more : (display new : State) (H : List Entry) (clients : ℕ) (counts counts' : List ℕ) (entry : Entry) → IsCourse display H clients counts → new ≡ after display entry → HasReply display entry
-    → IsCountedMore counts entry counts' → IsInOrder H entry → IsAllowed (holds_of display.setup (client_of entry) H) entry → IsOwned clients entry → IsCourse new (H ++ entry ∷ []) clients counts'
-course-more display new H clients counts counts' entry is step reply counted order allowed owner =
-    let setup : new.setup ≡ display.setup = ap (λ (s : State). s.setup) step ∙ after-setup display entry in
-    let next : new ≡ replay display.setup (H ++ entry ∷ []) = step ∙ ap (λ (s : State). after s entry) is.state ∙ sym (replay_from-more (start display.setup) H entry) in
-    let P : State → Type 0 = λ s. HasReply s entry in
-    let agrees : Agrees display.setup (H ++ entry ∷ []) = agrees-more (start display.setup) H entry is.agrees (subst P is.state reply) in
-    let Q : Setup → Type 0 = λ s. Agrees s (H ++ entry ∷ []) in
-    let R : Setup → Type 0 = λ s. AreAllowed s [] (H ++ entry ∷ []) in
-    record {
-      state = next ∙ ap (λ (s : Setup). replay s (H ++ entry ∷ [])) (sym setup);
-      agrees = subst Q (sym setup) agrees;
-      count = ap (λ (s : State). s.entries) step ∙ after-entries display entry ∙ simp length-append (omega (arith, is.count));
-      order = order-more [] H entry is.order order;
-      allowed = subst R (sym setup) (allowed-more display.setup [] H entry is.allowed allowed);
-      owners = all-more (IsOwned clients) H entry is.owners owner;
-      lanes = counted.lanes;
-      ordinals = λ lane small.
-          counted.more lane small ∙ ap (λ (n : ℕ). n + cond (is_of_lane lane entry) 1 0) (is.ordinals lane small) ∙ sym (count_by-more (is_of_lane lane) H entry);
-    }
+-- a client has drawn as many numbers as it has entries
+pub few-used : (course : Course) (token : Token) → IsAccount course token → token.account.used ≡ length (mine_of token)
+few-used course token is = sym (numbered-length (mine_of token) token.account.used is.numbers)
 
--- no command of any lane yet
-pub counts-none : (n lane : ℕ) → ◌≡◌ {A = ℕ} (get_or (replicate n 0) lane 0) 0
-counts-none zero lane = refl
-counts-none (suc n) zero = refl
-counts-none (suc n) (suc lane) = counts-none n lane
+-- what a token is after one entry more
+pub record IsMore (token : Token) (entry : Entry) (token' : Token) : Type 0 where
+  pub start : token'.start ≡ token.start
+  pub in_step : IsInStep token'
+  pub number : token'.account.number ≡ token.account.number
+  pub used : token'.account.used ≡ token.account.used + 1
+  pub holds : token'.account.holds ≡ updated token.account.holds entry
+  pub mine : mine_of token' ≡ mine_of token ++ entry ∷ []
 
--- an account tells of one entry more
-pub added : (old new : Course) (account account' : Account) (entry : Entry) (holds : Holds) → IsAccount old account → client_of entry ≡ account.number → call_of entry ≡ account.used + 1
-    → holds ≡ updated account.holds entry → new ≡ record { setup = old.setup; history = old.history ++ entry ∷ []; clients = old.clients } → account' ≡ with_number account holds → IsAdded old account entry holds new account'
-added old new account account' entry holds is owner number update course told =
-    let number_is : account'.number ≡ account.number = ap (λ (a : Account). a.number) told in
-    let used_is : account'.used ≡ account.used + 1 = ap (λ (a : Account). a.used) told in
-    let holds_is : account'.holds ≡ holds = ap (λ (a : Account). a.holds) told in
-    let history_is : new.history ≡ old.history ++ entry ∷ [] = ap (λ (k : Course). k.history) course in
-    let setup_is : new.setup ≡ old.setup = ap (λ (k : Course). k.setup) course in
-    let clients_is : new.clients ≡ old.clients = ap (λ (k : Course). k.clients) course in
-    let mine : mine_of account' new ≡ mine_of account old ++ entry ∷ [] =
-    ap (λ (n : ℕ). of_client n new.history) number_is ∙ ap (of_client account.number) history_is ∙ of_client-more account.number old.history entry owner in
+-- an entry that may be the client's next
+pub record IsNext (token : Token) (entry : Entry) : Type 0 where
+  pub owner : client_of entry ≡ token.account.number
+  pub number : call_of entry ≡ token.account.used + 1
+  pub lane : LaneOrder (mine_of token) entry
+  pub first : token.account.used ≡ 0 → IsFirst entry
+  pub allowed : IsAllowed token.account.holds entry
+
+pub entry-more : (old new : Course) (token token' : Token) (entry : Entry) → IsAccount old token → IsPresent token → IsNext token entry → IsMore token entry token'
+    → new.start ≡ old.start → new.clients ≡ old.clients → AreCountedMore old.counts entry new.counts → IsAdded old token entry new token'
+entry-more old new token token' entry is present next more start clients counts =
+    let n : ℕ = token.account.number in
+    let mine : List Entry = mine_of token in
+    let whole : of_client (client_of entry) mine ≡ mine = ap (λ (k : ℕ). of_client k mine) next.owner ∙ of_client-all n mine is.own in
+    let Present : List Entry → Type 0 = λ xs. AllByRecursion (λ e. is_leave e ≡ false) xs in
+    let order : IsInOrder mine entry = in_order mine token.account.used entry (ap (map call_of) whole ∙ is.numbers) (subst Present (sym whole) present) next.number next.lane next.first in
+    let Allow : Holds → Type 0 = λ h. IsAllowed h entry in
+    let allowed : IsAllowed (holds_of is.setup (client_of entry) mine) entry = subst Allow (is.holding ∙ ap (λ (k : ℕ). holds_of is.setup k mine) (sym next.owner)) next.allowed in
+    let Own : ℕ → List Entry → Type 0 = λ k xs. AllByRecursion (λ e. client_of e ≡ k) xs in
+    let Order : List Entry → Type 0 = λ xs. AreInOrder [] xs in
+    let Allowed : List Entry → Type 0 = λ xs. AreAllowed is.setup [] xs in
     record {
-      course = course;
-      told = told;
+      start = start;
+      clients = clients;
+      number = more.number;
+      used = more.used;
+      holds = more.holds;
+      mine = more.mine;
       account_is = record {
-        known = (omega (arith, is.known.0), omega (arith, is.known.1));
-        numbers = ap (map call_of) mine ∙ numbered-more (mine_of account old) account.used entry is.numbers number ∙ ap (range_with_len 1) (sym used_is);
+        setup = is.setup;
+        begun = start ∙ is.begun;
+        same = more.start ∙ is.same ∙ sym start;
+        in_step = more.in_step;
+        own = subst (λ (xs : List Entry). Own token'.account.number xs) (sym more.mine) (subst (λ (k : ℕ). Own k (mine ++ entry ∷ [])) (sym more.number) (all-more (λ e. client_of e ≡ n) mine entry is.own next.owner));
+        numbers = ap (map call_of) more.mine ∙ numbered-more mine token.account.used entry is.numbers next.number ∙ ap (range_with_len 1) (sym more.used);
         holding =
-            holds_is ∙ update ∙ ap (λ (h : Holds). updated h entry) is.holding ∙ sym (holds-more old.setup account.number old.history entry owner)
-            ∙ ap (λ (s : Setup). holds_of s account.number (old.history ++ entry ∷ [])) (sym setup_is)
-            ∙ ap (λ (n : ℕ). holds_of new.setup n (old.history ++ entry ∷ [])) (sym number_is)
-            ∙ ap (λ (xs : List Entry). holds_of new.setup account'.number xs) (sym history_is);
+            more.holds ∙ ap (λ (h : Holds). updated h entry) is.holding ∙ sym (holds-more is.setup n mine entry next.owner)
+            ∙ ap (λ (xs : List Entry). holds_of is.setup n xs) (sym more.mine)
+            ∙ ap (λ (k : ℕ). holds_of is.setup k (mine_of token')) (sym more.number);
+        order = subst Order (sym more.mine) (order-more [] mine entry is.order order);
+        allowed = subst Allowed (sym more.mine) (allowed-more is.setup [] mine entry is.allowed allowed);
+        counted = λ lane small.
+            counts lane small ∙ ap (λ (k : ℕ). k + cond (is_of_lane lane entry) 1 0) (is.counted lane small) ∙ sym (count_by-more (is_of_lane lane) mine entry)
+            ∙ ap (count_by (is_of_lane lane)) (sym more.mine);
       };
-      mine = mine;
     }
-
--- the account of a client that hasn't begun
-pub account-new : (old new : Course) (account : Account) → AllByRecursion (IsOwned old.clients) old.history → new ≡ record { setup = old.setup; history = old.history; clients = old.clients + 1 }
-    → account ≡ record { number = old.clients + 1; used = 0; holds = first_holds old.setup (old.clients + 1) } → IsAccount new account
-account-new old new account owners course told =
-    let P : Course → Type 0 = λ k. IsAccount k account in
-    let Q : Account → Type 0 = λ a. IsAccount (record { setup = old.setup; history = old.history; clients = old.clients + 1 }) a in
-    subst P (sym course) (subst Q (sym told) (record {
-      known = (omega arith, omega arith);
-      numbers = ap (map call_of) (new-mine old.clients old.history owners);
-      holding = new-holds old.setup old.clients old.history owners;
-    }))
-
--- with one client more each entry is still one of theirs
-pub owners-more : (clients : ℕ) (H : List Entry) → AllByRecursion (IsOwned clients) H → AllByRecursion (IsOwned (clients + 1)) H
-owners-more clients [] owners = tt
-owners-more clients (entry ∷ more) owners = ((owners.0.0, omega (arith, owners.0.1)), owners-more clients more owners.1)
-
--- an account's holds are its client's
-pub account-owner : (course : Course) (account : Account) → IsAccount course account → account.holds.client ≡ account.number
-account-owner course account is = ap (λ (h : Holds). h.client) is.holding ∙ fold-client (first_holds course.setup account.number) course.history
 
 -- what may be denied is allowed to stand
 may-allowed : (holds : Holds) (client call : ℕ) (act : the_act.Act) (reply : ActReply) → MayBeDenied holds act → IsAllowed holds (Act client call act reply)
@@ -138,99 +119,122 @@ first-act client call used act reply number first none =
     let one : call ≡ 1 = omega arith in
     subst P (sym (first none)) one
 
--- an act that may be the client's next stands in order, and is allowed
-pub act-in_order : (course : Course) (account : Account) (act : the_act.Act) (reply : ActReply) → MayAct course account act → IsInOrder course.history (Act account.number (account.used + 1) act reply)
-act-in_order course account act reply may =
-    in_order course.history account.used (Act account.number (account.used + 1) act reply) may.account_is.numbers may.present refl tt (first-act account.number (account.used + 1) account.used act reply refl may.first)
+-- a reply in a history that agrees is the display's in some state
+reply-in : (token : Token) (setup : Setup) (log : List Entry) (client call : ℕ) (act : the_act.Act) (reply : ActReply) → token.start ≡ Some (start setup) → token.seen ≡ log ++ Act client call act reply ∷ []
+    → ((s : State) → token.start ≡ Some s → AgreesFrom s token.seen) → IsReply client act reply
+reply-in token setup log client call act reply begun seen agrees =
+    (_, agrees-last (start setup) log (Act client call act reply) (subst (λ (xs : List Entry). AgreesFrom (start setup) xs) seen (agrees (start setup) begun)))
 
-pub act-allowed : (course : Course) (account : Account) (act : the_act.Act) (reply : ActReply) → MayAct course account act → IsAllowed (holds_of course.setup account.number course.history) (Act account.number (account.used + 1) act reply)
-act-allowed course account act reply may =
-    let P : Holds → Type 0 = λ h. IsAllowed h (Act account.number (account.used + 1) act reply) in
-    subst P may.account_is.holding (may-allowed account.holds account.number (account.used + 1) act reply may.denied)
-
--- a request that may be the client's next stands in order, and is allowed
-pub command-in_order : (course : Course) (account : Account) (request : Request) (reply : Reply) → MayAsk course account request → IsInOrder course.history (Command account.number (account.used + 1) request reply)
-command-in_order course account request reply may =
-    in_order course.history account.used (Command account.number (account.used + 1) request reply) may.active.account_is.numbers may.active.present refl (may.next.lane, may.next.ordinal) (λ none. absurd (omega (arith, may.active.begun, none)))
-
-pub command-allowed : (course : Course) (account : Account) (request : Request) (reply : Reply) → MayAsk course account request → IsAllowed (holds_of course.setup account.number course.history) (Command account.number (account.used + 1) request reply)
-command-allowed course account request reply may =
-    let P : Holds → Type 0 = λ h. IsAllowed h (Command account.number (account.used + 1) request reply) in
-    subst P may.active.account_is.holding may.allowed
-
--- a client has drawn no more numbers than there are entries
-pub few-used : (course : Course) (account : Account) → IsAccount course account → account.used ≤ length course.history
-few-used course account is =
-    let own = numbered-length (mine_of account course) account.used is.numbers in
-    let few = of_client-few account.number course.history in
-    omega (arith, own, few)
-
--- an act more: the course, and the account
-pub act-course : (course : Course) (clients : ℕ) (display new : State) (H H' : List Entry) (counts : List ℕ) (account : Account) (act : the_act.Act) (reply : ActReply)
-    → course ≡ record { setup = display.setup; history = H; clients = clients } → IsCourse display H clients counts → MayAct course account act
-    → (new, reply) ≡ act_step display account.number act → H' ≡ H ++ Act account.number (account.used + 1) act reply ∷ [] → IsCourse new H' clients counts
-act-course course clients display new H H' counts account act reply is_course is may step more =
-    let entry : Entry = Act account.number (account.used + 1) act reply in
-    let history : course.history ≡ H = ap (λ (k : Course). k.history) is_course in
-    let setup : course.setup ≡ display.setup = ap (λ (k : Course). k.setup) is_course in
-    let Order : List Entry → Type 0 = λ xs. IsInOrder xs entry in
-    let Allow : Setup → List Entry → Type 0 = λ s xs. IsAllowed (holds_of s account.number xs) entry in
-    let P : List Entry → Type 0 = λ xs. IsCourse new xs clients counts in
-    subst P (sym more)
-    (course-more display new H clients counts counts entry is (ap (λ (p : State × ActReply). p.0) step) (ap (λ (p : State × ActReply). p.1) step)
-    (counted-act counts account.number (account.used + 1) act reply is.lanes) (subst Order history (act-in_order course account act reply may))
-    (subst (λ (xs : List Entry). Allow display.setup xs) history (subst (λ (s : Setup). Allow s course.history) setup (act-allowed course account act reply may))) (may.account_is.known.0, omega (arith, may.account_is.known.1, ap (λ (k : Course). k.clients) is_course)))
-
-pub act-added : (course new_course : Course) (clients : ℕ) (display new : State) (H H' : List Entry) (counts : List ℕ) (account account' : Account) (act : the_act.Act) (reply : ActReply) (holds : Holds)
-    → course ≡ record { setup = display.setup; history = H; clients = clients } → IsCourse display H clients counts → MayAct course account act
-    → (new, reply) ≡ act_step display account.number act → H' ≡ H ++ Act account.number (account.used + 1) act reply ∷ [] → holds ≡ update account.holds act reply
-    → new_course ≡ record { setup = new.setup; history = H'; clients = clients } → account' ≡ record { number = account.number; used = account.used + 1; holds = holds }
-    → IsAddedAct course account act reply new_course account'
-act-added course new_course clients display new H H' counts account account' act reply holds is_course is may step more update_is is_new told =
-    let entry : Entry = Act account.number (account.used + 1) act reply in
-    let history : course.history ≡ H = ap (λ (k : Course). k.history) is_course in
-    let setup : course.setup ≡ display.setup = ap (λ (k : Course). k.setup) is_course in
-    let next : new.setup ≡ course.setup = ap (λ (p : State × ActReply). p.0.setup) step ∙ after-setup display entry ∙ sym setup in
-    let grown : H' ≡ course.history ++ entry ∷ [] = more ∙ ap (λ (xs : List Entry). xs ++ entry ∷ []) (sym history) in
-    let display_is : display ≡ replay course.setup course.history = is.state ∙ ap (λ (s : Setup). replay s H) (sym setup) ∙ ap (replay course.setup) (sym history) in (
-      added course new_course account account' entry (update account.holds act reply) may.account_is refl refl refl
-          (is_new ∙ ap (λ (s : Setup). record { setup = s; history = H'; clients = clients }) next ∙ ap (λ (xs : List Entry). record { setup = course.setup; history = xs; clients = clients }) grown ∙ ap (λ (n : ℕ). record { setup = course.setup; history = course.history ++ entry ∷ []; clients = n }) (sym (ap (λ (k : Course). k.clients) is_course)))
-          (told ∙ ap (with_number account) update_is),
-      ap (λ (p : State × ActReply). p.1) step ∙ ap (λ (s : State). (act_step s account.number act).1) display_is,
+-- an act more
+pub act-added : (course : Course) (token token' : Token) (act : the_act.Act) (n : ℕ) (reply : ActReply) → MayAct course token act → IsInStep token' → Acted display token act token' n reply → IsAddedAct course token act reply token'
+act-added course token token' act n reply may step acted =
+    let is = may.account_is in
+    let number : ℕ = token.account.number in
+    let call : ℕ = token.account.used + 1 in
+    let entry : Entry = Act number call act reply in
+    let told = acted.account in (
+      entry-more course course token token' entry is may.present
+          (record {
+            owner = refl;
+            number = refl;
+            lane = tt;
+            first = first-act number call token.account.used act reply refl may.first;
+            allowed = may-allowed token.account.holds number call act reply may.denied;
+          })
+          (record {
+            start = acted.start;
+            in_step = step;
+            number = ap (λ (a : Account). a.number) told;
+            used = ap (λ (a : Account). a.used) told;
+            holds = ap (λ (a : Account). a.holds) told;
+            mine = ap (λ (a : Account). a.mine) told;
+          })
+          refl refl (counted-act course.counts number call act reply),
+      reply-in token' is.setup acted.log number call act reply (acted.start ∙ is.same ∙ is.begun) acted.seen acted.history.agrees,
     )
 
--- a command more: the course, and the account
-pub command-course : (course : Course) (clients : ℕ) (display new : State) (H H' : List Entry) (counts : List ℕ) (account : Account) (request : Request) (reply : Reply)
-    → course ≡ record { setup = display.setup; history = H; clients = clients } → IsCourse display H clients counts → MayAsk course account request → request.lane < 66
-    → ◌≡◌ {A = State × Reply} (new, reply) (request_step display request) → H' ≡ H ++ Command account.number (account.used + 1) request reply ∷ []
-    → IsCourse new H' clients (slice_set counts request.lane (get_or counts request.lane 0 + 1))
-command-course course clients display new H H' counts account request reply is_course is may small step more =
-    let entry : Entry = Command account.number (account.used + 1) request reply in
-    let history : course.history ≡ H = ap (λ (k : Course). k.history) is_course in
-    let setup : course.setup ≡ display.setup = ap (λ (k : Course). k.setup) is_course in
-    let counts' = slice_set counts request.lane (get_or counts request.lane 0 + 1) in
-    let Order : List Entry → Type 0 = λ xs. IsInOrder xs entry in
-    let Allow : Setup → List Entry → Type 0 = λ s xs. IsAllowed (holds_of s account.number xs) entry in
-    let P : List Entry → Type 0 = λ xs. IsCourse new xs clients counts' in
-    subst P (sym more)
-    (course-more display new H clients counts counts' entry is (ap (λ (p : State × Reply). p.0) step) (ap (λ (p : State × Reply). p.1) step)
-    (counted-command counts account.number (account.used + 1) request reply is.lanes small) (subst Order history (command-in_order course account request reply may))
-    (subst (λ (xs : List Entry). Allow display.setup xs) history (subst (λ (s : Setup). Allow s course.history) setup (command-allowed course account request reply may))) (may.active.account_is.known.0, omega (arith, may.active.account_is.known.1, ap (λ (k : Course). k.clients) is_course)))
+-- a command more
+pub command-added : (old new : Course) (token mid token' : Token) (request : Request) (pass : Pass) (done : Done State State the_act.Act ActReply Request Reply Holds) → MayAsk old token request → IsInStep token'
+    → Drawn display token request mid pass → done.order ≡ pass.order → TakesBack display mid done token' → length old.counts ≡ 66 → request.lane < 66
+    → new ≡ record { start = old.start; clients = old.clients; counts = slice_set old.counts request.lane (get_or old.counts request.lane 0 + 1) } → IsAddedCommand old token request done.reply new token'
+command-added old new token mid token' request pass done may step draws order takes long small is_new =
+    let is = may.active.account_is in
+    let number : ℕ = token.account.number in
+    let call : ℕ = token.account.used + 1 in
+    let entry : Entry = Command number call request done.reply in
+    let told : token'.account ≡ settled (drawn token.account request) (record { order = ordered_of token.account request; reply = done.reply; place = done.place }) =
+    takes.account ∙ ap (λ (a : Account). settled a (finished_of display done)) draws.account
+    ∙ ap (λ o. settled (drawn token.account request) (record { order = o; reply = done.reply; place = done.place })) (order ∙ ap (λ (p : Pass). p.order) draws.pass) in
+    let Counted : List ℕ → Type 0 = λ counts. AreCountedMore old.counts entry counts in
+    entry-more old new token token' entry is may.active.present
+    (record {
+      owner = refl;
+      number = refl;
+      lane = (may.next.lane, may.next.ordinal ∙ ap (λ (k : ℕ). k + 1) (is.counted request.lane small));
+      first = λ none. absurd (omega (arith, may.active.begun, none));
+      allowed = may.allowed;
+    })
+    (record {
+      start = takes.start ∙ draws.start;
+      in_step = step;
+      number = ap (λ (a : Account). a.number) told;
+      used = ap (λ (a : Account). a.used) told;
+      holds = ap (λ (a : Account). a.holds) told;
+      mine = ap (λ (a : Account). a.mine) told;
+    })
+    (ap (λ (k : Course). k.start) is_new) (ap (λ (k : Course). k.clients) is_new) (subst Counted (sym (ap (λ (k : Course). k.counts) is_new)) (counted-command old.counts number call request done.reply long small))
 
-pub command-added : (course new_course : Course) (clients : ℕ) (display new : State) (H H' : List Entry) (counts : List ℕ) (account account' : Account) (request : Request) (reply : Reply)
-    → course ≡ record { setup = display.setup; history = H; clients = clients } → IsCourse display H clients counts → MayAsk course account request
-    → ◌≡◌ {A = State × Reply} (new, reply) (request_step display request) → H' ≡ H ++ Command account.number (account.used + 1) request reply ∷ []
-    → new_course ≡ record { setup = new.setup; history = H'; clients = clients } → account' ≡ with_number account account.holds
-    → IsAddedCommand course account request reply new_course account'
-command-added course new_course clients display new H H' counts account account' request reply is_course is may step more is_new told =
-    let entry : Entry = Command account.number (account.used + 1) request reply in
-    let history : course.history ≡ H = ap (λ (k : Course). k.history) is_course in
-    let setup : course.setup ≡ display.setup = ap (λ (k : Course). k.setup) is_course in
-    let next : new.setup ≡ course.setup = ap (λ (p : State × Reply). p.0.setup) step ∙ after-setup display entry ∙ sym setup in
-    let grown : H' ≡ course.history ++ entry ∷ [] = more ∙ ap (λ (xs : List Entry). xs ++ entry ∷ []) (sym history) in
-    added course new_course account account' entry account.holds may.active.account_is refl refl refl
-    (is_new ∙ ap (λ (s : Setup). record { setup = s; history = H'; clients = clients }) next ∙ ap (λ (xs : List Entry). record { setup = course.setup; history = xs; clients = clients }) grown ∙ ap (λ (n : ℕ). record { setup = course.setup; history = course.history ++ entry ∷ []; clients = n }) (sym (ap (λ (k : Course). k.clients) is_course)))
-    told
+-- a command that came back unrun
+pub unrun-kept : (old new : Course) (token mid token' : Token) (request : Request) (pass back : Pass) → Drawn display token request mid pass → TakesUnrun display mid back token' → new.start ≡ old.start → new.clients ≡ old.clients → IsUnadded old token new token'
+unrun-kept old new token mid token' request pass back draws takes start clients = record {
+  start = start;
+  clients = clients;
+  number = ap (λ (a : Account). a.number) takes.account ∙ ap (λ (a : Account). a.number) draws.account;
+  mine = ap (λ (a : Account). a.mine) takes.account ∙ ap (λ (a : Account). a.mine) draws.account;
+}
+
+-- an act for which there was no memory
+pub watched-kept : (course : Course) (token token' : Token) → Watched display token token' → IsUnadded course token course token'
+watched-kept course token token' watched = record {
+  start = refl;
+  clients = refl;
+  number = ap (λ (a : Account). a.number) watched.account;
+  mine = ap (λ (a : Account). a.mine) watched.account;
+}
+
+-- the client that was made
+pub client-made : (setup : Setup) (old new : Course) (r s : Root) (token : Token) (holds : Holds) → IsFresh (Some (start setup)) old → MakesClient display r holds s token → IsInStep token → holds ≡ first_holds setup 1
+    → old.start ≡ r.start → old.clients ≡ r.given → new.start ≡ s.start → new.clients ≡ s.given → new.counts ≡ old.counts → IsMade setup old token new
+client-made setup old new r s token holds fresh makes step held old_start old_clients new_start new_clients counts =
+    let first : r.given ≡ 0 = sym old_clients ∙ fresh.clients in
+    let number : token.account.number ≡ 1 = ap (λ (t : Token). t.account.number) makes.client ∙ omega (arith, first) in
+    let used : token.account.used ≡ 0 = ap (λ (t : Token). t.account.used) makes.client in
+    let holds_is : token.account.holds ≡ first_holds setup 1 = ap (λ (t : Token). t.account.holds) makes.client ∙ held in
+    let mine : mine_of token ≡ [] = ap (λ (t : Token). t.account.mine) makes.client in
+    let same : new.start ≡ old.start = new_start ∙ makes.start ∙ sym old_start in
+    let Own : List Entry → Type 0 = λ xs. AllByRecursion (λ e. client_of e ≡ token.account.number) xs in
+    let Order : List Entry → Type 0 = λ xs. AreInOrder [] xs in
+    let Allowed : List Entry → Type 0 = λ xs. AreAllowed setup [] xs in
+    record {
+      start = same;
+      clients = new_clients ∙ makes.given ∙ omega (arith, first);
+      number = number;
+      used = used;
+      holds = holds_is;
+      mine = mine;
+      account_is = record {
+        setup = setup;
+        begun = same ∙ fresh.start;
+        same = ap (λ (t : Token). t.start) makes.client ∙ sym makes.start ∙ sym new_start;
+        in_step = step;
+        own = subst Own (sym mine) tt;
+        numbers = ap (map call_of) mine ∙ ap (range_with_len 1) (sym used);
+        holding = holds_is ∙ ap (λ (k : ℕ). first_holds setup k) (sym number) ∙ ap (λ (xs : List Entry). holds_of setup token.account.number xs) (sym mine);
+        order = subst Order (sym mine) tt;
+        allowed = subst Allowed (sym mine) tt;
+        counted = λ lane small. ap (λ (ns : List ℕ). get_or ns lane 0) counts ∙ fresh.counts lane ∙ ap (count_by (is_of_lane lane)) (sym mine);
+      };
+    }
 
 -- the lane of a request is one of 66
 header-lane : (header : Header) → lane_of_header header < 66
@@ -261,26 +265,6 @@ count-more test n (entry ∷ more) = by_test (test entry) (count-more test (n + 
 pub count-few : (test : Entry → Bool) (H : List Entry) → count_by test H ≤ length H
 count-few test H = let few = count-more test 0 H in omega (arith, few)
 
--- what is read at a place that there is
-pub at_place : (xs : List ℕ) (i x : ℕ) → i < length xs → x ≡ get_or xs i x → x ≡ get_or xs i 0
-at_place [] i x within is = absurd (omega (arith, within))
-at_place (first ∷ more) zero x within is = is
-at_place (first ∷ more) (suc i) x within is = at_place more i x (omega (arith, within)) is
-
--- the display before its first entry
-pub course-new : (display : State) (setup : Setup) (H : List Entry) (counts : List ℕ) → display ≡ start setup → H ≡ [] → counts ≡ replicate 66 0 → IsCourse display H 0 counts
-course-new display setup H counts is none zeros =
-    let first : IsCourse (start setup) [] 0 (replicate 66 0) = record {
-      state = refl;
-      agrees = tt;
-      count = refl;
-      order = tt;
-      allowed = tt;
-      owners = tt;
-      lanes = refl;
-      ordinals = λ lane small. counts-none 66 lane;
-    } in
-    let P : State → Type 0 = λ s. IsCourse s [] 0 (replicate 66 0) in
-    let Q : List Entry → Type 0 = λ xs. IsCourse display xs 0 (replicate 66 0) in
-    let R : List ℕ → Type 0 = λ ns. IsCourse display H 0 ns in
-    subst R (sym zeros) (subst Q (sym none) (subst P (sym is) first))
+-- no more commands of a lane were run than the client has entries
+pub few-run : (course : Course) (token : Token) (lane : ℕ) → IsAccount course token → lane < 66 → get_or course.counts lane 0 ≤ length (mine_of token)
+few-run course token lane is small = let few = count-few (is_of_lane lane) (mine_of token) in omega (arith, few, is.counted lane small)

@@ -1,5 +1,5 @@
 -- The entries that a client's calls give.
-use Rattle.std.specs.Prelude.{◌≡◌, ◌⊎◌, ◌<◌, ◌==◌, ℕ, Bool, true, false, List, [], ◌∷◌, ◌++◌, length, map, bytes_eq, slice_set, if◌then◌else◌, Option, Some, None, Result, Ok, Err}
+use Rattle.std.specs.Prelude.{◌≡◌, ◌⊎◌, ◌<◌, ◌==◌, ℕ, Bool, true, false, List, [], ◌∷◌, ◌++◌, length, map, option_map, bytes_eq, slice_set, if◌then◌else◌, Option, Some, None, Result, Ok, Err}
 use Rattle.std.specs.List.{range_with_len, AllByRecursion}
 use Rattle.vg_formats.specs.declared.rect.Rect.{Rect}
 use Rattle.vg_wire.specs.declared.request.Queue.{Queue}
@@ -163,6 +163,8 @@ call_of_step refs (steps.Drop scanout) = calls.Drop scanout
 call_of_step refs (steps.Hide scanout) = calls.Hide scanout
 call_of_step refs (steps.Show scanout name area) = calls.Show scanout (ref_of refs name) (rect_of area)
 call_of_step refs (steps.Flip scanout name) = calls.Flip scanout (ref_of refs name)
+call_of_step refs (steps.Cursor scanout name x y hot_x hot_y) = calls.Cursor scanout (option_map (ref_of refs) name) x y hot_x hot_y
+call_of_step refs (steps.Move scanout x y) = calls.Move scanout x y
 call_of_step refs (steps.Uuid name) = calls.Uuid (ref_of refs name)
 call_of_step refs (steps.Raw cursor room shape bytes) = calls.Raw (queue_called cursor) room (shape_called shape) bytes
 call_of_step refs (steps.Close name) = calls.Close (ref_of refs name)

@@ -22,8 +22,8 @@ use Rattle.vg_run.specs.Requests.{IsFit}
 use Rattle.vg_run.specs.Session.{Course, IsActive, mine_of}
 
 -- What a client knows.
-abbrev pub known : Client → Known
-known client = record { holds = client.account.holds; names = client.names; shows = client.shows.items }
+abbrev pub known : {B : Type 0} → Client B → Known
+known client = record { holds = client.token.account.holds; names = client.names; shows = client.shows.items }
 
 -- No more names are current than were made, no more were made than numbers drawn, and there are few scanouts.
 pub record IsSmall (used : ℕ) (known : Known) : Type 0 where
@@ -33,31 +33,30 @@ pub record IsSmall (used : ℕ) (known : Known) : Type 0 where
   pub scanouts : length known.shows ≤ 16
 
 -- A client that can make calls.
-pub record IsReady (course : Course) (client : Client) : Type 0 where
-  pub active : IsActive course client.account
-  pub small : IsSmall client.account.used (known client)
+pub record IsReady {B : Type 0} (course : Course) (client : Client B) : Type 0 where
+  pub active : IsActive course client.token
+  pub small : IsSmall client.token.account.used (known client)
 
--- A client has added these entries, and no one else has added any.
-pub record HasAdded (old : Course) (client : Client) (mine : List Entry) (new : Course) (client' : Client) : Type 0 where
-  pub setup : new.setup ≡ old.setup
+-- A client has added these entries.
+pub record HasAdded {B : Type 0} (old : Course) (client : Client B) (mine : List Entry) (new : Course) (client' : Client B) : Type 0 where
+  pub start : new.start ≡ old.start
   pub clients : new.clients ≡ old.clients
-  pub number : client'.account.number ≡ client.account.number
-  pub own : mine_of client'.account new ≡ mine_of client.account old ++ mine
-  pub entries : length new.history ≡ length old.history + length mine
+  pub number : client'.token.account.number ≡ client.token.account.number
+  pub own : mine_of client'.token ≡ mine_of client.token ++ mine
 
 -- The same of a client that goes on: it can make more calls.
-pub record HasGoneOn (old : Course) (client : Client) (mine : List Entry) (new : Course) (client' : Client) : Type 0 where
+pub record HasGoneOn {B : Type 0} (old : Course) (client : Client B) (mine : List Entry) (new : Course) (client' : Client B) : Type 0 where
   pub added : HasAdded old client mine new client'
-  pub displays : client'.account.holds.displays ≡ client.account.holds.displays
+  pub displays : client'.token.account.holds.displays ≡ client.token.account.holds.displays
   pub made : client.names.made ≤ client'.names.made
   pub ready : IsReady new client'
 
 -- What one task adds: its entry, by which the client's holds change. Of the rest that the client knows nothing is changed.
-pub record HasDone (old : Course) (client : Client) (entry : Entry) (given : Given) (new : Course) (client' : Client) : Type 0 where
+pub record HasDone {B : Type 0} (old : Course) (client : Client B) (entry : Entry) (given : Given) (new : Course) (client' : Client B) : Type 0 where
   pub added : HasAdded old client (entry ∷ []) new client'
-  pub active : IsActive new client'.account
-  pub used : client'.account.used ≡ client.account.used + 1
-  pub holds : client'.account.holds ≡ updated client.account.holds entry
+  pub active : IsActive new client'.token
+  pub used : client'.token.account.used ≡ client.token.account.used + 1
+  pub holds : client'.token.account.holds ≡ updated client.token.account.holds entry
   pub names : client'.names ≡ client.names
   pub shows : client'.shows.items ≡ client.shows.items
   pub given_is : given ≡ given_of entry

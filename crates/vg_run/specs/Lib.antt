@@ -10,6 +10,7 @@ pub mod Tasks
 pub mod Calls
 pub mod Legal
 pub mod Session
+pub mod Run
 pub mod Refs
 pub mod Headline
 pub mod Status

@@ -1,4 +1,4 @@
-use Rattle.std.specs.Prelude.{ℕ, List, Option, Some, None}
+use Rattle.std.specs.Prelude.{ℕ, List, Option, Some, None, option_map}
 use Rattle.std.specs.BTreeMap.{BTreeMap, get_by}
 use Rattle.std.specs.Cmp.Lexicographic.{slice_cmp}
 use Rattle.std.specs.Ordering.{nat_cmp}
@@ -29,6 +29,7 @@ unplaced (calls.Send name rect) = calls.Send (without_place name) rect
 unplaced (calls.Flush name rect) = calls.Flush (without_place name) rect
 unplaced (calls.Show scanout name rect) = calls.Show scanout (without_place name) rect
 unplaced (calls.Flip scanout name) = calls.Flip scanout (without_place name)
+unplaced (calls.Cursor scanout name x y hot_x hot_y) = calls.Cursor scanout (option_map without_place name) x y hot_x hot_y
 unplaced (calls.Uuid name) = calls.Uuid (without_place name)
 unplaced (calls.Close name) = calls.Close (without_place name)
 unplaced call = call

@@ -1,69 +1,122 @@
--- A display with the history of all that it was asked, and the accounts of its clients.
-use Rattle.std.specs.Prelude.{◌≡◌, ◌≤◌, ◌<◌, ◌+◌, ℕ, Bool, true, false, List, [], ◌∷◌, ◌++◌, length, map, count_by, get_or}
+-- A display in a book, its one client's token and its lanes' tokens.
+use Rattle.std.specs.Prelude.{◌≡◌, ◌≤◌, ◌<◌, ◌+◌, ℕ, Bool, true, false, List, [], ◌∷◌, ◌++◌, length, map, count_by, get_or, slice_set, Option, Some}
 use Rattle.std.specs.List.{range_with_len, AllByRecursion}
+use mathlib.Core.List.{IsPrefix}
+use Rattle.vg_history.specs.Lists.{Has}
+use Rattle.vg_book.specs.declared.board.Account as books
+use Rattle.vg_book.specs.declared.board.Counted.{Counted}
+use Rattle.vg_book.specs.declared.outcome.Ran.{Ran}
+use Rattle.vg_book.specs.Own.{IsInStep}
+use Rattle.vg_book.specs.Outcomes.{HasRun}
+use Rattle.vg_book.specs.Tokens.{Client, IsClosed, Passed, Rooted}
+use Rattle.vg_book.specs.Tokens as tokens
 use Rattle.vg_machine.specs.declared.setup.Setup.{Setup}
 use Rattle.vg_machine.specs.declared.act.Act as the_act
 use Rattle.vg_machine.specs.declared.act.Act.TheVariants.{Enter, Leave, Denied}
 use Rattle.vg_machine.specs.declared.act.ActReply.{ActReply}
+use Rattle.vg_scanout.specs.declared.scanout.Frame.{Frame}
 use Rattle.vg_machine.specs.Entries.{Entry}
 use Rattle.vg_history.specs.declared.entry.Entry.TheVariants.{Act, Command}
 use Rattle.vg_machine.specs.declared.history.Reply.{Reply}
 use Rattle.vg_machine.specs.declared.history.Request.{Request}
 use Rattle.vg_machine.specs.declared.holds.Holds.{Holds}
 use Rattle.vg_machine.specs.ActStep.{act_step}
-use Rattle.vg_machine.specs.Holds.{Allowed, Deniable, update}
+use Rattle.vg_machine.specs.Holds.{Allowed, Deniable, first_holds}
 use Rattle.vg_machine.specs.Lane.{lane_of}
-use Rattle.vg_machine.specs.State.{State}
-use Rattle.vg_machine.specs.Replay.{Agrees, replay}
-use Rattle.vg_machine.specs.Order.{AreAllowed, AreInOrder, call_of, client_of, holds_of, is_leave, is_of_lane, of_client}
-use Rattle.vg_run.specs.declared.session.Account.{Account}
+use Rattle.vg_machine.specs.State.{State, start}
+use Rattle.vg_machine.specs.Replay.{Agrees, display, replay}
+use Rattle.vg_machine.specs.Order.{AreAllowed, AreInOrder, call_of, client_of, holds_of, is_leave, is_of_lane, updated}
 
--- A display's run so far: its setup, the history, and how many clients there are.
+-- The tokens of a book whose machine is a display, and what a client knows of its own calls.
+abbrev pub Account : Type 0
+Account = books.Account State State the_act.Act ActReply Request Reply Holds
+
+abbrev pub Token : Type 0
+Token = Client State State the_act.Act ActReply Request Reply Holds
+
+abbrev pub Lane : Type 0
+Lane = tokens.Lane State State the_act.Act ActReply Request Reply Holds
+
+abbrev pub Pass : Type 0
+Pass = Passed State State the_act.Act ActReply Request Reply Holds
+
+abbrev pub Root : Type 0
+Root = Rooted State State the_act.Act ActReply Request Reply Holds
+
+-- A display's run: its state before the first entry, how many clients there are, and how many commands of each lane were run.
 pub record Course : Type 0 where
-  pub setup : Setup
-  pub history : List Entry
+  pub start : Option State
   pub clients : ℕ
+  pub counts : List ℕ
 
--- The entry belongs to one of so many clients.
-abbrev pub IsOwned : ℕ → Entry → Type 0
-IsOwned clients entry = (1 ≤ client_of entry) × (client_of entry ≤ clients)
+abbrev pub lane_number : Lane → ℕ
+lane_number lane = lane.lane
 
--- The display is the replay of the history, which is sound: it agrees with the display, each entry stands in order and was
--- allowed. Of each lane the commands are counted.
-pub record IsCourse (display : State) (history : List Entry) (clients : ℕ) (counts : List ℕ) : Type 0 where
-  pub state : display ≡ replay display.setup history
-  pub agrees : Agrees display.setup history
-  pub count : display.entries ≡ length history
-  pub order : AreInOrder [] history
-  pub allowed : AreAllowed display.setup [] history
-  pub owners : AllByRecursion (IsOwned clients) history
-  pub lanes : length counts ≡ 66
-  pub ordinals : (lane : ℕ) → lane < 66 → get_or counts lane 0 ≡ count_by (is_of_lane lane) history
+abbrev pub lane_count : Lane → ℕ
+lane_count lane = lane.count
 
--- A client's own entries.
-abbrev pub mine_of : Account → Course → List Entry
-mine_of account course = of_client account.number course.history
+abbrev pub course_of : Root → List Lane → Course
+course_of root lanes = record { start = root.start; clients = root.given; counts = map lane_count lanes }
 
--- What an account says of its client is so: the client is one of the display's, its entries have the numbers 1 to `used` in
--- their order, and it holds what they say.
-pub record IsAccount (course : Course) (account : Account) : Type 0 where
-  pub known : (1 ≤ account.number) × (account.number ≤ course.clients)
-  pub numbers : map call_of (mine_of account course) ≡ range_with_len 1 account.used
-  pub holding : account.holds ≡ holds_of course.setup account.number course.history
+-- The lanes' tokens stand in their order.
+abbrev pub AreNumbered : List Lane → Type 0
+AreNumbered lanes = (lane : ℕ) → lane < 66 → get_or (map lane_number lanes) lane 66 ≡ lane
+
+-- All tokens are outside of the root, and those of the 66 lanes stand in their order.
+pub record IsCourse (root : Root) (lanes : List Lane) : Type 0 where
+  pub accounts : root.accounts ≡ []
+  pub joined : root.lanes ≡ []
+  pub made : root.lanes_made ≡ 66
+  pub long : length lanes ≡ 66
+  pub numbers : AreNumbered lanes
+
+-- No client has entered, and no command was run.
+pub record IsFresh (first : Option State) (course : Course) : Type 0 where
+  pub start : course.start ≡ first
+  pub clients : course.clients ≡ 0
+  pub counts : (lane : ℕ) → get_or course.counts lane 0 ≡ 0
+
+-- The client's entries, in the order in which it made them.
+abbrev pub mine_of : Token → List Entry
+mine_of token = token.account.mine
+
+-- What a token says of the one client is so: nothing of it is out; its entries have the numbers 1 to `used` in their order, each
+-- stands in order and was allowed, and it holds what they say. Of each lane so many commands were run as it asked for.
+pub record IsAccount (course : Course) (token : Token) : Type 0 where
+  pub setup : Setup
+  pub begun : course.start ≡ Some (start setup)
+  pub same : token.start ≡ course.start
+  pub in_step : IsInStep token
+  pub own : AllByRecursion (λ e. client_of e ≡ token.account.number) (mine_of token)
+  pub numbers : map call_of (mine_of token) ≡ range_with_len 1 token.account.used
+  pub holding : token.account.holds ≡ holds_of setup token.account.number (mine_of token)
+  pub order : AreInOrder [] (mine_of token)
+  pub allowed : AreAllowed setup [] (mine_of token)
+  pub counted : (lane : ℕ) → lane < 66 → get_or course.counts lane 0 ≡ count_by (is_of_lane lane) (mine_of token)
+
+-- The one client was made, and has done nothing.
+pub record IsMade (setup : Setup) (old : Course) (token : Token) (new : Course) : Type 0 where
+  pub start : new.start ≡ old.start
+  pub clients : new.clients ≡ 1
+  pub number : token.account.number ≡ 1
+  pub used : token.account.used ≡ 0
+  pub holds : token.account.holds ≡ first_holds setup 1
+  pub mine : mine_of token ≡ []
+  pub account_is : IsAccount new token
 
 abbrev pub leaves : the_act.Act → Bool
 leaves Leave = true
 leaves act = false
 
 -- The client hasn't left.
-abbrev pub IsPresent : Course → Account → Type 0
-IsPresent course account = AllByRecursion (λ e. is_leave e ≡ false) (mine_of account course)
+abbrev pub IsPresent : Token → Type 0
+IsPresent token = AllByRecursion (λ e. is_leave e ≡ false) (mine_of token)
 
--- The account's client has begun and not left.
-pub record IsActive (course : Course) (account : Account) : Type 0 where
-  pub account_is : IsAccount course account
-  pub begun : 1 ≤ account.used
-  pub present : IsPresent course account
+-- The token's client has begun and not left.
+pub record IsActive (course : Course) (token : Token) : Type 0 where
+  pub account_is : IsAccount course token
+  pub begun : 1 ≤ token.account.used
+  pub present : IsPresent token
 
 -- What is denied may be denied.
 abbrev pub MayBeDenied : Holds → the_act.Act → Type 0
@@ -71,39 +124,89 @@ MayBeDenied holds (Denied what) = Deniable holds what
 MayBeDenied holds act = Unit {0}
 
 -- The act may be the client's next: the first is enter, and none follows when it has left.
-pub record MayAct (course : Course) (account : Account) (act : the_act.Act) : Type 0 where
-  pub account_is : IsAccount course account
-  pub first : account.used ≡ 0 → act ≡ Enter
-  pub present : IsPresent course account
-  pub denied : MayBeDenied account.holds act
+pub record MayAct (course : Course) (token : Token) (act : the_act.Act) : Type 0 where
+  pub account_is : IsAccount course token
+  pub first : token.account.used ≡ 0 → act ≡ Enter
+  pub present : IsPresent token
+  pub denied : MayBeDenied token.account.holds act
 
 -- The request is the next of its lane.
 pub record IsNextOfLane (course : Course) (request : Request) : Type 0 where
   pub lane : request.lane ≡ lane_of request.queue request.bytes
-  pub ordinal : request.ordinal ≡ count_by (is_of_lane request.lane) course.history + 1
+  pub ordinal : request.ordinal ≡ get_or course.counts request.lane 0 + 1
 
 -- The request may be the client's next: it is the next of its lane, and allowed.
-pub record MayAsk (course : Course) (account : Account) (request : Request) : Type 0 where
-  pub active : IsActive course account
+pub record MayAsk (course : Course) (token : Token) (request : Request) : Type 0 where
+  pub active : IsActive course token
   pub next : IsNextOfLane course request
-  pub allowed : Allowed account.holds request.queue request.bytes
+  pub allowed : Allowed token.account.holds request.queue request.bytes
 
--- A client's account with one number more.
-abbrev pub with_number : Account → Holds → Account
-with_number account holds = record { number = account.number; used = account.used + 1; holds = holds }
+-- One entry more of the client, of which its token tells.
+pub record IsAdded (old : Course) (token : Token) (entry : Entry) (new : Course) (token' : Token) : Type 0 where
+  pub start : new.start ≡ old.start
+  pub clients : new.clients ≡ old.clients
+  pub number : token'.account.number ≡ token.account.number
+  pub used : token'.account.used ≡ token.account.used + 1
+  pub holds : token'.account.holds ≡ updated token.account.holds entry
+  pub mine : mine_of token' ≡ mine_of token ++ entry ∷ []
+  pub account_is : IsAccount new token'
 
--- One entry more of a client, of which the account tells.
-pub record IsAdded (old : Course) (account : Account) (entry : Entry) (holds : Holds) (new : Course) (account' : Account) : Type 0 where
-  pub course : new ≡ record { setup = old.setup; history = old.history ++ entry ∷ []; clients = old.clients }
-  pub told : account' ≡ with_number account holds
-  pub account_is : IsAccount new account'
-  pub mine : mine_of account' new ≡ mine_of account old ++ entry ∷ []
+-- The reply is the display's in some state.
+abbrev pub IsReply : ℕ → the_act.Act → ActReply → Type 0
+IsReply client act reply = (state : State) × (reply ≡ (act_step state client act).1)
 
-abbrev pub IsAddedAct : Course → Account → the_act.Act → ActReply → Course → Account → Type 0
-IsAddedAct old account act reply new account' =
-    IsAdded old account (Act account.number (account.used + 1) act reply) (update account.holds act reply) new account'
-    × (reply ≡ (act_step (replay old.setup old.history) account.number act).1)
+abbrev pub IsAddedAct : Course → Token → the_act.Act → ActReply → Token → Type 0
+IsAddedAct course token act reply token' =
+    IsAdded course token (Act token.account.number (token.account.used + 1) act reply) course token' × IsReply token.account.number act reply
 
-abbrev pub IsAddedCommand : Course → Account → Request → Reply → Course → Account → Type 0
-IsAddedCommand old account request reply new account' =
-    IsAdded old account (Command account.number (account.used + 1) request reply) account.holds new account'
+abbrev pub IsAddedCommand : Course → Token → Request → Reply → Course → Token → Type 0
+IsAddedCommand old token request reply new token' =
+    IsAdded old token (Command token.account.number (token.account.used + 1) request reply) new token'
+
+-- No entry more, where memory lacked: of a command the number may be spent.
+pub record IsUnadded (old : Course) (token : Token) (new : Course) (token' : Token) : Type 0 where
+  pub start : new.start ≡ old.start
+  pub clients : new.clients ≡ old.clients
+  pub number : token'.account.number ≡ token.account.number
+  pub mine : mine_of token' ≡ mine_of token
+
+-- The pass is the next of this lane.
+pub record IsNextPass (lanes : List Lane) (lane : ℕ) (pass : Pass) : Type 0 where
+  pub number : get_or (map lane_number lanes) lane 66 ≡ pass.order.request.lane
+  pub ordinal : pass.order.request.ordinal ≡ get_or (map lane_count lanes) lane 0 + 1
+
+-- The lane at this place has run the pass, or given it back.
+abbrev pub IsRunAt : {B : Type 0} → List Lane → ℕ → Pass → Ran State B State the_act.Act ActReply Request Reply Holds → List Lane → Type 0
+IsRunAt lanes at pass ran lanes' = (old new : Lane) × (old ≡ get_or lanes at old) × (lanes' ≡ slice_set lanes at new) × HasRun display old pass new ran
+
+abbrev pub counted_of : Lane → Counted
+counted_of lane = record { lane = lane.lane; count = lane.count }
+
+-- The root has taken in these lanes.
+pub record HasTakenLanes (old : Root) (lanes : List Lane) (new : Root) : Type 0 where
+  pub given : new.given ≡ old.given
+  pub accounts : new.accounts ≡ old.accounts
+  pub made : new.lanes_made ≡ old.lanes_made
+  pub start : new.start ≡ old.start
+  pub more : IsPrefix old.seen new.seen
+  pub taken : new.lanes ≡ old.lanes ++ map counted_of lanes
+
+-- All clients that the root has made have joined it.
+abbrev pub HasClients : Root → Type 0
+HasClients root = (n : ℕ) → 0 < n → n ≤ root.given → (account : Account) × Has root.accounts account × (account.number ≡ n)
+
+-- The book was closed: this is its history, and these the display's frames.
+pub record IsEnd (old : Root) (H : List Entry) (frames : List Frame) : Type 0 where
+  pub root : Root
+  pub machine : State
+  pub closed : IsClosed display root machine H
+  pub given : root.given ≡ old.given
+  pub accounts : root.accounts ≡ old.accounts
+  pub start : root.start ≡ old.start
+  pub more : IsPrefix old.seen root.seen
+  pub frames_are : frames ≡ machine.scanouts.frames
+
+-- Each reply and each frame is the display's, for the setup that the display began with.
+pub record IsReplayed (first : Option State) (H : List Entry) (frames : List Frame) : Type 0 where
+  pub agrees : (setup : Setup) → first ≡ Some (start setup) → Agrees setup H
+  pub frames_are : (setup : Setup) → first ≡ Some (start setup) → frames ≡ (replay setup H).scanouts.frames

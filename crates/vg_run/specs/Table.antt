@@ -1,5 +1,5 @@
 -- The tasks that calls are made of: for each what is done, and what the answer changes.
-use Rattle.std.specs.Prelude.{ℕ, pos, ◌+◌, ◌*◌, List, map, Some, None}
+use Rattle.std.specs.Prelude.{ℕ, ℤ, pos, ◌+◌, ◌*◌, List, map, Some, None}
 use Rattle.vg_formats.specs.declared.rect.Rect.{Rect}
 use Rattle.vg_formats.specs.declared.entry.MemEntry.{MemEntry}
 use Rattle.vg_pages.specs.Memory.{page_address}
@@ -7,7 +7,7 @@ use Rattle.vg_wire.specs.declared.two_d.Command2d.{Command2d}
 use Rattle.vg_wire.specs.declared.two_d.Command2d.TheVariants as commands
 use Rattle.vg_wire.specs.declared.request.Queue.{Queue}
 use Rattle.vg_wire_ext.specs.declared.command.Command as the_command
-use Rattle.vg_wire_ext.specs.declared.command.Command.TheVariants.{TwoD, Edid, AssignUuid, UpdateCursor}
+use Rattle.vg_wire_ext.specs.declared.command.Command.TheVariants.{TwoD, Edid, AssignUuid, UpdateCursor, MoveCursor}
 use Rattle.vg_chain.specs.declared.shape.Shape.{Shape}
 use Rattle.vg_machine.specs.declared.act.Act as the_act
 use Rattle.vg_machine.specs.declared.act.Act.TheVariants as acts
@@ -89,9 +89,16 @@ hide_task scanout = disable scanout (Shows scanout None)
 abbrev pub clear_task : ℕ → Task
 clear_task scanout = disable scanout Nothing
 
+-- A cursor shows a resource with its hot spot at a position; with resource 0 it is hidden.
+abbrev pub cursor_task : ℕ → ℕ → ℤ → ℤ → ℕ → ℕ → Task
+cursor_task scanout key x y hot_x hot_y = record { deed = Command Cursor (UpdateCursor scanout x y key hot_x hot_y); change = Nothing }
+
+abbrev pub move_task : ℕ → ℤ → ℤ → Task
+move_task scanout x y = record { deed = Command Cursor (MoveCursor scanout x y); change = Nothing }
+
 -- A cursor is hidden before its scanout is given up, at the corner of the screen.
 abbrev pub hide_cursor_task : ℕ → Task
-hide_cursor_task scanout = record { deed = Command Cursor (UpdateCursor scanout (pos 0) (pos 0) 0 0 0); change = Nothing }
+hide_cursor_task scanout = cursor_task scanout 0 (pos 0) (pos 0) 0 0
 
 abbrev pub drop_task : ℕ → Task
 drop_task scanout = record { deed = Act (acts.Drop scanout); change = Shows scanout None }

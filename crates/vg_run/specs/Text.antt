@@ -1,7 +1,7 @@
 use Rattle.std.specs.Prelude.{ℕ, ◌+◌, ◌==◌, if◌then◌else◌, List, [], ◌∷◌, ◌++◌, bit_and, length, codes, decimal}
 use Rattle.hex.specs.Hex.{encode_lower}
 use Rattle.vg_machine.specs.declared.setup.Setup.{Setup}
-use Rattle.vg_machine.specs.declared.scanout.Frame.{Frame}
+use Rattle.vg_scanout.specs.declared.scanout.Frame.{Frame}
 use Rattle.vg_chain.specs.declared.chain.ChainFault.{ChainFault}
 use Rattle.vg_chain.specs.declared.chain.ChainFault.TheVariants.{Index, Loop, Nested, NextWithIndirect, TableLength, Order, Range}
 use Rattle.vg_chain.specs.declared.shape.Shape.{Shape}

@@ -67,6 +67,21 @@ pub(crate) enum Call {
         scanout: u32,
         name: NameRef,
     },
+    /// Shows a buffer as a scanout's cursor, with its hot spot at `x`, `y` of the screen; or, with no name, hides it.
+    Cursor {
+        scanout: u32,
+        name: Option<NameRef>,
+        x: i32,
+        y: i32,
+        hot_x: u32,
+        hot_y: u32,
+    },
+    /// Moves a scanout's cursor.
+    Move {
+        scanout: u32,
+        x: i32,
+        y: i32,
+    },
     /// Asks for the UUID of a buffer's resource.
     Uuid {
         name: NameRef,

@@ -1,13 +1,14 @@
 //! The calls that lines of a script make.
 
-ghost use Rattle.std.specs.Prelude.{◌≡◌, ◌≤◌, ◌<◌, ◌+◌, ◌-◌, ◌^◌, List, length, IfOk, OnErr, OnOk};
+ghost use Rattle.std.specs.Prelude.{◌≡◌, ◌≤◌, ◌<◌, ◌+◌, ◌-◌, ◌^◌, List, length, option_map, IfOk, OnErr, OnOk};
 ghost use Rattle.vg_machine.specs.Entries.{Entry as Entries};
 ghost use Rattle.vg_script.specs.Limits.{StepInLimits};
 ghost use Rattle.vg_chain.specs.declared.shape.Shape.TheVariants as shapes;
 ghost use Rattle.vg_run.specs.Calls as calls;
 ghost use Rattle.vg_run.specs.Calls.{Begins, Gives, newest, refs_after};
 ghost use Rattle.vg_run.specs.Client.{HasAdded, HasGoneOn, IsReady, known};
-ghost use Rattle.vg_run.specs.Refs.{IsFitWith, generation_of, refs_of, unplaced};
+ghost use Rattle.vg_run.specs.Session.{mine_of};
+ghost use Rattle.vg_run.specs.Refs.{IsFitWith, generation_of, refs_of, unplaced, without_place};
 
 use crate::call::Call;
 use crate::client::{Client, call};
@@ -15,6 +16,8 @@ use crate::names::NameRef;
 use crate::refs::{Refs, bind, ref_of};
 use crate::session::Session;
 use std::alloc::{AllocError, Global};
+use std::sync::Wait;
+use vg_book::Naming;
 use vg_chain::{ChainFault, Shape};
 use vg_formats::Rect;
 use vg_list::Seq;
@@ -22,27 +25,28 @@ use vg_script::{Area, RawShape, Step};
 use vg_wire::Queue;
 
 /// Makes the call of a line, and gives the name of a buffer to what the call made.
-pub(crate) fn run_line<'a>(
+pub(crate) fn run_line<'a, B: Naming, R: Wait>(
+    rt: &R,
     alloc: Global,
-    session: &mut Session,
-    client: &mut Client,
+    session: &mut Session<B>,
+    client: &mut Client<B>,
     refs: &mut Refs<'a>,
     step: &'a Step,
 ) -> Result<(), AllocError>
     requires ready { IsReady session.old client.old }
-    requires limits { StepInLimits client.old.account.holds.displays step.now }
-    requires room { length session.old.history + 20 < 2 ^ 31 - 1 }
+    requires limits { StepInLimits client.old.token.account.holds.displays step.now }
+    requires room { length (mine_of client.old.token) + 20 < 2 ^ 31 - 1 }
     ensures done { OnOk result ((mine : List Entries)
-        × Gives client.old.account.number (known client.old) (calls.call_of_step (refs_of refs.old) step.now) mine (known client.new)
+        × Gives client.old.token.account.number (known client.old) (calls.call_of_step (refs_of refs.old) step.now) mine (known client.new)
         × HasGoneOn session.old client.old mine session.new client.new
         × (length mine ≤ 19)) }
     ensures begun { OnErr result ((mine : List Entries)
-        × Begins client.old.account.number (known client.old) (calls.call_of_step (refs_of refs.old) step.now) mine
+        × Begins client.old.token.account.number (known client.old) (calls.call_of_step (refs_of refs.old) step.now) mine
         × HasAdded session.old client.old mine session.new client.new) }
     ensures refs { OnOk result (refs_of refs.new ≡ refs_after step.now (newest (known client.old) (known client.new)) (refs_of refs.old)) }
 {
     let asked = call_of(alloc, refs, step)?;
-    let made = call(alloc, session, client, &asked)?;
+    let made = call(rt, alloc, session, client, &asked)?;
     name_made(refs, step, made)
 }
 
@@ -120,6 +124,16 @@ fn bad(fault: ChainFault) -> Shape
     Shape::Bad { fault }
 }
 
+/// The name that a word was last given to, where there is a word.
+fn ref_or_none(refs: &Refs, word: &Option<Seq<u8>>) -> Option<NameRef>
+    ensures { option_map without_place result ≡ option_map (calls.ref_of (refs_of refs.now)) word.now }
+{
+    match word {
+        Some(word) => Some(ref_of(refs, word.as_slice())),
+        None => None,
+    }
+}
+
 /// The call that a line makes.
 fn call_of(alloc: Global, refs: &Refs, step: &Step) -> Result<Call, AllocError>
     ensures same { IfOk result (λ call. unplaced call ≡ calls.call_of_step (refs_of refs.now) step.now) }
@@ -181,6 +195,26 @@ fn call_of(alloc: Global, refs: &Refs, step: &Step) -> Result<Call, AllocError>
         Step::Flip { scanout, name } => Call::Flip {
             scanout: *scanout,
             name: ref_of(refs, name.as_slice()),
+        },
+        Step::Cursor {
+            scanout,
+            name,
+            x,
+            y,
+            hot_x,
+            hot_y,
+        } => Call::Cursor {
+            scanout: *scanout,
+            name: ref_or_none(refs, name),
+            x: *x,
+            y: *y,
+            hot_x: *hot_x,
+            hot_y: *hot_y,
+        },
+        Step::Move { scanout, x, y } => Call::Move {
+            scanout: *scanout,
+            x: *x,
+            y: *y,
         },
         Step::Uuid { name } => Call::Uuid {
             name: ref_of(refs, name.as_slice()),

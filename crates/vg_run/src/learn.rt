@@ -10,13 +10,18 @@ use crate::given::{Given, is_accepted};
 use crate::names::Names;
 use crate::task::Change;
 use std::alloc::AllocError;
+use vg_book::Naming;
 use vg_machine::ActReply;
 
 /// What the client knows after a task was answered.
-pub(crate) fn learn(client: &mut Client, change: Change, given: &Given) -> Result<(), AllocError>
+pub(crate) fn learn<B: Naming>(
+    client: &mut Client<B>,
+    change: Change,
+    given: &Given,
+) -> Result<(), AllocError>
     requires fit { IsFitChange change }
     requires room { client.old.names.made < 2 ^ 31 }
-    ensures kept { client.new.account ≡ client.old.account }
+    ensures kept { client.new.token ≡ client.old.token }
     ensures names { OnOk result (client.new.names ≡ names_after change given.now client.old.names) }
     ensures shows { OnOk result (client.new.shows.items ≡ shows_after change given.now client.old.shows.items) }
 {

@@ -1,35 +1,58 @@
 //! A script's run, from its first client to its journal.
 
-ghost use Rattle.std.specs.Prelude.{◌≡◌, ◌≤◌, ◌<◌, ◌+◌, [], All, if◌then◌else◌, length, count_by, IfOk, OnOk};
+ghost use Rattle.std.specs.Prelude.{◌≡◌, ◌≤◌, ◌∷◌, [], All, if◌then◌else◌, length, count_by, Some, IfOk};
 ghost use Rattle.std.specs.List.{list_any};
 ghost use Rattle.vg_machine.specs.Setup.{IsSetup};
 ghost use Rattle.vg_script.specs.Limits.{ClientInLimits, ScriptInLimits};
-ghost use Rattle.vg_run.specs.Calls.{Follows};
+ghost use Rattle.vg_machine.specs.State.{start};
 ghost use Rattle.vg_run.specs.Setup as setups;
 ghost use Rattle.vg_run.specs.Legal as legal;
-ghost use Rattle.vg_run.specs.Legal.{FollowAll, IsLegalJournal};
+ghost use Rattle.vg_run.specs.Legal.{IsLegalJournal};
+ghost use Rattle.vg_run.specs.Session.{IsFresh};
+ghost use Rattle.vg_run.specs.Run.{IsRunOf};
 
 use crate::calls::run_line;
 use crate::client::{end, enter};
 use crate::journal::Journal;
 use crate::refs::Refs;
-use crate::session::Session;
+use crate::session::{LANES, Session};
 use std::alloc::{AllocError, Global};
 use std::collections::BTreeMap;
+use std::marker::Brand;
+use std::sync::Wait;
+use vg_book::{Naming, Opened};
 use vg_list::Seq;
-use vg_machine::{Entry, Setup};
+use vg_machine::{Display, Entry, Frame, Setup};
 use vg_script::{Feature, Line, Script};
 use vg_wire::Queue;
 
 /// Runs a script on a display of its own.
-pub(crate) fn run(alloc: Global, script: &Script) -> Result<Journal, AllocError>
+pub(crate) fn run<R: Wait>(rt: &R, alloc: Global, script: &Script) -> Result<Journal, AllocError>
     requires { ScriptInLimits script.now }
     ensures { IfOk result (IsLegalJournal script.now) }
 {
     let setup = setup_of(alloc, script)?;
-    let mut session = Session::new(alloc, &setup)?;
-    run_clients(alloc, &mut session, &setup, script.clients.as_slice())?;
-    let (entries, frames) = session.close();
+    let display = Display::new(alloc, &setup)?;
+    let opened = Opened::new(alloc, display, LANES)?;
+    run_in::<Brand, R>(rt, alloc, opened, setup, script)
+}
+
+/// Runs a script in a book that was just opened over a display of its own.
+fn run_in<B: Naming, R: Wait>(
+    rt: &R,
+    alloc: Global,
+    opened: Opened<Display>,
+    setup: Setup,
+    script: &Script,
+) -> Result<Journal, AllocError>
+    requires limits { ScriptInLimits script.now }
+    requires setup { setup ≡ setups.setup_of script.now }
+    requires book { (opened.table ≡ B.table) × (opened.lanes ≡ 66) }
+    requires start { opened.start ≡ Some (start setup) }
+    ensures { IfOk result (IsLegalJournal script.now) }
+{
+    let session = Session::<B>::new(alloc, opened)?;
+    let (entries, frames) = run_clients(rt, alloc, session, &setup, script.clients.as_slice())?;
     let control = count_control(entries.as_slice());
     let cursor = count_cursor(entries.as_slice());
     Ok(Journal {
@@ -119,52 +142,49 @@ fn left_out(out: bool, bits: u64) -> u64
     if out { bits } else { 0 }
 }
 
-/// Runs the clients, of whom there is one at most.
-fn run_clients(
+/// Runs the clients, of whom there is one at most, and gives the history and the frames.
+fn run_clients<B: Naming, R: Wait>(
+    rt: &R,
     alloc: Global,
-    session: &mut Session,
+    session: Session<B>,
     setup: &Setup,
     clients: &[Seq<Line>],
-) -> Result<(), AllocError>
+) -> Result<(Vec<Entry>, Vec<Frame>), AllocError>
     requires setup { IsSetup setup.now }
-    requires new { session.old ≡ record { setup = setup.now; history = []; clients = 0 } }
+    requires fresh { IsFresh (Some (start setup.now)) session }
     requires one { length clients.now ≤ 1 }
     requires short { All (λ lines. length lines ≤ 100000) clients.now }
     requires limits { All (ClientInLimits (length setup.now.displays)) clients.now }
-    ensures setup { OnOk result (session.new.setup ≡ session.old.setup) }
-    ensures clients { OnOk result (session.new.clients ≡ length clients.now) }
-    ensures follows { OnOk result (FollowAll setup.now 1 clients.now session.new.history) }
+    ensures { IfOk result (λ done. IsRunOf setup.now clients.now done.0.items done.1.items) }
 {
     match clients {
-        [lines] => run_client(alloc, session, setup, lines.as_slice()),
-        _ => Ok(()),
+        [lines] => run_client(rt, alloc, session, setup, lines.as_slice()),
+        _ => Ok(session.close_empty()),
     }
 }
 
-/// Runs the next client.
-fn run_client(
+/// Runs the one client, and gives the history and the frames.
+fn run_client<B: Naming, R: Wait>(
+    rt: &R,
     alloc: Global,
-    session: &mut Session,
+    session: Session<B>,
     setup: &Setup,
     lines: &[Line],
-) -> Result<(), AllocError>
+) -> Result<(Vec<Entry>, Vec<Frame>), AllocError>
     requires setup { IsSetup setup.now }
-    requires same { session.old.setup ≡ setup.now }
-    requires few { session.old.clients < 16 }
-    requires room { length session.old.history ≤ 100000 }
+    requires fresh { IsFresh (Some (start setup.now)) session }
     requires short { length lines.now ≤ 100000 }
     requires limits { ClientInLimits (length setup.now.displays) lines.now }
-    ensures setup { OnOk result (session.new.setup ≡ session.old.setup) }
-    ensures clients { OnOk result (session.new.clients ≡ session.old.clients + 1) }
-    ensures follows { OnOk result (Follows setup.now lines.now session.new.history (session.old.clients + 1)) }
+    ensures { IfOk result (λ done. IsRunOf setup.now (lines.now ∷ []) done.0.items done.1.items) }
 {
-    let mut client = enter(alloc, session, setup)?;
+    let mut session = session;
+    let mut client = enter(rt, alloc, &mut session, setup)?;
     let mut refs: Refs = BTreeMap::new(alloc);
     for line in lines {
-        run_line(alloc, session, &mut client, &mut refs, &line.step)?;
+        run_line(rt, alloc, &mut session, &mut client, &mut refs, &line.step)?;
     }
-    end(alloc, session, client)?;
-    Ok(())
+    let token = end(rt, alloc, &mut session, client)?;
+    Ok(session.close(token))
 }
 
 /// Whether the entry is a command on the control queue.

@@ -1,163 +1,192 @@
-//! A display, the history of all that it was asked, and the accounts of its clients.
+//! A display in a book, with the tokens of its lanes, and what a client does by its token.
 
-ghost use Rattle.std.specs.Prelude.{◌≡◌, ◌⊎◌, ◌==◌, ◌<◌, if◌then◌else◌, ◌-◌, ◌+◌, ◌^◌, ◌++◌, ◌∷◌, [], List, length, count_by, replicate, slice_set, get_or, IfOk, OnOk, OnErr};
-ghost use Rattle.std.specs.List.{AllByRecursion};
+ghost use Rattle.std.specs.Prelude.{◌≡◌, ◌<◌, ◌-◌, ◌+◌, ◌^◌, [], length, get_or, Some, IfOk, OnErr};
 ghost use Rattle.vg_machine.specs.Setup.{IsSetup};
-ghost use Rattle.vg_machine.specs.Replay.{Agrees, replay};
-ghost use Rattle.vg_machine.specs.Order.{Sound, is_of_lane};
-ghost use Rattle.vg_machine.specs.Holds.{first_holds};
-ghost use Rattle.vg_run.specs.Session.{IsAccount, IsAddedAct, IsAddedCommand, IsOwned, MayAct, MayAsk};
+ghost use Rattle.vg_machine.specs.State.{start};
+ghost use Rattle.vg_run.specs.Session.{HasClients, HasTakenLanes, AreNumbered, IsAccount, IsAddedAct, IsAddedCommand, IsEnd, IsFresh, IsMade, IsNextPass, IsReplayed, IsRunAt, IsUnadded, MayAct, MayAsk, mine_of};
 
 use std::alloc::{AllocError, Global};
 use std::marker::Model;
-use vg_list::Seq;
+use std::sync::Wait;
+use vg_book::{
+    Book, ClientToken, LaneToken, Naming, Opened, Pass, Ran, Root, entries_in_step, history_in_step,
+};
 use vg_machine::{Act, ActReply, Display, Entry, Frame, Holds, Reply, Request, Setup};
 
-/// What is known of a client: its number, from 1, how many call numbers it has drawn, and what it holds.
-#[derive(Debug, Drop)]
-pub(crate) struct Account {
-    pub(crate) number: u32,
-    pub(crate) used: u64,
-    pub(crate) holds: Holds,
-}
+/// What a client acts by: its number, how many call numbers it has drawn, and what it holds.
+pub(crate) type Token<B> = ClientToken<Display, B>;
 
-/// A display, with the history of the acts and commands that made it what it is.
+/// How many lanes there are: the control queue's without a ring index, one for each of 64 ring indices, and the cursor queue's.
+pub(crate) const LANES: u32 = 66;
+
+/// A display in a book, with the tokens of its lanes, in their order.
 #[derive(Drop)]
-pub(crate) struct Session {
-    display: Display,
-    history: Vec<Entry>,
-    /// How many clients there are.
-    clients: u32,
-    /// How many commands of each lane there are.
-    counts: Vec<u64>,
+pub(crate) struct Session<B: Naming> {
+    book: Book<Display, B>,
+    root: Root<Display, B>,
+    lanes: Vec<LaneToken<Display, B>>,
 }
 
-impl Model for Session {
-    ghost use Rattle.vg_run.specs.Session.{Course, IsCourse};
+impl<B: Naming> Model for Session<B> {
+    ghost use Rattle.vg_run.specs.Session.{Course, IsCourse, course_of};
 
     ghost Value = { Course };
 
-    ghost view = { λ s. record { setup = s.display.setup; history = s.history.items; clients = s.clients } };
+    ghost view = { λ s. course_of s.root s.lanes.items };
 
-    ghost invariant = { λ s. IsCourse s.display s.history.items s.clients s.counts.items };
+    ghost invariant = { λ s. IsCourse s.root s.lanes.items };
 }
 
-impl Session {
+impl<B: Naming> Session<B> {
     /// The display before its first entry.
-    pub(crate) fn new(alloc: Global, setup: &Setup) -> Result<Session, AllocError>
-        requires { IsSetup setup.now }
-        ensures { IfOk result (λ session. session ≡ record { setup = setup.now; history = []; clients = 0 }) }
+    pub(crate) fn new(alloc: Global, opened: Opened<Display>) -> Result<Session<B>, AllocError>
+        requires { (opened.table ≡ B.table) × (opened.lanes ≡ 66) }
+        ensures { IfOk result (IsFresh opened.start) }
     {
-        Ok(Session {
-            display: Display::new(alloc, setup)?,
-            history: Vec::new(alloc),
-            clients: 0,
-            counts: no_counts(alloc)?,
-        })
+        let (book, root, lanes) = opened.named::<B>(alloc)?;
+        Ok(Session { book, root, lanes })
     }
 
-    /// The next client, which hasn't begun yet.
-    pub(crate) fn client(&mut self, alloc: Global, setup: &Setup) -> Account
+    /// The one client, which hasn't begun yet.
+    pub(crate) fn client(&mut self, alloc: Global, setup: &Setup) -> Token<B>
         requires setup { IsSetup setup.now }
-        requires same { self.old.setup ≡ setup.now }
-        requires few { self.old.clients < 2 ^ 32 - 1 }
-        ensures course { self.new ≡ record { setup = self.old.setup; history = self.old.history; clients = self.old.clients + 1 } }
-        ensures account { result ≡ record { number = self.old.clients + 1; used = 0; holds = first_holds setup.now (self.old.clients + 1) } }
-        ensures account_is { IsAccount self.new result }
+        requires fresh { IsFresh (Some (start setup.now)) self.old }
+        ensures { IsMade setup.now self.old result self.new }
     {
-        self.clients += 1;
-        Account {
-            number: self.clients,
-            used: 0,
-            holds: Holds::new(alloc, setup, self.clients),
-        }
+        // A law, and no work: the client sees its entries in the order in which it made them.
+        entries_in_step::<Display>();
+        let holds = Holds::new(alloc, setup, 1);
+        self.root.client(&self.book, holds)
     }
 
     /// The ordinal of the next command of a lane.
     pub(crate) fn next_ordinal(&self, lane: u32) -> u64
         requires lane { lane < 66 }
-        requires room { length self.now.history < 2 ^ 31 - 1 }
-        ensures { result ≡ count_by (is_of_lane lane) self.now.history + 1 }
+        requires room { get_or self.now.counts lane 0 < 2 ^ 31 }
+        ensures { result ≡ get_or self.now.counts lane 0 + 1 }
     {
-        self.counts[lane as usize] + 1
+        self.lanes[lane as usize].count() + 1
     }
 
-    /// Adds an act of a client, and gives the number of the entry and the reply. Room for the entry is made before the
-    /// display changes, so where memory lacks nothing does.
-    pub(crate) fn act(
-        &mut self,
+    /// An act of the client, and its reply. For want of memory there is no entry.
+    pub(crate) fn act<R: Wait>(
+        &self,
+        rt: &R,
         alloc: Global,
-        account: &mut Account,
+        token: &mut Token<B>,
         act: Act,
-    ) -> Result<(u64, ActReply), AllocError>
-        requires room { length self.old.history < 2 ^ 31 - 1 }
-        requires next { MayAct self.old account.old act }
-        ensures number { IfOk result (λ done. done.0 ≡ length self.new.history) }
-        ensures added { IfOk result (λ done. IsAddedAct self.old account.old act done.1 self.new account.new) }
-        ensures err { OnErr result ((self.new ≡ self.old) × (account.new ≡ account.old)) }
+    ) -> Result<ActReply, AllocError>
+        requires { MayAct self.now token.old act }
+        ensures added { IfOk result (λ reply. IsAddedAct self.now token.old act reply token.new) }
+        ensures err { OnErr result (IsUnadded self.now token.old self.now token.new) }
     {
-        self.history.reserve(1)?;
-        let (reply, copy) = self
-            .display
-            .act(alloc, account.number, &mut account.holds, &act)?;
-        account.used += 1;
-        let entry = Entry::Act {
-            client: account.number,
-            call: account.used,
-            act,
-            reply,
-        };
-        self.history.push(entry).unwrap();
-        Ok((self.history.len() as u64, copy))
+        // A law, and no work: the client sees its entries in the order in which it made them.
+        entries_in_step::<Display>();
+        match token.act(rt, alloc, &self.book, act) {
+            Ok((_, reply)) => Ok(reply),
+            Err(_) => Err(AllocError),
+        }
     }
 
-    /// Adds a command of a client, and gives the number of the entry and the reply. Room for the entry is made before the
-    /// display changes, so where memory lacks nothing does.
-    pub(crate) fn command(
+    /// A command of the client, which its lane runs, and its reply. For want of memory there is no entry, and the number of
+    /// the call is spent.
+    pub(crate) fn command<R: Wait>(
         &mut self,
+        rt: &R,
         alloc: Global,
-        account: &mut Account,
+        token: &mut Token<B>,
         request: Request,
-    ) -> Result<(u64, Reply), AllocError>
-        requires room { length self.old.history < 2 ^ 31 - 1 }
-        requires next { MayAsk self.old account.old request }
-        ensures number { IfOk result (λ done. done.0 ≡ length self.new.history) }
-        ensures added { IfOk result (λ done. IsAddedCommand self.old account.old request done.1 self.new account.new) }
-        ensures err { OnErr result ((self.new ≡ self.old) × (account.new ≡ account.old)) }
+    ) -> Result<Reply, AllocError>
+        requires next { MayAsk self.old token.old request }
+        requires room { length (mine_of token.old) < 2 ^ 31 - 1 }
+        ensures added { IfOk result (λ reply. IsAddedCommand self.old token.old request reply self.new token.new) }
+        ensures err { OnErr result (IsUnadded self.old token.old self.new token.new) }
     {
-        self.history.reserve(1)?;
-        let (reply, copy) = self.display.request(alloc, &request)?;
-        self.counts[request.lane as usize] += 1;
-        account.used += 1;
-        let entry = Entry::Command {
-            client: account.number,
-            call: account.used,
-            request,
-            reply,
-        };
-        self.history.push(entry).unwrap();
-        Ok((self.history.len() as u64, copy))
+        // A law, and no work: the client sees its entries in the order in which it made them.
+        entries_in_step::<Display>();
+        let lane = request.lane as usize;
+        let pass = token.pass(&self.book, request);
+        match run_at(rt, alloc, &self.book, &mut self.lanes, lane, pass) {
+            Ran::Done(done) => Ok(token.take_back(&self.book, done).1),
+            Ran::Unrun(pass) => {
+                token.take_unrun(&self.book, pass);
+                Err(AllocError)
+            }
+        }
     }
 
-    /// The history and the frames.
-    pub(crate) fn close(self) -> (Vec<Entry>, Vec<Frame>)
-        ensures history { result.0.items ≡ self.history }
-        ensures frames { result.1.items ≡ (replay self.setup self.history).scanouts.frames }
-        ensures sound { Sound self.setup self.history }
-        ensures owners { AllByRecursion (IsOwned self.clients) self.history }
+    /// The history and the frames, once the client has ended.
+    pub(crate) fn close(self, token: Token<B>) -> (Vec<Entry>, Vec<Frame>)
+        requires alone { self.clients ≡ 1 }
+        requires number { token.account.number ≡ 1 }
+        requires account { IsAccount self token }
+        ensures history { result.0.items ≡ mine_of token }
+        ensures replayed { IsReplayed self.start result.0.items result.1.items }
     {
+        // A law, and no work: the one client's entries are the history.
+        history_in_step::<Display>();
         let Session {
-            display,
-            history,
-            ..
+            book,
+            mut root,
+            lanes,
         } = self;
-        (history, display.into_frames())
+        root.join(&book, token);
+        close(book, root, lanes)
+    }
+
+    /// The empty history, and no frames, where no client has entered.
+    pub(crate) fn close_empty(self) -> (Vec<Entry>, Vec<Frame>)
+        requires { self.clients ≡ 0 }
+        ensures history { result.0.items ≡ [] }
+        ensures replayed { IsReplayed self.start result.0.items result.1.items }
+    {
+        let Session { book, root, lanes } = self;
+        close(book, root, lanes)
     }
 }
 
-/// No command of any lane.
-fn no_counts(alloc: Global) -> Result<Vec<u64>, AllocError>
-    ensures { IfOk result (λ counts. counts.items ≡ replicate 66 0) }
+/// Runs the pass on the lane at this place.
+fn run_at<B: Naming, R: Wait>(
+    rt: &R,
+    alloc: Global,
+    book: &Book<Display, B>,
+    lanes: &mut Vec<LaneToken<Display, B>>,
+    at: usize,
+    pass: Pass<Display, B>,
+) -> Ran<Display, B>
+    requires within { at < length lanes.old.items }
+    requires next { IsNextPass lanes.old.items at pass }
+    ensures { IsRunAt lanes.old.items at pass result lanes.new.items }
 {
-    vec![in alloc; 0; 66]
+    lanes[at].run(rt, alloc, book, pass)
+}
+
+/// Takes in the lanes.
+fn join_lanes<B: Naming>(
+    book: &Book<Display, B>,
+    root: &mut Root<Display, B>,
+    lanes: Vec<LaneToken<Display, B>>,
+)
+    ensures { HasTakenLanes root.old lanes.items root.new }
+{
+    for lane in lanes {
+        root.join_lane(book, lane);
+    }
+}
+
+/// Closes the book, whose clients have joined: the history and the frames.
+fn close<B: Naming>(
+    book: Book<Display, B>,
+    root: Root<Display, B>,
+    lanes: Vec<LaneToken<Display, B>>,
+) -> (Vec<Entry>, Vec<Frame>)
+    requires clients { HasClients root }
+    requires lanes { (root.lanes ≡ []) × (root.lanes_made ≡ 66) }
+    requires numbers { (length lanes.items ≡ 66) × AreNumbered lanes.items }
+    ensures { IsEnd root result.0.items result.1.items }
+{
+    let mut root = root;
+    join_lanes(&book, &mut root, lanes);
+    let (display, entries) = book.close(root);
+    (entries, display.into_frames())
 }

@@ -303,24 +303,45 @@ pub(crate) fn clear_task(scanout: u32) -> Task
     disable(scanout, Change::Nothing)
 }
 
-/// UPDATE_CURSOR that hides a scanout's cursor, before the scanout is given up.
-pub(crate) fn hide_cursor_task(scanout: u32) -> Task
-    ensures { result ≡ table.hide_cursor_task scanout }
+/// UPDATE_CURSOR, which hides the cursor where the key is 0.
+pub(crate) fn cursor_task(scanout: u32, key: u32, x: i32, y: i32, hot_x: u32, hot_y: u32) -> Task
+    ensures { result ≡ table.cursor_task scanout key x y hot_x hot_y }
+{
+    let command = Command::UpdateCursor {
+        scanout,
+        x,
+        y,
+        resource: key,
+        hot_x,
+        hot_y,
+    };
+    Task {
+        deed: Deed::Command {
+            way: Way::Cursor,
+            command,
+        },
+        change: Change::Nothing,
+    }
+}
+
+/// MOVE_CURSOR
+pub(crate) fn move_task(scanout: u32, x: i32, y: i32) -> Task
+    ensures { result ≡ table.move_task scanout x y }
 {
     Task {
         deed: Deed::Command {
             way: Way::Cursor,
-            command: Command::UpdateCursor {
-                scanout,
-                x: 0,
-                y: 0,
-                resource: 0,
-                hot_x: 0,
-                hot_y: 0,
-            },
+            command: Command::MoveCursor { scanout, x, y },
         },
         change: Change::Nothing,
     }
+}
+
+/// UPDATE_CURSOR that hides a scanout's cursor, before the scanout is given up.
+pub(crate) fn hide_cursor_task(scanout: u32) -> Task
+    ensures { result ≡ table.hide_cursor_task scanout }
+{
+    cursor_task(scanout, 0, 0, 0, 0, 0)
 }
 
 /// Ends a lease.

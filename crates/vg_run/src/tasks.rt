@@ -2,7 +2,7 @@
 
 ghost use Rattle.std.specs.Prelude.{◌≡◌, ◌<◌, ◌≤◌, ◌+◌, ◌*◌, ◌++◌, ◌∷◌, [], if◌then◌else◌, map, length, Ok, OnOk, OnErr, IfOk, IfErr};
 ghost use Rattle.std.specs.List.{AllByRecursion};
-ghost use Rattle.vg_run.specs.Client.{IsCallFit, Plans, known, weights};
+ghost use Rattle.vg_run.specs.Client.{IsCallFit, Plans, weights};
 ghost use Rattle.vg_run.specs.Requests.{IsFit};
 ghost use Rattle.vg_machine.specs.Holds.{Deniable as MayDeny, has_number};
 ghost use Rattle.vg_machine.specs.declared.act.What.TheVariants as whats;
@@ -11,26 +11,28 @@ ghost use Rattle.vg_run.specs.Tasks as plan;
 ghost use Rattle.vg_run.specs.Tasks.{clear_tasks, leases_back, with_held};
 
 use crate::call::Call;
-use crate::client::Client;
-use crate::names::{Held, NameRef};
+use crate::names::{Held, NameRef, Names};
 use crate::task::{
-    Task, act_task, clear_task, drop_task, edid_task, flush_task, hide_cursor_task, hide_task,
-    info_task, raw_task, release_task, reserve_task, send_task, show_task, store_task, uuid_task,
+    Task, act_task, clear_task, cursor_task, drop_task, edid_task, flush_task, hide_cursor_task,
+    hide_task, info_task, move_task, raw_task, release_task, reserve_task, send_task, show_task,
+    store_task, uuid_task,
 };
 use std::alloc::{AllocError, Global};
 use vg_formats::Rect;
-use vg_machine::{Act, What};
+use vg_machine::{Act, Holds, What};
 
 /// The tasks of a call, or what is denied before there is any.
 pub(crate) fn tasks_of(
     alloc: Global,
-    client: &Client,
+    holds: &Holds,
+    names: &Names,
+    shows: &[Option<u32>],
     call: &Call,
 ) -> Result<Result<Vec<Task>, What>, AllocError>
-    requires call { IsCallFit client.now.account.holds.displays call.now }
-    requires shows { length client.now.shows.items ≤ 16 }
-    ensures plans { Plans (plan.tasks_of (known client.now) call.now) result }
-    ensures denied { IfOk result (λ done. IfErr done (MayDeny client.now.account.holds)) }
+    requires call { IsCallFit holds.now.displays call.now }
+    requires shows { length shows.now ≤ 16 }
+    ensures plans { Plans (plan.tasks_of (record { holds = holds.now; names = names.now; shows = shows.now }) call.now) result }
+    ensures denied { IfOk result (λ done. IfErr done (MayDeny holds.now)) }
 {
     match call {
         Call::Info => one(alloc, info_task()),
@@ -45,24 +47,33 @@ pub(crate) fn tasks_of(
             offset,
             bytes,
             times,
-        } => store_tasks(alloc, client, *name, *offset, bytes.as_slice(), *times),
+        } => store_tasks(alloc, names, *name, *offset, bytes.as_slice(), *times),
         Call::Load {
             name,
             offset,
             length,
-        } => load_tasks(alloc, client, *name, *offset, *length),
-        Call::Send { name, rect } => send_tasks(alloc, client, *name, *rect),
-        Call::Flush { name, rect } => flush_tasks(alloc, client, *name, *rect),
+        } => load_tasks(alloc, names, *name, *offset, *length),
+        Call::Send { name, rect } => send_tasks(alloc, names, *name, *rect),
+        Call::Flush { name, rect } => flush_tasks(alloc, names, *name, *rect),
         Call::Take { scanout } => one(alloc, act_task(Act::Take { scanout: *scanout })),
-        Call::Drop { scanout } => drop_tasks(alloc, client, *scanout),
+        Call::Drop { scanout } => drop_tasks(alloc, holds, *scanout),
         Call::Hide { scanout } => one(alloc, hide_task(*scanout)),
         Call::Show {
             scanout,
             name,
             rect,
-        } => show_tasks(alloc, client, *scanout, *name, *rect),
-        Call::Flip { scanout, name } => flip_tasks(alloc, client, *scanout, *name),
-        Call::Uuid { name } => uuid_tasks(alloc, client, *name),
+        } => show_tasks(alloc, names, *scanout, *name, *rect),
+        Call::Flip { scanout, name } => flip_tasks(alloc, names, *scanout, *name),
+        Call::Cursor {
+            scanout,
+            name,
+            x,
+            y,
+            hot_x,
+            hot_y,
+        } => cursor_tasks(alloc, names, *scanout, *name, *x, *y, *hot_x, *hot_y),
+        Call::Move { scanout, x, y } => one(alloc, move_task(*scanout, *x, *y)),
+        Call::Uuid { name } => uuid_tasks(alloc, names, *name),
         Call::Raw {
             queue,
             room,
@@ -72,7 +83,7 @@ pub(crate) fn tasks_of(
             alloc,
             raw_task(alloc, *queue, *room, *shape, bytes.as_slice())?,
         ),
-        Call::Close { name } => close_tasks(alloc, client, *name),
+        Call::Close { name } => close_tasks(alloc, names, shows, *name),
     }
 }
 
@@ -86,16 +97,16 @@ fn one(alloc: Global, task: Task) -> Result<Result<Vec<Task>, What>, AllocError>
 
 fn store_tasks(
     alloc: Global,
-    client: &Client,
+    names: &Names,
     name: NameRef,
     offset: u32,
     bytes: &[u8],
     times: u32,
 ) -> Result<Result<Vec<Task>, What>, AllocError>
-    ensures plans { Plans (with_held (known client.now) name (λ held. table.store_task held.key offset bytes.now times ∷ [])) result }
+    ensures plans { Plans (with_held names.now name (λ held. table.store_task held.key offset bytes.now times ∷ [])) result }
     ensures denied { IfOk result (λ done. IfErr done (λ what. what ≡ whats.Name)) }
 {
-    match client.names.find(name.generation) {
+    match names.find(name.generation) {
         Some(held) => one(alloc, store_task(alloc, held.key, offset, bytes, times)?),
         None => Ok(Err(What::Name)),
     }
@@ -103,15 +114,15 @@ fn store_tasks(
 
 fn load_tasks(
     alloc: Global,
-    client: &Client,
+    names: &Names,
     name: NameRef,
     offset: u32,
     length: u32,
 ) -> Result<Result<Vec<Task>, What>, AllocError>
-    ensures plans { Plans (with_held (known client.now) name (λ held. table.load_task held.key offset length ∷ [])) result }
+    ensures plans { Plans (with_held names.now name (λ held. table.load_task held.key offset length ∷ [])) result }
     ensures denied { IfOk result (λ done. IfErr done (λ what. what ≡ whats.Name)) }
 {
-    match client.names.find(name.generation) {
+    match names.find(name.generation) {
         Some(held) => {
             let key = held.key;
             one(
@@ -129,14 +140,14 @@ fn load_tasks(
 
 fn send_tasks(
     alloc: Global,
-    client: &Client,
+    names: &Names,
     name: NameRef,
     rect: Rect,
 ) -> Result<Result<Vec<Task>, What>, AllocError>
-    ensures plans { Plans (with_held (known client.now) name (λ held. table.send_task held rect ∷ [])) result }
+    ensures plans { Plans (with_held names.now name (λ held. table.send_task held rect ∷ [])) result }
     ensures denied { IfOk result (λ done. IfErr done (λ what. what ≡ whats.Name)) }
 {
-    match client.names.find(name.generation) {
+    match names.find(name.generation) {
         Some(held) => one(alloc, send_task(held, rect)),
         None => Ok(Err(What::Name)),
     }
@@ -156,14 +167,14 @@ fn whole_of(held: Held) -> Rect
 
 fn flush_tasks(
     alloc: Global,
-    client: &Client,
+    names: &Names,
     name: NameRef,
     rect: Rect,
 ) -> Result<Result<Vec<Task>, What>, AllocError>
-    ensures plans { Plans (with_held (known client.now) name (λ held. table.flush_task held.key rect ∷ [])) result }
+    ensures plans { Plans (with_held names.now name (λ held. table.flush_task held.key rect ∷ [])) result }
     ensures denied { IfOk result (λ done. IfErr done (λ what. what ≡ whats.Name)) }
 {
-    match client.names.find(name.generation) {
+    match names.find(name.generation) {
         Some(held) => one(alloc, flush_task(held.key, rect)),
         None => Ok(Err(What::Name)),
     }
@@ -171,15 +182,15 @@ fn flush_tasks(
 
 fn show_tasks(
     alloc: Global,
-    client: &Client,
+    names: &Names,
     scanout: u32,
     name: NameRef,
     rect: Rect,
 ) -> Result<Result<Vec<Task>, What>, AllocError>
-    ensures plans { Plans (with_held (known client.now) name (λ held. table.show_task scanout held.key rect ∷ [])) result }
+    ensures plans { Plans (with_held names.now name (λ held. table.show_task scanout held.key rect ∷ [])) result }
     ensures denied { IfOk result (λ done. IfErr done (λ what. what ≡ whats.Name)) }
 {
-    match client.names.find(name.generation) {
+    match names.find(name.generation) {
         Some(held) => one(alloc, show_task(scanout, held.key, rect)),
         None => Ok(Err(What::Name)),
     }
@@ -187,14 +198,14 @@ fn show_tasks(
 
 fn flip_tasks(
     alloc: Global,
-    client: &Client,
+    names: &Names,
     scanout: u32,
     name: NameRef,
 ) -> Result<Result<Vec<Task>, What>, AllocError>
-    ensures plans { Plans (with_held (known client.now) name (plan.flip_tasks scanout)) result }
+    ensures plans { Plans (with_held names.now name (plan.flip_tasks scanout)) result }
     ensures denied { IfOk result (λ done. IfErr done (λ what. what ≡ whats.Name)) }
 {
-    match client.names.find(name.generation) {
+    match names.find(name.generation) {
         Some(held) => flip_held(alloc, scanout, held),
         None => Ok(Err(What::Name)),
     }
@@ -212,16 +223,38 @@ fn flip_held(alloc: Global, scanout: u32, held: Held) -> Result<Result<Vec<Task>
     Ok(Ok(vec![in alloc; send, show, flush]?))
 }
 
+fn cursor_tasks(
+    alloc: Global,
+    names: &Names,
+    scanout: u32,
+    name: Option<NameRef>,
+    x: i32,
+    y: i32,
+    hot_x: u32,
+    hot_y: u32,
+) -> Result<Result<Vec<Task>, What>, AllocError>
+    ensures plans { Plans (plan.cursor_tasks names.now scanout name x y hot_x hot_y) result }
+    ensures denied { IfOk result (λ done. IfErr done (λ what. what ≡ whats.Name)) }
+{
+    let Some(name) = name else {
+        return one(alloc, cursor_task(scanout, 0, x, y, hot_x, hot_y));
+    };
+    match names.find(name.generation) {
+        Some(held) => one(alloc, cursor_task(scanout, held.key, x, y, hot_x, hot_y)),
+        None => Ok(Err(What::Name)),
+    }
+}
+
 fn drop_tasks(
     alloc: Global,
-    client: &Client,
+    holds: &Holds,
     scanout: u32,
 ) -> Result<Result<Vec<Task>, What>, AllocError>
-    requires { scanout < client.now.account.holds.displays }
-    ensures plans { Plans (plan.drop_tasks (known client.now) scanout) result }
-    ensures denied { IfOk result (λ done. IfErr done (MayDeny client.now.account.holds)) }
+    requires { scanout < holds.now.displays }
+    ensures plans { Plans (plan.drop_tasks holds.now scanout) result }
+    ensures denied { IfOk result (λ done. IfErr done (MayDeny holds.now)) }
 {
-    if is_leased(client, scanout) {
+    if is_leased(holds, scanout) {
         let hide = hide_cursor_task(scanout);
         Ok(Ok(vec![in alloc; clear_task(scanout), hide, drop_task(scanout)]?))
     } else {
@@ -230,21 +263,21 @@ fn drop_tasks(
 }
 
 /// Whether the scanout is leased to the client.
-fn is_leased(client: &Client, scanout: u32) -> bool
-    ensures { result ≡ has_number scanout client.now.account.holds.scanouts }
+fn is_leased(holds: &Holds, scanout: u32) -> bool
+    ensures { result ≡ has_number scanout holds.now.scanouts }
 {
-    client.account.holds.scanouts.as_slice().contains(&scanout)
+    holds.scanouts.as_slice().contains(&scanout)
 }
 
 fn uuid_tasks(
     alloc: Global,
-    client: &Client,
+    names: &Names,
     name: NameRef,
 ) -> Result<Result<Vec<Task>, What>, AllocError>
-    ensures plans { Plans (with_held (known client.now) name (λ held. table.uuid_task held.key ∷ [])) result }
+    ensures plans { Plans (with_held names.now name (λ held. table.uuid_task held.key ∷ [])) result }
     ensures denied { IfOk result (λ done. IfErr done (λ what. what ≡ whats.Name)) }
 {
-    match client.names.find(name.generation) {
+    match names.find(name.generation) {
         Some(held) => one(alloc, uuid_task(held.key)),
         None => Ok(Err(What::Name)),
     }
@@ -252,15 +285,16 @@ fn uuid_tasks(
 
 fn close_tasks(
     alloc: Global,
-    client: &Client,
+    names: &Names,
+    shows: &[Option<u32>],
     name: NameRef,
 ) -> Result<Result<Vec<Task>, What>, AllocError>
-    requires { length client.now.shows.items ≤ 16 }
-    ensures plans { Plans (with_held (known client.now) name (plan.close_tasks (known client.now))) result }
+    requires { length shows.now ≤ 16 }
+    ensures plans { Plans (with_held names.now name (plan.close_tasks shows.now)) result }
     ensures denied { IfOk result (λ done. IfErr done (λ what. what ≡ whats.Name)) }
 {
-    match client.names.find(name.generation) {
-        Some(held) => close_held(alloc, client.shows.as_slice(), held),
+    match names.find(name.generation) {
+        Some(held) => close_held(alloc, shows, held),
         None => Ok(Err(What::Name)),
     }
 }
@@ -316,34 +350,39 @@ fn is_shown(key: u32, shown: Option<u32>) -> bool
 }
 
 /// What the client gives up at its end: its leases, rising, and then its buffers in the order in which they were made.
-pub(crate) fn end_tasks(alloc: Global, client: &Client) -> Result<Vec<Task>, AllocError>
-    ensures tasks { IfOk result (λ tasks. tasks.items ≡ plan.end_tasks (known client.now)) }
+pub(crate) fn end_tasks(
+    alloc: Global,
+    holds: &Holds,
+    names: &Names,
+) -> Result<Vec<Task>, AllocError>
+    ensures tasks { IfOk result (λ tasks. tasks.items
+        ≡ leases_back holds.now.scanouts 0 holds.now.displays ++ map table.release_task names.now.current) }
     ensures fit { IfOk result (λ tasks. AllByRecursion IsFit tasks.items) }
-    ensures few { IfOk result (λ tasks. weights tasks.items ≤ 3 * client.now.account.holds.displays + 3 * length client.now.names.current) }
+    ensures few { IfOk result (λ tasks. weights tasks.items ≤ 3 * holds.now.displays + 3 * length names.now.current) }
 {
-    let mut tasks = give_back_each(alloc, client)?;
-    let current = client.names.current(alloc)?;
+    let mut tasks = give_back_each(alloc, holds)?;
+    let current = names.current(alloc)?;
     release_each(&mut tasks, current.as_slice())?;
     Ok(tasks)
 }
 
 /// Gives back each scanout that is leased to the client.
-fn give_back_each(alloc: Global, client: &Client) -> Result<Vec<Task>, AllocError>
-    ensures { IfOk result (λ tasks. tasks.items ≡ leases_back client.now.account.holds.scanouts 0 client.now.account.holds.displays) }
+fn give_back_each(alloc: Global, holds: &Holds) -> Result<Vec<Task>, AllocError>
+    ensures { IfOk result (λ tasks. tasks.items ≡ leases_back holds.now.scanouts 0 holds.now.displays) }
 {
     let mut tasks = Vec::new(alloc);
-    for scanout in 0..client.account.holds.displays {
-        give_back_leased(&mut tasks, client, scanout)?;
+    for scanout in 0..holds.displays {
+        give_back_leased(&mut tasks, holds, scanout)?;
     }
     Ok(tasks)
 }
 
 /// Gives back a scanout that is leased to the client.
-fn give_back_leased(tasks: &mut Vec<Task>, client: &Client, scanout: u32) -> Result<(), AllocError>
+fn give_back_leased(tasks: &mut Vec<Task>, holds: &Holds, scanout: u32) -> Result<(), AllocError>
     ensures { OnOk result (tasks.new.items ≡ tasks.old.items
-        ++ (if has_number scanout client.now.account.holds.scanouts then plan.give_back scanout else [])) }
+        ++ (if has_number scanout holds.now.scanouts then plan.give_back scanout else [])) }
 {
-    if is_leased(client, scanout) {
+    if is_leased(holds, scanout) {
         tasks.push(clear_task(scanout))?;
         tasks.push(hide_cursor_task(scanout))?;
         tasks.push(drop_task(scanout))?;

@@ -5,11 +5,14 @@ ghost use Rattle.vg_io.specs.Streams.{GivesUpTo, IsAtEnd, Rose};
 ghost use Rattle.vg_script.specs.Grammar.{Faulty, Parses};
 ghost use Rattle.vg_script.specs.Limits.{ScriptInLimits};
 ghost use Rattle.vg_run.specs.Headline.{IsRun, IsWithin, Runs, RunsNotToItsEnd, RunsPartly};
+ghost use Rattle.vg_run.specs.Printing.{Written};
 ghost use Rattle.vg_run.specs.Status.{Ended, IsFaultless, Unread};
+ghost use Rattle.vg_run.specs.Text.{text_of};
 
-use crate::journal::print;
+use crate::journal::{Journal, print};
 use crate::run::run;
 use std::alloc::Global;
+use std::sync::Wait;
 use vg_io::{ReadError, Sink, Source, read_all};
 use vg_script::{Script, parse};
 
@@ -40,7 +43,8 @@ const LIMIT: usize = 16_777_216;
 ///
 /// At most one byte past the longest script is taken from the source. After want of memory nothing, or
 /// a front of the journal that isn't all of it, is written.
-pub fn vgpu<S: Source, K: Sink>(
+pub fn vgpu<R: Wait, S: Source, K: Sink>(
+    rt: &R,
     alloc: Global,
     words: &[String],
     source: &mut S,
@@ -78,7 +82,7 @@ pub fn vgpu<S: Source, K: Sink>(
         return Status::Usage;
     }
     match read_script(alloc, source) {
-        Ok(script) => write_run(alloc, &script, sink),
+        Ok(script) => write_run(rt, alloc, &script, sink),
         Err(status) => status,
     }
 }
@@ -121,17 +125,24 @@ fn read_script<S: Source>(alloc: Global, source: &mut S) -> Result<Script, Statu
 }
 
 /// Runs a script, and writes its journal.
-fn write_run<K: Sink>(alloc: Global, script: &Script, sink: &mut K) -> Status
+fn write_run<R: Wait, K: Sink>(rt: &R, alloc: Global, script: &Script, sink: &mut K) -> Status
     requires { ScriptInLimits script.now }
     ensures ended { (Ended result script.now (K.held sink.old) (K.held sink.new) (K.faults sink.old) (K.faults sink.new))
         ⊎ ((result ≡ Status.NoMemory) × (sink.new ≡ sink.old)) }
     ensures count { K.faults sink.old ≤ K.faults sink.new }
 {
-    let journal = match run(alloc, script) {
-        Ok(journal) => journal,
-        Err(_) => return Status::NoMemory,
-    };
-    match print(alloc, &journal, sink) {
+    match run(rt, alloc, script) {
+        Ok(journal) => write(alloc, &journal, sink),
+        Err(_) => Status::NoMemory,
+    }
+}
+
+/// Writes a journal.
+fn write<K: Sink>(alloc: Global, journal: &Journal, sink: &mut K) -> Status
+    ensures written { Written result (text_of journal.now) (K.held sink.old) (K.held sink.new) (K.faults sink.old) (K.faults sink.new) }
+    ensures count { K.faults sink.old ≤ K.faults sink.new }
+{
+    match print(alloc, journal, sink) {
         Ok(Ok(())) => Status::Done,
         Ok(Err(_)) => Status::WriteFault,
         Err(_) => Status::NoMemory,

@@ -45,24 +45,26 @@ impl<K: Sink> Sink for Sip<K> {
 
 /// A run of the script whose reads and writes of these numbers fail, into a sink of this room, and what it wrote. No call has
 /// the number 0.
-fn ran(alloc: Global, row: &Row) -> Result<(Status, Vec<u8>), AllocError> {
+fn ran(rt: &HostRuntime, row: &Row) -> Result<(Status, Vec<u8>), AllocError> {
     let (read, write, room, _, _) = row;
+    let alloc = rt.alloc();
     let run = run_word(alloc)?;
     let text = Vec::from_slice(alloc, SCRIPT)?;
     let mut source = MemSource::new(text, vec![in alloc; *read]?);
     let mut sink = MemSink::new(alloc, *room, vec![in alloc; *write]?)?;
-    let status = vgpu(alloc, run.as_slice(), &mut source, &mut sink);
+    let status = vgpu(rt, alloc, run.as_slice(), &mut source, &mut sink);
     Ok((status, sink.bytes().to_vec(alloc)?))
 }
 
 /// The same by single bytes.
-fn sipped(alloc: Global, row: &Row) -> Result<(Status, Vec<u8>), AllocError> {
+fn sipped(rt: &HostRuntime, row: &Row) -> Result<(Status, Vec<u8>), AllocError> {
     let (read, write, room, _, _) = row;
+    let alloc = rt.alloc();
     let run = run_word(alloc)?;
     let text = Vec::from_slice(alloc, SCRIPT)?;
     let mut source = Sip(MemSource::new(text, vec![in alloc; *read]?));
     let mut sink = Sip(MemSink::new(alloc, *room, vec![in alloc; *write]?)?);
-    let status = vgpu(alloc, run.as_slice(), &mut source, &mut sink);
+    let status = vgpu(rt, alloc, run.as_slice(), &mut source, &mut sink);
     Ok((status, sink.0.bytes().to_vec(alloc)?))
 }
 
@@ -101,10 +103,10 @@ fn is_due(row: &Row, ended: Status, written: &[u8], whole: &[u8]) -> bool {
 
 #[test]
 fn faults_leave_a_front(rt: HostRuntime) -> Result<(), Fail> {
-    let (_, whole) = ran(rt.alloc(), &WHOLE)?;
+    let (_, whole) = ran(&rt, &WHOLE)?;
     assert!(rt; whole.as_slice().starts_with(b"vgpu-journal 1\n"));
     for row in &RUNS {
-        let (status, written) = ran(rt.alloc(), row)?;
+        let (status, written) = ran(&rt, row)?;
         assert!(rt;
             is_due(row, status, written.as_slice(), whole.as_slice()),
             "{row:?}"
@@ -115,9 +117,9 @@ fn faults_leave_a_front(rt: HostRuntime) -> Result<(), Fail> {
 
 #[test]
 fn single_bytes_give_the_same(rt: HostRuntime) -> Result<(), Fail> {
-    let (_, whole) = ran(rt.alloc(), &WHOLE)?;
+    let (_, whole) = ran(&rt, &WHOLE)?;
     for row in &SIPS {
-        let (status, written) = sipped(rt.alloc(), row)?;
+        let (status, written) = sipped(&rt, row)?;
         assert!(rt;
             is_due(row, status, written.as_slice(), whole.as_slice()),
             "{row:?}"

@@ -1,9 +1,10 @@
 -- What the lines give keeps the limits.
-use Rattle.std.proofs.Common.{◌≡◌, ℕ, ◌+◌, ◌/◌, ◌==◌, ◌<◌, ◌≤◌, nat_lt, Bool, true, false, List, [], ◌∷◌, ◌++◌, length, Option, Some, None, Result, Ok, Err, if◌then◌else◌, arith, refl, ap, sym, ◌∙◌, subst, length-append, lit≤}
+use Rattle.std.proofs.Common.{◌≡◌, ℕ, zero, suc, ◌+◌, ◌/◌, ◌==◌, ◌<◌, ◌≤◌, nat_lt, Bool, true, false, List, [], ◌∷◌, ◌++◌, length, Option, Some, None, Result, Ok, Err, if◌then◌else◌, arith, refl, ap, sym, ◌∙◌, subst, length-append, lit≤}
 use Rattle.std.specs.List.{list_any}
-use Rattle.std.specs.Prelude.{sum_by, count_by, All, option_map, unwrap_or, IfOk, bytes_eq, codes, slice_index, IfSome}
+use Rattle.std.specs.Prelude.{pos, negsuc, ◌-ℤ◌, nat_le, ◌&&◌, sum_by, count_by, All, option_map, unwrap_or, IfOk, bytes_eq, codes, slice_index, IfSome}
 use Rattle.std.specs.Bool.{⊤}
 use Rattle.std.proofs.lemmas.Bool.Decides.{nat_tests}
+use Rattle.std.proofs.lemmas.Int.{ints}
 use Rattle.std.proofs.lemmas.List.Sums.{sum_by-append}
 use Rattle.std.proofs.lemmas.List.Elements.{All-nil, All-push, All-cons, All-head}
 use Rattle.vg_script.specs.declared.kind.Kind.{Kind}
@@ -14,14 +15,14 @@ use Rattle.vg_script.specs.declared.types.ScriptFault.{ScriptFault}
 use Rattle.vg_script.specs.declared.types.Feature.{Feature}
 use Rattle.vg_script.specs.declared.types.Feature.TheVariants.{Edid, Uuid, Blob, Context}
 use Rattle.vg_script.specs.declared.types.RawShape.{RawShape}
-use Rattle.vg_script.specs.Words.{lines_of, words_of, hex_bytes, value, no_args, one_arg, two_args, three_args, four_args, five_args, six_args}
+use Rattle.vg_script.specs.Words.{lines_of, words_of, hex_bytes, value, is_position, signed_value, no_args, one_arg, two_args, three_args, four_args, five_args, six_args}
 use Rattle.vg_script.proofs.Counts.{no_args_give, one_arg_gives, two_args_give, three_args_give, four_args_give, five_args_give, six_args_give}
 use Rattle.vg_script.specs.Features.{feature_of, is_same}
 use Rattle.vg_script.specs.Seen.{Seen, NameTable, nothing_seen, add_line}
-use Rattle.vg_script.specs.Rows.{Row, info_row, edid_row, buffer_row, store_row, load_row, send_row, flush_row, take_row, drop_row, hide_row, show_row, flip_row, uuid_row, close_row, raw_row, request_row, queue_of, shape_of, row_of}
+use Rattle.vg_script.specs.Rows.{Row, info_row, edid_row, buffer_row, store_row, load_row, send_row, flush_row, take_row, drop_row, hide_row, show_row, flip_row, cursor_row, move_row, uuid_row, close_row, raw_row, request_row, queue_of, shape_of, row_of}
 use Rattle.vg_script.specs.Grammar.{Form, display_form, memory_form, feature_form, without_form, client_form, step_form, skipped_form, called_form, worded_form, form_of, line_form, one_more, script_of, scan, read_script, Parses}
 use Rattle.vg_script.specs.Faults.{fails, given, form_gives, seen_after, AreFaultless, has_fault}
-use Rattle.vg_script.specs.Limits.{IsBetween, ShapeInLimits, StepInLimits, ClientInLimits, DisplayInLimits, ScriptInLimits}
+use Rattle.vg_script.specs.Limits.{IsBetween, IsPosition, ShapeInLimits, StepInLimits, ClientInLimits, DisplayInLimits, ScriptInLimits}
 use Rattle.vg_script.proofs.FaultLaws.{script_to}
 
 -- ---- the rows
@@ -86,6 +87,41 @@ show_fits n table scanout name x y width height = λ h. grind (arith, nat_tests)
 flip_fits : (n : ℕ) (table : NameTable) (scanout name : List ℕ) → RowFits n (flip_row n table scanout name)
 unfolding flip_row
 flip_fits n table scanout name = λ h. grind (arith, nat_tests)
+
+-- A signed number within its limits, by its sign.
+minus_fits : (n : ℕ) → n ≤ 32768 → IsPosition (pos 0 -ℤ pos n)
+minus_fits zero h = lit≤ tt
+minus_fits (suc n) h =
+    let far : n ≤ 32767 = omega (arith, h) in
+    let minus : pos 0 -ℤ pos (suc n) ≡ negsuc n = omega (arith, ints) in
+    subst IsPosition (sym minus) far
+
+signed_fits : (minus : Bool) (below above : ℕ) → (if minus then nat_le 0 below && nat_le below 32768 else nat_le 0 above && nat_le above 32767) ≡ true
+    → IsPosition (if minus then pos 0 -ℤ pos below else pos above)
+signed_fits true below above h = minus_fits below (grind (arith, nat_tests))
+signed_fits false below above h = grind (arith, nat_tests)
+
+position_fits : (word : List ℕ) → is_position word ≡ true → IsPosition (signed_value word)
+position_fits [] h = absurd (cc (h))
+position_fits (first ∷ digits) h = signed_fits (first == 45) (value digits) (value (first ∷ digits)) h
+
+cursor_fits : (n : ℕ) (table : NameTable) (scanout name x y hot_x hot_y : List ℕ) → RowFits n (cursor_row n table scanout name x y hot_x hot_y)
+unfolding cursor_row
+cursor_fits n table scanout name x y hot_x hot_y = λ h.
+    let across : is_position x ≡ true = grind arith in
+    let down : is_position y ≡ true = grind arith in
+    let s : value scanout < n = grind (arith, nat_tests) in
+    let i : IsBetween 0 4294967295 (value hot_x) = grind (arith, nat_tests) in
+    let j : IsBetween 0 4294967295 (value hot_y) = grind (arith, nat_tests) in
+    (s, position_fits x across, position_fits y down, i, j)
+
+move_fits : (n : ℕ) (table : NameTable) (scanout x y : List ℕ) → RowFits n (move_row n table scanout x y)
+unfolding move_row
+move_fits n table scanout x y = λ h.
+    let across : is_position x ≡ true = grind arith in
+    let down : is_position y ≡ true = grind arith in
+    let s : value scanout < n = grind (arith, nat_tests) in
+    (s, position_fits x across, position_fits y down)
 
 uuid_fits : (n : ℕ) (table : NameTable) (name : List ℕ) → RowFits n (uuid_row table name)
 unfolding uuid_row
@@ -157,9 +193,11 @@ step_fits word n table args =
     (either_fits n (bytes_eq word (codes "hide")) (one_arg (hide_row n table) args) _ (one_arg_gives (RowFits n) tt (hide_row n table) (hide_fits n table) args)
     (either_fits n (bytes_eq word (codes "show")) (six_args (show_row n table) args) _ (six_args_give (RowFits n) tt (show_row n table) (show_fits n table) args)
     (either_fits n (bytes_eq word (codes "flip")) (two_args (flip_row n table) args) _ (two_args_give (RowFits n) tt (flip_row n table) (flip_fits n table) args)
+    (either_fits n (bytes_eq word (codes "cursor")) (six_args (cursor_row n table) args) _ (six_args_give (RowFits n) tt (cursor_row n table) (cursor_fits n table) args)
+    (either_fits n (bytes_eq word (codes "move")) (three_args (move_row n table) args) _ (three_args_give (RowFits n) tt (move_row n table) (move_fits n table) args)
     (either_fits n (bytes_eq word (codes "uuid")) (one_arg (uuid_row table) args) _ (one_arg_gives (RowFits n) tt (uuid_row table) (uuid_fits n table) args)
     (either_fits n (bytes_eq word (codes "close")) (one_arg (close_row table) args) _ (one_arg_gives (RowFits n) tt (close_row table) (close_fits n table) args)
-    (either_fits n (bytes_eq word (codes "raw")) (four_args (raw_row table) args) _ (four_args_give (RowFits n) tt (raw_row table) (raw_fits n table) args) tt))))))))))))))
+    (either_fits n (bytes_eq word (codes "raw")) (four_args (raw_row table) args) _ (four_args_give (RowFits n) tt (raw_row table) (raw_fits n table) args) tt))))))))))))))))
 
 -- ---- the forms
 

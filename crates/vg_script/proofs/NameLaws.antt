@@ -16,7 +16,7 @@ use Rattle.vg_script.specs.declared.types.Feature.{Feature}
 use Rattle.vg_script.specs.declared.types.RawShape.{RawShape}
 use Rattle.vg_script.specs.Features.{feature_of}
 use Rattle.vg_script.specs.Seen.{Seen, NameTable, nothing_seen, add_line, with_name, without_name}
-use Rattle.vg_script.specs.Rows.{Row, info_row, edid_row, buffer_row, store_row, load_row, send_row, flush_row, take_row, drop_row, hide_row, show_row, flip_row, uuid_row, close_row, raw_row, request_row, queue_of, shape_of, row_of}
+use Rattle.vg_script.specs.Rows.{Row, info_row, edid_row, buffer_row, store_row, load_row, send_row, flush_row, take_row, drop_row, hide_row, show_row, flip_row, cursor_row, move_row, uuid_row, close_row, raw_row, request_row, queue_of, shape_of, row_of}
 use Rattle.vg_script.specs.Grammar.{Form, display_form, memory_form, feature_form, without_form, client_form, step_form, skipped_form, called_form, worded_form, form_of, line_form, one_more}
 use Rattle.vg_script.specs.Faults.{fails, given, form_gives, seen_after, AreFaultless, has_fault}
 use Rattle.vg_script.specs.Names.{begins, says, IsDefinedBy}
@@ -119,6 +119,14 @@ flip_keeps : (n : ℕ) (table : NameTable) (scanout name : List ℕ) → KeepsNa
 unfolding flip_row
 flip_keeps n table scanout name = refl
 
+cursor_keeps : (n : ℕ) (table : NameTable) (scanout name x y hot_x hot_y : List ℕ) → KeepsNames table (cursor_row n table scanout name x y hot_x hot_y)
+unfolding cursor_row
+cursor_keeps n table scanout name x y hot_x hot_y = refl
+
+move_keeps : (n : ℕ) (table : NameTable) (scanout x y : List ℕ) → KeepsNames table (move_row n table scanout x y)
+unfolding move_row
+move_keeps n table scanout x y = refl
+
 uuid_keeps : (n : ℕ) (table : NameTable) (name : List ℕ) → KeepsNames table (uuid_row table name)
 unfolding uuid_row
 uuid_keeps n table name = refl
@@ -164,9 +172,11 @@ step_names name word n table args =
     (either_row name words table (bytes_eq word (codes "hide")) (one_arg (hide_row n table) args) _ (kept_row name word (codes "hide") args table (one_arg (hide_row n table) args) (one_arg_gives (KeepsNames table) tt (hide_row n table) (hide_keeps n table) args) refl refl)
     (either_row name words table (bytes_eq word (codes "show")) (six_args (show_row n table) args) _ (kept_row name word (codes "show") args table (six_args (show_row n table) args) (six_args_give (KeepsNames table) tt (show_row n table) (show_keeps n table) args) refl refl)
     (either_row name words table (bytes_eq word (codes "flip")) (two_args (flip_row n table) args) _ (kept_row name word (codes "flip") args table (two_args (flip_row n table) args) (two_args_give (KeepsNames table) tt (flip_row n table) (flip_keeps n table) args) refl refl)
+    (either_row name words table (bytes_eq word (codes "cursor")) (six_args (cursor_row n table) args) _ (kept_row name word (codes "cursor") args table (six_args (cursor_row n table) args) (six_args_give (KeepsNames table) tt (cursor_row n table) (cursor_keeps n table) args) refl refl)
+    (either_row name words table (bytes_eq word (codes "move")) (three_args (move_row n table) args) _ (kept_row name word (codes "move") args table (three_args (move_row n table) args) (three_args_give (KeepsNames table) tt (move_row n table) (move_keeps n table) args) refl refl)
     (either_row name words table (bytes_eq word (codes "uuid")) (one_arg (uuid_row table) args) _ (kept_row name word (codes "uuid") args table (one_arg (uuid_row table) args) (one_arg_gives (KeepsNames table) tt (uuid_row table) (uuid_keeps n table) args) refl refl)
     (either_row name words table (bytes_eq word (codes "close")) (one_arg (close_row table) args) _ (close_names name word table args)
-    (either_row name words table (bytes_eq word (codes "raw")) (four_args (raw_row table) args) _ (kept_row name word (codes "raw") args table (four_args (raw_row table) args) (four_args_give (KeepsNames table) tt (raw_row table) (raw_keeps n table) args) refl refl) tt))))))))))))))
+    (either_row name words table (bytes_eq word (codes "raw")) (four_args (raw_row table) args) _ (kept_row name word (codes "raw") args table (four_args (raw_row table) args) (four_args_give (KeepsNames table) tt (raw_row table) (raw_keeps n table) args) refl refl) tt))))))))))))))))
 
 -- ---- the forms
 

@@ -1,5 +1,5 @@
 -- The limits that each script keeps.
-use Rattle.std.specs.Prelude.{ℕ, ◌*◌, ◌==◌, ◌<◌, ◌≤◌, List, [], ◌∷◌, length, sum_by, count_by, All, IsTrue}
+use Rattle.std.specs.Prelude.{ℕ, ℤ, pos, negsuc, ◌*◌, ◌==◌, ◌<◌, ◌≤◌, List, [], ◌∷◌, length, sum_by, count_by, All, IsTrue}
 use Rattle.std.specs.Bool.{⊤}
 use Rattle.std.specs.List.{list_any}
 use Rattle.vg_script.specs.declared.types.Feature.{Feature}
@@ -9,7 +9,7 @@ use Rattle.vg_script.specs.declared.types.RawShape.TheVariants.{Pieces}
 use Rattle.vg_script.specs.declared.types.Script.{Script}
 use Rattle.vg_script.specs.declared.types.Step.{Step}
 use Rattle.vg_script.specs.Features.{is_same}
-use Rattle.vg_script.specs.declared.types.Step.TheVariants.{Info, Edid, Buffer, Store, Load, Send, Flush, Take, Drop, Hide, Show, Flip, Uuid, Close, Raw}
+use Rattle.vg_script.specs.declared.types.Step.TheVariants.{Info, Edid, Buffer, Store, Load, Send, Flush, Take, Drop, Hide, Show, Flip, Cursor, Move, Uuid, Close, Raw}
 
 abbrev pub IsBetween : ℕ → ℕ → ℕ → Type 0
 IsBetween low high n = (low ≤ n) × (n ≤ high)
@@ -22,6 +22,11 @@ IsFormatCode code = IsTrue (list_any (λ c. code == c) (1 ∷ 2 ∷ 3 ∷ 4 ∷ 
 abbrev pub ShapeInLimits : RawShape → Type 0
 ShapeInLimits (Pieces n) = IsBetween 2 8 n
 ShapeInLimits shape = ⊤
+
+-- A position lies from -32,768 to 32,767; `negsuc n` is the number -(n + 1).
+abbrev pub IsPosition : ℤ → Type 0
+IsPosition (pos n) = n ≤ 32767
+IsPosition (negsuc n) = n ≤ 32767
 
 -- The numbers of a call, where there are so many displays.
 abbrev pub StepInLimits : ℕ → Step → Type 0
@@ -38,6 +43,9 @@ StepInLimits displays (Drop scanout) = scanout < displays
 StepInLimits displays (Hide scanout) = scanout < displays
 StepInLimits displays (Show scanout name area) = scanout < displays
 StepInLimits displays (Flip scanout name) = scanout < displays
+StepInLimits displays (Cursor scanout name x y hot_x hot_y) =
+    (scanout < displays) × IsPosition x × IsPosition y × IsBetween 0 4294967295 hot_x × IsBetween 0 4294967295 hot_y
+StepInLimits displays (Move scanout x y) = (scanout < displays) × IsPosition x × IsPosition y
 StepInLimits displays (Uuid name) = ⊤
 StepInLimits displays (Close name) = ⊤
 StepInLimits displays (Raw cursor room shape bytes) = IsBetween 0 8192 room × ShapeInLimits shape × IsBetween 0 4096 (length bytes)

@@ -1,7 +1,7 @@
 -- The lines of a client, one row for each word: what has to hold of how its numbers are spelled, of the limits
 -- and of the names, and which call it is. `displays` is how many displays there are, and `table` has the names
 -- that are defined before the line. A word or a count of arguments that the grammar doesn't know has no row.
-use Rattle.std.specs.Prelude.{ℕ, ◌*◌, ◌/◌, ◌==◌, ◌&&◌, not, nat_lt, nat_le, Bool, true, false, is_none, List, [], ◌∷◌, length, Option, Some, None, Result, Ok, Err, if◌then◌else◌, codes, bytes_eq}
+use Rattle.std.specs.Prelude.{ℕ, ◌*◌, ◌/◌, ◌==◌, ◌&&◌, ◌||◌, not, nat_lt, nat_le, Bool, true, false, is_none, List, [], ◌∷◌, length, Option, Some, None, Result, Ok, Err, if◌then◌else◌, codes, bytes_eq}
 use Rattle.std.specs.List.{list_any}
 use Rattle.std.specs.Int.{is_in_range}
 use Rattle.vg_script.specs.declared.kind.Kind.{Kind}
@@ -11,8 +11,8 @@ use Rattle.vg_script.specs.declared.types.Step.{Step}
 use Rattle.vg_script.specs.declared.names.NameKind.TheVariants as kinds
 use Rattle.vg_script.specs.declared.types.RawShape.{RawShape}
 use Rattle.vg_script.specs.declared.types.RawShape.TheVariants.{Plain, Pieces, Indirect, Mixed, Index, Loop, Nested, NextIndirect, TableLength, Order, Range}
-use Rattle.vg_script.specs.declared.types.Step.TheVariants.{Info, Edid, Buffer, Store, Load, Send, Flush, Take, Drop, Hide, Show, Flip, Uuid, Close, Raw}
-use Rattle.vg_script.specs.Words.{is_number, value, is_within, is_hex, hex_bytes, is_hex_or_none, bytes_or_none, is_name, no_args, one_arg, two_args, three_args, four_args, five_args, six_args}
+use Rattle.vg_script.specs.declared.types.Step.TheVariants.{Info, Edid, Buffer, Store, Load, Send, Flush, Take, Drop, Hide, Show, Flip, Cursor, Move, Uuid, Close, Raw}
+use Rattle.vg_script.specs.Words.{is_number, value, is_within, is_hex, hex_bytes, is_hex_or_none, bytes_or_none, is_name, is_no_name, name_or_none, is_signed, signed_value, is_position, no_args, one_arg, two_args, three_args, four_args, five_args, six_args}
 use Rattle.vg_script.specs.Seen.{NameTable, with_name, without_name, is_kind}
 
 pub record Row : Type 0 where
@@ -170,6 +170,26 @@ flip_row displays table scanout name = Some (record {
   after = table;
 })
 
+-- cursor S A X Y HX HY, where `-` for A hides the cursor
+unfoldable pub cursor_row : ℕ → NameTable → (scanout name x y hot_x hot_y : List ℕ) → Option Row
+cursor_row displays table scanout name x y hot_x hot_y = Some (record {
+  numbers = is_number scanout && is_signed x && is_signed y && is_number hot_x && is_number hot_y;
+  limits = is_scanout displays scanout && is_position x && is_position y && is_any hot_x && is_any hot_y;
+  names = is_no_name name || is_kind kinds.Buffer (table name);
+  step = Cursor (value scanout) (name_or_none name) (signed_value x) (signed_value y) (value hot_x) (value hot_y);
+  after = table;
+})
+
+-- move S X Y
+unfoldable pub move_row : ℕ → NameTable → (scanout x y : List ℕ) → Option Row
+move_row displays table scanout x y = Some (record {
+  numbers = is_number scanout && is_signed x && is_signed y;
+  limits = is_scanout displays scanout && is_position x && is_position y;
+  names = true;
+  step = Move (value scanout) (signed_value x) (signed_value y);
+  after = table;
+})
+
 -- uuid A
 unfoldable pub uuid_row : NameTable → (name : List ℕ) → Option Row
 uuid_row table name = Some (record {
@@ -249,6 +269,8 @@ row_of word displays table args =
     else if bytes_eq word (codes "hide") then one_arg (hide_row displays table) args
     else if bytes_eq word (codes "show") then six_args (show_row displays table) args
     else if bytes_eq word (codes "flip") then two_args (flip_row displays table) args
+    else if bytes_eq word (codes "cursor") then six_args (cursor_row displays table) args
+    else if bytes_eq word (codes "move") then three_args (move_row displays table) args
     else if bytes_eq word (codes "uuid") then one_arg (uuid_row table) args
     else if bytes_eq word (codes "close") then one_arg (close_row table) args
     else if bytes_eq word (codes "raw") then four_args (raw_row table) args

@@ -1,16 +1,18 @@
 //! The lines of a client, one function for each word.
 
-ghost use Rattle.std.specs.Prelude.{◌≡◌, ◌≤◌, true, IfOk, OnOk};
+ghost use Rattle.std.specs.Prelude.{◌≡◌, ◌≤◌, ◌||◌, true, IfOk, OnOk};
 ghost use Rattle.vg_script.specs.declared.names.NameKind.TheVariants as kinds;
-ghost use Rattle.vg_script.specs.Words.{is_number, value};
+ghost use Rattle.vg_script.specs.Words.{is_number, value, is_signed, is_no_name, name_or_none};
 ghost use Rattle.vg_script.specs.Seen.{is_kind};
-ghost use Rattle.vg_script.specs.Rows.{judged_row, is_format, is_scanout, are_numbers, are_any, area_of, queue_of, shape_of, info_row, edid_row, buffer_row, store_row, load_row, send_row, flush_row, take_row, drop_row, hide_row, show_row, flip_row, uuid_row, close_row, raw_row};
+ghost use Rattle.vg_script.specs.Rows.{judged_row, is_format, is_scanout, are_numbers, are_any, area_of, queue_of, shape_of, info_row, edid_row, buffer_row, store_row, load_row, send_row, flush_row, take_row, drop_row, hide_row, show_row, flip_row, cursor_row, move_row, uuid_row, close_row, raw_row};
 ghost use Rattle.vg_script.specs.Code.{table_of, Judges, Passes, Yields, Finds};
 
 use crate::kind::{Kind, Stop};
 use crate::names::{NameKind, Names, define, end, is_defined, is_kind};
 use crate::types::{Area, RawShape, Step};
-use crate::words::{bytes_or_none, hex_bytes, is_name, is_number, limited, value};
+use crate::words::{
+    bytes_or_none, hex_bytes, is_name, is_number, is_signed, limited, position, value,
+};
 use std::alloc::{AllocError, Global};
 use vg_list::Seq;
 
@@ -254,6 +256,67 @@ pub(crate) fn flip(
     Ok(Step::Flip { scanout, name })
 }
 
+/// `cursor S A X Y HX HY`
+#[tactic(auto, unfolding(crate::specs::Rows::cursor_row))]
+pub(crate) fn cursor(
+    alloc: Global,
+    names: &Names,
+    displays: usize,
+    scanout: &[u8],
+    name: &[u8],
+    x: &[u8],
+    y: &[u8],
+    hot_x: &[u8],
+    hot_y: &[u8],
+) -> Result<Step, Stop>
+    requires { displays ≤ 16 }
+    ensures { Judges (table_of names.now) result
+        (judged_row (cursor_row displays (table_of names.now) scanout.now name.now x.now y.now hot_x.now hot_y.now)) }
+{
+    spelled(scanout)?;
+    signed(x)?;
+    signed(y)?;
+    spelled(hot_x)?;
+    spelled(hot_y)?;
+    let scanout = display(scanout, displays)?;
+    let x = position(x)?;
+    let y = position(y)?;
+    let hot_x = limited(hot_x, 0, u32::MAX)?;
+    let hot_y = limited(hot_y, 0, u32::MAX)?;
+    known_or_none(names, name)?;
+    let name = owned_or_none(alloc, name)?;
+    Ok(Step::Cursor {
+        scanout,
+        name,
+        x,
+        y,
+        hot_x,
+        hot_y,
+    })
+}
+
+/// `move S X Y`
+#[tactic(auto, unfolding(crate::specs::Rows::move_row))]
+pub(crate) fn move_cursor(
+    names: &Names,
+    displays: usize,
+    scanout: &[u8],
+    x: &[u8],
+    y: &[u8],
+) -> Result<Step, Stop>
+    requires { displays ≤ 16 }
+    ensures { Judges (table_of names.now) result
+        (judged_row (move_row displays (table_of names.now) scanout.now x.now y.now)) }
+{
+    spelled(scanout)?;
+    signed(x)?;
+    signed(y)?;
+    let scanout = display(scanout, displays)?;
+    let x = position(x)?;
+    let y = position(y)?;
+    Ok(Step::Move { scanout, x, y })
+}
+
 /// `uuid A`
 #[tactic(auto, unfolding(crate::specs::Rows::uuid_row))]
 pub(crate) fn uuid(alloc: Global, names: &Names, name: &[u8]) -> Result<Step, Stop>
@@ -389,6 +452,16 @@ pub(crate) fn spelled(word: &[u8]) -> Result<(), Kind>
     Err(Kind::Number)
 }
 
+/// Refuses a word that is no signed number.
+fn signed(word: &[u8]) -> Result<(), Kind>
+    ensures { Passes (is_signed word.now) Kind.Number result }
+{
+    if is_signed(word) {
+        return Ok(());
+    }
+    Err(Kind::Number)
+}
+
 /// The code of a format.
 fn format_code(number: &[u8]) -> Result<u32, Kind>
     requires { is_number number.now ≡ true }
@@ -452,6 +525,26 @@ fn known(names: &Names, name: &[u8]) -> Result<(), Kind>
         return Ok(());
     }
     Err(Kind::Name)
+}
+
+/// Refuses a name that is neither that of a buffer nor `-`.
+fn known_or_none(names: &Names, name: &[u8]) -> Result<(), Kind>
+    ensures { Passes (is_no_name name.now || is_kind kinds.Buffer (table_of names.now name.now)) Kind.Name result }
+{
+    if name == b"-".as_slice() {
+        return Ok(());
+    }
+    known(names, name)
+}
+
+/// A name, or none where it is `-`.
+fn owned_or_none(alloc: Global, name: &[u8]) -> Result<Option<Seq<u8>>, AllocError>
+    ensures { IfOk result (λ s. s ≡ name_or_none name.now) }
+{
+    if name == b"-".as_slice() {
+        return Ok(None);
+    }
+    Ok(Some(owned(alloc, name)?))
 }
 
 fn owned(alloc: Global, bytes: &[u8]) -> Result<Seq<u8>, AllocError>

@@ -1,7 +1,7 @@
 //! Which line of a client some words are.
 
 ghost use Rattle.std.specs.Prelude.{◌≤◌, map};
-ghost use Rattle.vg_script.specs.Rows.{judged_row, row_of, store_row, show_row};
+ghost use Rattle.vg_script.specs.Rows.{judged_row, row_of, store_row, show_row, cursor_row};
 ghost use Rattle.vg_script.specs.Words.{four_args, six_args};
 ghost use Rattle.vg_script.specs.Code.{table_of, Judges};
 
@@ -61,6 +61,12 @@ pub(crate) fn step_of<'a>(
     if word == b"flip".as_slice() {
         return with_args!(args, [scanout, name] => rows::flip(alloc, names, displays, scanout, name));
     }
+    if word == b"cursor".as_slice() {
+        return cursor(alloc, names, displays, args);
+    }
+    if word == b"move".as_slice() {
+        return with_args!(args, [scanout, x, y] => rows::move_cursor(names, displays, scanout, x, y));
+    }
     if word == b"uuid".as_slice() {
         return with_args!(args, [name] => rows::uuid(alloc, names, name));
     }
@@ -86,4 +92,12 @@ fn show(alloc: Global, names: &Names, displays: usize, args: &[&[u8]]) -> Result
         (judged_row (six_args (show_row displays (table_of names.now)) (map (λ arg. arg.now) args.now))) }
 {
     with_args!(args, [scanout, name, x, y, width, height] => rows::show(alloc, names, displays, scanout, name, x, y, width, height))
+}
+
+fn cursor(alloc: Global, names: &Names, displays: usize, args: &[&[u8]]) -> Result<Step, Stop>
+    requires { displays ≤ 16 }
+    ensures { Judges (table_of names.now) result
+        (judged_row (six_args (cursor_row displays (table_of names.now)) (map (λ arg. arg.now) args.now))) }
+{
+    with_args!(args, [scanout, name, x, y, hot_x, hot_y] => rows::cursor(alloc, names, displays, scanout, name, x, y, hot_x, hot_y))
 }

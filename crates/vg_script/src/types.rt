@@ -135,6 +135,21 @@ pub enum Step {
         scanout: u32,
         name: Seq<u8>,
     },
+    /// Shows a buffer as a scanout's cursor, with its hot spot at `x`, `y` of the screen; or, with no name, hides it.
+    Cursor {
+        scanout: u32,
+        name: Option<Seq<u8>>,
+        x: i32,
+        y: i32,
+        hot_x: u32,
+        hot_y: u32,
+    },
+    /// Moves a scanout's cursor.
+    Move {
+        scanout: u32,
+        x: i32,
+        y: i32,
+    },
     /// Asks for the UUID of a buffer's resource.
     Uuid {
         name: Seq<u8>,

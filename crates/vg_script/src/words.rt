@@ -5,7 +5,7 @@ ghost use Rattle.std.specs.Int.{is_in_range};
 ghost use Rattle.std.specs.Char.{is_ascii_digit, is_ascii_alphanumeric};
 ghost use Rattle.std.specs.Prelude.{◌≡◌, ◌==◌, ◌+◌, ◌-◌, ◌*◌, ◌^◌, ◌<◌, ◌≤◌, min, true, false, length, map, IfOk, OnOk, MatchResult};
 ghost use Rattle.vg_script.specs.Code.{Yields, Decodes, digit_or_16, decoded};
-ghost use Rattle.vg_script.specs.Words.{is_text, words_of, is_number, value, is_within, is_hex, is_hex_digit, hex_bytes, is_hex_or_none, bytes_or_none, is_name};
+ghost use Rattle.vg_script.specs.Words.{is_text, words_of, is_number, value, is_within, is_signed, signed_value, is_position, is_hex, is_hex_digit, hex_bytes, is_hex_or_none, bytes_or_none, is_name};
 
 use crate::kind::{Kind, Stop};
 use memchr::memchr;
@@ -101,6 +101,27 @@ fn are_digits(word: &[u8]) -> bool
     ensures { result ≡ list_all is_ascii_digit word.now }
 {
     word.iter().all(|b| b.is_ascii_digit())
+}
+
+/// Whether a word is a number, or `-` and a number that isn't 0.
+pub(crate) fn is_signed(word: &[u8]) -> bool
+    ensures { result ≡ is_signed word.now }
+{
+    match word {
+        [b'-', digits @ ..] => is_number(digits) && value(digits) != 0,
+        _ => is_number(word),
+    }
+}
+
+/// A signed number within the limits of a position: from -32,768 to 32,767.
+pub(crate) fn position(number: &[u8]) -> Result<i32, Kind>
+    requires { is_signed number.now ≡ true }
+    ensures { Yields (is_position number.now) (signed_value number.now) Kind.Limit result }
+{
+    match number {
+        [b'-', digits @ ..] => Ok(-(limited(digits, 0, 32_768)? as i32)),
+        _ => Ok(limited(number, 0, 32_767)? as i32),
+    }
 }
 
 /// The bytes of HEX, whose digits are looked at once.

@@ -17,7 +17,7 @@ fn main(rt: HostRuntime) -> ExitCode {
         Ok(words) => {
             let mut source = StdSource::new(rt.stdin());
             let mut sink = StdSink::new(rt.stdout());
-            vgpu(rt.alloc(), words.as_slice(), &mut source, &mut sink)
+            vgpu(&rt, rt.alloc(), words.as_slice(), &mut source, &mut sink)
         }
         Err(status) => status,
     };

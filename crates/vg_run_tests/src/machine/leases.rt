@@ -1,7 +1,7 @@
 //! The leases of scanouts.
 
-use super::rig::Row::{self, Act};
-use super::rig::{Do, Due, run};
+use super::rig::Row::{self, Act, Command, UpdateCursor};
+use super::rig::{CREATE, Do, Due, OK, UNREF, run};
 use std::test::Fail;
 
 #[test]
@@ -26,6 +26,22 @@ fn scanouts_are_leased_to_one_client(rt: HostRuntime) -> Result<(), Fail> {
         Act("drop again", 1, Do::Drop(0), Due::NotHeld),
         Act("take by another, now free", 2, Do::Take(0), Due::Ok),
         Act("take what is another's now", 1, Do::Take(0), Due::HeldBy(2)),
+    ];
+    run(&rt, rt.alloc(), &ROWS)?;
+    Ok(())
+}
+
+#[test]
+fn a_lease_lasts_while_its_cursor_shows(rt: HostRuntime) -> Result<(), Fail> {
+    static ROWS: [Row<'static>; 8] = [
+        Act("take", 1, Do::Take(0), Due::Ok),
+        Command("create 64 by 64", CREATE, &[1, 1, 64, 64], OK),
+        UpdateCursor("show", &[0, 0, 0, 0, 1, 0, 0, 0], OK),
+        Act("drop while it shows", 1, Do::Drop(0), Due::InUse(0)),
+        Command("end its resource", UNREF, &[1, 0], OK),
+        Act("drop while it shows still", 1, Do::Drop(0), Due::InUse(0)),
+        UpdateCursor("hide", &[0, 0, 0, 0, 0, 0, 0, 0], OK),
+        Act("drop", 1, Do::Drop(0), Due::Ok),
     ];
     run(&rt, rt.alloc(), &ROWS)?;
     Ok(())

@@ -39,6 +39,8 @@ pub(crate) enum Due<'a> {
     NotHeld,
     /// The scanout is leased to this client.
     HeldBy(u32),
+    /// The scanout shows something.
+    InUse(u32),
     Live,
 }
 
@@ -52,11 +54,12 @@ struct Rig {
     second: Holds,
 }
 
-/// An entry of a test: a command, which is what it shows, its type, its fields and the type of its response, or an act, which
-/// is what it shows, its client, which is 1 or 2, and its reply.
+/// An entry of a test: a command, which is what it shows, its type, its fields and the type of its response; an UPDATE_CURSOR,
+/// which has no type; or an act, which is what it shows, its client, which is 1 or 2, and its reply.
 #[derive(Clone, Copy)]
 pub(crate) enum Row<'a> {
     Command(&'a str, u8, &'a [u32], u32),
+    UpdateCursor(&'a str, &'a [u32], u32),
     Act(&'a str, u32, Do<'a>, Due<'a>),
 }
 
@@ -80,17 +83,23 @@ impl Rig {
     /// Runs a row, whose answer is the one that is due.
     fn row(&mut self, rt: &impl Abort, row: &Row<'_>) -> Result<(), AllocError> {
         match *row {
-            Row::Command(name, kind, fields, code) => self.command(rt, name, kind, fields, code),
+            Row::Command(name, kind, fields, code) => {
+                self.command(rt, name, Queue::Control, [kind, 1], fields, code)
+            }
+            Row::UpdateCursor(name, fields, code) => {
+                self.command(rt, name, Queue::Cursor, [0, 3], fields, code)
+            }
             Row::Act(name, client, what, due) => self.act_once(rt, name, client, what, due),
         }
     }
 
-    /// Runs a command on the control queue, which is answered by a header alone, of this type and without a fence.
+    /// Runs a command, which is answered by a header alone, of this type and without a fence.
     fn command(
         &mut self,
         rt: &impl Abort,
         name: &str,
-        kind: u8,
+        queue: Queue,
+        kind: [u8; 2],
         fields: &[u32],
         code: u32,
     ) -> Result<(), AllocError> {
@@ -98,7 +107,7 @@ impl Rig {
         assert!(rt; self.display.entries() < 1000);
         let answer = self
             .display
-            .command(self.alloc, Queue::Control, request.as_slice(), 408)?;
+            .command(self.alloc, queue, request.as_slice(), 408)?;
         assert_eq!(rt; answer.as_slice(), plain_header(code).as_slice(), "{name}");
         Ok(())
     }
@@ -107,8 +116,10 @@ impl Rig {
     fn act(&mut self, rt: &impl Abort, client: u32, act: &Act) -> Result<ActReply, AllocError> {
         assert!(rt; self.display.entries() < 1000);
         let (reply, _) = if client == 1 {
+            assert!(rt; self.first.client == 1);
             self.display.act(self.alloc, 1, &mut self.first, act)?
         } else {
+            assert!(rt; self.second.client == 2);
             self.display.act(self.alloc, 2, &mut self.second, act)?
         };
         Ok(reply)
@@ -140,9 +151,9 @@ pub(crate) fn run(rt: &impl Abort, alloc: Global, rows: &[Row<'_>]) -> Result<()
     Ok(())
 }
 
-/// The bytes of a request with no flags.
-fn request(alloc: Global, kind: u8, fields: &[u32]) -> Result<Vec<u8>, AllocError> {
-    let mut bytes = vec![in alloc; kind, 1]?;
+/// The bytes of a request with no flags, of a type with these low bytes.
+fn request(alloc: Global, kind: [u8; 2], fields: &[u32]) -> Result<Vec<u8>, AllocError> {
+    let mut bytes = kind.to_vec(alloc)?;
     bytes.extend_from_slice(&[0; 22])?;
     for field in fields {
         bytes.extend_from_slice(&field.to_le_bytes())?;
@@ -201,7 +212,8 @@ fn is_due(reply: &ActReply, due: Due<'_>) -> bool {
 
 fn is_due_refusal(refusal: ShareRefusal, due: Due<'_>) -> bool {
     match (refusal, due) {
-        (ShareRefusal::ScanoutHeld { by: n }, Due::HeldBy(m)) => n == m,
+        (ShareRefusal::ScanoutHeld { by: n }, Due::HeldBy(m))
+        | (ShareRefusal::InUse { scanout: n }, Due::InUse(m)) => n == m,
         (ShareRefusal::UnknownKey, Due::Unknown)
         | (ShareRefusal::NotHeld, Due::NotHeld)
         | (ShareRefusal::ResourceLive, Due::Live) => true,

@@ -1,4 +1,4 @@
-use Rattle.std.proofs.Common.{◌≡◌, sym, subst}
+use Rattle.std.proofs.Common.{subst}
 use Rattle.vg_front_tests.specs.Held.{IsHeld}
 use Rattle.vg_front_tests.proofs.HeldLemmas.{held_is}
 use Rattle.vg_front_tests.proofs.rig.take.Goals as goal

@@ -1,18 +1,24 @@
 use Rattle.std.proofs.Common.{◌+◌, refl}
 use Rattle.vg_history.specs.declared.entry.Entry.TheVariants as entries
-use Rattle.vg_machine.specs.Holds.{update}
-use Rattle.vg_machine.specs.Replay.{replay}
+use Rattle.vg_machine.specs.declared.act.ActReply.{ActReply}
+use Rattle.vg_run.proofs.PrintingLemmas.{on_err}
 use Rattle.vg_run.proofs.ReplyLemmas.{few-act}
-use Rattle.vg_run.proofs.PlayLemmas.{done-by, given-is, stays-act}
+use Rattle.vg_run.proofs.PlayLemmas.{begun-by, done-by, given-is, stays-act}
 use Rattle.vg_run.proofs.play.make_act.Goals as goal
 
 pub returns-clause-done : goal.returns-clause-done
-returns-clause-done c =
-    let account = c.args.client.now.account in
-    let reply = c.in_ok-_number.reply in
+returns-clause-done g c =
+    let account = c.args.client.now.token.account in
+    let reply = c.in_ok-reply.reply in
+    let added = c.in_ok-reply.ensures.added in
     let is = given-is account.number (account.used + 1) c.args.act reply c.is_denial-is_told.result c.given_act.result c.is_denial-is_told.ensures c.given_act.ensures in (
       reply,
-      done-by c.args.session.now c.act.new.self c.args.client.now _ (entries.Act account.number (account.used + 1) c.args.act reply) (update account.holds c.args.act reply) c.given_act.result
-          c.in_ok-_number.ensures.added.0 refl c.requires.may.present (stays-act account.number (account.used + 1) c.args.act reply c.requires.stays) refl refl is,
-      few-act (replay c.args.session.now.setup c.args.session.now.history) account.number c.args.act reply c.is_denial-is_told.result c.given_act.result c.requires.few c.in_ok-_number.ensures.added.1 c.given_act.ensures,
+      done-by c.args.session.now c.args.session.now c.args.client.now _ (entries.Act account.number (account.used + 1) c.args.act reply) c.given_act.result
+          added.0 c.requires.may.present (stays-act account.number (account.used + 1) c.args.act reply c.requires.stays) refl refl is,
+      few-act added.1.0 account.number c.args.act reply c.is_denial-is_told.result c.given_act.result c.requires.few added.1.1 c.given_act.ensures,
     )
+
+pub returns-in_err-reply-clause-begun : goal.returns-in_err-reply-clause-begun
+returns-in_err-reply-clause-begun g c =
+    let account = c.args.client.now.token.account in
+    on_err _ (begun-by c.args.session.now c.args.session.now c.args.client.now _ (λ (reply : ActReply). entries.Act account.number (account.used + 1) c.args.act reply) c.in_err-reply.ensures.err)

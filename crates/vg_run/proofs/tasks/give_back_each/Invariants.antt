@@ -3,4 +3,4 @@ use Rattle.vg_run.specs.Tasks.{leases_back}
 use Rattle.vg_run.proofs.tasks.give_back_each.Given as goal
 
 abbrev pub invariant-loop-scanout : goal.invariant-loop-scanout
-invariant-loop-scanout l = l.tasks.items ++ leases_back l.client.account.holds.scanouts l.scanout (l.client.account.holds.displays - l.scanout) ≡ leases_back l.client.account.holds.scanouts 0 l.client.account.holds.displays
+invariant-loop-scanout l = l.tasks.items ++ leases_back l.holds.scanouts l.scanout (l.holds.displays - l.scanout) ≡ leases_back l.holds.scanouts 0 l.holds.displays

@@ -20,4 +20,5 @@ invariant_of-self c =
       share = now.pages;
       reserved = now.reserved;
       given = was.given;
+      cursors = was.cursors;
     }

@@ -18,4 +18,5 @@ invariant_of-self c =
       share = now.pages;
       reserved = now.reserved;
       given = was.given;
+      cursors = was.cursors;
     }

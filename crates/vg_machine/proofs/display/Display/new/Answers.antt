@@ -1,5 +1,6 @@
 use Rattle.std.proofs.Common.{arith}
 use Rattle.std.proofs.lemmas.List.{length-replicate}
+use Rattle.vg_cursor.specs.Cursor.{unset}
 use Rattle.vg_machine.proofs.ShareLemmas.{shares-fresh}
 use Rattle.vg_machine.proofs.BoundLemmas.{none-showing}
 use Rattle.vg_machine.proofs.display.Display.new.Goals as goal
@@ -12,10 +13,11 @@ invariant_of-result c =
       setup = rw same (record { some = c.requires.some; at_most = c.requires.at_most; displays = c.requires.displays; one_page = c.requires.one_page; pages = c.requires.pages; accepted = c.requires.accepted; clients = c.requires.clients });
       pages = rw same c.in_ok-new.ensures.count;
       backings = rw c.new-3.ensures (λ k d within. absurd (omega (arith, within)));
-      screens = rw (c.in_ok-new-2.ensures, same, ← count) (length-replicate _ _);
-      showing = rw (c.in_ok-new-2.ensures) (none-showing c.new-2.result c.len-count.result);
-      leases = rw (c.in_ok-new-3.ensures, same, ← count) (length-replicate _ _);
-      share = rw (c.in_ok-new.ensures.fresh, c.in_ok-new-3.ensures) (shares-fresh c.args.setup.now.pages _ _);
-      reserved = rw c.in_ok-new-3.ensures (omega arith);
+      screens = rw (c.in_ok-new-3.ensures, same, ← count) (length-replicate _ _);
+      showing = rw (c.in_ok-new-3.ensures) (none-showing c.new-2.result c.len-count.result);
+      leases = rw (c.in_ok-new-4.ensures, same, ← count) (length-replicate _ _);
+      share = rw (c.in_ok-new.ensures.fresh, c.in_ok-new-4.ensures) (shares-fresh c.args.setup.now.pages _ _);
+      reserved = rw c.in_ok-new-4.ensures (omega arith);
       given = rw c.new-4.ensures (omega arith);
+      cursors = rw (c.in_ok-new-2.ensures, same, ← count) (length-replicate c.len-count.result unset);
     }

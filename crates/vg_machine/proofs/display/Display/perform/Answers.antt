@@ -18,4 +18,5 @@ invariant_of-self-in-Leave-1 c =
       share = rw left (shares-left s.pages c.args.client s.share was.share);
       reserved = rw left was.reserved;
       given = was.given;
+      cursors = was.cursors;
     }

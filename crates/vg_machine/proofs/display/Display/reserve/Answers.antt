@@ -18,6 +18,7 @@ invariant_of-self c =
       share = c.reserve.ensures.share;
       reserved = now.reserved;
       given = was.given;
+      cursors = was.cursors;
     }
 
 pub returns-clause-err : goal.returns-clause-err

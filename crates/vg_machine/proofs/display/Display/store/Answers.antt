@@ -29,4 +29,5 @@ invariant_of-self c =
       share = rw c.store.ensures (shares-bytes s.pages _ s.share was.share);
       reserved = was.reserved;
       given = was.given;
+      cursors = was.cursors;
     }

@@ -21,6 +21,7 @@ invariant_of-self c =
       share = now.pages;
       reserved = now.reserved;
       given = was.given;
+      cursors = was.cursors;
     }
 
 pub returns-clause-holds : goal.returns-clause-holds

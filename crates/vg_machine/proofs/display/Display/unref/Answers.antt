@@ -17,13 +17,14 @@ invariant_of-self c =
       share = was.share;
       reserved = was.reserved;
       given = was.given;
+      cursors = was.cursors;
     }
 
 pub invariant_of-self-2 : goal.invariant_of-self-2
 invariant_of-self-2 c =
     let was = c.self.invariant in
     let s = c.self.inside in
-    let now = showing-without s.resources c.args.resource _ s.scanouts (record { count_is = was.screens; showing = was.showing }) in
+    let now = showing-without s.resources c.args.resource _ s.scanouts.state (record { count_is = was.screens; showing = was.showing }) in
     let gone = remove-done c.args.resource s.resources c.remove.new.self c.remove.result c.remove.ensures c.in_default.is in
     record {
       setup = was.setup;
@@ -35,6 +36,7 @@ invariant_of-self-2 c =
       share = was.share;
       reserved = was.reserved;
       given = rw c.forget.ensures was.given;
+      cursors = was.cursors;
     }
 
 pub returns-in-Err : goal.returns-in-Err

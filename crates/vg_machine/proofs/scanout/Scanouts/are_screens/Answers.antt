@@ -1,5 +1,0 @@
-use Rattle.vg_machine.proofs.PanelLemmas.{are-screens}
-use Rattle.vg_machine.proofs.scanout.Scanouts.are_screens.Goals as goal
-
-pub returns : goal.returns
-returns c = rw (← c.self.view_is) (are-screens c.self.inside.frames.items c.self.inside.panels.items c.self.invariant.2)

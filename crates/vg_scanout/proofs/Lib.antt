@@ -1,0 +1,4 @@
+pub mod ScreenLemmas
+pub mod PanelLemmas
+pub mod ReadyLemmas
+pub mod LawLemmas

@@ -1,0 +1,4 @@
+pub mod Scanout
+pub mod Fits
+pub mod Panels
+pub mod FrameOf

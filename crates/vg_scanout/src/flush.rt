@@ -1,0 +1,218 @@
+//! The frames that a flush makes, and what the screens stand on after it.
+
+ghost use Rattle.std.specs.Prelude.{◌≡◌, ◌<◌, ◌≤◌, ◌+◌, ◌-◌, ◌*◌, ◌^◌, ◌++◌, [], ◌∷◌, Some, None, All, IfOk, if◌then◌else◌, length, min};
+ghost use Rattle.vg_cursor.specs.Cursor.{cursor_of};
+ghost use Rattle.vg_formats.specs.Pixels.{HasPixels, LiesWithin};
+ghost use Rattle.vg_scanout.specs.declared.panel.Ground.TheVariants as grounds;
+ghost use Rattle.vg_scanout.specs.Fits.{FitSurface, FitsSurface};
+ghost use Rattle.vg_scanout.specs.Panels.{AreAnew, AreRegrounded, ArePanels, IsAnew, IsPanel, IsSmall, bytes_made, bytes_of, pixels_in, regrounded, screen_in, screens_in};
+ghost use Rattle.vg_scanout.specs.Scanout.{frame_of, new_frame, new_frames, pixels_with};
+
+use crate::panel::{Ground, Panel};
+use crate::scanout::{Binding, Frame};
+use std::alloc::{AllocError, Global};
+use vg_cursor::Cursors;
+use vg_formats::Rect;
+use vg_list::Seq;
+use vg_places::Area;
+use vg_shown::show_rows;
+
+/// How many bytes all frames have after a flush, if they have so many before it; no more than a `u64` can tell.
+pub(crate) fn bytes_after(panels: &[Option<Panel>], resource: u32, rect: &Rect, bytes: u64) -> u64
+    requires { All IsSmall panels.now }
+    ensures { result ≡ min (bytes + bytes_made resource rect.now panels.now) (2 ^ 64 - 1) }
+{
+    let mut sum = bytes;
+    for panel in panels {
+        sum = sum.saturating_add(bytes_of_frame(panel, resource, rect));
+    }
+    sum
+}
+
+/// How many bytes the frame has that a flush makes of a screen.
+fn bytes_of_frame(panel: &Option<Panel>, resource: u32, rect: &Rect) -> u64
+    requires { IsSmall panel.now }
+    ensures { result ≡ bytes_of resource rect.now panel.now }
+{
+    let Some(panel) = panel else { return 0 };
+    match panel.touched(resource, rect) {
+        Some(_) => panel.size(),
+        None => 0,
+    }
+}
+
+/// The frames that a flush makes, behind these, and of each scanout what its screen stands on then, if it is another ground.
+pub(crate) fn make_frames(
+    alloc: Global,
+    entry: u64,
+    resource: u32,
+    rect: &Rect,
+    surface: &[u8],
+    cursors: &Cursors,
+    before: &[Frame],
+    panels: &[Option<Panel>],
+) -> Result<(Vec<Frame>, Vec<Option<Ground>>), AllocError>
+    requires count { length panels.now < 2 ^ 32 }
+    requires cursors { length panels.now ≤ length cursors.now }
+    requires panels { ArePanels before.now panels.now }
+    requires surface { All (FitSurface resource (length surface.now)) (screens_in before.now panels.now) }
+    ensures frames { IfOk result (λ made. made.0.items ≡ new_frames entry resource rect.now surface.now cursors.now 0 (screens_in before.now panels.now)) }
+    ensures grounds { IfOk result (λ made. AreAnew resource rect.now surface.now before.now (before.now ++ made.0.items) made.1.items panels.now) }
+{
+    let mut frames = Vec::new(alloc);
+    let mut grounds = Vec::new(alloc);
+    for i in 0..panels.len() {
+        let ground = add_frame(
+            alloc,
+            entry,
+            i as u32,
+            resource,
+            rect,
+            surface,
+            cursors,
+            before,
+            &mut frames,
+            &panels[i],
+        )?;
+        grounds.push(ground)?;
+    }
+    Ok((frames, grounds))
+}
+
+/// Makes the frame that a flush makes of a screen, if it makes one, and gives what the screen stands on then.
+fn add_frame(
+    alloc: Global,
+    entry: u64,
+    scanout: u32,
+    resource: u32,
+    rect: &Rect,
+    surface: &[u8],
+    cursors: &Cursors,
+    before: &[Frame],
+    frames: &mut Vec<Frame>,
+    panel: &Option<Panel>,
+) -> Result<Option<Ground>, AllocError>
+    requires scanout { scanout < length cursors.now }
+    requires panel { IsPanel before.now panel.now }
+    requires surface { FitSurface resource (length surface.now) (screen_in before.now panel.now) }
+    ensures frames { IfOk result (λ made. frames.new.items ≡ frames.old.items ++ new_frame entry resource rect.now surface.now cursors.now scanout (screen_in before.now panel.now)) }
+    ensures regrounded { IfOk result (λ made. IsAnew resource rect.now surface.now before.now (before.now ++ frames.new.items) made panel.now) }
+{
+    let Some(panel) = panel else { return Ok(None) };
+    let Some(common) = panel.touched(resource, rect) else {
+        return Ok(None)
+    };
+    let pixels = pixels_after(alloc, panel, &common, surface, before)?;
+    let number = before.len() + frames.len();
+    let ground = ground_of(alloc, cursors, scanout, number, pixels.as_slice())?;
+    frames.push(frame_of(entry, scanout, &panel.binding, cursors, pixels))?;
+    Ok(Some(ground))
+}
+
+/// The pixels of a screen once this part of it is shown as the surface has it now.
+fn pixels_after(
+    alloc: Global,
+    panel: &Panel,
+    part: &Rect,
+    surface: &[u8],
+    before: &[Frame],
+) -> Result<Vec<u8>, AllocError>
+    requires panel { IsPanel before.now (Some panel.now) }
+    requires some { HasPixels part.now }
+    requires within { LiesWithin part.now panel.now.binding.rect }
+    requires surface { FitsSurface (length surface.now) panel.now.binding }
+    ensures long { IfOk result (λ pixels. length pixels.items ≡ 4 * panel.now.binding.rect.width * panel.now.binding.rect.height) }
+    ensures shown { IfOk result (λ pixels. pixels.items ≡ pixels_with panel.now.binding part.now surface.now (pixels_in before.now panel.now)) }
+{
+    let mut pixels = panel.under(alloc, before, part)?;
+    show_part(&panel.binding, part, surface, pixels.as_mut_slice());
+    Ok(pixels)
+}
+
+/// What a screen of these pixels stands on, of which a frame of this number is made: the frame, but where a cursor is in that.
+fn ground_of(
+    alloc: Global,
+    cursors: &Cursors,
+    scanout: u32,
+    number: usize,
+    pixels: &[u8],
+) -> Result<Ground, AllocError>
+    requires { scanout < length cursors.now }
+    ensures { IfOk result (λ made. made ≡ (if (cursor_of cursors.now scanout).visible then grounds.Kept pixels.now else grounds.Shared number)) }
+{
+    if cursors.visible(scanout) {
+        let own = pixels.to_vec(alloc)?;
+        Ok(Ground::Kept(Seq::from_vec(own)))
+    } else {
+        Ok(Ground::Shared(number))
+    }
+}
+
+/// The frame of a screen of these pixels, with its cursor.
+pub(crate) fn frame_of(
+    entry: u64,
+    scanout: u32,
+    binding: &Binding,
+    cursors: &Cursors,
+    mut pixels: Vec<u8>,
+) -> Frame
+    requires scanout { scanout < length cursors.now }
+    requires pixels { length pixels.items ≡ 4 * binding.now.rect.width * binding.now.rect.height }
+    ensures { result ∷ [] ≡ frame_of entry cursors.now scanout (Some (record { binding = binding.now; pixels = pixels.items })) }
+{
+    let (width, height) = (binding.rect.width, binding.rect.height);
+    cursors.blend(scanout, width, height, pixels.as_mut_slice());
+    Frame {
+        scanout,
+        width,
+        height,
+        entry,
+        pixels: Seq::from_vec(pixels),
+    }
+}
+
+/// Has each of the screens stand on its new ground, if it has one.
+pub(crate) fn reground_each(panels: &mut [Option<Panel>], grounds: &mut [Option<Ground>])
+    requires { length grounds.old ≡ length panels.old }
+    ensures { AreRegrounded grounds.old panels.old panels.new }
+{
+    for i in 0..panels.len() {
+        reground(&mut panels[i], grounds[i].take());
+    }
+}
+
+fn reground(panel: &mut Option<Panel>, new: Option<Ground>)
+    ensures { panel.new ≡ regrounded new panel.old }
+{
+    if let (Some(panel), Some(new)) = (panel, new) {
+        panel.base = new;
+    }
+}
+
+/// Shows this part of a screen as the surface has it now.
+fn show_part(binding: &Binding, part: &Rect, surface: &[u8], pixels: &mut [u8])
+    requires some { HasPixels part.now }
+    requires within { LiesWithin part.now binding.now.rect }
+    requires surface { FitsSurface (length surface.now) binding.now }
+    requires pixels { length pixels.old ≡ 4 * binding.now.rect.width * binding.now.rect.height }
+    ensures { pixels.new ≡ pixels_with binding.now part.now surface.now pixels.old }
+{
+    let area = Area {
+        row: (part.y - binding.rect.y) as usize,
+        column: 4 * (part.x - binding.rect.x) as usize,
+        width: 4 * part.width as usize,
+        height: part.height as usize,
+    };
+    let stride = binding.stride as usize;
+    let offset = binding.offset as usize + stride * part.y as usize + 4 * part.x as usize;
+    let row_length = 4 * binding.rect.width as usize;
+    show_rows(
+        binding.format,
+        pixels,
+        row_length,
+        &area,
+        surface,
+        stride,
+        offset,
+    );
+}

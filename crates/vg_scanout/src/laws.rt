@@ -1,0 +1,24 @@
+//! What frames mean for each pixel (VIRTIO 1.2, 5.7.6.8 and 5.7.6.10): a law, the contract of a function that does no work.
+
+ghost use Rattle.std.specs.Prelude.{ℕ, List};
+ghost use Rattle.vg_cursor.specs.declared.cursor.Cursor.{Cursor};
+ghost use Rattle.vg_formats.specs.declared.rect.Rect.{Rect};
+ghost use Rattle.vg_scanout.specs.FrameOf.{MakesFrames};
+ghost use Rattle.vg_scanout.specs.Scanout.{flushed, snapped};
+
+use crate::scanout::Scanouts;
+use vg_cursor::cover_each_pixel;
+
+impl Scanouts {
+    /// A law, and no work: each frame that is made shows its scanout's screen as it is then, pixel by pixel, and over it the
+    /// scanout's cursor where that is shown.
+    pub fn each_frame_is_of_its_screen(&self)
+        ensures flushed { (entry id : ℕ) (rect : Rect) (surface : List ℕ) (cursors : List Cursor)
+            → MakesFrames entry cursors self.now.state (flushed entry id rect surface cursors self.now.state) }
+        ensures snapped { (entry scanout : ℕ) (cursors : List Cursor)
+            → MakesFrames entry cursors self.now.state (snapped entry cursors scanout self.now.state) }
+    {
+        self.are_screens();
+        cover_each_pixel();
+    }
+}

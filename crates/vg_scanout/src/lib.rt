@@ -1,0 +1,10 @@
+//! The scanouts: what they are bound to, what they show, and the frames that they have shown (VIRTIO 1.2, 5.7.6.8).
+#![tactic(auto)]
+
+mod flush;
+mod laws;
+mod panel;
+mod ready;
+mod scanout;
+
+pub use scanout::{Binding, Frame, Scanouts};

@@ -1,0 +1,80 @@
+//! What is kept of a scanout that is bound.
+
+ghost use Rattle.std.specs.Prelude.{◌≡◌, ◌*◌, Some, None, IfOk, if◌then◌else◌};
+ghost use Rattle.vg_formats.specs.Pixels.{HasPixels, common_of};
+ghost use Rattle.vg_scanout.specs.Panels.{IsGround, IsPanel, IsSmall, is_touched, pixels_in};
+
+use crate::scanout::{Binding, Frame};
+use std::alloc::{AllocError, Global};
+use vg_formats::{Rect, pixel_bytes};
+use vg_list::Seq;
+use vg_places::zeros;
+
+/// Where the pixels of a screen stand.
+#[derive(Debug, Drop)]
+pub(crate) enum Ground {
+    /// All its bytes are 0.
+    Blank,
+    /// They are those of the frame of this number.
+    Shared(usize),
+    /// The screen has pixels of its own, which no frame has: its frame has a cursor in it.
+    Kept(Seq<u8>),
+}
+
+/// A scanout that is bound.
+#[derive(Debug, Drop)]
+pub(crate) struct Panel {
+    pub(crate) binding: Binding,
+    pub(crate) base: Ground,
+}
+
+impl Panel {
+    /// The pixels of the screen that a flush of `rect` touches, if it has one and is bound to the resource.
+    pub(crate) fn touched(&self, resource: u32, rect: &Rect) -> Option<Rect>
+        ensures { result ≡ (if is_touched resource rect.now (Some self.now) then Some (common_of self.now.binding.rect rect.now) else None) }
+    {
+        if self.binding.resource == resource {
+            self.binding.rect.meet(rect)
+        } else {
+            None
+        }
+    }
+
+    /// How many bytes the screen has.
+    pub(crate) fn size(&self) -> u64
+        requires { IsSmall (Some self.now) }
+        ensures { result ≡ 4 * self.now.binding.rect.width * self.now.binding.rect.height }
+    {
+        pixel_bytes(self.binding.rect.width, self.binding.rect.height) as u64
+    }
+
+    /// A copy of the screen's pixels.
+    pub(crate) fn pixels(&self, alloc: Global, frames: &[Frame]) -> Result<Vec<u8>, AllocError>
+        requires { IsPanel frames.now (Some self.now) }
+        ensures { IfOk result (λ pixels. pixels.items ≡ pixels_in frames.now self.now) }
+    {
+        match &self.base {
+            Ground::Blank => zeros(alloc, self.size() as usize),
+            Ground::Shared(number) => frames[*number].pixels.as_slice().to_vec(alloc),
+            Ground::Kept(pixels) => pixels.as_slice().to_vec(alloc),
+        }
+    }
+
+    /// Pixels to show this part of the screen over: a copy of its own, but where the part is all of it.
+    pub(crate) fn under(
+        &self,
+        alloc: Global,
+        frames: &[Frame],
+        part: &Rect,
+    ) -> Result<Vec<u8>, AllocError>
+        requires panel { IsPanel frames.now (Some self.now) }
+        requires some { HasPixels part.now }
+        ensures { IfOk result (λ pixels. IsGround self.now.binding part.now (pixels_in frames.now self.now) pixels.items) }
+    {
+        if *part != self.binding.rect {
+            return self.pixels(alloc, frames);
+        }
+        let pixels = zeros(alloc, self.size() as usize)?;
+        Ok(pixels)
+    }
+}
