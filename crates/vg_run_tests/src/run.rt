@@ -1,6 +1,7 @@
 //! What no row of rows/ can show: reads and writes that fail at each call, and sources and sinks that move single bytes.
 
 use std::alloc::{AllocError, Global};
+use std::sync::Wait;
 use std::test::Fail;
 use vg_io::{Failed, MemSink, MemSource, Sink, Source};
 use vg_run::{Status, vgpu};
@@ -45,9 +46,8 @@ impl<K: Sink> Sink for Sip<K> {
 
 /// A run of the script whose reads and writes of these numbers fail, into a sink of this room, and what it wrote. No call has
 /// the number 0.
-fn ran(rt: &HostRuntime, row: &Row) -> Result<(Status, Vec<u8>), AllocError> {
+fn ran<R: Wait>(rt: &R, alloc: Global, row: &Row) -> Result<(Status, Vec<u8>), AllocError> {
     let (read, write, room, _, _) = row;
-    let alloc = rt.alloc();
     let run = run_word(alloc)?;
     let text = Vec::from_slice(alloc, SCRIPT)?;
     let mut source = MemSource::new(text, vec![in alloc; *read]?);
@@ -57,9 +57,8 @@ fn ran(rt: &HostRuntime, row: &Row) -> Result<(Status, Vec<u8>), AllocError> {
 }
 
 /// The same by single bytes.
-fn sipped(rt: &HostRuntime, row: &Row) -> Result<(Status, Vec<u8>), AllocError> {
+fn sipped<R: Wait>(rt: &R, alloc: Global, row: &Row) -> Result<(Status, Vec<u8>), AllocError> {
     let (read, write, room, _, _) = row;
-    let alloc = rt.alloc();
     let run = run_word(alloc)?;
     let text = Vec::from_slice(alloc, SCRIPT)?;
     let mut source = Sip(MemSource::new(text, vec![in alloc; *read]?));
@@ -103,10 +102,10 @@ fn is_due(row: &Row, ended: Status, written: &[u8], whole: &[u8]) -> bool {
 
 #[test]
 fn faults_leave_a_front(rt: HostRuntime) -> Result<(), Fail> {
-    let (_, whole) = ran(&rt, &WHOLE)?;
+    let (_, whole) = ran(&rt, rt.alloc(), &WHOLE)?;
     assert!(rt; whole.as_slice().starts_with(b"vgpu-journal 1\n"));
     for row in &RUNS {
-        let (status, written) = ran(&rt, row)?;
+        let (status, written) = ran(&rt, rt.alloc(), row)?;
         assert!(rt;
             is_due(row, status, written.as_slice(), whole.as_slice()),
             "{row:?}"
@@ -117,9 +116,9 @@ fn faults_leave_a_front(rt: HostRuntime) -> Result<(), Fail> {
 
 #[test]
 fn single_bytes_give_the_same(rt: HostRuntime) -> Result<(), Fail> {
-    let (_, whole) = ran(&rt, &WHOLE)?;
+    let (_, whole) = ran(&rt, rt.alloc(), &WHOLE)?;
     for row in &SIPS {
-        let (status, written) = sipped(&rt, row)?;
+        let (status, written) = sipped(&rt, rt.alloc(), row)?;
         assert!(rt;
             is_due(row, status, written.as_slice(), whole.as_slice()),
             "{row:?}"
