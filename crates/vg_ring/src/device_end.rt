@@ -62,6 +62,13 @@ impl<P: Tagged, N: Naming> Model for DeviceEnd<P, N> {
 }
 
 impl<P: Tagged, N: Naming> DeviceEnd<P, N> {
+    /// How many descriptors the ring has.
+    pub fn size(&self) -> u16
+        ensures { result ≡ self.now.size }
+    {
+        self.size
+    }
+
     /// How many cargoes were fetched.
     pub fn fetched(&self) -> u64
         ensures { result ≡ length self.now.fetched }

@@ -1,0 +1,5 @@
+pub mod LaneLemmas
+pub mod WaitLemmas
+pub mod DeskLemmas
+pub mod FrontLemmas
+pub mod Sent

@@ -1,0 +1,4 @@
+pub mod Lanes
+pub mod Desks
+pub mod Loans
+pub mod Fronts

@@ -1,0 +1,40 @@
+//! Which two rings a device has.
+
+ghost use Rattle.std.specs.Prelude.{[]};
+ghost use Rattle.atomic_table.specs.Seated.{TableId};
+
+use std::marker::{Brand, PhantomData};
+use vg_ring::Naming;
+
+/// Which two rings they are. Each call of a program picks them.
+pub trait Rings {
+    ghost control: { TableId };
+
+    ghost cursor: { TableId };
+}
+
+impl Rings for Brand {
+    ghost control = { record { words = 10; slots = 2; views_name = 0; atom = 0; block = 0; offset = 0; slot_names = [] } };
+
+    ghost cursor = { record { words = 10; slots = 2; views_name = 0; atom = 0; block = 0; offset = 0; slot_names = [] } };
+}
+
+/// The name of the ring of the control queue.
+#[derive(Drop)]
+pub struct ControlOf<N: Rings> {
+    of: PhantomData<N>,
+}
+
+impl<N: Rings> Naming for ControlOf<N> {
+    ghost ring = { N.control };
+}
+
+/// The name of the ring of the cursor queue.
+#[derive(Drop)]
+pub struct CursorOf<N: Rings> {
+    of: PhantomData<N>,
+}
+
+impl<N: Rings> Naming for CursorOf<N> {
+    ghost ring = { N.cursor };
+}

@@ -1,0 +1,174 @@
+//! Commands that go to a front over both rings, and what comes back.
+
+ghost use Rattle.std.specs.Prelude.{◌≡◌, ℕ, IfOk, IfSome, length};
+ghost use Rattle.vg_chain.specs.Made.{IsCount};
+ghost use Rattle.vg_front.specs.Desks.{AreNew};
+ghost use Rattle.vg_wire.specs.declared.request.Queue.TheVariants.{Control, Cursor};
+ghost use Rattle.vg_ring.specs.Cargo.{IsLane};
+ghost use Rattle.vg_ring.specs.Making.{IsNewDevice};
+ghost use Rattle.vg_front_tests.specs.Held.{IsHeld, count_in, lane_in};
+
+use std::alloc::{AllocError, Global};
+use std::marker::Model;
+use vg_chain::Shape;
+use vg_front::{ControlOf, CursorOf, Front, Loan, Rings, Work};
+use vg_history::Turn;
+use vg_ring::{Cargo, DeviceEnd, DriverEnd, Naming, Parcel, Tag};
+use vg_ring_uses::Ticket;
+use vg_wire::Queue;
+
+/// A lane's token that runs nothing but counts.
+#[derive(Drop)]
+pub(crate) struct Token {
+    pub(crate) lane: u32,
+    pub(crate) count: u64,
+}
+
+impl Turn for Token {
+    ghost lane_of = { λ t. t.lane };
+
+    ghost count_of = { λ t. t.count };
+
+    fn lane(&self) -> u32 {
+        self.lane
+    }
+
+    fn count(&self) -> u64 {
+        self.count
+    }
+}
+
+/// The tokens of all lanes, which have run nothing.
+fn tokens(alloc: Global) -> Result<Vec<Token>, AllocError>
+    ensures { IfOk result (λ tokens. (length tokens.items ≡ 66) × AreNew lane_in count_in 0 tokens.items) }
+{
+    let mut tokens = Vec::with_capacity(alloc, 66)?;
+    for lane in 0..66 {
+        tokens.push(Token { lane, count: 0 })?;
+    }
+    Ok(tokens)
+}
+
+/// A front of two new rings.
+pub(crate) fn new_front<N: Rings>(
+    alloc: Global,
+    control: DeviceEnd<Ticket, ControlOf<N>>,
+    cursor: DeviceEnd<Ticket, CursorOf<N>>,
+) -> Result<Front<Ticket, Token, N>, AllocError>
+    requires control { (size : ℕ) × IsNewDevice Control size control }
+    requires cursor { (size : ℕ) × IsNewDevice Cursor size cursor }
+{
+    let tokens = tokens(alloc)?;
+    Front::new(alloc, control, cursor, tokens)
+}
+
+/// A command of a lane goes onto a ring in this shape.
+pub(crate) fn ask<N: Naming>(
+    alloc: Global,
+    driver: &mut DriverEnd<Ticket, N>,
+    queue: Queue,
+    lane: u32,
+    shape: Shape,
+) -> Result<bool, AllocError>
+    requires count { IsCount shape }
+    requires queue { driver.old.queue ≡ queue }
+    requires lane { IsLane queue lane }
+    ensures queue { driver.new.queue ≡ queue }
+{
+    if driver.published() > 1000000 || !driver.room(1) || !driver.room(shape.needed(3, 4)) {
+        return Ok(false);
+    }
+    let tag = Tag {
+        lane,
+        ordinal: driver.next_ordinal(lane),
+    };
+    let request = [1u8, 2, 3].to_vec(alloc)?;
+    let head = driver.next_head();
+    let parcel = Parcel::new(alloc, queue, head, tag, shape, request, 4)?;
+    let ticket = Ticket {
+        lane,
+        ordinal: tag.ordinal,
+        wanted: true,
+    };
+    Ok(driver.publish(shape, parcel.load(ticket)) == head)
+}
+
+/// A command that a worker has, with its chain walked.
+#[derive(Drop)]
+pub(crate) struct Held<N: Rings> {
+    token: Token,
+    right: Loan<N>,
+    cargo: Cargo<Ticket>,
+}
+
+impl<N: Rings> Held<N> {
+    /// The command's lane and ordinal.
+    pub(crate) fn tag(&self) -> (u32, u64) {
+        let Tag { lane, ordinal } = self.right.tag();
+        (lane, ordinal)
+    }
+}
+
+/// Steps until a command is given out, and walks its chain. None once nothing is left.
+pub(crate) fn take<N: Rings>(
+    alloc: Global,
+    front: &mut Front<Ticket, Token, N>,
+) -> Result<Option<Held<N>>, AllocError>
+    ensures held { IfOk result (λ held. IfSome held (IsHeld front.old.control.halted)) }
+    ensures halted { front.new.control.halted ≡ front.old.control.halted }
+{
+    for _turn in 0..100 {
+        match front.step() {
+            Work::Fetched => {}
+            Work::Run {
+                token,
+                mut right,
+                cargo,
+            } => {
+                let _chain = front.chain(alloc, &mut right, &cargo)?;
+                return Ok(Some(Held {
+                    token,
+                    right,
+                    cargo,
+                }));
+            }
+            Work::Idle => return Ok(None),
+        }
+    }
+    Ok(None)
+}
+
+/// Runs a command and gives it back, with its lane as its response; or gives it back as it is where the front is halted.
+pub(crate) fn give<N: Rings>(front: &mut Front<Ticket, Token, N>, held: Held<N>)
+    requires { IsHeld front.old.control.halted held }
+    ensures { front.new.control.halted ≡ front.old.control.halted }
+{
+    let Held {
+        mut token,
+        right,
+        mut cargo,
+    } = held;
+    let Tag { lane, ordinal } = cargo.tag();
+    cargo.swap_pass(Ticket {
+        lane,
+        ordinal,
+        wanted: false,
+    });
+    if front.halted() {
+        let none = cargo.fill(&[]);
+        front.finish(token, right, none, cargo);
+        return;
+    }
+    token.count = ordinal;
+    let len = cargo.fill(&[lane as u8]);
+    front.finish(token, right, len, cargo);
+}
+
+/// The lane, the ordinal and the response of what comes back next.
+pub(crate) fn back<N: Naming>(driver: &mut DriverEnd<Ticket, N>) -> Option<(u32, u64, Option<u8>)>
+    ensures { driver.new.queue ≡ driver.old.queue }
+{
+    let reaped = driver.reap()?;
+    let Tag { lane, ordinal } = reaped.cargo.tag();
+    Some((lane, ordinal, reaped.cargo.response().first().copied()))
+}
