@@ -473,8 +473,8 @@ desk_new {P} {T} wanted lane_of count_of lists first tokens queue size new lanes
       count = (let a = ap {B = ℕ} length new.fetched in let b = ap {B = ℕ} length new.completed in let c = ap {B = ℕ} length new.lent in let d = ap {B = ℕ} length waiting_is in omega (arith, a, b, c, d));
       within = λ e has. absurd (no_held e has);
       homes_are = λ i less. subst (λ done. IsHome lane_of count_of false (entries done) lists.lent (first + i) (get_or homes i None)) (sym new.completed)
-        (subst (λ lent. IsHome lane_of count_of false [] lent (first + i) (get_or homes i None)) (sym new.lent)
-        (subst (λ hs. IsHome lane_of count_of false [] [] (first + i) (get_or hs i None)) (sym homes_is) (new_home lane_of count_of first tokens i are (let same = ap {B = ℕ} length homes_is in omega (arith, less, same)))));
+          (subst (λ lent. IsHome lane_of count_of false [] lent (first + i) (get_or homes i None)) (sym new.lent)
+          (subst (λ hs. IsHome lane_of count_of false [] [] (first + i) (get_or hs i None)) (sym homes_is) (new_home lane_of count_of first tokens i are (let same = ap {B = ℕ} length homes_is in omega (arith, less, same)))));
     }
 
 -- the tokens that were put behind others

@@ -37,7 +37,7 @@ closes {P} {T} lane_of count_of f is_control is_cursor halted control_lanes curs
     let few = subst (λ q. AreLanes q f.cursor.first (length f.cursor.homes)) is_cursor cursor_lanes in
     let mid_is : mid ≡ first.tokens = first.added ∙ ap (λ (xs : List T). xs ++ first.tokens) empty in
     let tokens_are : map Some tokens ≡ f.control.homes ++ f.cursor.homes =
-      ap (λ (xs : List T). map Some xs) (second.added ∙ ap (λ (xs : List T). xs ++ second.tokens) mid_is) ∙ (map_both first.tokens second.tokens ∙ (ap (λ (xs : List (Option T)). xs ++ map Some second.tokens) first.homes ∙ ap (λ (xs : List (Option T)). f.control.homes ++ xs) second.homes))
+    ap (λ (xs : List T). map Some xs) (second.added ∙ ap (λ (xs : List T). xs ++ second.tokens) mid_is) ∙ (map_both first.tokens second.tokens ∙ (ap (λ (xs : List (Option T)). xs ++ map Some second.tokens) first.homes ∙ ap (λ (xs : List (Option T)). f.control.homes ++ xs) second.homes))
     in
     let many_count = many.1 in
     let few_count = few.1 in

@@ -164,7 +164,13 @@ impl<P: Tagged, T: Turn + Drop, N: Rings> Front<P, T, N> {
 
     /// The tokens of all lanes, and both ends. Unless the front was halted, each lane's token has run all that was completed
     /// on it, whose ordinals rise one by one from 1.
-    pub fn close(self) -> (Vec<T>, DeviceEnd<P, ControlOf<N>>, DeviceEnd<P, CursorOf<N>>)
+    pub fn close(
+        self,
+    ) -> (
+        Vec<T>,
+        DeviceEnd<P, ControlOf<N>>,
+        DeviceEnd<P, CursorOf<N>>,
+    )
         requires { (is_busy self.control ≡ false) × (is_busy self.cursor ≡ false) }
         ensures { Closes T.lane_of T.count_of self result.0.items result.1 result.2 }
     {

@@ -54,9 +54,10 @@ invariant_of-self g c =
     let d = c.self.inside in
     let k = c.self.invariant.0 in
     let r = ready_here g.P.Tagged.is_wanted g.T.Turn.lane_of g.T.Turn.count_of d.end d.first d.homes.items d.waiting.items d.halted k.0 k.1 c.in_ok-place.place c.remove-head.result c.as_slice.result.now c.as_slice-2.result.now c.as_slice.ensures.value c.as_slice-2.ensures.value c.remove-head.ensures.value c.in_ok-place.ensures in
-    let entry = c.lend-right.ensures.only r.split.entry (r.has, sym r.split.is.1) in
-    ((r.split.front ++ r.split.back, desk_taken_at g.P.Tagged.is_wanted g.T.Turn.lane_of g.T.Turn.count_of d.end d.first d.homes.items d.waiting.items d.halted k.0 k.1 c.in_ok-place.place c.remove-head.result r c.tag.result.lane c.tag.ensures.tag.0 c.lend-right.result.entry entry c.lend-right.new.self c.lend-right.ensures.lent c.take.new.self c.take.ensures.after c.remove-head.new.self.items c.remove-head.ensures.by_index.2),
-    (let big = c.self.invariant.1 in let room = c.remove-head.ensures.capacity in let size = ap (λ (x : DeviceLists). x.size) c.lend-right.ensures.lent in omega (arith, big, room, size)))
+    let entry = c.lend-right.ensures.only r.split.entry (r.has, sym r.split.is.1) in (
+      (r.split.front ++ r.split.back, desk_taken_at g.P.Tagged.is_wanted g.T.Turn.lane_of g.T.Turn.count_of d.end d.first d.homes.items d.waiting.items d.halted k.0 k.1 c.in_ok-place.place c.remove-head.result r c.tag.result.lane c.tag.ensures.tag.0 c.lend-right.result.entry entry c.lend-right.new.self c.lend-right.ensures.lent c.take.new.self c.take.ensures.after c.remove-head.new.self.items c.remove-head.ensures.by_index.2),
+      (let big = c.self.invariant.1 in let room = c.remove-head.ensures.capacity in let size = ap (λ (x : DeviceLists). x.size) c.lend-right.ensures.lent in omega (arith, big, room, size)),
+    )
 
 pub returns : goal.returns
 returns g c =
