@@ -1,0 +1,37 @@
+-- What a worker takes from a front, and what it knows of it when the front's lock is given back.
+use Rattle.std.specs.Prelude.{◌≡◌, ℕ, ◌+◌, Bool, true, Option, Some, None, Result}
+use Rattle.vg_chain.specs.declared.chain.Chain.{Chain}
+use Rattle.vg_chain.specs.declared.chain.ChainFault.{ChainFault}
+use Rattle.vg_ring.specs.Cargo.{CargoData}
+use Rattle.vg_ring.specs.DeviceEnds.{IsCargoOf}
+use Rattle.vg_front.specs.declared.loan.Loan.{Loan}
+use Rattle.vg_front.specs.Loans.{right_of}
+use Rattle.vg_front.specs.Fronts.{FrontData, IsLent, IsNext}
+use Rattle.vg_worker.specs.declared.taken.Found.{Found}
+use Rattle.vg_worker.specs.declared.taken.Found.TheVariants.{Fetched, Run, Idle}
+
+-- A command that was given out: its lane's token, and its cargo with a wanted pass.
+pub record IsOut {P T N : Type 0} (wanted : P → Bool) (lane_of : T → ℕ) (token : T) (right : Loan N) (cargo : CargoData P) : Type 0 where
+  pub lane : lane_of token ≡ (right_of right).entry.lane
+  pub cargo_is : IsCargoOf (right_of right).entry cargo
+  pub wanted_is : wanted cargo.pass ≡ true
+
+-- It is lent in the front now, and until the front is halted it is the next of its lane.
+pub record IsOutOf {P T N : Type 0} (wanted : P → Bool) (lane_of count_of : T → ℕ) (front : FrontData P T) (token : T) (right : Loan N) (cargo : CargoData P) : Type 0 where
+  pub out : IsOut wanted lane_of token right cargo
+  pub lent : IsLent front right
+  pub next : IsNext count_of front.control.halted token right
+
+-- Its chain was walked, and it is the next of its lane.
+pub record IsReady {T N : Type 0} (count_of : T → ℕ) (token : T) (right : Loan N) : Type 0 where
+  pub walked : (right_of right).walked ≡ true
+  pub next : (right_of right).entry.ordinal ≡ count_of token + 1
+
+abbrev pub IsReadyIf : {T N : Type 0} → (T → ℕ) → T → Loan N → Option (Result Chain ChainFault) → Type 0
+IsReadyIf count_of token right (Some chain) = IsReady count_of token right
+IsReadyIf count_of token right None = Unit {0}
+
+abbrev pub IsFound : {P T N : Type 0} → (P → Bool) → (T → ℕ) → (T → ℕ) → Found P T N → Type 0
+IsFound wanted lane_of count_of Fetched = Unit {0}
+IsFound wanted lane_of count_of (Idle busy) = Unit {0}
+IsFound wanted lane_of count_of (Run token right cargo chain) = IsOut wanted lane_of token right cargo × IsReadyIf count_of token right chain

@@ -1,0 +1,19 @@
+//! Where a worker can be held up.
+
+/// What a worker passes with each command that it takes. A test orders workers by it.
+pub trait Gate: Sync {
+    /// The command was taken, and is about to be run or, where commands go back unrun, to be given back.
+    fn before(&self, lane: u32, ordinal: u64);
+
+    /// The command was completed on the ring.
+    fn answered(&self, lane: u32, ordinal: u64);
+}
+
+/// A gate that holds nobody up.
+pub struct FreeGate;
+
+impl Gate for FreeGate {
+    fn before(&self, _lane: u32, _ordinal: u64) {}
+
+    fn answered(&self, _lane: u32, _ordinal: u64) {}
+}

@@ -1,0 +1,102 @@
+//! A worker's loop.
+
+ghost use Rattle.std.specs.Prelude.{◌≡◌, ◌+◌, true, false};
+ghost use Rattle.vg_ring.specs.DeviceEnds.{IsCargoOf};
+ghost use Rattle.vg_front.specs.Loans.{right_of};
+ghost use Rattle.vg_worker.specs.Taking.{IsOut, IsReady, IsReadyIf};
+
+use crate::answering::{Back, answer_measured, unrun};
+use crate::gate::Gate;
+use crate::taken::{Found, give_back, give_up, take};
+use crossbeam_utils::Backoff;
+use std::alloc::Global;
+use std::sync::atomic::{AtomicBool, Ordering};
+use std::sync::{Mutex, Wait};
+use vg_book::{Book, Carried, LaneToken, Naming};
+use vg_chain::{Chain, ChainFault};
+use vg_front::{Front, Loan, Rings};
+use vg_history::{Tagged, Turn};
+use vg_machine::Display;
+use vg_ring::{Cargo, Tag};
+
+/// Takes commands, runs them and completes them, until the flag is up and there is nothing to do and nobody works on a lane.
+/// It waits for work, for the front's lock and for the turn of the book. After want of memory the front is halted: from then
+/// on each command goes back unrun, with no bytes.
+pub fn serve<G: Gate, B: Naming, N: Rings, R: Wait>(
+    rt: &R,
+    alloc: Global,
+    front: &Mutex<Front<Carried<Display, B>, LaneToken<Display, B>, N>>,
+    book: &Book<Display, B>,
+    gate: &G,
+    stop: &AtomicBool,
+) {
+    let backoff = Backoff::new();
+    for _turn in rt.forever() {
+        let stopped = stop.load(Ordering::SeqCst);
+        match take(rt, alloc, front) {
+            Found::Fetched => backoff.reset(),
+            Found::Run {
+                token,
+                right,
+                cargo,
+                chain,
+            } => {
+                work(rt, alloc, front, book, gate, token, right, cargo, chain);
+                backoff.reset();
+            }
+            Found::Idle { busy } => {
+                if stopped && !busy {
+                    return;
+                }
+                backoff.snooze();
+            }
+        }
+    }
+}
+
+/// Runs a command that was taken, or gives it back unrun where it has no chain.
+fn work<G: Gate, B: Naming, N: Rings, R: Wait>(
+    rt: &R,
+    alloc: Global,
+    front: &Mutex<Front<Carried<Display, B>, LaneToken<Display, B>, N>>,
+    book: &Book<Display, B>,
+    gate: &G,
+    token: LaneToken<Display, B>,
+    right: Loan<N>,
+    cargo: Cargo<Carried<Display, B>>,
+    chain: Option<Result<Chain, ChainFault>>,
+)
+    requires out { IsOut ⟦<Carried<Display, B> as Tagged>⟧.is_wanted ⟦<LaneToken<Display, B> as Turn>⟧.lane_of token right cargo }
+    requires ready { IsReadyIf ⟦<LaneToken<Display, B> as Turn>⟧.count_of token right chain }
+{
+    let Tag { lane, ordinal } = right.tag();
+    gate.before(lane, ordinal);
+    match chain {
+        Some(chain) => run(rt, alloc, front, book, token, right, cargo, &chain),
+        None => give_up(rt, front, token, right, unrun(cargo)),
+    }
+    gate.answered(lane, ordinal);
+}
+
+/// Runs a command whose chain was walked, and completes it.
+fn run<B: Naming, N: Rings, R: Wait>(
+    rt: &R,
+    alloc: Global,
+    front: &Mutex<Front<Carried<Display, B>, LaneToken<Display, B>, N>>,
+    book: &Book<Display, B>,
+    token: LaneToken<Display, B>,
+    right: Loan<N>,
+    cargo: Cargo<Carried<Display, B>>,
+    chain: &Result<Chain, ChainFault>,
+)
+    requires out { IsOut ⟦<Carried<Display, B> as Tagged>⟧.is_wanted ⟦<LaneToken<Display, B> as Turn>⟧.lane_of token right cargo }
+    requires ready { IsReady ⟦<LaneToken<Display, B> as Turn>⟧.count_of token right }
+{
+    let mut token = token;
+    let Back { cargo, len, ran } = answer_measured(rt, alloc, book, &mut token, chain, cargo);
+    if ran {
+        give_back(rt, front, token, right, len, cargo);
+    } else {
+        give_up(rt, front, token, right, cargo);
+    }
+}

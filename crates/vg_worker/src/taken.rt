@@ -1,0 +1,135 @@
+//! What a worker takes from the front that it shares with others, and gives back to it.
+
+ghost use Rattle.std.specs.Prelude.{◌≡◌, true, false, [], length, MatchOption};
+ghost use Rattle.vg_ring.specs.DeviceEnds.{IsCargoOf};
+ghost use Rattle.vg_front.specs.Loans.{right_of};
+ghost use Rattle.vg_front.specs.Fronts.{HasWalked, IsLent};
+ghost use Rattle.vg_worker.specs.Taking.{IsFound, IsOutOf};
+
+use std::alloc::Global;
+use std::sync::{Mutex, Wait};
+use vg_chain::{Chain, ChainFault};
+use vg_front::{Front, Loan, Rings, Work};
+use vg_history::{Tagged, Turn};
+use vg_ring::Cargo;
+
+/// What a worker finds in one step.
+#[derive(Drop)]
+pub(crate) enum Found<P: Tagged, T: Turn + Drop, N: Rings> {
+    /// A command more waits.
+    Fetched,
+    /// A command, with its chain or the chain's fault. None where it is to go back unrun.
+    Run {
+        token: T,
+        right: Loan<N>,
+        cargo: Cargo<P>,
+        chain: Option<Result<Chain, ChainFault>>,
+    },
+    /// There is nothing to do; whether a command waits, or somebody works on a lane.
+    Idle {
+        busy: bool,
+    },
+}
+
+/// Takes a step, all of it under one lock.
+pub(crate) fn take<P: Tagged, T: Turn + Drop, N: Rings, R: Wait>(
+    rt: &R,
+    alloc: Global,
+    front: &Mutex<Front<P, T, N>>,
+) -> Found<P, T, N>
+    ensures { IsFound P.is_wanted T.lane_of T.count_of result }
+{
+    let mut front = front.lock(rt);
+    step(alloc, &mut front)
+}
+
+/// Takes a step.
+fn step<P: Tagged, T: Turn + Drop, N: Rings>(
+    alloc: Global,
+    front: &mut Front<P, T, N>,
+) -> Found<P, T, N>
+    ensures { IsFound P.is_wanted T.lane_of T.count_of result }
+{
+    match front.step() {
+        Work::Fetched => Found::Fetched,
+        Work::Run {
+            token,
+            right,
+            cargo,
+        } => given_out(alloc, front, token, right, cargo),
+        Work::Idle => Found::Idle { busy: front.busy() },
+    }
+}
+
+/// A command that was given out, with its chain.
+fn given_out<P: Tagged, T: Turn + Drop, N: Rings>(
+    alloc: Global,
+    front: &mut Front<P, T, N>,
+    token: T,
+    right: Loan<N>,
+    cargo: Cargo<P>,
+) -> Found<P, T, N>
+    requires { IsOutOf P.is_wanted T.lane_of T.count_of front.old token right cargo }
+    ensures { IsFound P.is_wanted T.lane_of T.count_of result }
+{
+    let mut right = right;
+    let chain = walk(alloc, front, &mut right, &cargo);
+    Found::Run {
+        token,
+        right,
+        cargo,
+        chain,
+    }
+}
+
+/// The chain of a command that was given out. None where the front is halted, or for want of memory.
+fn walk<P: Tagged, T: Turn + Drop, N: Rings>(
+    alloc: Global,
+    front: &mut Front<P, T, N>,
+    right: &mut Loan<N>,
+    cargo: &Cargo<P>,
+) -> Option<Result<Chain, ChainFault>>
+    requires lent { IsLent front.old right.old }
+    requires cargo { IsCargoOf (right_of right.old).entry cargo.now }
+    ensures { MatchOption result (right.new ≡ right.old) (λ chain. HasWalked right.old right.new × (front.old.control.halted ≡ false)) }
+{
+    if front.halted() {
+        return None;
+    }
+    front.chain(alloc, right, cargo).ok()
+}
+
+/// Completes a command that was run, with the length of its response in bytes.
+pub(crate) fn give_back<P: Tagged, T: Turn + Drop, N: Rings, R: Wait>(
+    rt: &R,
+    front: &Mutex<Front<P, T, N>>,
+    token: T,
+    right: Loan<N>,
+    len: u32,
+    cargo: Cargo<P>,
+)
+    requires lane { T.lane_of token ≡ (right_of right).entry.lane }
+    requires cargo { IsCargoOf (right_of right).entry cargo × (P.is_wanted cargo.pass ≡ false) }
+    requires len { length cargo.parcel.response ≡ len }
+    requires turn { ((right_of right).walked ≡ true) × (T.count_of token ≡ (right_of right).entry.ordinal) }
+{
+    front.lock(rt).finish(token, right, len, cargo);
+}
+
+/// Halts the front and completes a command that was not run, under one lock: what was known of the front under another lock
+/// need not hold any more.
+pub(crate) fn give_up<P: Tagged, T: Turn + Drop, N: Rings, R: Wait>(
+    rt: &R,
+    front: &Mutex<Front<P, T, N>>,
+    token: T,
+    right: Loan<N>,
+    cargo: Cargo<P>,
+)
+    requires lane { T.lane_of token ≡ (right_of right).entry.lane }
+    requires cargo { IsCargoOf (right_of right).entry cargo × (P.is_wanted cargo.pass ≡ false) }
+    requires empty { cargo.parcel.response ≡ [] }
+{
+    let mut front = front.lock(rt);
+    front.halt();
+    front.finish(token, right, 0, cargo);
+}
