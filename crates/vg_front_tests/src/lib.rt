@@ -1,7 +1,6 @@
-//! Tests of a front over the public calls of a ring and of the front, on one thread.
+//! A test of a front over the public calls of a ring and of the front, on one thread, and what it drives the front by.
 #![tactic(auto)]
 
 #[cfg(test)]
 mod lanes;
-#[cfg(test)]
-mod rig;
+pub mod rig;

@@ -19,9 +19,9 @@ use vg_wire::Queue;
 
 /// A lane's token that runs nothing but counts.
 #[derive(Drop)]
-pub(crate) struct Token {
-    pub(crate) lane: u32,
-    pub(crate) count: u64,
+pub struct Token {
+    pub lane: u32,
+    pub count: u64,
 }
 
 impl Turn for Token {
@@ -50,7 +50,7 @@ fn tokens(alloc: Global) -> Result<Vec<Token>, AllocError>
 }
 
 /// A front of two new rings.
-pub(crate) fn new_front<N: Rings>(
+pub fn new_front<N: Rings>(
     alloc: Global,
     control: DeviceEnd<Ticket, ControlOf<N>>,
     cursor: DeviceEnd<Ticket, CursorOf<N>>,
@@ -63,7 +63,7 @@ pub(crate) fn new_front<N: Rings>(
 }
 
 /// A command of a lane goes onto a ring in this shape.
-pub(crate) fn ask<N: Naming>(
+pub fn ask<N: Naming>(
     alloc: Global,
     driver: &mut DriverEnd<Ticket, N>,
     queue: Queue,
@@ -95,7 +95,7 @@ pub(crate) fn ask<N: Naming>(
 
 /// A command that a worker has, with its chain walked.
 #[derive(Drop)]
-pub(crate) struct Held<N: Rings> {
+pub struct Held<N: Rings> {
     token: Token,
     right: Loan<N>,
     cargo: Cargo<Ticket>,
@@ -103,14 +103,14 @@ pub(crate) struct Held<N: Rings> {
 
 impl<N: Rings> Held<N> {
     /// The command's lane and ordinal.
-    pub(crate) fn tag(&self) -> (u32, u64) {
+    pub fn tag(&self) -> (u32, u64) {
         let Tag { lane, ordinal } = self.right.tag();
         (lane, ordinal)
     }
 }
 
 /// Steps until a command is given out, and walks its chain. None once nothing is left.
-pub(crate) fn take<N: Rings>(
+pub fn take<N: Rings>(
     alloc: Global,
     front: &mut Front<Ticket, Token, N>,
 ) -> Result<Option<Held<N>>, AllocError>
@@ -139,7 +139,7 @@ pub(crate) fn take<N: Rings>(
 }
 
 /// Runs a command and gives it back, with its lane as its response; or gives it back as it is where the front is halted.
-pub(crate) fn give<N: Rings>(front: &mut Front<Ticket, Token, N>, held: Held<N>)
+pub fn give<N: Rings>(front: &mut Front<Ticket, Token, N>, held: Held<N>)
     requires { IsHeld front.old.control.halted held }
     ensures { front.new.control.halted ≡ front.old.control.halted }
 {
@@ -165,7 +165,7 @@ pub(crate) fn give<N: Rings>(front: &mut Front<Ticket, Token, N>, held: Held<N>)
 }
 
 /// The lane, the ordinal and the response of what comes back next.
-pub(crate) fn back<N: Naming>(driver: &mut DriverEnd<Ticket, N>) -> Option<(u32, u64, Option<u8>)>
+pub fn back<N: Naming>(driver: &mut DriverEnd<Ticket, N>) -> Option<(u32, u64, Option<u8>)>
     ensures { driver.new.queue ≡ driver.old.queue }
 {
     let reaped = driver.reap()?;
