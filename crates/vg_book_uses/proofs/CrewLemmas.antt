@@ -3,6 +3,7 @@ use Rattle.std.proofs.Common.{◌≡◌, ℕ, zero, suc, ◌+◌, ◌<◌, ◌�
 use Rattle.std.specs.Prelude.{All, Result, Ok, Err, IfOk}
 use Rattle.std.proofs.lemmas.List.{map-append}
 use Rattle.std.proofs.lemmas.List.Elements.{All-append, All-nil}
+use Rattle.std.proofs.lemmas.Simd.{map-map}
 use Rattle.vg_history.specs.declared.machine.Machine.{Ghosts}
 use Rattle.vg_history.specs.Lists.{Has, upto}
 use Rattle.vg_history.proofs.ListLemmas.{has_map, map_has, has_upto}
@@ -13,21 +14,13 @@ use Rattle.vg_book.specs.Tokens.{AllJoined, MakesClient, TakesIn}
 use Rattle.vg_book_uses.specs.declared.counter.Act.{Act}
 use Rattle.vg_book_uses.specs.declared.counter.Counter.{Counter}
 use Rattle.vg_book_uses.specs.declared.counter.Request.{Request}
-use Rattle.vg_book_uses.specs.Jobs.{AllGive}
+use Rattle.vg_crew.specs.Jobs.{AllGive}
+use Rattle.vg_crew.proofs.JobLemmas.{all_of_map, given_all, given_ok, given_same, ok_more}
 use Rattle.vg_book_uses.specs.Adding.{E, Cl, Ro, number_of, account_of, AreNew, HasTakenAll, IsNew, IsRootWith}
 
 pub all_one : {X : Type 0} (P : X → Type 0) (x : X) → P x → All P (x ∷ [])
 all_one P x h zero d lt = h
 all_one P x h (suc k) d lt = absurd (omega arith)
-
-pub of_map : {X Y : Type 0} (P : Y → Type 0) (f : X → Y) (xs : List X) → All P (map f xs) → All (λ x. P (f x)) xs
-of_map P f [] h k d lt = absurd (omega arith)
-of_map P f (x ∷ xs) h zero d lt = h 0 (f d) (omega arith)
-of_map P f (x ∷ xs) h (suc k) d lt = of_map P f xs (λ i e l. h (suc i) e (omega arith)) k d (omega arith)
-
-if_ok : {T F : Type 0} (r : Result T F) (P Q : T → Type 0) → IfOk r P → ((v : T) → P v → Q v) → IfOk r Q
-if_ok (Ok v) P Q p f = f v p
-if_ok (Err e) P Q p f = tt
 
 upto_more : (n : ℕ) → upto n ++ (n + 1) ∷ [] ≡ upto (n + 1)
 upto_more n = rw add-one refl
@@ -82,16 +75,11 @@ module _ (g : Ghosts Counter Counter Act ℕ Request ℕ ℕ) where
       Gives j result = IfOk result (Gave j)
 
       pub with_nothing_out : (first : Option Counter) (js : List X) (ds : List (Result Cl NoMemory)) → AllGive Gives js ds → All (λ j. IsNew g first held (client j)) js → All (λ d. IfOk d (λ c. c.account.out ≡ [])) ds
-      with_nothing_out first js [] h new k d lt = absurd (omega arith)
-      with_nothing_out first [] (x ∷ ds) h new k d lt = absurd h
-      with_nothing_out first (j ∷ js) (x ∷ ds) h new zero d lt = if_ok x (Gave j) (λ c. c.account.out ≡ []) h.0 (λ c a. idle first j c (new 0 j (omega arith)) a)
-      with_nothing_out first (j ∷ js) (x ∷ ds) h new (suc k) d lt = with_nothing_out first js ds h.1 (λ i y l. new (suc i) y (omega arith)) k d (omega arith)
+      with_nothing_out first js ds h new = given_all Gives (λ j. IsNew g first held (client j)) (λ d. IfOk d (λ c. c.account.out ≡ [])) js ds h new
+          (λ j d is gave. ok_more d (Gave j) (λ c. c.account.out ≡ []) gave (λ c a. idle first j c is a))
 
       same_numbers : (js : List X) (cs : List Cl) → AllGive Gives js (map Ok cs) → map number_of cs ≡ map number_of (map client js)
-      same_numbers [] [] h = refl
-      same_numbers [] (c ∷ cs) h = absurd h
-      same_numbers (j ∷ js) [] h = absurd h
-      same_numbers (j ∷ js) (c ∷ cs) h = λ i. same j c h.0 i ∷ same_numbers js cs h.1 i
+      same_numbers js cs h = given_same Gave (λ j. number_of (client j)) number_of js cs (given_ok NoMemory Gave js cs h) same ∙ sym (map-map number_of client js)
 
       -- The job that gave a client.
       giver : (first : Option Counter) (js : List X) (cs : List Cl) → AllGive Gives js (map Ok cs) → All (λ j. IsNew g first held (client j)) js → All Fits js
@@ -110,7 +98,7 @@ module _ (g : Ghosts Counter Counter Act ℕ Request ℕ ℕ) where
         pub found : (n : ℕ) → 0 < n → n ≤ count → (c : Cl) × Has cs c × (c.account.number ≡ n) × ((j : X) × IsNew g first held (client j) × Fits j × Gave j c)
         found n low high =
             let c = map_has number_of cs n (subst (λ (ns : List ℕ). Has ns n) (sym (same_numbers js cs gives ∙ new.numbers)) (has_upto count n low high)) in
-            (c.0, c.1, c.2, giver first js cs gives (of_map (IsNew g first held) client js new.new) fits c.0 c.1)
+            (c.0, c.1, c.2, giver first js cs gives (all_of_map (IsNew g first held) client js new.new) fits c.0 c.1)
 
         pub all_joined : (r : Ro) → r.given ≡ count → r.accounts ≡ map account_of cs → ((l : ℕ) → l < r.lanes_made → (x : Counted) × Has r.lanes x × (x.lane ≡ l)) → AllJoined g r
         all_joined r given accounts lanes = record {

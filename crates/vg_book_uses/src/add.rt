@@ -4,12 +4,12 @@ ghost use Rattle.std.specs.Prelude.{◌≡◌, ◌<◌, ◌-◌, ◌^◌, [], So
 ghost use Rattle.vg_book_uses.specs.Adding.{AreNew, HasAdded, HasTakenAll, HaveAllAdded, IsKnown, IsRootWith, IsWhole};
 
 use crate::counter::{Act, Counter};
-use crate::crew::{Job, each};
 use std::alloc::{AllocError, Global};
 use std::marker::{Send, Sync};
 use std::sync::Wait;
 use std::thread::Threads;
 use vg_book::{Book, ClientToken, Naming, NoMemory, Opened, Root};
+use vg_crew::{Job, each};
 use vg_history::{Entry, Machine};
 
 /// Adds 1 so many times, for a client with nothing outstanding.

@@ -3,7 +3,6 @@
 
 mod add;
 mod counter;
-mod crew;
 mod desk;
 mod meet;
 mod share;
@@ -11,7 +10,6 @@ mod walk;
 
 pub use add::{add_times, all_add};
 pub use counter::{Act, Counter, Request};
-pub use crew::{Job, all, each};
 pub use desk::{Desk, ask, serve};
 pub use meet::{Post, both_meet};
 pub use share::run_all;

@@ -8,13 +8,13 @@ ghost use Rattle.vg_book_uses.specs.Sharing.{HaveShared, MayTalk};
 
 use crate::add::join_all;
 use crate::counter::{Act, Counter};
-use crate::crew::{Job, each};
 use crossbeam_utils::Backoff;
 use std::alloc::{AllocError, Global};
 use std::marker::{Model, Send, Sync};
 use std::sync::{Mutex, Wait};
 use std::thread::Threads;
 use vg_book::{Book, ClientToken, Naming, NoMemory, Note, Opened, Root};
+use vg_crew::{Job, each};
 use vg_history::{Entry, Machine};
 
 /// A note that has seen this call of this client.

@@ -7,7 +7,6 @@ ghost use Rattle.vg_book_uses.specs.Sharing.{HasTakenLanes, HasTalked, HaveShare
 
 use crate::add::join_all;
 use crate::counter::{Act, Counter};
-use crate::crew::{Job, all};
 use crate::desk::{Desk, ask, serve};
 use std::alloc::{AllocError, Global};
 use std::marker::{Send, Sync};
@@ -15,6 +14,7 @@ use std::sync::atomic::AtomicBool;
 use std::sync::{Mutex, Wait};
 use std::thread::Threads;
 use vg_book::{Book, ClientToken, LaneToken, Naming, NoMemory, Opened, Root};
+use vg_crew::{Job, all};
 use vg_history::{Entry, Machine};
 
 /// A client that adds 1 by an act and asks a lane to add 1, so many times. It halts the desk that it is at in this round.

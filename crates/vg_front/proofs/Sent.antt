@@ -7,9 +7,9 @@ use Rattle.vg_history.specs.declared.machine.Tagged as Tagged
 use Rattle.vg_history.specs.declared.machine.Turn as Turn
 use Rattle.vg_ring.specs.declared.naming.Naming as Naming
 use Rattle.vg_ring.proofs.Sent.{cargo_send, device_send}
-use Rattle.vg_front.specs.declared.rings.Rings as Rings
-use Rattle.vg_front.specs.contracts.rings.ControlOf as control
-use Rattle.vg_front.specs.contracts.rings.CursorOf as cursor
+use Rattle.vg_ring.specs.declared.rings.Rings as Rings
+use Rattle.vg_ring.specs.contracts.rings.ControlOf as control
+use Rattle.vg_ring.specs.contracts.rings.CursorOf as cursor
 use Rattle.vg_front.specs.contracts.front.Front as front
 use Rattle.vg_front.specs.contracts.front.Front.TheInside as front_in
 use Rattle.vg_front.specs.contracts.desk.Desk as desk

@@ -12,12 +12,11 @@ ghost use Rattle.vg_front.specs.Fronts.{Closes, Halts, HasFinished, HasWalked, I
 
 use crate::desk::Desk;
 use crate::loan::Loan;
-use crate::rings::{ControlOf, CursorOf, Rings};
 use std::alloc::{AllocError, Global};
 use std::marker::Model;
 use vg_chain::{Chain, ChainFault};
 use vg_history::{Tagged, Turn};
-use vg_ring::{Cargo, DeviceEnd};
+use vg_ring::{Cargo, ControlOf, CursorOf, DeviceEnd, Rings};
 
 /// What a step gave.
 #[derive(Drop)]

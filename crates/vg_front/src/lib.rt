@@ -8,10 +8,8 @@
 mod desk;
 mod front;
 mod loan;
-mod rings;
 mod threads;
 
 pub use front::{Front, Work};
 pub use loan::Loan;
-pub use rings::{ControlOf, CursorOf, Rings};
 pub use threads::fronts_may_be_sent;

@@ -4,9 +4,8 @@ ghost use Rattle.std.specs.Prelude.{◌≡◌};
 ghost use Rattle.vg_ring.specs.Entries.{head_of};
 ghost use Rattle.vg_front.specs.Loans.{right_of};
 
-use crate::rings::{ControlOf, CursorOf, Rings};
 use std::marker::Model;
-use vg_ring::{Right, Tag};
+use vg_ring::{ControlOf, CursorOf, Right, Rings, Tag};
 
 /// The right to a cargo that is lent to a worker, by the queue that it came on.
 #[derive(Drop)]

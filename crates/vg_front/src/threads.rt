@@ -2,8 +2,8 @@
 
 use crate::front::Front;
 use crate::loan::Loan;
-use crate::rings::Rings;
 use vg_history::{Tagged, Turn};
+use vg_ring::Rings;
 
 /// Does nothing: it can be called where T may go to another thread.
 fn may_be_sent<T: Send>() {}

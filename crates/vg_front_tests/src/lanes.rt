@@ -8,8 +8,8 @@ use std::alloc::{AllocError, Global};
 use std::marker::Brand;
 use std::process::Abort;
 use vg_chain::Shape;
-use vg_front::{ControlOf, CursorOf, Front, Rings};
-use vg_ring::{DriverEnd, Made, Ring};
+use vg_front::Front;
+use vg_ring::{ControlOf, CursorOf, DriverEnd, Made, Ring, Rings};
 use vg_ring_uses::Ticket;
 use vg_wire::Queue;
 

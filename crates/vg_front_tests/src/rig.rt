@@ -11,9 +11,9 @@ ghost use Rattle.vg_front_tests.specs.Held.{IsHeld, count_in, lane_in};
 use std::alloc::{AllocError, Global};
 use std::marker::Model;
 use vg_chain::Shape;
-use vg_front::{ControlOf, CursorOf, Front, Loan, Rings, Work};
+use vg_front::{Front, Loan, Work};
 use vg_history::Turn;
-use vg_ring::{Cargo, DeviceEnd, DriverEnd, Naming, Parcel, Tag};
+use vg_ring::{Cargo, ControlOf, CursorOf, DeviceEnd, DriverEnd, Naming, Parcel, Rings, Tag};
 use vg_ring_uses::Ticket;
 use vg_wire::Queue;
 

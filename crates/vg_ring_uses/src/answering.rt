@@ -4,12 +4,13 @@ ghost use Rattle.std.specs.Prelude.{◌≡◌, []};
 ghost use Rattle.vg_ring_uses.specs.Carried.{HasAnswered, HasSeenAll, MayAnswer};
 
 use crate::asking::pause;
-use crate::crew::Job;
 use crate::ticket::Ticket;
 use crossbeam_utils::Backoff;
-use std::marker::Model;
+use std::marker::{Model, Sync};
 use std::sync::Wait;
 use std::sync::atomic::{AtomicBool, Ordering};
+use std::thread::Threads;
+use vg_crew::Job;
 use vg_ring::{DeviceEnd, Fetched, Naming, Tag};
 
 /// Fetches a cargo, fills it with its ordinal's bytes, and gives it back. False where there is none.
@@ -69,7 +70,7 @@ impl<'a, N: Naming> Job<DeviceEnd<Ticket, N>> for Answering<'a, N> {
 
     ghost gives = { λ job device. HasAnswered device };
 
-    fn run<R: Wait>(self, rt: &R) -> DeviceEnd<Ticket, N> {
+    fn run<R: Threads + Wait + Sync>(self, rt: &R) -> DeviceEnd<Ticket, N> {
         answer(rt, self.device, self.stop)
     }
 }

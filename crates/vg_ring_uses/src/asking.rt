@@ -5,13 +5,14 @@ ghost use Rattle.vg_chain.specs.Made.{IsCount};
 ghost use Rattle.vg_ring.specs.Cargo.{IsLane};
 ghost use Rattle.vg_ring_uses.specs.Carried.{HasAsked, MayAsk, TakesBack};
 
-use crate::crew::Job;
 use crate::ticket::Ticket;
 use crossbeam_utils::Backoff;
 use std::alloc::{AllocError, Global};
-use std::marker::Model;
+use std::marker::{Model, Sync};
 use std::sync::Wait;
+use std::thread::Threads;
 use vg_chain::Shape;
+use vg_crew::Job;
 use vg_ring::{DriverEnd, Naming, Parcel, Reaped, Tag};
 use vg_wire::Queue;
 
@@ -152,7 +153,10 @@ impl<N: Naming> Job<Result<(DriverEnd<Ticket, N>, u64), AllocError>> for Asking<
 
     ghost gives = { λ job result. IfOk result (λ r. HasAsked job.order.queue job.order.lane job.order.count r.0 × (length r.0.reaped ≡ job.order.count)) };
 
-    fn run<R: Wait>(self, rt: &R) -> Result<(DriverEnd<Ticket, N>, u64), AllocError> {
+    fn run<R: Threads + Wait + Sync>(
+        self,
+        rt: &R,
+    ) -> Result<(DriverEnd<Ticket, N>, u64), AllocError> {
         ask(rt, self.alloc, self.driver, self.order)
     }
 }

@@ -6,13 +6,13 @@ ghost use Rattle.vg_ring_uses.specs.Carried.{HaveCarried};
 
 use crate::answering::Answering;
 use crate::asking::{Asking, Order};
-use crate::crew::both;
 use crate::ticket::Ticket;
 use std::alloc::{AllocError, Global};
 use std::marker::{Model, Send, Sync};
 use std::sync::Wait;
 use std::sync::atomic::AtomicBool;
 use std::thread::Threads;
+use vg_crew::both;
 use vg_ring::{DeviceEnd, DriverEnd, Made, Naming, ends_agree};
 
 /// Carries the cargoes of the order across a ring and back, between two threads. It gives both ends, and how many cargoes

@@ -4,13 +4,11 @@
 mod answering;
 mod asking;
 mod carrying;
-mod crew;
 mod ticket;
 mod turn;
 
 pub use answering::answer;
 pub use asking::{Mix, Order, ask};
 pub use carrying::{carry, index_seen};
-pub use crew::{Job, both};
 pub use ticket::Ticket;
 pub use turn::answer_turned;

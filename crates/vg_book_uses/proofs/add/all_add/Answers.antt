@@ -5,7 +5,8 @@ use Rattle.std.proofs.Common.{◌≡◌, ap, ◌∙◌, ◌++◌, arith}
 use Rattle.std.specs.Prelude.{map}
 use Rattle.vg_book_uses.specs.contracts.counter.CounterMachine.TheImpl as counter
 use Rattle.vg_book_uses.specs.Adding.{account_of, IsNew}
-use Rattle.vg_book_uses.proofs.CrewLemmas.{of_map, with_nothing_out, all_joined}
+use Rattle.vg_crew.proofs.JobLemmas.{all_of_map}
+use Rattle.vg_book_uses.proofs.CrewLemmas.{with_nothing_out, all_joined}
 use Rattle.vg_book_uses.proofs.AddLemmas.{Gave, same, idle, have_all_added}
 use Rattle.vg_book_uses.proofs.add.all_add.Lts as lts
 use Rattle.vg_book_uses.proofs.add.all_add.Given.{Over}
@@ -24,14 +25,14 @@ pub each-requires-send-J : goal.each-requires-send-J
 each-requires-send-J g c κs = λ _. param_send _ _ (job_send g κs)
 
 pub each-requires-after_bounds : goal.each-requires-after_bounds
-each-requires-after_bounds g c = λ κs _ k d lt. (of_map (IsNew counter.ghosts _ 0) (λ job. job.client) c.in-Ok-adders.jobs.items c.in-Ok-adders.ensures.clients.new k d lt).is_known
+each-requires-after_bounds g c = λ κs _ k d lt. (all_of_map (IsNew counter.ghosts _ 0) (λ job. job.client) c.in-Ok-adders.jobs.items c.in-Ok-adders.ensures.clients.new k d lt).is_known
 
 pub join_all-requires : goal.join_all-requires
 join_all-requires g c =
     let n = counter.ghosts in
     with_nothing_out n (λ job. job.client) 0 (λ job. job.times ≡ c.args.times) (Gave n (λ job. job.client) (λ job. job.times) c.args.times)
     (same n (λ job. job.client) (λ job. job.times) c.args.times) (idle n (λ job. job.client) (λ job. job.times) c.args.times)
-    _ c.in-Ok-adders.jobs.items c.in-Ok-each.clients.items c.in-Ok-each.ensures (of_map (IsNew n _ 0) (λ job. job.client) c.in-Ok-adders.jobs.items c.in-Ok-adders.ensures.clients.new)
+    _ c.in-Ok-adders.jobs.items c.in-Ok-each.clients.items c.in-Ok-each.ensures (all_of_map (IsNew n _ 0) (λ job. job.client) c.in-Ok-adders.jobs.items c.in-Ok-adders.ensures.clients.new)
 
 pub close-requires : goal.close-requires
 close-requires g c =

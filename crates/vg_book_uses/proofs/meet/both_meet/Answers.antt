@@ -7,7 +7,8 @@ use Rattle.vg_book.proofs.Sent.{client_send, note_send, book_sync}
 use Rattle.vg_book_uses.specs.contracts.counter.CounterMachine.TheImpl as counter
 use Rattle.vg_book_uses.specs.contracts.meet.Post as post
 use Rattle.vg_book_uses.specs.Adding.{account_of, IsNew}
-use Rattle.vg_book_uses.proofs.CrewLemmas.{of_map, with_nothing_out, all_joined}
+use Rattle.vg_crew.proofs.JobLemmas.{all_of_map}
+use Rattle.vg_book_uses.proofs.CrewLemmas.{with_nothing_out, all_joined}
 use Rattle.vg_book_uses.proofs.ShareLemmas.{Gave, same, idle, have_shared, may_talk}
 use Rattle.vg_book_uses.proofs.MeetLemmas.{all_talked}
 use Rattle.vg_book_uses.proofs.meet.both_meet.Lts as lts
@@ -30,14 +31,14 @@ pub each-requires-send-J : goal.each-requires-send-J
 each-requires-send-J g c κs = λ _. param_send _ _ (job_send g κs)
 
 pub each-requires-after_bounds : goal.each-requires-after_bounds
-each-requires-after_bounds g c = λ κs _ k d lt. may_talk counter.ghosts _ _ (of_map (IsNew counter.ghosts _ 1) (λ job. job.client) c.in-Ok-meetings.jobs.items c.in-Ok-meetings.ensures.clients.new k d lt)
+each-requires-after_bounds g c = λ κs _ k d lt. may_talk counter.ghosts _ _ (all_of_map (IsNew counter.ghosts _ 1) (λ job. job.client) c.in-Ok-meetings.jobs.items c.in-Ok-meetings.ensures.clients.new k d lt)
 
 pub join_all-requires : goal.join_all-requires
 join_all-requires g c =
     let n = counter.ghosts in
     with_nothing_out n (λ job. job.client) 1 (λ job. Unit {0}) (Gave n (λ job. job.client) (λ job. Unit {0}) (λ job. 2) 2 (λ j f. refl)) (same n (λ job. job.client) (λ job. Unit {0}) (λ job. 2) 2 (λ j f. refl)) (idle n (λ job. job.client) (λ job. Unit {0}) (λ job. 2) 2 (λ j f. refl))
     _ c.in-Ok-meetings.jobs.items c.in-Ok-each.clients.items (all_talked n (λ job. job.client) c.in-Ok-meetings.jobs.items c.in-Ok-each.clients.items c.in-Ok-each.ensures)
-    (of_map (IsNew n _ 1) (λ job. job.client) c.in-Ok-meetings.jobs.items c.in-Ok-meetings.ensures.clients.new)
+    (all_of_map (IsNew n _ 1) (λ job. job.client) c.in-Ok-meetings.jobs.items c.in-Ok-meetings.ensures.clients.new)
 
 pub close-requires : goal.close-requires
 close-requires g c =

@@ -10,7 +10,8 @@ use Rattle.vg_book_uses.specs.Adding.{account_of, IsNew}
 use Rattle.vg_history.specs.Lists.{Has}
 use Rattle.vg_book_uses.specs.Desks.{IsLaneKnown}
 use Rattle.vg_book_uses.specs.Sharing.{counted_of}
-use Rattle.vg_book_uses.proofs.CrewLemmas.{of_map, with_nothing_out, all_joined}
+use Rattle.vg_crew.proofs.JobLemmas.{all_of_map}
+use Rattle.vg_book_uses.proofs.CrewLemmas.{with_nothing_out, all_joined}
 use Rattle.vg_book_uses.proofs.ShareLemmas.{Gave, same, idle, have_shared, lanes_joined, lanes_known, may_talk}
 use Rattle.vg_book_uses.proofs.share.run_all.Lts as lts
 use Rattle.vg_book_uses.proofs.share.run_all.Given.{Over}
@@ -49,8 +50,8 @@ all-requires-after_bounds g c =
     let asks = c.in-Ok-askers.ensures in
     let lanes = sym (c.in-Ok-servers.ensures ∙ c.in-Ok.ensures.lanes) in
     λ κs _. (
-      (λ k d lt. (may_talk n _ _ (of_map (IsNew n _ 1) (λ job. job.client) c.in-Ok-askers.askers.items asks.clients.new k d lt), (asks.rounds k d lt).1)),
-      of_map (IsLaneKnown n) (λ job. job.lane) c.in-Ok-servers.servers.items (subst (λ ls. All (IsLaneKnown n) ls) lanes (lanes_known n c.args.opened.start c.args.opened.lanes)),
+      (λ k d lt. (may_talk n _ _ (all_of_map (IsNew n _ 1) (λ job. job.client) c.in-Ok-askers.askers.items asks.clients.new k d lt), (asks.rounds k d lt).1)),
+      all_of_map (IsLaneKnown n) (λ job. job.lane) c.in-Ok-servers.servers.items (subst (λ ls. All (IsLaneKnown n) ls) lanes (lanes_known n c.args.opened.start c.args.opened.lanes)),
     )
 
 pub join_all-requires : goal.join_all-requires
@@ -61,7 +62,7 @@ join_all-requires g c =
     (Gave n (λ job. job.client) (λ job. (job.rounds ≡ c.args.rounds) × (0 < length job.desks.now)) (λ job. 2 * job.rounds) (2 * c.args.rounds) (λ j f. ap (λ (k : ℕ). 2 * k) f.0))
     (same n (λ job. job.client) (λ job. (job.rounds ≡ c.args.rounds) × (0 < length job.desks.now)) (λ job. 2 * job.rounds) (2 * c.args.rounds) (λ j f. ap (λ (k : ℕ). 2 * k) f.0))
     (idle n (λ job. job.client) (λ job. (job.rounds ≡ c.args.rounds) × (0 < length job.desks.now)) (λ job. 2 * job.rounds) (2 * c.args.rounds) (λ j f. ap (λ (k : ℕ). 2 * k) f.0))
-    _ c.in-Ok-askers.askers.items c.in-Ok-all.done.items c.in-Ok-all.ensures.0 (of_map (IsNew n _ 1) (λ job. job.client) c.in-Ok-askers.askers.items asks.clients.new)
+    _ c.in-Ok-askers.askers.items c.in-Ok-all.done.items c.in-Ok-all.ensures.0 (all_of_map (IsNew n _ 1) (λ job. job.client) c.in-Ok-askers.askers.items asks.clients.new)
 
 pub close-requires : goal.close-requires
 close-requires g c =

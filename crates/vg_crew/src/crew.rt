@@ -1,8 +1,8 @@
-//! Work on threads. A thread's work is a struct behind a bound, so that no closure holds a token.
+//! Work on threads. A thread's work is a struct behind a bound, so that no closure holds a token or an end of a ring.
 
 ghost use Rattle.std.specs.Prelude.{All, IfOk};
 ghost use denote.Param.Send.{IsSync, IsSend};
-ghost use Rattle.vg_book_uses.specs.Jobs.{AllGive};
+ghost use Rattle.vg_crew.specs.Jobs.{AllGive};
 
 use std::alloc::AllocError;
 use std::marker::{Send, Sync};
@@ -61,7 +61,64 @@ pub fn all<
         move || -> Result<Vec<E>, AllocError>
             requires { IsSync R.row × IsSend E.row × IsSend W.row × All W.is_ready second.items }
             ensures { IfOk result (λ v. AllGive W.gives second.items v.items) }
-        { each(rt, second) },
+        { each_last_here(rt, second) },
     );
     Ok((done?, served?))
+}
+
+/// Runs each job as `each` does, the last one on the thread that calls: that one needs neither memory nor a thread to begin.
+/// So a job runs even where memory lacks for the others, and nobody who needs its work waits for ever.
+fn each_last_here<D: Drop + Send, J: Job<D> + Send, R: Threads + Wait + Sync>(
+    rt: &R,
+    jobs: Vec<J>,
+) -> Result<Vec<D>, AllocError>
+    requires { All J.is_ready jobs.items }
+    ensures { IfOk result (λ v. AllGive J.gives jobs.items v.items) }
+{
+    let mut others = jobs;
+    let Some(last) = others.pop() else {
+        return each(rt, others);
+    };
+    let (given, end) = join(
+        rt,
+        move || -> Result<Vec<D>, AllocError>
+            requires { IsSync R.row × IsSend D.row × IsSend J.row × All J.is_ready others.items }
+            ensures { IfOk result (λ v. AllGive J.gives others.items v.items) }
+        { each(rt, others) },
+        move || -> D
+            requires { IsSync R.row × J.is_ready last }
+            ensures { J.gives last result }
+        { last.run(rt) },
+    );
+    let mut given = given?;
+    given.push(end)?;
+    Ok(given)
+}
+
+/// Runs two jobs, each on a thread, and raises the flag once the first is done.
+pub fn both<
+    D: Drop + Send,
+    E: Drop + Send,
+    A: Job<D> + Send,
+    B: Job<E> + Send,
+    R: Threads + Wait + Sync,
+>(rt: &R, stop: &AtomicBool, first: A, second: B) -> (D, E)
+    requires { A.is_ready first × B.is_ready second }
+    ensures { A.gives first result.0 × B.gives second result.1 }
+{
+    join(
+        rt,
+        move || -> D
+            requires { IsSync R.row × A.is_ready first }
+            ensures { A.gives first result }
+        {
+            let done = first.run(rt);
+            stop.store(true, Ordering::SeqCst);
+            done
+        },
+        move || -> E
+            requires { IsSync R.row × B.is_ready second }
+            ensures { B.gives second result }
+        { second.run(rt) },
+    )
 }

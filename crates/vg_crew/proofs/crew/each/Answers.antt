@@ -1,7 +1,7 @@
 use Rattle.std.proofs.Common.{sym, subst, arith}
 use Rattle.std.specs.Prelude.{slice_index_or}
-use Rattle.vg_book_uses.proofs.JobLemmas.{all_give, ok_from}
-use Rattle.vg_book_uses.proofs.crew.each.Goals as goal
+use Rattle.vg_crew.proofs.JobLemmas.{all_give, ok_from}
+use Rattle.vg_crew.proofs.crew.each.Goals as goal
 
 pub returns : goal.returns
 returns g c = ok_from c.map_vec.result _ _ _ c.map_vec.ensures.len c.map_vec.ensures.each (λ v len h.

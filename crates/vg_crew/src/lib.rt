@@ -1,0 +1,6 @@
+//! Work on threads: a thread's work is a struct, one, two or two lots of which run at once.
+#![tactic(auto)]
+
+mod crew;
+
+pub use crew::{Job, all, both, each};
