@@ -1,19 +1,19 @@
 -- A client's entries stand in what it has seen as it made them.
-use Rattle.std.proofs.Common.{◌≡◌, ◌⊎◌, inl, inr, ⊎_elim, ℕ, zero, suc, ◌+◌, ◌<◌, ◌≤◌, ◌==◌, Bool, true, false, cond, List, [], ◌∷◌, ◌++◌, refl, ap, sym, subst, ◌∙◌, arith, eq-eqb, append_assoc, append-nil}
+use Rattle.std.proofs.Common.{◌≡◌, ◌⊎◌, inl, inr, ⊎_elim, ℕ, zero, suc, ◌+◌, ◌<◌, ◌≤◌, ◌==◌, Bool, true, false, cond, List, [], ◌∷◌, ◌++◌, map, refl, ap, sym, subst, ◌∙◌, arith, eq-eqb, append_assoc, append-nil}
 use Rattle.std.proofs.lemmas.Bool.Decides.{nat_tests}
-use mathlib.Core.List.{IsPrefix}
+use mathlib.Core.List.{IsPrefix, map-append}
 use Rattle.vg_history.specs.declared.machine.Machine.{Ghosts}
 use Rattle.vg_history.specs.declared.entry.Entry.{Entry}
 use Rattle.vg_history.specs.declared.entry.Entry.TheVariants.{Act, Command}
-use Rattle.vg_history.specs.Lists.{Has}
-use Rattle.vg_history.specs.Entries.{client_of, EachOnce, IsApart, IsSameCall}
-use Rattle.vg_history.proofs.ListLemmas.{has_append, has_left, has_right, has_snoc}
+use Rattle.vg_history.specs.Lists.{Has, times, upto}
+use Rattle.vg_history.specs.Entries.{client_of, call_of, EachOnce, IsApart, IsSameCall}
+use Rattle.vg_history.proofs.ListLemmas.{has_append, has_at, has_left, has_map, has_right, has_snoc, times_append, times_has, upto_one}
 use Rattle.vg_book.specs.declared.board.Account.{Account}
 use Rattle.vg_book.specs.declared.board.Order.{Order}
 use Rattle.vg_book.specs.Kept.{Accounted}
 use Rattle.vg_book.specs.Own.{IsInStep, own}
 use Rattle.vg_book.specs.Tokens.{Acted, Client, Done, Drawn, IsClosed, Lane, MakesClient, Passed, Ran, Rooted, TakesBack, TakesUnrun, Watched, finished_of}
-use Rattle.vg_book.specs.Views.{entry_of, ordered_of, without}
+use Rattle.vg_book.specs.Views.{calls, entry_of, order_call, ordered_of, without}
 
 module _ {M S A R Q P H : Type 0} where
   own_append : (n : ℕ) (xs ys : List (Entry M S A R Q P H)) → own n (xs ++ ys) ≡ own n xs ++ own n ys
@@ -52,6 +52,21 @@ module _ {M S A R Q P H : Type 0} where
       by_test true (inl is) rest = inl is
       by_test true (inr h) rest = inr (rest h)
       by_test false h rest = inr (rest h)
+
+  own_of : (n : ℕ) (es : List (Entry M S A R Q P H)) (e : Entry M S A R Q P H) → Has es e → client_of e ≡ n → Has (own n es) e
+  own_of n [] e h is = absurd h
+  own_of n (f ∷ es) e (inl at) is = subst (λ (l : List (Entry M S A R Q P H)). Has l e) (sym (ap (λ b. cond b (f ∷ own n es) (own n es)) (eq-eqb (client_of f) n (ap client_of at ∙ is)))) (inl at)
+  own_of n (f ∷ es) e (inr h) is = by_test (client_of f == n) (own_of n es e h is)
+    where
+      by_test : (b : Bool) → Has (own n es) e → Has (cond b (f ∷ own n es) (own n es)) e
+      by_test true k = inr k
+      by_test false k = k
+
+  -- where an entry stands
+  has_split : (es : List (Entry M S A R Q P H)) (e : Entry M S A R Q P H) → Has es e → (xs : List (Entry M S A R Q P H)) × (ys : List (Entry M S A R Q P H)) × (es ≡ xs ++ (e ∷ [] ++ ys))
+  has_split [] e h = absurd h
+  has_split (f ∷ es) e (inl at) = ([], es, ap (λ x. x ∷ es) at)
+  has_split (f ∷ es) e (inr h) = let t = has_split es e h in (f ∷ t.0, t.1, ap (λ l. f ∷ l) t.2)
 
   -- an entry stands once
   twice : (xs ys : List (Entry M S A R Q P H)) (e : Entry M S A R Q P H) → EachOnce (xs ++ ys) → Has xs e → Has ys e → ⊥
@@ -157,6 +172,42 @@ module _ {M S A R Q P H : Type 0} (g : Ghosts M S A R Q P H) where
         own_is =
             ap (λ k. own k d.seen) owner ∙ ap (own n) whole
             ∙ own_more n c.seen u.more_pass.0 v.more_done.0 c.account.mine e is.own_is (ap (λ o. o.client) order) (subst EachOnce whole v.history.once) known ∙ sym mine;
+      }
+
+  -- a number stands once among those that a client knows of
+  twice_drawn : (d : Account M S A R Q P H) (mine : List En) (e : En) → ((n : ℕ) → times n (calls d) ≡ times n (upto d.used)) → d.mine ≡ mine ++ e ∷ [] → Has mine e → ⊥
+  twice_drawn d mine e numbers is h =
+      let n = call_of e in
+      let two : map call_of d.mine ≡ map call_of mine ++ n ∷ [] = ap (map call_of) is ∙ map-append call_of mine (e ∷ []) in
+      let whole : calls d ≡ (map call_of mine ++ n ∷ []) ++ (map order_call d.out ++ d.spent) = ap (λ l. l ++ (map order_call d.out ++ d.spent)) two in
+      let one : 1 ≤ times n (map call_of mine) = times_has n (map call_of mine) (has_map call_of mine e h) in
+      let last : 1 ≤ times n (n ∷ []) = times_has n (n ∷ []) (inl refl) in
+      absurd (omega (arith, one, last, numbers n, upto_one d.used n, ap (times n) whole, times_append n (map call_of mine ++ n ∷ []) (map order_call d.out ++ d.spent), times_append n (map call_of mine) (n ∷ [])))
+
+  pub step_back : (c b d : Cl) (q : Q) (p : Passed M S A R Q P H) (f : Done M S A R Q P H) → IsInStep c → Drawn g c q b p → TakesBack g b f d → IsInStep d
+  step_back c b d q p f is t v =
+      let n : ℕ = c.account.number in
+      let outs : b.account.out ≡ ordered_of c.account q ∷ [] = ap (λ a. a.out) t.account ∙ ap (λ l. l ++ ordered_of c.account q ∷ []) is.idle in
+      let order : f.order ≡ ordered_of c.account q = ⊎_elim (λ same. sym same) (λ none. absurd none) (subst (λ (os : List (Order M S A R Q P H)). Has os f.order) outs v.out) in
+      let e : En = entry_of (finished_of g f) in
+      let idle : d.account.out ≡ [] = ap (λ a. a.out) v.account ∙ gone c q b.account.out f.order is.idle (ap (λ a. a.out) t.account) order in
+      let mine : d.account.mine ≡ c.account.mine ++ e ∷ [] = ap (λ a. a.mine) v.account ∙ ap (λ a. a.mine ++ e ∷ []) t.account in
+      let owner : d.account.number ≡ n = ap (λ a. a.number) v.account ∙ ap (λ a. a.number) t.account in
+      let at : client_of e ≡ n = ap (λ o. o.client) order in
+      let more : d.seen ≡ c.seen ++ v.more.0 = sym v.more.1 ∙ ap (λ s. s ++ v.more.0) t.seen in
+      let there : Has (c.seen ++ v.more.0) e = subst (λ (l : List En). Has l e) more (has_at d.seen f.place e v.place) in
+      let later : Has v.more.0 e = ⊎_elim
+      (λ k. absurd (twice_drawn d.account c.account.mine e v.known.numbers mine (subst (λ (l : List En). Has l e) is.own_is (own_of n c.seen e k at))))
+      (λ k. k) (has_append c.seen v.more.0 e there) in
+      let cut = has_split v.more.0 e later in
+      let whole : d.seen ≡ (c.seen ++ cut.0) ++ (e ∷ [] ++ cut.1) = more ∙ ap (λ l. c.seen ++ l) cut.2 ∙ sym (append_assoc c.seen cut.0 (e ∷ [] ++ cut.1)) in
+      let known : (x : En) → Has ((c.seen ++ cut.0) ++ (e ∷ [] ++ cut.1)) x → client_of x ≡ n → Has (c.account.mine ++ e ∷ []) x =
+      λ x h own_it. subst (λ (s : List En). Has s x) mine (all_mine d.seen d.account v.known idle x (subst (λ (s : List En). Has s x) (sym whole) h) (own_it ∙ sym owner)) in
+      record {
+        idle = idle;
+        own_is =
+            ap (λ k. own k d.seen) owner ∙ ap (own n) whole
+            ∙ own_more n c.seen cut.0 cut.1 c.account.mine e is.own_is at (subst EachOnce whole v.history.once) known ∙ sym mine;
       }
 
   pub step_unrun : (c b d : Cl) (q : Q) (p w : Passed M S A R Q P H) → IsInStep c → Drawn g c q b p → w.order ≡ p.order → TakesUnrun g b w d → IsInStep d

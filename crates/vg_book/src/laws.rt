@@ -17,6 +17,8 @@ pub fn entries_in_step<M: Machine>()
     ensures watched { (c d : Clients M M.State M.Act M.ActReply M.Request M.Reply M.Holds) → IsInStep c → Watched M.Machine c d → IsInStep d }
     ensures command { (c b d : Clients M M.State M.Act M.ActReply M.Request M.Reply M.Holds) (q : M.Request) (p : _) (l m : Lane M M.State M.Act M.ActReply M.Request M.Reply M.Holds) (f : _)
         → IsInStep c → Drawn M.Machine c q b p → Ran M.Machine l p m f → TakesBack M.Machine b f d → IsInStep d }
+    ensures back { (c b d : Clients M M.State M.Act M.ActReply M.Request M.Reply M.Holds) (q : M.Request) (p : _) (f : _)
+        → IsInStep c → Drawn M.Machine c q b p → TakesBack M.Machine b f d → IsInStep d }
     ensures unrun { (c b d : Clients M M.State M.Act M.ActReply M.Request M.Reply M.Holds) (q : M.Request) (p w : _)
         → IsInStep c → Drawn M.Machine c q b p → w.order ≡ p.order → TakesUnrun M.Machine b w d → IsInStep d }
 {}

@@ -6,7 +6,7 @@ ghost use Rattle.vg_wire_ext.specs.declared.command.Command.TheVariants as comma
 ghost use Rattle.vg_machine.specs.declared.act.What.TheVariants as whats;
 ghost use Rattle.vg_machine.specs.Setup.{IsSetup};
 ghost use Rattle.vg_machine.specs.Holds as holding;
-ghost use Rattle.vg_machine.specs.Holds.{Deniable, context_in, denied_of, entries_in, first_denied, first_holds, has_key, is_allowed_resource, is_allowed_scanout, names_in, names_of_2d, pages_in};
+ghost use Rattle.vg_machine.specs.Holds.{Deniable, context_in, denied_of, entries_in, first_holds, has_key, is_allowed_resource, is_allowed_scanout, names_in, names_of_2d, pages_in};
 
 use crate::act::What;
 use crate::foreign::first_foreign;
@@ -68,8 +68,22 @@ pub fn denied(
     }
 }
 
-/// The first thing that a request with this header and command names and that isn't allowed.
-fn denied_command(
+/// The first thing that a request with this header and command names and that isn't allowed, as `denied` has it.
+pub fn denied_command(
+    alloc: Global,
+    holds: &Holds,
+    header: &Header,
+    command: &Command,
+) -> Result<Option<What>, AllocError>
+    ensures first { IfOk result (λ what. what ≡ holding.denied_command holds.now header.now command.now) }
+    // What is denied is something that may be.
+    ensures deniable { IfOk result (λ what. IfSome what (Deniable holds.now)) }
+{
+    first_denied(alloc, holds, header, command)
+}
+
+/// The same, part by part.
+fn first_denied(
     alloc: Global,
     holds: &Holds,
     header: &Header,
@@ -88,7 +102,7 @@ fn denied_command(
 
 /// The resource or the scanout of a command, if it isn't allowed.
 fn denied_name(holds: &Holds, command: &Command) -> Option<What>
-    ensures { result ≡ first_denied holds.now command.now (names_in command.now) }
+    ensures { result ≡ holding.first_denied holds.now command.now (names_in command.now) }
 {
     match command {
         Command::TwoD(command) => denied_2d(holds, command),
@@ -113,7 +127,7 @@ fn denied_name(holds: &Holds, command: &Command) -> Option<What>
 
 /// The resource or the scanout of a 2D command, if it isn't allowed.
 fn denied_2d(holds: &Holds, command: &Command2d) -> Option<What>
-    ensures { result ≡ first_denied holds.now (commands.TwoD command.now) (names_of_2d command.now) }
+    ensures { result ≡ holding.first_denied holds.now (commands.TwoD command.now) (names_of_2d command.now) }
 {
     match command {
         Command2d::DisplayInfo => None,
@@ -191,7 +205,7 @@ pub(crate) fn is_allowed_scanout(holds: &Holds, n: u32) -> bool
 
 /// The context of a request, if it names one and that isn't allowed.
 fn denied_context(holds: &Holds, header: &Header, command: &Command) -> Option<What>
-    ensures { result ≡ first_denied holds.now command.now (context_in header.now command.now) }
+    ensures { result ≡ holding.first_denied holds.now command.now (context_in header.now command.now) }
 {
     let n = header.ctx_id;
     let is_named = is_of_context(command) || header.flags & 2 == 2;
@@ -226,7 +240,7 @@ pub(crate) fn is_allowed_context(holds: &Holds, n: u32) -> bool
 /// The first page that a command gives to a resource, if it isn't allowed.
 fn denied_page(alloc: Global, holds: &Holds, command: &Command) -> Result<Option<What>, AllocError>
     ensures { IfOk result (λ what.
-        what ≡ first_denied holds.now command.now (map whats.Page (pages_in holds.now.pages (entries_in command.now)))) }
+        what ≡ holding.first_denied holds.now command.now (map whats.Page (pages_in holds.now.pages (entries_in command.now)))) }
 {
     match command {
         Command::TwoD(Command2d::Attach { resource, entries }) => {

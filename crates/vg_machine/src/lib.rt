@@ -30,7 +30,7 @@ pub use allowance::allowed;
 pub use display::Display;
 pub use growing::holds_only_grow;
 pub use history::{Reply, Request};
-pub use holds::{Holds, denied};
+pub use holds::{Holds, denied, denied_command};
 pub use lane::lane_of;
 pub use machine::Entry;
 pub use setup::Setup;

@@ -1,4 +1,4 @@
-use Rattle.vg_book.proofs.OwnLemmas.{step_act, step_command, step_made, step_unrun, step_watched}
+use Rattle.vg_book.proofs.OwnLemmas.{step_act, step_back, step_command, step_made, step_unrun, step_watched}
 use Rattle.vg_book.proofs.laws.entries_in_step.Goals as goal
 
 pub returns : goal.returns
@@ -9,5 +9,6 @@ returns g c =
       act = λ k d a n reply is t. step_act m k d a n reply is t;
       watched = λ k d is t. step_watched m k d is t;
       command = λ k b d q p l n f is t u v. step_command m k b d q p l n f is t u v;
+      back = λ k b d q p f is t u. step_back m k b d q p f is t u;
       unrun = λ k b d q p w is t same v. step_unrun m k b d q p w is t same v;
     }

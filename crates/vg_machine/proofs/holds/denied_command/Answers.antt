@@ -1,11 +1,5 @@
-use Rattle.std.proofs.Common.{◌∙◌, sym}
-use Rattle.vg_machine.proofs.DeniedLemmas.{denied-first, denied-second}
+use Rattle.vg_machine.proofs.DeniedLemmas.{denied-deniable}
 use Rattle.vg_machine.proofs.holds.denied_command.Goals as goal
 
-pub returns-in-Some : goal.returns-in-Some
-returns-in-Some c = denied-first c.args.holds.now c.args.header.now c.args.command.now c.in-Some.what (sym c.in-Some.is ∙ c.denied_name.ensures)
-
-pub returns-in-Some-denied_context : goal.returns-in-Some-denied_context
-returns-in-Some-denied_context c =
-    denied-second c.args.holds.now c.args.header.now c.args.command.now c.in-Some-denied_context.what (sym c.in_default.is ∙ c.denied_name.ensures)
-    (sym c.in-Some-denied_context.is ∙ c.denied_context.ensures)
+pub returns-clause-deniable : goal.returns-clause-deniable
+returns-clause-deniable c = denied-deniable c.first_denied.result c.args.holds.now c.args.header.now c.args.command.now c.first_denied.ensures
