@@ -9,6 +9,26 @@ pub trait Gate: Sync {
     fn answered(&self, lane: u32, ordinal: u64);
 }
 
+/// What a worker needs of a gate: the same calls, of a value that other threads need not share. A job's method may not rest on
+/// `Sync`.
+pub trait Passage {
+    /// As `Gate::before`.
+    fn pass_before(&self, lane: u32, ordinal: u64);
+
+    /// As `Gate::answered`.
+    fn pass_answered(&self, lane: u32, ordinal: u64);
+}
+
+impl<G: Gate> Passage for G {
+    fn pass_before(&self, lane: u32, ordinal: u64) {
+        self.before(lane, ordinal);
+    }
+
+    fn pass_answered(&self, lane: u32, ordinal: u64) {
+        self.answered(lane, ordinal);
+    }
+}
+
 /// A gate that holds nobody up.
 pub struct FreeGate;
 

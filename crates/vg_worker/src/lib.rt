@@ -5,7 +5,11 @@ mod answering;
 mod gate;
 mod serving;
 mod taken;
+mod threads;
+mod worker;
 
 pub use answering::answer;
-pub use gate::{FreeGate, Gate};
+pub use gate::{FreeGate, Gate, Passage};
 pub use serving::serve;
+pub use threads::workers_may_be_sent;
+pub use worker::Worker;

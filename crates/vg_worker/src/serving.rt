@@ -6,7 +6,7 @@ ghost use Rattle.vg_front.specs.Loans.{right_of};
 ghost use Rattle.vg_worker.specs.Taking.{IsOut, IsReady, IsReadyIf};
 
 use crate::answering::{Back, answer_measured, unrun};
-use crate::gate::Gate;
+use crate::gate::{Gate, Passage};
 use crate::taken::{Found, give_back, give_up, take};
 use crossbeam_utils::Backoff;
 use std::alloc::Global;
@@ -14,15 +14,27 @@ use std::sync::atomic::{AtomicBool, Ordering};
 use std::sync::{Mutex, Wait};
 use vg_book::{Book, Carried, LaneToken, Naming};
 use vg_chain::{Chain, ChainFault};
-use vg_front::{Front, Loan, Rings};
+use vg_front::{Front, Loan};
 use vg_history::{Tagged, Turn};
 use vg_machine::Display;
-use vg_ring::{Cargo, Tag};
+use vg_ring::{Cargo, Rings, Tag};
 
 /// Takes commands, runs them and completes them, until the flag is up and there is nothing to do and nobody works on a lane.
 /// It waits for work, for the front's lock and for the turn of the book. After want of memory the front is halted: from then
 /// on each command goes back unrun, with no bytes.
 pub fn serve<G: Gate, B: Naming, N: Rings, R: Wait>(
+    rt: &R,
+    alloc: Global,
+    front: &Mutex<Front<Carried<Display, B>, LaneToken<Display, B>, N>>,
+    book: &Book<Display, B>,
+    gate: &G,
+    stop: &AtomicBool,
+) {
+    serve_past(rt, alloc, front, book, gate, stop);
+}
+
+/// The same, for a gate that need not be shared.
+pub(crate) fn serve_past<G: Passage, B: Naming, N: Rings, R: Wait>(
     rt: &R,
     alloc: Global,
     front: &Mutex<Front<Carried<Display, B>, LaneToken<Display, B>, N>>,
@@ -55,7 +67,7 @@ pub fn serve<G: Gate, B: Naming, N: Rings, R: Wait>(
 }
 
 /// Runs a command that was taken, or gives it back unrun where it has no chain.
-fn work<G: Gate, B: Naming, N: Rings, R: Wait>(
+fn work<G: Passage, B: Naming, N: Rings, R: Wait>(
     rt: &R,
     alloc: Global,
     front: &Mutex<Front<Carried<Display, B>, LaneToken<Display, B>, N>>,
@@ -70,12 +82,12 @@ fn work<G: Gate, B: Naming, N: Rings, R: Wait>(
     requires ready { IsReadyIf ⟦<LaneToken<Display, B> as Turn>⟧.count_of token right chain }
 {
     let Tag { lane, ordinal } = right.tag();
-    gate.before(lane, ordinal);
+    gate.pass_before(lane, ordinal);
     match chain {
         Some(chain) => run(rt, alloc, front, book, token, right, cargo, &chain),
         None => give_up(rt, front, token, right, unrun(cargo)),
     }
-    gate.answered(lane, ordinal);
+    gate.pass_answered(lane, ordinal);
 }
 
 /// Runs a command whose chain was walked, and completes it.

@@ -9,9 +9,9 @@ ghost use Rattle.vg_worker.specs.Taking.{IsFound, IsOutOf};
 use std::alloc::Global;
 use std::sync::{Mutex, Wait};
 use vg_chain::{Chain, ChainFault};
-use vg_front::{Front, Loan, Rings, Work};
+use vg_front::{Front, Loan, Work};
 use vg_history::{Tagged, Turn};
-use vg_ring::Cargo;
+use vg_ring::{Cargo, Rings};
 
 /// What a worker finds in one step.
 #[derive(Drop)]

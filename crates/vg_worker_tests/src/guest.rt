@@ -1,0 +1,232 @@
+//! A client that puts requests onto a device's two rings, and takes back what comes of them.
+
+ghost use Rattle.std.specs.Prelude.{◌≡◌, ◌≤◌, ℕ, true, length, IfOk, IfSome};
+ghost use Rattle.vg_chain.specs.Made.{IsCount, IsNeeded};
+ghost use Rattle.vg_ring.specs.Cargo.{IsLane};
+ghost use Rattle.vg_ring.specs.Ends.{HasRoom};
+ghost use Rattle.vg_wire.specs.declared.request.Queue.TheVariants as queues;
+
+use std::alloc::{AllocError, Global};
+use vg_book::{Book, Carried, ClientToken, Naming};
+use vg_chain::{ChainFault, Shape};
+use vg_history::{Machine, Tagged};
+use vg_list::Seq;
+use vg_machine::{Display, Reply, Request, lane_of};
+use vg_ring::{Cargo, ControlOf, CursorOf, DriverEnd, Parcel, Reaped, Rings, Tag};
+use vg_wire::Queue;
+
+/// A client, with the driver's ends of both rings.
+#[derive(Drop)]
+pub struct Guest<B: Naming, N: Rings> {
+    pub client: ClientToken<Display, B>,
+    pub control: DriverEnd<Carried<Display, B>, ControlOf<N>>,
+    pub cursor: DriverEnd<Carried<Display, B>, CursorOf<N>>,
+}
+
+/// How a request goes onto a ring.
+#[derive(Clone, Copy)]
+pub struct Way {
+    pub queue: Queue,
+    /// How many bytes there are for the response.
+    pub room: u32,
+    /// The fault of its chain.
+    pub fault: Option<ChainFault>,
+    /// The fault that its pass names.
+    pub told: Option<ChainFault>,
+}
+
+/// What came of a request.
+#[derive(Drop)]
+pub struct Back {
+    pub lane: u32,
+    /// The used length.
+    pub len: u32,
+    pub response: Vec<u8>,
+    /// The number of its entry in the history, from 1.
+    pub entry: u64,
+    pub reply: Reply,
+}
+
+/// A chain with this fault, or one of two descriptors.
+fn shape_of(fault: Option<ChainFault>) -> Shape
+    ensures { IsCount result }
+{
+    match fault {
+        Some(fault) => Shape::Bad { fault },
+        None => Shape::Plain,
+    }
+}
+
+/// The request's lane.
+fn lane_on(queue: Queue, bytes: &[u8]) -> Option<u32>
+    ensures { IfSome result (IsLane queue) }
+{
+    let lane = lane_of(queue, bytes);
+    let right = match queue {
+        Queue::Control => lane <= 64,
+        Queue::Cursor => lane == 65,
+    };
+    if right { Some(lane) } else { None }
+}
+
+/// Whether there is room on a ring for these bytes in this shape, and for a response of so many bytes.
+fn has_room<P: Tagged, N: vg_ring::Naming>(
+    driver: &DriverEnd<P, N>,
+    shape: Shape,
+    bytes: &[u8],
+    room: u32,
+) -> bool
+    requires count { IsCount shape }
+    requires short { length bytes.now ≤ 1000 }
+    ensures first { result ≡ true → HasRoom driver.now 1 }
+    ensures all { result ≡ true → (count : ℕ) × IsNeeded shape (length bytes.now) room count × HasRoom driver.now count }
+{
+    driver.room(1) && driver.room(shape.needed(bytes.len() as u32, room))
+}
+
+/// Puts a request of a client onto a ring. False where the client may not make it, or there is no room for it.
+fn publish<B: Naming, N: vg_ring::Naming>(
+    alloc: Global,
+    book: &Book<Display, B>,
+    client: &mut ClientToken<Display, B>,
+    driver: &mut DriverEnd<Carried<Display, B>, N>,
+    way: Way,
+    bytes: &[u8],
+) -> Result<bool, AllocError>
+    requires queue { driver.old.queue ≡ way.queue }
+    ensures queue { driver.new.queue ≡ driver.old.queue }
+    ensures number { client.new.account.number ≡ client.old.account.number }
+{
+    if driver.published() > 1000 || client.used() > 1000 || bytes.len() > 1000 || way.room > 1000 {
+        return Ok(false);
+    }
+    let shape = shape_of(way.fault);
+    let Some(lane) = lane_on(way.queue, bytes) else {
+        return Ok(false);
+    };
+    if !has_room(driver, shape, bytes, way.room) {
+        return Ok(false);
+    }
+    let tag = Tag {
+        lane,
+        ordinal: driver.next_ordinal(lane),
+    };
+    let request = request_of(alloc, way, tag, bytes)?;
+    if !Display::allowed(client.holds(), &request) {
+        return Ok(false);
+    }
+    let bytes = bytes.to_vec(alloc)?;
+    let parcel = Parcel::new(
+        alloc,
+        way.queue,
+        driver.next_head(),
+        tag,
+        shape,
+        bytes,
+        way.room,
+    )?;
+    let pass = client.pass(book, request);
+    driver.publish(shape, parcel.load(Carried::Wanted(pass)));
+    Ok(true)
+}
+
+/// The request that a pass names.
+fn request_of(alloc: Global, way: Way, tag: Tag, bytes: &[u8]) -> Result<Request, AllocError>
+    ensures { IfOk result (λ request. (request.lane ≡ tag.lane) × (request.ordinal ≡ tag.ordinal)) }
+{
+    Ok(Request {
+        queue: way.queue,
+        lane: tag.lane,
+        ordinal: tag.ordinal,
+        room: way.room,
+        shape: shape_of(way.told),
+        bytes: Seq::from_vec(bytes.to_vec(alloc)?),
+    })
+}
+
+/// What comes back next on a ring. None where nothing does, or it comes back without having been run.
+fn reap<B: Naming, N: vg_ring::Naming>(
+    alloc: Global,
+    book: &Book<Display, B>,
+    client: &mut ClientToken<Display, B>,
+    driver: &mut DriverEnd<Carried<Display, B>, N>,
+) -> Result<Option<Back>, AllocError>
+    ensures queue { driver.new.queue ≡ driver.old.queue }
+    ensures number { client.new.account.number ≡ client.old.account.number }
+{
+    let Some(reaped) = driver.reap() else {
+        return Ok(None);
+    };
+    let Reaped { len, cargo, .. } = reaped;
+    let lane = cargo.tag().lane;
+    let response = cargo.response().to_vec(alloc)?;
+    Ok(match take_back(book, client, cargo) {
+        Some((entry, reply)) => Some(Back {
+            lane,
+            len,
+            response,
+            entry,
+            reply,
+        }),
+        None => None,
+    })
+}
+
+/// Takes back what came of the client's request: the number of its entry, and its reply.
+fn take_back<B: Naming>(
+    book: &Book<Display, B>,
+    client: &mut ClientToken<Display, B>,
+    cargo: Cargo<Carried<Display, B>>,
+) -> Option<(u64, Reply)>
+    ensures { client.new.account.number ≡ client.old.account.number }
+{
+    match cargo.unload() {
+        Carried::Done(done) => {
+            if done.client() == client.number() {
+                Some(client.take_back(book, done))
+            } else {
+                None
+            }
+        }
+        Carried::Wanted(_) | Carried::Unrun(_) => None,
+    }
+}
+
+impl<B: Naming, N: Rings> Guest<B, N> {
+    /// Puts a request onto a ring. False where the client may not make it, or there is no room for it.
+    pub fn ask(
+        &mut self,
+        alloc: Global,
+        book: &Book<Display, B>,
+        way: Way,
+        bytes: &[u8],
+    ) -> Result<bool, AllocError>
+        requires queues { (self.old.control.queue ≡ queues.Control) × (self.old.cursor.queue ≡ queues.Cursor) }
+        ensures queues { (self.new.control.queue ≡ queues.Control) × (self.new.cursor.queue ≡ queues.Cursor) }
+        ensures number { self.new.client.account.number ≡ self.old.client.account.number }
+    {
+        let client = &mut self.client;
+        match way.queue {
+            Queue::Control => publish(alloc, book, client, &mut self.control, way, bytes),
+            Queue::Cursor => publish(alloc, book, client, &mut self.cursor, way, bytes),
+        }
+    }
+
+    /// What comes back next on a ring. None where nothing does, or it comes back without having been run.
+    pub fn back(
+        &mut self,
+        alloc: Global,
+        book: &Book<Display, B>,
+        queue: Queue,
+    ) -> Result<Option<Back>, AllocError>
+        requires queues { (self.old.control.queue ≡ queues.Control) × (self.old.cursor.queue ≡ queues.Cursor) }
+        ensures queues { (self.new.control.queue ≡ queues.Control) × (self.new.cursor.queue ≡ queues.Cursor) }
+        ensures number { self.new.client.account.number ≡ self.old.client.account.number }
+    {
+        let client = &mut self.client;
+        match queue {
+            Queue::Control => reap(alloc, book, client, &mut self.control),
+            Queue::Cursor => reap(alloc, book, client, &mut self.cursor),
+        }
+    }
+}
