@@ -1,0 +1,148 @@
+-- A request that may be published next.
+use Rattle.std.proofs.Common.{◌≡◌, ℕ, ◌+◌, ◌-◌, ◌^◌, ◌==◌, ◌<◌, ◌≤◌, ◌&&◌, nat_le, nat_lt, bit_and, Bool, true, false, cond, List, [], length, None, Ok, refl, sym, ap, subst, ◌∙◌, arith, length-append, ne_eqb}
+use Rattle.std.proofs.lemmas.Bool.Decides.{nat_tests}
+use Rattle.vg_chain.specs.declared.shape.Shape.{Shape}
+use Rattle.vg_chain.specs.declared.shape.Shape.TheVariants.{Plain, Indirect}
+use Rattle.vg_chain.specs.Made.{IsCount, IsNeeded}
+use Rattle.vg_wire.specs.declared.header.Header.{Header}
+use Rattle.vg_wire.specs.declared.request.Queue.{Queue}
+use Rattle.vg_wire.specs.declared.request.Queue.TheVariants as queues
+use Rattle.vg_wire.specs.declared.two_d.Command2d.TheVariants as commands
+use Rattle.vg_wire.specs.Header.{header_of}
+use Rattle.vg_wire.proofs.HeaderLemmas.{length-header_bytes}
+use Rattle.vg_wire_ext.specs.declared.command.Command.{Command}
+use Rattle.vg_wire_ext.specs.declared.command.Command.TheVariants.{TwoD, Edid, AssignUuid, CreateBlob}
+use Rattle.vg_wire_ext.specs.Commands.{command_body, command_kind}
+use Rattle.vg_wire_ext.specs.Request.{request_bytes, request_of}
+use Rattle.vg_ring.specs.Cargo.{IsLane}
+use Rattle.vg_ring.specs.Ends.{DriverLists, HasRoom}
+use Rattle.vg_ring.specs.Entries.{lane_count}
+use Rattle.vg_ring.proofs.KeptLemmas.{made_some}
+use Rattle.vg_machine.specs.declared.history.Request.{Request}
+use Rattle.vg_machine.specs.declared.holds.Holds.{Holds}
+use Rattle.vg_machine.specs.Holds.{denied_of, denied_request}
+use Rattle.vg_machine.specs.Lane.{lane_of, lane_of_header}
+use Rattle.vg_driver.proofs.ShortLemmas.{short-body}
+use Rattle.vg_driver.specs.declared.request.Way.{Way}
+use Rattle.vg_driver.specs.declared.request.Way.TheVariants.{Control, Timeline, Cursor}
+use Rattle.vg_driver.specs.declared.ticket.Ticket.{Ticket}
+use Rattle.vg_driver.specs.Requests.{IsShort, IsWay, MayGo, denied_by, header_by, lane_by, queue_by, raw_request, request_by, room_on, shape_of}
+use Rattle.vg_driver.specs.Offers.{IsNext}
+use Rattle.vg_driver.specs.Tickets.{Submitted, Token}
+
+-- what is denied has nothing to do with the ordinal
+denied_for : (holds : Holds) (way : Way) (ordinal : ℕ) (command : Command) → denied_request holds (Ok (header_by way (command_kind command) ordinal, command)) ≡ denied_by holds way command
+denied_for holds (Control context) ordinal command = refl
+denied_for holds (Timeline context ring) ordinal command = refl
+denied_for holds Cursor ordinal command = refl
+
+-- the lane of bytes is one of their queue
+header_lane : (header : Header) → lane_of_header header ≤ 64
+header_lane header = by_test (bit_and header.flags 2 == 2) (nat_le header.ring_idx 63) refl
+  where
+    by_test : (a b : Bool) → nat_le header.ring_idx 63 ≡ b → cond (a && b) (1 + header.ring_idx) 0 ≤ 64
+    by_test true true e = let small : header.ring_idx ≤ 63 = grind (arith, nat_tests, e) in omega (arith, small)
+    by_test true false e = omega arith
+    by_test false b e = omega arith
+
+pub bytes_lane : (queue : Queue) (bytes : List ℕ) → IsLane queue (lane_of queue bytes)
+bytes_lane queues.Cursor bytes = refl
+bytes_lane queues.Control bytes = by_test (nat_le 24 (length bytes))
+  where
+    by_test : (b : Bool) → cond b (lane_of_header (header_of bytes)) 0 ≤ 64
+    by_test true = header_lane (header_of bytes)
+    by_test false = omega arith
+
+way_lane : (way : Way) → IsWay way → IsLane (queue_by way) (lane_by way)
+way_lane (Control context) is = omega arith
+way_lane (Timeline context ring) is = omega (arith, is)
+way_lane Cursor is = refl
+
+-- a command's request is laid out plain, or by a table
+some_bytes : (k : ℕ) → (24 + k == 0) ≡ false
+some_bytes k = ne_eqb (24 + k) 0 (λ same. absurd (omega (arith, same)))
+
+plain_longer : (r c k : ℕ) → IsNeeded Plain 24 r c → IsNeeded Plain (24 + k) r c
+plain_longer r c k is = λ base q places. rw (some_bytes k) (is base q places)
+
+longer : (b : Bool) (r c k : ℕ) → IsNeeded (cond b Indirect Plain) 24 r c → IsNeeded (cond b Indirect Plain) (24 + k) r c
+longer true r c k is = λ base q places. is base q places
+longer false r c k is = plain_longer r c k is
+
+pub needed_longer : (command : Command) (r c k : ℕ) → IsNeeded (shape_of command) 24 r c → IsNeeded (shape_of command) (24 + k) r c
+needed_longer (TwoD (commands.Attach resource entries)) r c k is = longer (nat_lt 8 (length entries)) r c k is
+needed_longer (CreateBlob resource mem flags blob_id size entries) r c k is = longer (nat_lt 8 (length entries)) r c k is
+needed_longer command r c k is = plain_longer r c k is
+
+counts : (b : Bool) → IsCount (cond b Indirect Plain)
+counts true = tt
+counts false = tt
+
+pub shape_counts : (command : Command) → IsCount (shape_of command)
+shape_counts (TwoD (commands.Attach resource entries)) = counts (nat_lt 8 (length entries))
+shape_counts (CreateBlob resource mem flags blob_id size entries) = counts (nat_lt 8 (length entries))
+shape_counts command = tt
+
+small_room : (queue : Queue) (command : Command) → room_on queue command ≤ 8192
+small_room queues.Cursor command = omega arith
+small_room queues.Control (TwoD commands.DisplayInfo) = omega arith
+small_room queues.Control (Edid scanout) = omega arith
+small_room queues.Control (AssignUuid resource) = omega arith
+small_room queues.Control command = omega arith
+
+request_long : (header : Header) (command : Command) → length (request_bytes header command) ≡ 24 + length (command_body command)
+request_long header command = simp length-append (omega (arith, length-header_bytes header))
+
+-- a chain has a descriptor
+pub has_room : (lists : DriverLists) (request : Request) → (count : ℕ) × IsNeeded request.shape (length request.bytes) request.room count × HasRoom lists count → HasRoom lists 1
+has_room lists request (count, needed, room) =
+    let one = made_some request.shape (length request.bytes) request.room 0 0 [] in
+    let is = needed 0 0 [] in
+    omega (arith, one, is, room)
+
+pub next_by : (way : Way) (command : Command) (holds : Holds) (lists : DriverLists) (ordinal : ℕ) (request : Request) (count : ℕ) → MayGo way command → IsShort command → denied_by holds way command ≡ None
+    → request ≡ request_by way command ordinal → lane_of (queue_by way) request.bytes ≡ lane_by way → request_of (queue_by way) request.bytes ≡ Ok (header_by way (command_kind command) ordinal, command)
+    → queue_by way ≡ lists.queue → ordinal ≡ lane_count (lane_by way) lists.published + 1 → ((k : ℕ) → IsNeeded (shape_of command) (24 + k) (room_on (queue_by way) command) count) → HasRoom lists count
+    → length lists.published < 2 ^ 63 - 1 → IsNext holds lists request
+next_by way command holds lists ordinal request count may short allowed is lane reads queue next needed room last =
+    let header = header_by way (command_kind command) ordinal in
+    let bytes_is : request.bytes ≡ request_bytes header command = ap (λ q. q.bytes) is in
+    let long : length request.bytes ≡ 24 + length (command_body command) = ap {B = ℕ} length bytes_is ∙ request_long header command in
+    let same : request_by way command ordinal ≡ request = sym is in
+    let bytes = request.bytes in
+    record {
+      queue_is = ap (λ q. q.queue) is ∙ queue;
+      lane = subst (λ (q : Request). IsLane q.queue q.lane) same (way_lane way may.0);
+      lane_is = ap (λ q. q.lane) is ∙ (sym lane ∙ ap (λ q. lane_of q bytes) (sym (ap (λ q. q.queue) is)));
+      ordinal = ap (λ q. q.ordinal) is ∙ (next ∙ ap (λ l. lane_count l lists.published + 1) (sym (ap (λ q. q.lane) is)));
+      short = let fits = short-body command short in omega (arith, long, fits);
+      room = subst (λ (q : Request). q.room ≤ 8192) same (small_room (queue_by way) command);
+      count = subst (λ (q : Request). IsCount q.shape) same (shape_counts command);
+      needed = (count, subst (λ (q : Request). IsNeeded q.shape (length bytes) q.room count) same (subst (λ n. IsNeeded (shape_of command) n (room_on (queue_by way) command) count) (sym long) (needed (length (command_body command)))), room);
+      last = last;
+      allowed = ap (λ q. denied_of holds q bytes) (ap (λ q. q.queue) is) ∙ (ap (denied_request holds) reads ∙ (denied_for holds way ordinal command ∙ allowed));
+    }
+
+pub next_raw : (queue : Queue) (room : ℕ) (shape : Shape) (bytes : List ℕ) (holds : Holds) (lists : DriverLists) (ordinal : ℕ) (request : Request) (count : ℕ) → length bytes ≤ 49152 → room ≤ 8192 → IsCount shape → denied_of holds queue bytes ≡ None
+    → request ≡ raw_request queue room shape bytes ordinal → queue ≡ lists.queue → ordinal ≡ lane_count (lane_of queue bytes) lists.published + 1 → IsNeeded shape (length bytes) room count → HasRoom lists count
+    → length lists.published < 2 ^ 63 - 1 → IsNext holds lists request
+next_raw queue room shape bytes holds lists ordinal request count short small is_count allowed is queue_is next needed fits last =
+    subst (IsNext holds lists) (sym is) (record {
+      queue_is = queue_is;
+      lane = bytes_lane queue bytes;
+      lane_is = refl;
+      ordinal = next;
+      short = short;
+      room = small;
+      count = is_count;
+      needed = (count, needed, fits);
+      last = last;
+      allowed = allowed;
+    })
+
+-- the request is this function of its ordinal
+pub submitted_as : (old : Token) (f : ℕ → Request) (request : Request) (ticket : Ticket) (new : Token) → request ≡ f request.ordinal → Submitted old (λ n. request) ticket new → Submitted old f ticket new
+submitted_as old f request ticket new is s =
+    let same : request ≡ f ticket.fence.ordinal = is ∙ ap f (sym s.ordinal) in
+    let t : Submitted old (λ n. f ticket.fence.ordinal) ticket new = subst (λ (q : Request). Submitted old (λ n. q) ticket new) same s in
+    record { pass = t.pass; drawn = t.drawn; lane = t.lane; ordinal = t.ordinal; call = t.call; of_bytes = t.of_bytes; allowed = t.allowed }

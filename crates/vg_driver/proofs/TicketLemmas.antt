@@ -1,0 +1,69 @@
+-- What came back of a call is the ticket's order.
+use Rattle.std.proofs.Common.{◌≡◌, inl, inr, ℕ, ◌==◌, ◌≤◌, Bool, true, false, cond, List, [], ◌∷◌, ◌++◌, map, refl, sym, ap, subst, ◌∙◌, arith, eq-eqb, true≢false}
+use mathlib.Core.List.{map-append}
+use Rattle.vg_history.specs.declared.entry.Entry.{Entry}
+use Rattle.vg_history.specs.Entries.{call_of}
+use Rattle.vg_history.specs.Lists.{Has, times, upto}
+use Rattle.vg_history.proofs.ListLemmas.{has_map, times_append, times_has, upto_one}
+use Rattle.vg_book.specs.Tokens.{TakesBack, TakesUnrun, finished_of}
+use Rattle.vg_book.specs.Views.{calls, entry_of, given_up, order_call, settled, without}
+use Rattle.vg_machine.specs.declared.act.Act.{Act}
+use Rattle.vg_machine.specs.declared.act.ActReply.{ActReply}
+use Rattle.vg_machine.specs.declared.history.Reply.{Reply}
+use Rattle.vg_machine.specs.declared.history.Request.{Request}
+use Rattle.vg_machine.specs.declared.holds.Holds.{Holds}
+use Rattle.vg_machine.specs.State.{State}
+use Rattle.vg_machine.specs.Replay.{display}
+use Rattle.vg_driver.specs.declared.ticket.Ticket.{Ticket}
+use Rattle.vg_driver.specs.Tickets.{Account, DonePass, IsOf, IsOut, Order, Pass, Token}
+
+abbrev En : Type 0
+En = Entry State State Act ActReply Request Reply Holds
+
+-- an order stands alone among those with its number, where none is left without the first of them
+alone : (n : ℕ) (os : List Order) (o p : Order) → Has os o → Has os p → o.call ≡ n → p.call ≡ n → times n (map order_call (without n os)) ≡ 0 → o ≡ p
+alone n [] o p h k a b none = absurd h
+alone n (x ∷ xs) o p h k a b none = by_test (x.call == n) refl h k none (λ c d nothing. alone n xs o p c d a b nothing)
+  where
+    gone : (q : Order) → Has xs q → q.call ≡ n → times n (map order_call xs) ≡ 0 → ⊥
+    gone q there is nothing = let one = times_has n (map order_call xs) (subst (Has (map order_call xs)) is (has_map order_call xs q there)) in omega (arith, one, nothing)
+
+    other : (q : Order) → (x.call == n) ≡ false → x ≡ q → q.call ≡ n → ⊥
+    other q not same is = true≢false (sym (eq-eqb x.call n (ap order_call same ∙ is)) ∙ not)
+
+    by_test : (t : Bool) → (x.call == n) ≡ t → Has (x ∷ xs) o → Has (x ∷ xs) p → times n (map order_call (cond t xs (x ∷ without n xs))) ≡ 0 → (Has xs o → Has xs p → times n (map order_call (without n xs)) ≡ 0 → o ≡ p) → o ≡ p
+    by_test true is (inl c) (inl d) nothing rest = sym c ∙ d
+    by_test true is (inl c) (inr d) nothing rest = absurd (gone p d b nothing)
+    by_test true is (inr c) d nothing rest = absurd (gone o c a nothing)
+    by_test false is (inl c) d nothing rest = absurd (other o is c a)
+    by_test false is (inr c) (inl d) nothing rest = absurd (other p is d b)
+    by_test false is (inr c) (inr d) nothing rest = rest c d (omega (arith, nothing))
+
+-- the client's numbers stand once each among those that it knows of
+none_left : (n : ℕ) (mine : List En) (e : En) (os : List Order) (spent : List ℕ) (used : ℕ) → call_of e ≡ n → times n (map call_of (mine ++ e ∷ []) ++ (map order_call os ++ spent)) ≡ times n (upto used) → times n (map order_call os) ≡ 0
+none_left n mine e os spent used is numbers =
+    let front = ap (times n) (map-append call_of mine (e ∷ [])) in
+    let last : 1 ≤ times n (map call_of (e ∷ [])) = times_has n (map call_of (e ∷ [])) (inl is) in
+    omega (arith, numbers, front, last, upto_one used n, times_append n (map call_of (mine ++ e ∷ [])) (map order_call os ++ spent), times_append n (map order_call os) spent, times_append n (map call_of mine) (map call_of (e ∷ [])))
+
+none_spent : (n : ℕ) (mine : List En) (os : List Order) (spent : List ℕ) (used : ℕ) → times n (map call_of mine ++ (map order_call os ++ (spent ++ n ∷ []))) ≡ times n (upto used) → times n (map order_call os) ≡ 0
+none_spent n mine os spent used numbers =
+    let last : 1 ≤ times n (n ∷ []) = times_has n (n ∷ []) (inl refl) in
+    omega (arith, numbers, last, upto_one used n, times_append n (map call_of mine) (map order_call os ++ (spent ++ n ∷ [])), times_append n (map order_call os) (spent ++ n ∷ []), times_append n spent (n ∷ []))
+
+-- what was taken back is the ticket's
+pub ticket_done : (old : Token) (ticket : Ticket) (f : DonePass) (new : Token) → IsOut old.account ticket → f.order.call ≡ ticket.call → TakesBack display old f new → IsOf ticket f.order
+ticket_done old ticket f new (order, has, is) call t =
+    let n : ℕ = f.order.call in
+    let numbers : times n (calls (settled old.account (finished_of display f))) ≡ times n (upto old.account.used) = subst (λ (a : Account). times n (calls a) ≡ times n (upto a.used)) t.account (t.known.numbers n) in
+    let none = none_left n old.account.mine (entry_of (finished_of display f)) (without n old.account.out) old.account.spent old.account.used refl numbers in
+    let same : f.order ≡ order = alone n old.account.out f.order order t.out has refl (is.call ∙ sym call) none in
+    subst (IsOf ticket) (sym same) is
+
+pub ticket_unrun : (old : Token) (ticket : Ticket) (p : Pass) (new : Token) → IsOut old.account ticket → p.order.call ≡ ticket.call → TakesUnrun display old p new → IsOf ticket p.order
+ticket_unrun old ticket p new (order, has, is) call t =
+    let n : ℕ = p.order.call in
+    let numbers : times n (calls (given_up old.account p.order)) ≡ times n (upto old.account.used) = subst (λ (a : Account). times n (calls a) ≡ times n (upto a.used)) t.account (t.known.numbers n) in
+    let none = none_spent n old.account.mine (without n old.account.out) old.account.spent old.account.used numbers in
+    let same : p.order ≡ order = alone n old.account.out p.order order t.out has refl (is.call ∙ sym call) none in
+    subst (IsOf ticket) (sym same) is

@@ -1,0 +1,84 @@
+-- A queue's driver end with what came back over it: what is kept, and what the calls tell.
+use Rattle.std.specs.Prelude.{◌≡◌, ℕ, ◌+◌, ◌==◌, ◌^◌, ◌-◌, ◌<◌, ◌≤◌, ◌%◌, true, false, Bool, List, [], ◌∷◌, length, max, get_or, Option, Some, None, if◌then◌else◌}
+use Rattle.vg_history.specs.declared.machine.Machine.{Ghosts}
+use Rattle.vg_history.specs.History.{HasFence}
+use Rattle.vg_book.specs.declared.outcome.Ran.{Ran}
+use Rattle.vg_book.specs.declared.outcome.Ran.TheVariants as outcomes
+use Rattle.vg_book.specs.Tokens.{Client, Drawn, Noted, Passed}
+use Rattle.vg_chain.specs.declared.shape.Shape.{Shape}
+use Rattle.vg_chain.specs.Made.{IsCount, IsNeeded}
+use Rattle.vg_wire.specs.declared.request.Queue.{Queue}
+use Rattle.vg_ring.specs.declared.views.Answer.{Answer}
+use Rattle.vg_ring.specs.Cargo.{ParcelData}
+use Rattle.vg_ring.specs.Ends.{DriverLists, HasRoom}
+use Rattle.vg_ring.specs.Entries.{lane_count}
+
+-- The greatest ordinal of a lane among answers, run or not; 0 where there is none.
+abbrev pub top_of : ℕ → List Answer → ℕ
+top_of lane [] = 0
+top_of lane (answer ∷ more) = if answer.entry.lane == lane then max answer.entry.ordinal (top_of lane more) else top_of lane more
+
+-- What is known of a lane: the greatest ordinal that came back, and up to which ordinal a note knows its commands.
+pub record HeardData : Type 0 where
+  pub lane : ℕ
+  pub top : ℕ
+  pub known : ℕ
+
+abbrev pub unheard : ℕ → HeardData
+unheard lane = record { lane = lane; top = 0; known = 0 }
+
+abbrev pub IsHeard : List Answer → ℕ → HeardData → Type 0
+IsHeard reaped lane heard = (heard.lane ≡ lane) × (heard.top ≡ top_of lane reaped)
+
+-- Each lane in its place.
+abbrev pub AreHeard : List Answer → List HeardData → Type 0
+AreHeard reaped heard = (lane : ℕ) → lane < 66 → IsHeard reaped lane (get_or heard lane (unheard 0))
+
+-- What a half keeps: there is room for all replies that are still to come.
+pub record IsHalf (queue : Queue) (lists : DriverLists) (replies room : ℕ) (heard : List HeardData) : Type 0 where
+  pub queue_is : lists.queue ≡ queue
+  pub most : length lists.reaped ≤ length lists.published
+  pub room_is : replies + length lists.published ≤ room + length lists.reaped
+  pub lanes : length heard ≡ 66
+  pub tops : AreHeard lists.reaped heard
+
+-- Nothing but replies were taken from the ring.
+pub record HasReaped (old new : DriverLists) : Type 0 where
+  pub published : new.published ≡ old.published
+  pub same : (new.queue ≡ old.queue) × (new.size ≡ old.size)
+
+-- One more reply was taken, or there was none.
+abbrev pub ReapsOne : DriverLists → DriverLists → Bool → Type 0
+ReapsOne old new true = HasReaped old new × (length new.reaped ≡ length old.reaped + 1) × (length new.reaped ≤ length new.published)
+ReapsOne old new false = HasReaped old new × (new.seen ≡ length new.reaped % 65536)
+
+-- A parcel that may be published next.
+pub record IsOffered (lists : DriverLists) (shape : Shape) (parcel : ParcelData) : Type 0 where
+  pub count : IsCount shape
+  pub shape_is : parcel.shape ≡ shape
+  pub queue_is : parcel.queue ≡ lists.queue
+  pub head_is : parcel.head ≡ lists.next
+  pub room : (count : ℕ) × IsNeeded shape (length parcel.request) parcel.room count × HasRoom lists count
+  pub ordinal : parcel.ordinal ≡ lane_count parcel.lane lists.published + 1
+  pub last : length lists.published < 2 ^ 63 - 1
+
+module _ {M B S A R Q P H : Type 0} where
+  -- What came back is of this call of this client.
+  abbrev pub IsOf : ℕ → ℕ → Ran M B S A R Q P H → Type 0
+  IsOf client call (outcomes.Done f) = (f.order.client ≡ client) × (f.order.call ≡ call)
+  IsOf client call (outcomes.Unrun p) = (p.order.client ≡ client) × (p.order.call ≡ call)
+
+module _ {M S A R Q P H : Type 0} (g : Ghosts M S A R Q P H) where
+  -- The lane and the ordinal of what came back.
+  abbrev pub tag_of : {B : Type 0} → Ran M B S A R Q P H → ℕ × ℕ
+  tag_of (outcomes.Done f) = g.tagged f.order.request
+  tag_of (outcomes.Unrun p) = g.tagged p.order.request
+
+  -- The note knows the lane up to this ordinal; where there is none, that is 0.
+  abbrev pub NoteKnows : ℕ → ℕ → Option (Noted M S A R Q P H) → Type 0
+  NoteKnows lane known None = known ≡ 0
+  NoteKnows lane known (Some note) = HasFence g lane known note.seen
+
+  -- The request was made a pass under the client's next number.
+  abbrev pub IsSent : Client M S A R Q P H → Q → Client M S A R Q P H → ℕ → Type 0
+  IsSent c request d call = ((pass : Passed M S A R Q P H) × Drawn g c request d pass) × (call ≡ c.account.used + 1)

@@ -1,0 +1,4 @@
+pub mod Requests
+pub mod Tickets
+pub mod Halves
+pub mod Offers

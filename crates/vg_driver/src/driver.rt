@@ -1,0 +1,258 @@
+//! Both queues of a device, as its clients share them.
+
+ghost use Rattle.std.specs.Prelude.{◌≡◌, ℕ, ◌≤◌, None, length, MatchResult};
+ghost use Rattle.vg_chain.specs.Made.{IsCount};
+ghost use Rattle.vg_wire.specs.declared.request.Queue.TheVariants as queues;
+ghost use Rattle.vg_ring.specs.Making.{IsNewDriver};
+ghost use Rattle.vg_machine.specs.Holds.{denied_of};
+ghost use Rattle.vg_driver.specs.Requests as requests;
+ghost use Rattle.vg_driver.specs.Requests.{IsShort, MayGo};
+ghost use Rattle.vg_driver.specs.Halves.{IsOf};
+ghost use Rattle.vg_driver.specs.Offers.{MayOffer};
+ghost use Rattle.vg_driver.specs.Tickets.{Finished, IsOut, Spent, Submitted};
+
+use crate::half::Half;
+use crate::offer::{offer, offer_raw};
+use crate::request::{Way, queue_by};
+use crate::ticket::{Answer, Ticket};
+use crossbeam_utils::Backoff;
+use std::alloc::{AllocError, Global};
+use std::sync::{Mutex, Wait};
+use vg_book::{Book, Carried, ClientToken, NoMemory, Ran};
+use vg_chain::Shape;
+use vg_machine::Display;
+use vg_ring::{ControlOf, CursorOf, DriverEnd, OfQueue, Rings};
+use vg_wire::Queue;
+use vg_wire_ext::Command;
+
+/// The driver's ends of a device's two rings, each under a lock.
+#[derive(Drop)]
+pub struct Driver<B: vg_book::Naming, N: Rings> {
+    control: Mutex<Half<Display, B, ControlOf<N>>>,
+    cursor: Mutex<Half<Display, B, CursorOf<N>>>,
+}
+
+/// Submits a command on the queue that it goes by.
+fn submit_on<R: Wait, B: vg_book::Naming, Q: vg_ring::Naming + OfQueue>(
+    rt: &R,
+    half: &Mutex<Half<Display, B, Q>>,
+    alloc: Global,
+    book: &Book<Display, B>,
+    token: &mut ClientToken<Display, B>,
+    way: Way,
+    command: &Command,
+) -> Result<Ticket, NoMemory>
+    requires queue { Q.queue ≡ requests.queue_by way }
+    requires way { MayGo way command.now }
+    requires short { IsShort command.now }
+    requires allowed { requests.denied_by token.old.account.holds way command.now ≡ None }
+    ensures { MatchResult result (λ ticket. Submitted token.old (requests.request_by way command.now) ticket token.new) (λ _. token.new ≡ token.old) }
+{
+    let backoff = Backoff::new();
+    for _ in rt.forever() {
+        let offered = offer(&mut half.lock(rt), alloc, book, token, way, command)?;
+        if let Some(ticket) = offered {
+            return Ok(ticket);
+        }
+        backoff.snooze();
+    }
+    unreachable!()
+}
+
+/// Submits bytes on their queue, as they are.
+fn submit_raw_on<R: Wait, B: vg_book::Naming, Q: vg_ring::Naming + OfQueue>(
+    rt: &R,
+    half: &Mutex<Half<Display, B, Q>>,
+    alloc: Global,
+    book: &Book<Display, B>,
+    token: &mut ClientToken<Display, B>,
+    queue: Queue,
+    room: u32,
+    shape: Shape,
+    bytes: &[u8],
+) -> Result<Ticket, NoMemory>
+    requires queue { Q.queue ≡ queue }
+    requires short { length bytes.now ≤ 49152 }
+    requires room { room ≤ 8192 }
+    requires count { IsCount shape }
+    requires allowed { denied_of token.old.account.holds queue bytes.now ≡ None }
+    ensures { MatchResult result (λ ticket. Submitted token.old (requests.raw_request queue room shape bytes.now) ticket token.new) (λ _. token.new ≡ token.old) }
+{
+    let backoff = Backoff::new();
+    for _ in rt.forever() {
+        let offered = offer_raw(
+            &mut half.lock(rt),
+            alloc,
+            book,
+            token,
+            queue,
+            room,
+            shape,
+            bytes,
+        )?;
+        if let Some(ticket) = offered {
+            return Ok(ticket);
+        }
+        backoff.snooze();
+    }
+    unreachable!()
+}
+
+/// Waits for what comes back of a client's call.
+fn wait_for<R: Wait, B: vg_book::Naming, Q: vg_ring::Naming + OfQueue>(
+    rt: &R,
+    half: &Mutex<Half<Display, B, Q>>,
+    book: &Book<Display, B>,
+    client: u32,
+    call: u64,
+) -> Ran<Display, B>
+    ensures { IsOf client call result }
+{
+    let backoff = Backoff::new();
+    for _ in rt.forever() {
+        if let Some(ran) = half.lock(rt).answer(book, client, call) {
+            return ran;
+        }
+        backoff.snooze();
+    }
+    unreachable!()
+}
+
+/// Takes back what came of a client's call.
+fn settle<B: vg_book::Naming>(
+    book: &Book<Display, B>,
+    token: &mut ClientToken<Display, B>,
+    ticket: Ticket,
+    ran: Ran<Display, B>,
+) -> Result<Answer, NoMemory>
+    requires out { IsOut token.old.account ticket }
+    requires of { IsOf token.old.account.number ticket.call ran }
+    ensures { MatchResult result (λ answer. Finished token.old ticket answer token.new) (λ _. Spent token.old ticket token.new) }
+{
+    match ran {
+        Ran::Done(done) => {
+            let (entry, reply) = token.take_back(book, done);
+            Ok(Answer { entry, reply })
+        }
+        Ran::Unrun(pass) => {
+            token.take_unrun(book, pass);
+            Err(NoMemory)
+        }
+    }
+}
+
+impl<B: vg_book::Naming, N: Rings> Driver<B, N> {
+    /// A driver over two ends that have published nothing.
+    pub fn new(
+        alloc: Global,
+        control: DriverEnd<Carried<Display, B>, ControlOf<N>>,
+        cursor: DriverEnd<Carried<Display, B>, CursorOf<N>>,
+    ) -> Result<Driver<B, N>, AllocError>
+        requires control { (size : ℕ) × IsNewDriver queues.Control size control }
+        requires cursor { (size : ℕ) × IsNewDriver queues.Cursor size cursor }
+    {
+        let control = Half::new(alloc, control)?;
+        let cursor = Half::new(alloc, cursor)?;
+        Ok(Driver {
+            control: Mutex::new(control),
+            cursor: Mutex::new(cursor),
+        })
+    }
+
+    /// The control queue.
+    pub fn control(&self) -> &Mutex<Half<Display, B, ControlOf<N>>> {
+        &self.control
+    }
+
+    /// The cursor queue.
+    pub fn cursor(&self) -> &Mutex<Half<Display, B, CursorOf<N>>> {
+        &self.cursor
+    }
+
+    /// Submits a command of a client, which goes this way. It waits for its queue's lock, and for free descriptors. For want of
+    /// memory nothing was published.
+    pub fn submit<R: Wait>(
+        &self,
+        rt: &R,
+        alloc: Global,
+        book: &Book<Display, B>,
+        token: &mut ClientToken<Display, B>,
+        way: Way,
+        command: &Command,
+    ) -> Result<Ticket, NoMemory>
+        requires way { MayGo way command.now }
+        requires short { IsShort command.now }
+        requires allowed { requests.denied_by token.old.account.holds way command.now ≡ None }
+        ensures { MatchResult result (λ ticket. Submitted token.old (requests.request_by way command.now) ticket token.new) (λ _. token.new ≡ token.old) }
+    {
+        match queue_by(way) {
+            Queue::Control => submit_on(rt, &self.control, alloc, book, token, way, command),
+            Queue::Cursor => submit_on(rt, &self.cursor, alloc, book, token, way, command),
+        }
+    }
+
+    /// Submits bytes of a client as they are, with so many bytes for the response. It waits as `submit` does.
+    pub fn submit_raw<R: Wait>(
+        &self,
+        rt: &R,
+        alloc: Global,
+        book: &Book<Display, B>,
+        token: &mut ClientToken<Display, B>,
+        queue: Queue,
+        room: u32,
+        shape: Shape,
+        bytes: &[u8],
+    ) -> Result<Ticket, NoMemory>
+        requires short { length bytes.now ≤ 49152 }
+        requires room { room ≤ 8192 }
+        requires count { IsCount shape }
+        requires allowed { denied_of token.old.account.holds queue bytes.now ≡ None }
+        ensures { MatchResult result (λ ticket. Submitted token.old (requests.raw_request queue room shape bytes.now) ticket token.new) (λ _. token.new ≡ token.old) }
+    {
+        match queue {
+            Queue::Control => submit_raw_on(
+                rt,
+                &self.control,
+                alloc,
+                book,
+                token,
+                queue,
+                room,
+                shape,
+                bytes,
+            ),
+            Queue::Cursor => submit_raw_on(
+                rt,
+                &self.cursor,
+                alloc,
+                book,
+                token,
+                queue,
+                room,
+                shape,
+                bytes,
+            ),
+        }
+    }
+
+    /// Waits for a command that this client submitted and hasn't taken back, and takes it back with its reply. It answers want
+    /// of memory where the command came back without having been run; then too nothing of it is outstanding.
+    pub fn finish<R: Wait>(
+        &self,
+        rt: &R,
+        book: &Book<Display, B>,
+        token: &mut ClientToken<Display, B>,
+        ticket: Ticket,
+    ) -> Result<Answer, NoMemory>
+        requires { IsOut token.old.account ticket }
+        ensures { MatchResult result (λ answer. Finished token.old ticket answer token.new) (λ _. Spent token.old ticket token.new) }
+    {
+        let client = token.number();
+        let ran = if ticket.fence.lane == 65 {
+            wait_for(rt, &self.cursor, book, client, ticket.call)
+        } else {
+            wait_for(rt, &self.control, book, client, ticket.call)
+        };
+        settle(book, token, ticket, ran)
+    }
+}

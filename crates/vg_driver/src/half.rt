@@ -1,0 +1,156 @@
+//! One queue of a device, as the clients share it under a lock.
+
+ghost use Rattle.std.specs.Prelude.{◌≡◌, ℕ, ◌+◌, ◌-◌, ◌^◌, ◌<◌, ◌%◌, true, [], length, IfOk, IfSome, MatchResult};
+ghost use Rattle.vg_ring.specs.Ends.{HasRoom};
+ghost use Rattle.vg_ring.specs.Entries.{lane_count};
+ghost use Rattle.vg_ring.specs.Making.{IsNewDriver};
+ghost use Rattle.vg_driver.specs.Halves.{AreHeard, HasReaped, IsOf, IsOffered, IsSent, ReapsOne};
+
+use crate::back::{came_back, take_out};
+use crate::heard::Heard;
+use std::alloc::{AllocError, Global};
+use std::marker::Model;
+use vg_book::{Book, Carried, ClientToken, NoMemory, Ran};
+use vg_chain::Shape;
+use vg_history::Machine;
+use vg_ring::{DriverEnd, OfQueue, Parcel, Reaped, Tag};
+
+/// The most cargoes that a ring carries.
+const MOST_PUBLISHED: u64 = 9223372036854775807;
+
+/// The driver's end of a queue, what came back and nobody has taken yet, and how far each lane has come.
+#[derive(Drop)]
+pub struct Half<M: Machine, B: vg_book::Naming, Q: vg_ring::Naming + OfQueue> {
+    end: DriverEnd<Carried<M, B>, Q>,
+    /// It has room for all that is still to come back.
+    replies: Vec<Ran<M, B>>,
+    heard: Vec<Heard<M, B>>,
+}
+
+impl<M: Machine, B: vg_book::Naming, Q: vg_ring::Naming + OfQueue> Model for Half<M, B, Q> {
+    ghost use Rattle.std.specs.Prelude.{vec_len, vec_capacity};
+    ghost use Rattle.vg_ring.specs.Ends.{DriverLists};
+    ghost use Rattle.vg_driver.specs.Halves.{IsHalf};
+
+    ghost Value = { DriverLists };
+
+    ghost view = { λ h. h.end };
+
+    ghost invariant = { λ h. IsHalf Q.queue h.end (vec_len h.replies) (vec_capacity h.replies) h.heard.items };
+}
+
+/// Each lane, of which nothing came back.
+fn all_lanes<M: Machine, B: vg_book::Naming>(alloc: Global) -> Result<Vec<Heard<M, B>>, AllocError>
+    ensures { IfOk result (λ heard. (length heard.items ≡ 66) × AreHeard [] heard.items) }
+{
+    let mut heard = Vec::with_capacity(alloc, 66)?;
+    for lane in 0..66 {
+        heard.push(Heard::new(lane))?;
+    }
+    Ok(heard)
+}
+
+impl<M: Machine, B: vg_book::Naming, Q: vg_ring::Naming + OfQueue> Half<M, B, Q> {
+    /// A half over an end that has published nothing.
+    pub(crate) fn new(
+        alloc: Global,
+        end: DriverEnd<Carried<M, B>, Q>,
+    ) -> Result<Half<M, B, Q>, AllocError>
+        requires { (size : ℕ) × IsNewDriver Q.queue size end }
+        ensures { IfOk result (λ half. half ≡ end) }
+    {
+        Ok(Half {
+            end,
+            replies: Vec::new(alloc),
+            heard: all_lanes(alloc)?,
+        })
+    }
+
+    /// Does nothing: it tells which queue it is.
+    pub(crate) fn is_of_queue(&self)
+        ensures { self.now.queue ≡ Q.queue }
+    {
+        let _ = &self.end;
+    }
+
+    /// Whether so many descriptors are free, and not as many cargoes were published as ever can be.
+    pub(crate) fn is_ready(&self, descriptors: u16) -> bool
+        ensures { result ≡ true → HasRoom self.now descriptors × (length self.now.published < 2 ^ 63 - 1) }
+    {
+        self.end.room(descriptors) && self.end.published() < MOST_PUBLISHED
+    }
+
+    /// The ordinal of the next cargo of a lane.
+    pub(crate) fn next_ordinal(&self, lane: u32) -> u64
+        requires { lane < 66 }
+        ensures { result ≡ lane_count lane self.now.published + 1 }
+    {
+        self.end.next_ordinal(lane)
+    }
+
+    /// The place of the head descriptor of the next cargo.
+    pub(crate) fn next_head(&self) -> u16
+        requires { HasRoom self.now 1 }
+        ensures { result ≡ self.now.next }
+    {
+        self.end.next_head()
+    }
+
+    /// Publishes a parcel with a pass for this request, and gives the client's number for it. For want of memory nothing was
+    /// published.
+    pub(crate) fn send(
+        &mut self,
+        book: &Book<M, B>,
+        token: &mut ClientToken<M, B>,
+        shape: Shape,
+        parcel: Parcel,
+        request: M::Request,
+    ) -> Result<u64, NoMemory>
+        requires tag { M.tagged request ≡ (parcel.lane, parcel.ordinal) }
+        requires allowed { M.allows token.old.account.holds request ≡ true }
+        requires used { token.old.account.used < 2 ^ 63 - 1 }
+        requires parcel { IsOffered self.old shape parcel }
+        ensures { MatchResult result (λ call. IsSent M.Machine token.old request token.new call) (λ _. token.new ≡ token.old) }
+    {
+        let out = self.end.published() - self.end.reaped();
+        if self.replies.reserve(out as usize + 1).is_err() {
+            return Err(NoMemory);
+        }
+        let pass = token.pass(book, request);
+        let call = pass.call();
+        self.end.publish(shape, parcel.load(Carried::Wanted(pass)));
+        Ok(call)
+    }
+
+    /// Takes the next reply from the ring. False where there is none.
+    fn reap(&mut self, book: &Book<M, B>) -> bool
+        ensures { ReapsOne self.old self.new result }
+    {
+        match self.end.reap() {
+            None => false,
+            Some(Reaped { cargo, .. }) => {
+                let Tag { lane, ordinal } = cargo.tag();
+                let mut ran = came_back(cargo.unload());
+                self.heard[lane as usize].hear(book, &mut ran, ordinal);
+                self.replies.push_reserved(ran);
+                true
+            }
+        }
+    }
+
+    /// Takes all replies from the ring.
+    pub(crate) fn reap_all(&mut self, book: &Book<M, B>)
+        ensures reaped { HasReaped self.old self.new }
+        ensures seen { self.new.seen ≡ length self.new.reaped % 65536 }
+    {
+        while self.reap(book) {}
+    }
+
+    /// Takes all replies from the ring, and the reply of a client's call out, if it came.
+    pub(crate) fn answer(&mut self, book: &Book<M, B>, client: u32, call: u64) -> Option<Ran<M, B>>
+        ensures { IfSome result (IsOf client call) }
+    {
+        self.reap_all(book);
+        take_out(&mut self.replies, client, call)
+    }
+}

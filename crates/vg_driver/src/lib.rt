@@ -1,0 +1,17 @@
+//! The guest's driver: it submits commands on both queues of a device and takes their replies, for any number of threads.
+#![tactic(auto)]
+
+mod back;
+mod driver;
+mod half;
+mod heard;
+mod offer;
+mod request;
+mod threads;
+mod ticket;
+
+pub use driver::Driver;
+pub use half::Half;
+pub use request::{Way, denied_by, queue_by};
+pub use threads::{drivers_may_be_shared, halves_may_be_sent};
+pub use ticket::{Answer, Fence, Ticket};
