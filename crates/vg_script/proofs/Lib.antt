@@ -4,6 +4,7 @@ pub mod Cuts
 pub mod NameSets
 pub mod HexDigits
 pub mod Forms
+pub mod ClientLists
 pub mod CallForms
 pub mod Scans
 pub mod FaultLaws

@@ -6,7 +6,7 @@ use Rattle.std.specs.Bool.{⊤}
 use Rattle.std.proofs.lemmas.Bool.Decides.{nat_tests}
 use Rattle.std.proofs.lemmas.Int.{ints}
 use Rattle.std.proofs.lemmas.List.Sums.{sum_by-append}
-use Rattle.std.proofs.lemmas.List.Elements.{All-nil, All-push, All-cons, All-head}
+use Rattle.std.proofs.lemmas.List.Elements.{All-nil, All-push, All-cons, All-head, All-tail}
 use Rattle.vg_script.specs.declared.kind.Kind.{Kind}
 use Rattle.vg_script.specs.declared.kind.Kind.TheVariants.{Word, Limit}
 use Rattle.vg_script.specs.declared.types.Line.{Line}
@@ -24,6 +24,7 @@ use Rattle.vg_script.specs.Grammar.{Form, display_form, memory_form, feature_for
 use Rattle.vg_script.specs.Faults.{fails, given, form_gives, seen_after, AreFaultless, has_fault}
 use Rattle.vg_script.specs.Limits.{IsBetween, IsPosition, ShapeInLimits, StepInLimits, ClientInLimits, DisplayInLimits, ScriptInLimits}
 use Rattle.vg_script.proofs.FaultLaws.{script_to}
+use Rattle.vg_script.proofs.ClientLists.{length-add_line, lines-add_line}
 
 -- ---- the rows
 abbrev RowFits : ℕ → Option Row → Type 0
@@ -207,7 +208,7 @@ record Within (seen : Seen) : Type 0 where
   sizes : All DisplayInLimits seen.displays
   pages : IfSome seen.pages (IsBetween 1 16384)
   features : (feature : Feature) → count_by (λ other. is_same other feature) seen.without ≤ 1
-  clients : length seen.clients ≤ 1
+  clients : length seen.clients ≤ 16
   lines : sum_by length seen.clients ≤ 100000
   calls : All (ClientInLimits (length seen.displays)) seen.clients
 
@@ -297,23 +298,29 @@ unfolding without_form
 without_fits seen w a = feature_fits seen w (feature_of a)
 
 -- One client more, or one line more.
-begun_within : (n : ℕ) (clients : List (List Line)) → nat_lt (length clients) 1 ≡ true
-    → (length (clients ++ [] ∷ []) ≤ 1) × (sum_by length (clients ++ [] ∷ []) ≤ 100000) × All (ClientInLimits n) (clients ++ [] ∷ [])
-begun_within n [] h = (lit≤ tt, lit≤ tt, All-cons (ClientInLimits n) [] [] (All-nil (λ line. StepInLimits n line.step)) (All-nil (ClientInLimits n)))
-begun_within n (client ∷ more) h = absurd (grind (arith, nat_tests))
+begun_within : (n : ℕ) (clients : List (List Line)) → nat_lt (length clients) 16 ≡ true → sum_by length clients ≤ 100000 → All (ClientInLimits n) clients
+    → (length (clients ++ [] ∷ []) ≤ 16) × (sum_by length (clients ++ [] ∷ []) ≤ 100000) × All (ClientInLimits n) (clients ++ [] ∷ [])
+begun_within n clients few lines calls =
+    let less : length clients < 16 = grind (arith, nat_tests) in
+    (omega (arith, less, length-append clients ([] ∷ [])), omega (arith, lines, sum_by-append length clients ([] ∷ [])), All-push (ClientInLimits n) clients [] calls (All-nil (λ line. StepInLimits n line.step)))
 
-added_within : (n : ℕ) (clients : List (List Line)) (line : Line) → length clients ≤ 1 → nat_lt (sum_by length clients) 100000 ≡ true → All (ClientInLimits n) clients → StepInLimits n line.step
-    → (length (add_line clients line) ≤ 1) × (sum_by length (add_line clients line) ≤ 100000) × All (ClientInLimits n) (add_line clients line)
-added_within n [] line few room calls fits = (lit≤ tt, lit≤ tt, calls)
-added_within n (client ∷ []) line few room calls fits =
-    let left : sum_by length (client ∷ []) < 100000 = grind (arith, nat_tests) in
-    (lit≤ tt, omega (arith, left, length-append client (line ∷ [])), All-cons (ClientInLimits n) (client ++ line ∷ []) [] (All-push (λ l. StepInLimits n l.step) client line (All-head (ClientInLimits n) client [] calls) fits) (All-nil (ClientInLimits n)))
-added_within n (client ∷ next ∷ more) line few room calls fits = absurd (omega arith)
+All-add_line : (n : ℕ) (clients : List (List Line)) (line : Line) → StepInLimits n line.step → All (ClientInLimits n) clients → All (ClientInLimits n) (add_line clients line)
+All-add_line n [] line fits calls = calls
+All-add_line n (client ∷ []) line fits calls =
+    All-cons (ClientInLimits n) (client ++ line ∷ []) [] (All-push (λ l. StepInLimits n l.step) client line (All-head (ClientInLimits n) client [] calls) fits) (All-nil (ClientInLimits n))
+All-add_line n (client ∷ next ∷ more) line fits calls =
+    All-cons (ClientInLimits n) client _ (All-head (ClientInLimits n) client (next ∷ more) calls) (All-add_line n (next ∷ more) line fits (All-tail (ClientInLimits n) client (next ∷ more) calls))
+
+added_within : (n : ℕ) (clients : List (List Line)) (line : Line) → length clients ≤ 16 → nat_lt (sum_by length clients) 100000 ≡ true → All (ClientInLimits n) clients → StepInLimits n line.step
+    → (length (add_line clients line) ≤ 16) × (sum_by length (add_line clients line) ≤ 100000) × All (ClientInLimits n) (add_line clients line)
+added_within n clients line few room calls fits =
+    let left : sum_by length clients < 100000 = grind (arith, nat_tests) in
+    (omega (arith, few, length-add_line clients line), omega (arith, left, lines-add_line clients line), All-add_line n clients line fits calls)
 
 client_fits : (seen : Seen) → Within seen → FormFits (client_form seen)
 unfolding client_form
 client_fits seen w = λ place limits.
-    let b = begun_within (length seen.displays) seen.clients limits in
+    let b = begun_within (length seen.displays) seen.clients limits w.lines w.calls in
     record { few = w.few; sizes = w.sizes; pages = w.pages; features = w.features; clients = b.0; lines = b.1; calls = b.2 }
 
 row_form_fits : (seen : Seen) → Within seen → (row : Option Row) → RowFits (length seen.displays) row → FormFits (option_map (step_form seen) row)
@@ -381,9 +388,8 @@ script_within bytes script h =
     let s = script_to bytes script h in
     subst ScriptInLimits (sym s.same) (made_within (seen_after nothing_seen (lines_of bytes)) (lines_within nothing_seen (lines_of bytes) nothing_within s.before) s.some)
 
-pub answer_within : {E : Type 0} (bytes : List ℕ) (last : Seen) (answer : Result (Result Script ScriptFault) E) → scan nothing_seen (lines_of bytes) ≡ scan last []
-    → IfOk answer (λ r. r ≡ scan last []) → IfOk answer (λ r. IfOk r (λ script. ScriptInLimits script))
+pub answer_within : (bytes : List ℕ) (last : Seen) (answer : Result Script ScriptFault) → scan nothing_seen (lines_of bytes) ≡ scan last []
+    → answer ≡ scan last [] → IfOk answer (λ script. ScriptInLimits script)
 unfolding read_script
-answer_within bytes last (Err e) same h = tt
-answer_within bytes last (Ok (Err fault)) same h = tt
-answer_within bytes last (Ok (Ok script)) same h = script_within bytes script (same ∙ sym h)
+answer_within bytes last (Err fault) same h = tt
+answer_within bytes last (Ok script) same h = script_within bytes script (same ∙ sym h)

@@ -62,7 +62,7 @@ unfoldable pub client_form : Seen → Option Form
 client_form seen = Some (record {
   place = not (length seen.displays == 0);
   numbers = true;
-  limits = nat_lt (length seen.clients) 1;
+  limits = nat_lt (length seen.clients) 16;
   names = true;
   gives = record seen { clients = seen.clients ++ [] ∷ []; table = no_names };
 })

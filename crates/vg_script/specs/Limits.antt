@@ -61,6 +61,6 @@ pub record ScriptInLimits (script : Script) : Type 0 where
   pub sizes : All DisplayInLimits script.displays
   pub pages : IsBetween 1 16384 script.pages
   pub features : (feature : Feature) → count_by (λ other. is_same other feature) script.without ≤ 1
-  pub clients : length script.clients ≤ 1
+  pub clients : length script.clients ≤ 16
   pub lines : sum_by length script.clients ≤ 100000
   pub calls : All (ClientInLimits (length script.displays)) script.clients

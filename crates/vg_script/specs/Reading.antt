@@ -1,23 +1,17 @@
 -- How the reader's fields stand for what has been seen.
-use Rattle.std.specs.Prelude.{◌≡◌, List, [], ◌∷◌, Option, Some, None, Result, Ok, Err, Vec}
+use Rattle.std.specs.Prelude.{◌≡◌, Result, Ok, Err}
 use Rattle.std.specs.Bool.{⊤}
 use Rattle.vg_script.specs.declared.kind.Kind.{Kind}
 use Rattle.vg_script.specs.declared.kind.Kind.TheVariants.{Text, Word, Number, Limit, Name}
 use Rattle.vg_script.specs.declared.kind.Stop.{Stop}
 use Rattle.vg_script.specs.declared.kind.Stop.TheVariants.{Memory, Fault}
 use Rattle.vg_script.specs.declared.reader.Reader.{Reader}
-use Rattle.vg_script.specs.declared.types.Line.{Line}
 use Rattle.vg_script.specs.declared.types.Step.{Step}
 use Rattle.vg_script.specs.Seen.{Seen}
 use Rattle.vg_script.specs.Code.{table_of}
 
--- The lines of the client, if it has begun.
-abbrev pub clients_of : {A : Type 0} → Option (Vec Line A) → List (List Line)
-clients_of None = []
-clients_of (Some lines) = lines.items ∷ []
-
 abbrev pub seen : Reader → Seen
-seen reader = record { lines = reader.lines; displays = reader.displays.items; pages = reader.pages; without = reader.without.items; clients = clients_of reader.client; table = table_of reader.names }
+seen reader = record { lines = reader.lines; displays = reader.displays.items; pages = reader.pages; without = reader.without.items; clients = reader.clients.items; table = table_of reader.names }
 
 -- A line was read, where memory may be wanting: what has been seen after it, or the kind of the fault.
 abbrev pub Goes : Seen → Result (Unit {0}) Stop → Result Seen Kind → Type 0

@@ -35,8 +35,8 @@ pub fn script_limits()
     ensures { (bytes : List ℕ) (script : Script) → Parses bytes script → ScriptInLimits script }
 {}
 
-/// After lines without a fault a name is that of a buffer exactly where some line is `buffer` and this name, and no line
-/// behind it is `close` and this name.
+/// After lines without a fault a name is that of a buffer of the last client exactly where some line is `buffer` and
+/// this name, and no line behind it is `close` and this name or begins another client.
 pub fn defined_names()
     ensures { (lines : List (List ℕ)) (name : List ℕ) → AreFaultless nothing_seen lines
         → (((seen_after nothing_seen lines).table name ≡ Some kinds.Buffer) ↔ IsDefinedBy lines name) }

@@ -1,18 +1,22 @@
 //! A text's lines, read one after the other.
 
-ghost use Rattle.std.specs.Prelude.{◌≤◌, length};
+ghost use Rattle.std.specs.Prelude.{◌≡◌, ◌≤◌, length, sum_by};
 
 use crate::args::with_args;
-use crate::calls::{add_step, clients_of};
+use crate::calls::{add_line, past_limit};
 use crate::features::{feature_of, is_among};
 use crate::kind::{Kind, Stop};
 use crate::names::{Names, forget};
 use crate::rows::spelled;
+use crate::steps::step_of;
 use crate::types::{Feature, Line, Script, ScriptFault};
 use crate::words::{is_text, limited, put_words};
 use std::alloc::{AllocError, Global};
 use std::collections::BTreeMap;
 use vg_list::Seq;
+
+/// How many lines all clients may have.
+const MOST_LINES: usize = 100_000;
 
 /// What the lines so far have given.
 #[derive(Drop)]
@@ -21,9 +25,13 @@ pub(crate) struct Reader<'a> {
     displays: Vec<(u32, u32)>,
     pages: Option<u32>,
     without: Vec<Feature>,
-    client: Option<Vec<Line>>,
+    clients: Vec<Seq<Line>>,
+    /// How many lines all clients have.
+    count: usize,
+    /// The names of the last client.
     names: Names<'a>,
     ghost few: { length displays.items ≤ 16 },
+    ghost counted: { count ≡ sum_by length clients.items },
 }
 
 impl<'a> Reader<'a> {
@@ -40,7 +48,8 @@ impl<'a> Reader<'a> {
             displays: Vec::new(alloc),
             pages: None,
             without: Vec::new(alloc),
-            client: None,
+            clients: Vec::new(alloc),
+            count: 0,
             names: BTreeMap::new(alloc),
         }
     }
@@ -110,7 +119,7 @@ impl<'a> Reader<'a> {
         ensures { Goes (seen self.new) result
             (settled_form (display_form (seen self.old) width.now height.now)) }
     {
-        if self.pages.is_some() || !self.without.is_empty() || self.client.is_some() {
+        if self.pages.is_some() || !self.without.is_empty() || !self.clients.is_empty() {
             return Err(Stop::Fault(Kind::Word));
         }
         spelled(width)?;
@@ -134,7 +143,7 @@ impl<'a> Reader<'a> {
         if self.displays.is_empty()
             || self.pages.is_some()
             || !self.without.is_empty()
-            || self.client.is_some()
+            || !self.clients.is_empty()
         {
             return Err(Stop::Fault(Kind::Word));
         }
@@ -156,7 +165,7 @@ impl<'a> Reader<'a> {
     fn leave_out(&mut self, feature: Feature) -> Result<(), Stop>
         ensures { Goes (seen self.new) result (settled (feature_form (seen self.old) feature)) }
     {
-        if self.displays.is_empty() || self.client.is_some() {
+        if self.displays.is_empty() || !self.clients.is_empty() {
             return Err(Stop::Fault(Kind::Word));
         }
         if is_among(self.without.as_slice(), feature) {
@@ -174,10 +183,12 @@ impl<'a> Reader<'a> {
         if self.displays.is_empty() {
             return Err(Stop::Fault(Kind::Word));
         }
-        if self.client.is_some() {
+        if self.clients.len() >= 16 {
             return Err(Stop::Fault(Kind::Limit));
         }
-        self.client = Some(Vec::new(alloc));
+        self.clients
+            .push(Seq::from_vec(Vec::new(alloc)))
+            .map_err(AllocError::from)?;
         forget(&mut self.names);
         Ok(())
     }
@@ -186,39 +197,51 @@ impl<'a> Reader<'a> {
         ensures { Goes (seen self.new) result
             (settled_form (called_form (seen self.old) word.now (map (λ arg. arg.now) args.now))) }
     {
-        let displays = self.displays.len();
-        let number = self.lines;
-        if let Some(lines) = &mut self.client {
-            return add_step(alloc, lines, &mut self.names, displays, number, word, args);
+        if self.clients.is_empty() {
+            return Err(Stop::Fault(Kind::Word));
         }
-        Err(Stop::Fault(Kind::Word))
+        let displays = self.displays.len();
+        let read = step_of(alloc, &mut self.names, displays, word, args);
+        if self.count >= MOST_LINES {
+            return Err(past_limit(read));
+        }
+        match read {
+            Ok(step) => {
+                let number = self.lines;
+                add_line(&mut self.clients, Line { number, step })?;
+                self.count += 1;
+                Ok(())
+            }
+            Err(stop) => Err(stop),
+        }
     }
 
     /// The script of the lines, if there was a display.
     #[tactic(auto, unfolding(crate::specs::Grammar::scan))]
-    pub(crate) fn finish(self, alloc: Global) -> Result<Result<Script, ScriptFault>, AllocError>
+    pub(crate) fn finish(self) -> Result<Script, ScriptFault>
         requires { (seen self).lines < 2 ^ 32 - 1 }
-        ensures { IfOk result (λ r. r ≡ scan (seen self.entry) []) }
+        ensures { result ≡ scan (seen self.entry) [] }
     {
         let Reader {
             lines,
             displays,
             pages,
             without,
-            client,
+            clients,
+            count: _,
             names: _,
         } = self;
         if displays.is_empty() {
-            return Ok(Err(ScriptFault {
+            return Err(ScriptFault {
                 line: lines + 1,
                 kind: Kind::Word.code(),
-            }));
+            });
         }
-        Ok(Ok(Script {
+        Ok(Script {
             displays: Seq::from_vec(displays),
             pages: pages.unwrap_or(4_096),
             without: Seq::from_vec(without),
-            clients: clients_of(alloc, client)?,
-        }))
+            clients: Seq::from_vec(clients),
+        })
     }
 }

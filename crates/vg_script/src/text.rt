@@ -27,7 +27,7 @@ pub fn parse(alloc: Global, bytes: &[u8]) -> Result<Result<Script, ScriptFault>,
         → r ≡ Err (record { line = line; kind = kind })) }
 {
     match read_lines(alloc, bytes)? {
-        Ok(reader) => reader.finish(alloc),
+        Ok(reader) => Ok(reader.finish()),
         Err(fault) => Ok(Err(fault)),
     }
 }
