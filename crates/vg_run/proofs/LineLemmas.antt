@@ -1,169 +1,130 @@
 -- What the lines of a client give, one line after another.
-use Rattle.std.proofs.Common.{◌≡◌, ◌+◌, ◌*◌, ◌≤◌, ◌∙◌, sym, ap, refl, subst, arith, ℕ, false, List, [], ◌∷◌, ◌++◌, length, length-append, map, drop, append_assoc, append-nil, Option, Some, None}
-use Rattle.std.specs.List.{range_with_len, AllByRecursion}
+use Rattle.std.proofs.Common.{◌≡◌, ◌⊎◌, inl, inr, ◌+◌, ◌*◌, ◌≤◌, ◌<◌, ◌^◌, ◌∙◌, sym, ap, refl, subst, arith, ℕ, true, false, List, [], ◌∷◌, ◌++◌, length, length-append, drop, append_assoc, append-nil, Option, Some, None, Result, Ok, Err}
+use Rattle.std.specs.Prelude.{OnErr, OnOk}
 use Rattle.std.proofs.lemmas.List.{drop_all}
 use Rattle.vg_machine.specs.declared.setup.Setup.{Setup}
 use Rattle.vg_machine.specs.declared.act.Act.TheVariants.{Enter, Leave}
 use Rattle.vg_machine.specs.declared.act.ActReply.TheVariants as act_replies
 use Rattle.vg_machine.specs.Entries.{Entry}
 use Rattle.vg_history.specs.declared.entry.Entry.TheVariants as entries
-use Rattle.vg_scanout.specs.declared.scanout.Frame.{Frame}
-use Rattle.vg_machine.specs.Order.{AreAllowed, AreInOrder, Sound, by_call, call_of, client_of, of_client}
 use Rattle.vg_machine.specs.State.{State, start}
 use Rattle.vg_script.specs.declared.types.Line.{Line}
-use Rattle.vg_run.specs.declared.client.Client.{Client}
-use Rattle.vg_run.specs.Calls.{AreInPlace, Follows, Gives, GivesAll, GivesCalls, Plays, call_of_step, newest, no_refs, refs_after}
-use Rattle.vg_run.specs.declared.task.Task.{Task}
-use Rattle.vg_run.specs.Client.{HasAdded, HasGoneOn, IsReady, known}
-use Rattle.vg_run.specs.Known.{Known, first_known}
-use Rattle.vg_run.specs.Run.{IsOwned}
-use Rattle.vg_run.specs.Session.{Course, IsAccount, IsReplayed, Token, mine_of}
-use Rattle.vg_run.specs.Tasks.{end_tasks}
-use Rattle.vg_run.proofs.OrderLemmas.{in_place-numbered, numbered-length, numbered-sorted, of_client-all}
+use Rattle.vg_driver.specs.Tickets.{Token}
+use Rattle.vg_client.specs.declared.caller.Caller.{Caller}
+use Rattle.vg_client.specs.Accounts.{IsAccount, IsNew, mine_of}
+use Rattle.vg_client.specs.Callers.{ClientState, HasAdded, HasEnded, HasEntered, HasGoneOn, known}
+use Rattle.vg_client.specs.Calls.{Gives, Plays, newest}
+use Rattle.vg_client.specs.Known.{Known, first_known}
+use Rattle.vg_client.specs.Own.{IsOwn}
+use Rattle.vg_client.specs.Tasks.{end_tasks}
+use Rattle.vg_run.specs.Follows.{GivesAll, GivesCalls, call_of_step, no_refs, refs_after}
+use Rattle.vg_run.specs.Kept.{Kept}
+use Rattle.vg_run.specs.Performing.{GivesRest, HasKept, HasPerformed, IsFollowing}
 
--- the entries so far, and those of the lines that are left, are those of all lines
-abbrev pub GivesRest : Setup → ℕ → List Line → List Line → (List ℕ → ℕ) → Known → List Entry → Type 0
-GivesRest setup client lines left refs known mine = (middle : List Entry) × (mine ≡ entries.Act client 1 Enter act_replies.Ok ∷ middle)
-    × ((rest : List Entry) (after : Known) → GivesAll client refs known left rest after → GivesAll client no_refs (first_known setup client) lines (middle ++ rest) after)
-
--- how far the one client has come with its lines
-pub record IsFollowing {B : Type 0} (setup : Setup) (old : Course) (lines : List Line) (i : ℕ) (now : Course) (client : Client B) (refs : List ℕ → ℕ) : Type 0 where
-  pub start : now.start ≡ old.start
-  pub clients : now.clients ≡ 1
-  pub number : client.token.account.number ≡ 1
-  pub displays : client.token.account.holds.displays ≡ length setup.displays
-  pub few : length (mine_of client.token) ≤ 1 + 19 * i
-  pub ready : IsReady now client
-  pub gives : GivesRest setup 1 lines (drop i lines) refs (known client) (mine_of client.token)
-
-pub following-first : {B : Type 0} (setup : Setup) (old now : Course) (lines : List Line) (client : Client B) (refs : List ℕ → ℕ) → now.start ≡ old.start → now.clients ≡ 1 → client.token.account.number ≡ 1
-    → mine_of client.token ≡ entries.Act 1 1 Enter act_replies.Ok ∷ [] → known client ≡ first_known setup 1 → IsReady now client → refs ≡ no_refs → IsFollowing setup old lines 0 now client refs
-following-first setup old now lines client refs start clients number mine first ready none =
-    let Refs : (List ℕ → ℕ) → List Entry → Known → Known → Type 0 = λ r rest after k. GivesAll 1 r k lines rest after in
-    let one : length (mine_of client.token) ≡ 1 = ap (λ (xs : List Entry). length xs) mine in
+pub following-first : {B : Type 0} (setup : Setup) (lines : List Line) (token : Token) (client : ClientState B) → IsNew setup token → HasEntered token client.caller → client.stopped ≡ false → IsFollowing setup lines 0 client no_refs
+following-first setup lines token client new entered goes_on =
+    let number : client.caller.token.account.number ≡ token.account.number = entered.number in
+    let first : known client.caller ≡ first_known setup client.caller.token.account.number = entered.known_is setup new ∙ ap (first_known setup) (sym number) in
+    let mine : mine_of client.caller.token ≡ entries.Act client.caller.token.account.number 1 Enter act_replies.Ok ∷ [] =
+    entered.mine ∙ ap (λ (n : ℕ). entries.Act n 1 Enter act_replies.Ok ∷ []) (sym number) in
+    let Rest : List Entry → Known → Known → Type 0 = λ rest after k. GivesAll client.caller.token.account.number no_refs k lines rest after in
+    let one : length (mine_of client.caller.token) ≡ 1 = ap (λ (xs : List Entry). length xs) mine in
     record {
-      start = start;
-      clients = clients;
-      number = number;
+      begun = entered.start ∙ new.begun;
       displays = ap (λ (k : Known). k.holds.displays) first;
       few = omega (arith, one);
-      ready = ready;
-      gives = (
-        [],
-        mine,
-        λ rest after gives.
-            subst (λ (r : List ℕ → ℕ). Refs r rest after (first_known setup 1)) none (subst (λ (k : Known). Refs refs rest after k) first gives),
-      );
+      goes_on = goes_on;
+      ready = entered.ready;
+      gives = ([], mine, λ rest after gives. subst (Rest rest after) first gives);
     }
 
-pub following-more : {B : Type 0} (setup : Setup) (old now new : Course) (lines : List Line) (i : ℕ) (client client' : Client B) (refs refs' : List ℕ → ℕ) (line : Line) (mine : List Entry)
-    → IsFollowing setup old lines i now client refs → drop i lines ≡ line ∷ drop (i + 1) lines
-    → Gives client.token.account.number (known client) (call_of_step refs line.step) mine (known client') → HasGoneOn now client mine new client' → length mine ≤ 19
-    → refs' ≡ refs_after line.step (newest (known client) (known client')) refs
-    → IsFollowing setup old lines (i + 1) new client' refs'
-following-more setup old now new lines i client client' refs refs' line mine following here gives on few learns =
+pub following-more : {B : Type 0} (setup : Setup) (lines : List Line) (i : ℕ) (client client' : ClientState B) (refs refs' : List ℕ → ℕ) (line : Line) (mine : List Entry)
+    → IsFollowing setup lines i client refs → drop i lines ≡ line ∷ drop (i + 1) lines
+    → Gives client.caller.token.account.number (known client.caller) (call_of_step refs line.step) mine (known client'.caller) → HasGoneOn client.caller mine client'.caller → length mine ≤ 19 → client'.stopped ≡ false
+    → refs' ≡ refs_after line.step (newest (known client.caller) (known client'.caller)) refs
+    → IsFollowing setup lines (i + 1) client' refs'
+following-more setup lines i client client' refs refs' line mine following here gives on few goes_on learns =
     let before = following.gives in
-    let Owner : ℕ → Type 0 = λ m. Gives m (known client) (call_of_step refs line.step) mine (known client') in
-    let one : Gives 1 (known client) (call_of_step refs line.step) mine (known client') = subst Owner following.number gives in
-    let Lines : List Entry → Known → List Line → Type 0 = λ xs after ls. GivesAll 1 refs (known client) ls xs after in
-    let Refs : List Entry → Known → (List ℕ → ℕ) → Type 0 = λ xs after r. GivesAll 1 r (known client') (drop (i + 1) lines) xs after in
-    let All : Known → List Entry → Type 0 = λ after xs. GivesAll 1 no_refs (first_known setup 1) lines xs after in
+    let n : ℕ = client.caller.token.account.number in
+    let same : client'.caller.token.account.number ≡ n = on.added.number in
+    let Lines : List Entry → Known → List Line → Type 0 = λ xs after ls. GivesAll n refs (known client.caller) ls xs after in
+    let Refs : List Entry → Known → (List ℕ → ℕ) → Type 0 = λ xs after r. GivesAll n r (known client'.caller) (drop (i + 1) lines) xs after in
+    let All : Known → List Entry → Type 0 = λ after xs. GivesAll n no_refs (first_known setup n) lines xs after in
     let regroup : (rest : List Entry) → (before.0 ++ mine) ++ rest ≡ before.0 ++ (mine ++ rest) = λ rest. simp append_assoc in
-    let longer : length (mine_of client'.token) ≡ length (mine_of client.token) + length mine = ap (λ (xs : List Entry). length xs) on.added.own ∙ length-append (mine_of client.token) mine in
+    let longer : length (mine_of client'.caller.token) ≡ length (mine_of client.caller.token) + length mine = ap (λ (xs : List Entry). length xs) on.added.own ∙ length-append (mine_of client.caller.token) mine in
+    let Rests : ℕ → Type 0 = λ k. GivesRest setup k lines (drop (i + 1) lines) refs' (known client'.caller) (mine_of client'.caller.token) in
+    let rests : Rests n = (
+      before.0 ++ mine,
+      on.added.own ∙ ap (λ (xs : List Entry). xs ++ mine) before.1,
+      λ rest after left.
+          let with_line = subst (Lines (mine ++ rest) after) (sym here) (mine, rest, known client'.caller, refl, gives, subst (Refs rest after) learns left) in
+          subst (All after) (sym (regroup rest)) (before.2 (mine ++ rest) after with_line),
+    ) in
     record {
-      start = on.added.start ∙ following.start;
-      clients = on.added.clients ∙ following.clients;
-      number = on.added.number ∙ following.number;
+      begun = on.added.start ∙ following.begun;
       displays = on.displays ∙ following.displays;
       few = omega (arith, few, longer, following.few);
+      goes_on = goes_on;
       ready = on.ready;
-      gives = (
-        before.0 ++ mine,
-        on.added.own ∙ ap (λ (xs : List Entry). xs ++ mine) before.1,
-        λ rest after left.
-            let with_line = subst (Lines (mine ++ rest) after) (sym here) (mine, rest, known client', refl, one, subst (Refs rest after) learns left) in
-            subst (All after) (sym (regroup rest)) (before.2 (mine ++ rest) after with_line),
-      );
+      gives = subst Rests (sym same) rests;
     }
-
--- once no line is left, and the client has ended, its entries are whole, and they are the history
-pub following-end : {B : Type 0} (setup : Setup) (old now new : Course) (lines : List Line) (i : ℕ) (client : Client B) (token : Token) (refs : List ℕ → ℕ) (last : ℕ) (after : Known) (ending H : List Entry)
-    → IsFollowing setup old lines i now client refs → length lines ≤ i → token.account.number ≡ client.token.account.number → IsAccount new token
-    → Plays client.token.account.number false (known client) (end_tasks (known client)) ending after []
-    → mine_of token ≡ mine_of client.token ++ (ending ++ entries.Act client.token.account.number last Leave act_replies.Ok ∷ [])
-    → H ≡ mine_of token → Follows setup lines H 1
-following-end setup old now new lines i client token refs last after ending H following done same is plays mine history =
-    let before = following.gives in
-    let number : token.account.number ≡ 1 = same ∙ following.number in
-    let None : List Line → Type 0 = λ ls. GivesAll 1 refs (known client) ls [] (known client) in
-    let none : GivesAll 1 refs (known client) (drop i lines) [] (known client) = subst None (sym (drop_all i lines done)) (refl, refl) in
-    let All : List Entry → Type 0 = λ xs. GivesAll 1 no_refs (first_known setup 1) lines xs (known client) in
-    let Owner : ℕ → Type 0 = λ m. Plays m false (known client) (end_tasks (known client)) ending after [] in
-    let tail : List Entry = ending ++ entries.Act 1 last Leave act_replies.Ok ∷ [] in
-    let whole : mine_of token ≡ entries.Act 1 1 Enter act_replies.Ok ∷ (before.0 ++ tail) =
-    mine ∙ ap (λ (m : ℕ). mine_of client.token ++ (ending ++ entries.Act m last Leave act_replies.Ok ∷ [])) following.number ∙ ap (λ (xs : List Entry). xs ++ tail) before.1 in
-    let own : mine_of token ≡ of_client 1 H =
-    sym (of_client-all token.account.number (mine_of token) is.own) ∙ ap (λ (m : ℕ). of_client m (mine_of token)) number ∙ ap (of_client 1) (sym history) in
-    let sorted : by_call (of_client 1 H) ≡ mine_of token = ap by_call (sym own) ∙ numbered-sorted (mine_of token) token.account.used is.numbers in
-    let long : token.account.used ≡ length (of_client 1 H) = sym (numbered-length (mine_of token) token.account.used is.numbers) ∙ ap (λ (xs : List Entry). length xs) own in
-    let calls : GivesCalls setup 1 lines (mine_of token) = record {
-      first = 1;
-      last = last;
-      middle = before.0;
-      ending = ending;
-      known = known client;
-      at_end = after;
-      whole = whole;
-      lines_give = subst All (append-nil before.0) (before.2 [] (known client) none);
-      end_gives = subst Owner following.number plays;
-    } in
-    let Calls : List Entry → Type 0 = λ xs. GivesCalls setup 1 lines xs in
-    record {
-      numbers = ap (map call_of) sorted ∙ is.numbers ∙ ap (range_with_len 1) long;
-      calls = subst Calls (sym sorted) calls;
-      in_place = subst AreInPlace own (in_place-numbered (mine_of token) 1 token.account.used is.numbers);
-    }
-
--- the end of a client: what it gives up, and its leave
-pub ended-by : {B : Type 0} (old now : Course) (client client' : Client B) (tasks : List Task) (ending : List Entry) (token : Token) → tasks ≡ end_tasks (known client) → Plays client.token.account.number false (known client) tasks ending (known client') []
-    → HasAdded old client ending now client' → mine_of token ≡ mine_of client'.token ++ entries.Act client'.token.account.number (client'.token.account.used + 1) Leave act_replies.Ok ∷ []
-    → (ending : List Entry) × (after : Known) × (last : ℕ) × Plays client.token.account.number false (known client) (end_tasks (known client)) ending after []
-    × (mine_of token ≡ mine_of client.token ++ (ending ++ entries.Act client.token.account.number last Leave act_replies.Ok ∷ []))
-ended-by old now client client' tasks ending token are plays added left =
-    let P : List Task → Type 0 = λ ts. Plays client.token.account.number false (known client) ts ending (known client') [] in
-    let last : ℕ = client'.token.account.used + 1 in (
-      ending,
-      known client',
-      last,
-      subst P are plays,
-      left ∙ ap (λ (n : ℕ). mine_of client'.token ++ entries.Act n last Leave act_replies.Ok ∷ []) added.number
-          ∙ ap (λ (xs : List Entry). xs ++ entries.Act client.token.account.number last Leave act_replies.Ok ∷ []) added.own
-          ∙ append_assoc (mine_of client.token) ending _,
-    )
 
 abbrev setup_in : Option State → Setup → Setup
 setup_in (Some state) setup = state.setup
 setup_in None setup = setup
 
--- the history of the one client is sound, for its setup
-pub sound-alone : (setup : Setup) (course : Course) (token : Token) (H : List Entry) (frames : List Frame) → IsAccount course token → course.start ≡ Some (start setup) → H ≡ mine_of token → IsReplayed course.start H frames → Sound setup H
-sound-alone setup course token H frames is begun history again =
-    let same : is.setup ≡ setup = ap (λ (first : Option State). setup_in first setup) (sym is.begun ∙ begun) in
-    let Order : List Entry → Type 0 = λ xs. AreInOrder [] xs in
-    let Allowed : List Entry → Type 0 = λ xs. AreAllowed setup [] xs in
-    let allowed : AreAllowed setup [] (mine_of token) = subst (λ (s : Setup). AreAllowed s [] (mine_of token)) same is.allowed in
+-- once no line is left, and the client has ended, it has kept to its lines
+pub performed : {B : Type 0} (setup : Setup) (lines : List Line) (i : ℕ) (client : ClientState B) (token : Token) (refs : List ℕ → ℕ)
+    → IsFollowing setup lines i client refs → length lines ≤ i → token.account.number ≡ client.caller.token.account.number → token.start ≡ client.caller.token.start → HasEnded client.caller token → HasPerformed setup lines token
+performed setup lines i client token refs following done number start_is ended =
+    let before = following.gives in
+    let n : ℕ = client.caller.token.account.number in
+    let is : IsAccount token = ended.account_is in
+    let same : is.setup ≡ setup = ap (λ (first : Option State). setup_in first setup) (sym is.begun ∙ start_is ∙ following.begun) in
+    let Left : List Line → Type 0 = λ ls. GivesAll n refs (known client.caller) ls [] (known client.caller) in
+    let none : Left (drop i lines) = subst Left (sym (drop_all i lines done)) (refl, refl) in
+    let All : List Entry → Type 0 = λ xs. GivesAll n no_refs (first_known setup n) lines xs (known client.caller) in
+    let tail : List Entry = ended.ending ++ entries.Act n ended.last Leave act_replies.Ok ∷ [] in
+    let calls : GivesCalls setup n lines (mine_of token) = record {
+      first = 1;
+      last = ended.last;
+      middle = before.0;
+      ending = ended.ending;
+      known = known client.caller;
+      at_end = ended.after;
+      whole = ended.own ∙ ap (λ (xs : List Entry). xs ++ tail) before.1;
+      lines_give = subst All (append-nil before.0) (before.2 [] (known client.caller) none);
+      end_gives = ended.plays;
+    } in
+    let Calls : ℕ → Type 0 = λ k. GivesCalls setup k lines (mine_of token) in
+    let Own : Setup → Type 0 = λ s. IsOwn s token.account.number (mine_of token) in
     record {
-      agrees = again.agrees setup begun;
-      order = subst Order (sym history) is.order;
-      allowed = subst Allowed (sym history) allowed;
+      in_step = is.in_step;
+      kept = record { own = subst Own same is.own; calls = subst Calls (sym number) calls };
     }
 
--- and all its entries are that client's
-pub owned-alone : (course : Course) (token : Token) (H : List Entry) → IsAccount course token → token.account.number ≡ 1 → H ≡ mine_of token → AllByRecursion (IsOwned 1) H
-owned-alone course token H is number history =
-    let P : List Entry → Type 0 = λ xs. AllByRecursion (IsOwned 1) xs in
-    subst P (sym history) (each (mine_of token) is.own)
+-- what is left of a client after a line that it couldn't make, and behind those before it
+pub kept-added : {B : Type 0} (old new : ClientState B) (mine : List Entry) → HasAdded old.caller mine new.caller → (new.stopped ≡ true) ⊎ (length mine ≤ 19) → HasKept old new
+kept-added old new mine added (inl stopped) = record { number = added.number; few = inl stopped }
+kept-added old new mine added (inr few) =
+    let longer : length (mine_of new.caller.token) ≡ length (mine_of old.caller.token) + length mine = ap (λ (xs : List Entry). length xs) added.own ∙ length-append (mine_of old.caller.token) mine in
+    record { number = added.number; few = inr (omega (arith, few, longer)) }
+
+pub kept-same : {B : Type 0} (old : ClientState B) → HasKept old old
+kept-same old = record { number = refl; few = inr (omega arith) }
+
+-- few entries, where the client hasn't stopped
+pub few-left : {B : Type 0} (old new : ClientState B) → HasKept old new → length (mine_of old.caller.token) ≤ 1 + 19 * 100000 → (new.stopped ≡ true) ⊎ (length (mine_of new.caller.token) < 2 ^ 24)
+few-left old new kept few = by_case kept.few
   where
-    each : (xs : List Entry) → AllByRecursion (λ e. client_of e ≡ token.account.number) xs → AllByRecursion (IsOwned 1) xs
-    each [] own = tt
-    each (entry ∷ more) own = let owner = own.0 in ((omega (arith, owner, number), omega (arith, owner, number)), each more own.1)
+    by_case : (new.stopped ≡ true) ⊎ (length (mine_of new.caller.token) ≤ length (mine_of old.caller.token) + 19) → (new.stopped ≡ true) ⊎ (length (mine_of new.caller.token) < 2 ^ 24)
+    by_case (inl stopped) = inl stopped
+    by_case (inr more) = inr (omega (arith, more, few))
+
+pub on_err : {T E : Type 0} {P : Type 0} (r : Result T E) → P → OnErr r P
+on_err (Ok x) p = tt
+on_err (Err e) p = p
+
+-- what is told of a result that is Ok
+pub ok-told : {T E : Type 0} {P : Type 0} (r : Result T E) (x : T) → r ≡ Ok x → OnOk r P → P
+ok-told {T = T} {E = E} {P = P} r x is told = let Told : Result T E → Type 0 = λ y. OnOk y P in subst Told is told

@@ -1,4 +1,4 @@
-use Rattle.std.specs.Prelude.{◌≡◌, ◌≤◌, ℕ, length, List, [], ◌∷◌, codes, Option, IfSome}
+use Rattle.std.specs.Prelude.{◌≡◌, ◌≤◌, ◌⊎◌, ◌+◌, ℕ, length, List, [], ◌∷◌, codes, Option, IfSome}
 use Rattle.vg_io.specs.Streams.{IsAtEnd, Takes, TakesPart, TakesSome}
 use Rattle.vg_machine.specs.Entries.{Entry}
 use Rattle.vg_script.specs.declared.types.Script.{Script}
@@ -6,9 +6,9 @@ use Rattle.vg_script.specs.Grammar.{Parses}
 use Rattle.vg_run.specs.Legal.{Legal, journal_of}
 use Rattle.vg_run.specs.Text.{text_of}
 
--- The words after the program's name are the one word `run`.
+-- The words after the program's name are `run`, or `run --workers N` with N from 1 to 8.
 abbrev pub IsRun : List (List ℕ) → Type 0
-IsRun words = words ≡ codes "run" ∷ []
+IsRun words = (words ≡ codes "run" ∷ []) ⊎ ((n : ℕ) × (1 ≤ n) × (n ≤ 8) × (words ≡ codes "run" ∷ codes "--workers" ∷ ((48 + n) ∷ []) ∷ []))
 
 -- No more bytes than a script may have.
 abbrev pub IsWithin : List ℕ → Type 0

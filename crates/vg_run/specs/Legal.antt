@@ -12,7 +12,7 @@ use Rattle.vg_script.specs.declared.types.Step.{Step}
 use Rattle.vg_run.specs.declared.journal.Journal.{Journal}
 use Rattle.vg_machine.specs.declared.setup.Setup.{Setup}
 use Rattle.vg_run.specs.Setup.{setup_of}
-use Rattle.vg_run.specs.Calls.{Follows}
+use Rattle.vg_run.specs.Follows.{Follows}
 
 -- Whether a step leaves its command unfinished, for a later line to wait for. None does yet.
 abbrev pub is_left : Step → Bool

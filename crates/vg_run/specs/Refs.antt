@@ -1,18 +1,14 @@
-use Rattle.std.specs.Prelude.{ℕ, List, Option, Some, None, option_map}
+use Rattle.std.specs.Prelude.{ℕ, List, option_map}
 use Rattle.std.specs.BTreeMap.{BTreeMap, get_by}
 use Rattle.std.specs.Cmp.Lexicographic.{slice_cmp}
 use Rattle.std.specs.Ordering.{nat_cmp}
 use denote.Ref.{Bor}
 use Rattle.vg_script.specs.declared.types.Step.{Step}
 use Rattle.vg_script.specs.Limits.{StepInLimits}
-use Rattle.vg_run.specs.declared.call.Call.{Call}
-use Rattle.vg_run.specs.declared.call.Call.TheVariants as calls
-use Rattle.vg_run.specs.declared.names.NameRef.{NameRef}
-use Rattle.vg_run.specs.Client.{IsCallFit}
-
-abbrev pub generation_of : Option NameRef → ℕ
-generation_of (Some name) = name.generation
-generation_of None = 0
+use Rattle.vg_client.specs.declared.call.Call.{Call}
+use Rattle.vg_client.specs.declared.call.Call.TheVariants as calls
+use Rattle.vg_client.specs.declared.names.NameRef.{NameRef}
+use Rattle.vg_client.specs.Callers.{IsCallFit, generation_of}
 
 -- The generation of the name that each word was last given to.
 abbrev pub refs_of : BTreeMap (Bor (List ℕ)) NameRef → (List ℕ → ℕ)

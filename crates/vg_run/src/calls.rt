@@ -1,61 +1,60 @@
 //! The calls that lines of a script make.
 
-ghost use Rattle.std.specs.Prelude.{◌≡◌, ◌≤◌, ◌<◌, ◌+◌, ◌-◌, ◌^◌, List, length, option_map, IfOk, OnErr, OnOk};
+ghost use Rattle.std.specs.Prelude.{◌≡◌, ◌≤◌, ◌<◌, ◌+◌, ◌-◌, ◌^◌, false, List, length, option_map, IfOk, OnErr, OnOk};
 ghost use Rattle.vg_machine.specs.Entries.{Entry as Entries};
 ghost use Rattle.vg_script.specs.Limits.{StepInLimits};
 ghost use Rattle.vg_chain.specs.declared.shape.Shape.TheVariants as shapes;
-ghost use Rattle.vg_run.specs.Calls as calls;
-ghost use Rattle.vg_run.specs.Calls.{Begins, Gives, newest, refs_after};
-ghost use Rattle.vg_run.specs.Client.{HasAdded, HasGoneOn, IsReady, known};
-ghost use Rattle.vg_run.specs.Session.{mine_of};
-ghost use Rattle.vg_run.specs.Refs.{IsFitWith, generation_of, refs_of, unplaced, without_place};
+ghost use Rattle.vg_run.specs.Follows as calls;
+ghost use Rattle.vg_run.specs.Follows.{refs_after};
+ghost use Rattle.vg_client.specs.Calls.{Gives, newest};
+ghost use Rattle.vg_client.specs.Callers.{HasGoneOn, generation_of, known};
+ghost use Rattle.vg_client.specs.Accounts.{mine_of};
+ghost use Rattle.vg_run.specs.Performing.{HasKept};
+ghost use Rattle.vg_run.specs.Refs.{IsFitWith, refs_of, unplaced, without_place};
 
-use crate::call::Call;
-use crate::client::{Client, call};
-use crate::names::NameRef;
 use crate::refs::{Refs, bind, ref_of};
-use crate::session::Session;
 use std::alloc::{AllocError, Global};
 use std::sync::Wait;
-use vg_book::Naming;
+use vg_book::{Book, Naming, NoMemory};
 use vg_chain::{ChainFault, Shape};
+use vg_client::{Call, Client, NameRef};
+use vg_driver::Driver;
 use vg_formats::Rect;
 use vg_list::Seq;
+use vg_machine::Display;
+use vg_ring::Rings;
 use vg_script::{Area, RawShape, Step};
 use vg_wire::Queue;
 
 /// Makes the call of a line, and gives the name of a buffer to what the call made.
-pub(crate) fn run_line<'a, B: Naming, R: Wait>(
+pub(crate) fn run_line<'a, B: Naming, N: Rings, R: Wait>(
     rt: &R,
     alloc: Global,
-    session: &mut Session<B>,
+    book: &Book<Display, B>,
+    driver: &Driver<B, N>,
     client: &mut Client<B>,
     refs: &mut Refs<'a>,
     step: &'a Step,
-) -> Result<(), AllocError>
-    requires ready { IsReady session.old client.old }
-    requires limits { StepInLimits client.old.token.account.holds.displays step.now }
-    requires room { length (mine_of client.old.token) + 20 < 2 ^ 31 - 1 }
+) -> Result<(), NoMemory>
+    requires limits { StepInLimits client.old.caller.token.account.holds.displays step.now }
+    requires room { length (mine_of client.old.caller.token) + 20 < 2 ^ 31 - 1 }
     ensures done { OnOk result ((mine : List Entries)
-        × Gives client.old.token.account.number (known client.old) (calls.call_of_step (refs_of refs.old) step.now) mine (known client.new)
-        × HasGoneOn session.old client.old mine session.new client.new
+        × Gives client.old.caller.token.account.number (known client.old.caller) (calls.call_of_step (refs_of refs.old) step.now) mine (known client.new.caller)
+        × HasGoneOn client.old.caller mine client.new.caller
         × (length mine ≤ 19)) }
-    ensures begun { OnErr result ((mine : List Entries)
-        × Begins client.old.token.account.number (known client.old) (calls.call_of_step (refs_of refs.old) step.now) mine
-        × HasAdded session.old client.old mine session.new client.new) }
-    ensures refs { OnOk result (refs_of refs.new ≡ refs_after step.now (newest (known client.old) (known client.new)) (refs_of refs.old)) }
+    ensures goes_on { OnOk result (client.new.stopped ≡ false) }
+    ensures refs { OnOk result (refs_of refs.new ≡ refs_after step.now (newest (known client.old.caller) (known client.new.caller)) (refs_of refs.old)) }
+    ensures err { OnErr result (HasKept client.old client.new) }
 {
-    let asked = call_of(alloc, refs, step)?;
-    let made = call(rt, alloc, session, client, &asked)?;
+    let Ok(asked) = call_of(alloc, refs, step) else {
+        return Err(NoMemory);
+    };
+    let made = client.call(rt, alloc, book, driver, &asked)?;
     name_made(refs, step, made)
 }
 
 /// Gives the name of a buffer line to what its call made.
-fn name_made<'a>(
-    refs: &mut Refs<'a>,
-    step: &'a Step,
-    made: Option<NameRef>,
-) -> Result<(), AllocError>
+fn name_made<'a>(refs: &mut Refs<'a>, step: &'a Step, made: Option<NameRef>) -> Result<(), NoMemory>
     ensures { OnOk result (refs_of refs.new ≡ refs_after step.now (generation_of made) (refs_of refs.old)) }
 {
     match step {

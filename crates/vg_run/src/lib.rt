@@ -1,23 +1,18 @@
-//! Runs a script on the display machine, and writes its journal.
+//! Runs a script's clients on threads beside a device's workers, and writes the journal.
 #![tactic(auto)]
 
-mod call;
 mod calls;
-mod client;
-mod given;
+mod driving;
 mod journal;
 mod laws;
-mod learn;
-mod names;
-mod play;
+mod performing;
 mod refs;
-mod request;
 mod run;
-mod session;
-mod task;
-mod tasks;
 mod top;
+mod words;
 
+pub use driving::{Driven, drive, drive_in};
 pub use journal::{Journal, print};
-pub use laws::at_most_one_history;
+pub use laws::{at_most_one_history, clients_make_one_history};
+pub use performing::{Performed, perform};
 pub use top::{Status, vgpu};

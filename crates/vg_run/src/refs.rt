@@ -1,12 +1,12 @@
 //! What the names of a client's lines stand for.
 
 ghost use Rattle.std.specs.Prelude.{◌≡◌, OnOk, IfOk};
-ghost use Rattle.vg_run.specs.Calls.{with_ref};
+ghost use Rattle.vg_run.specs.Follows.{with_ref};
 ghost use Rattle.vg_run.specs.Refs.{refs_of};
 
-use crate::names::NameRef;
-use std::alloc::AllocError;
 use std::collections::BTreeMap;
+use vg_book::NoMemory;
+use vg_client::NameRef;
 
 /// The name that each word was last given to.
 pub(crate) type Refs<'a> = BTreeMap<&'a [u8], NameRef>;
@@ -25,9 +25,11 @@ pub(crate) fn ref_of(refs: &Refs, name: &[u8]) -> NameRef
 }
 
 /// Gives a word to a name.
-pub(crate) fn bind<'a>(refs: &mut Refs<'a>, word: &'a [u8], name: NameRef) -> Result<(), AllocError>
+pub(crate) fn bind<'a>(refs: &mut Refs<'a>, word: &'a [u8], name: NameRef) -> Result<(), NoMemory>
     ensures { OnOk result (refs_of refs.new ≡ with_ref word.now name.generation (refs_of refs.old)) }
 {
-    refs.insert(word, name)?;
-    Ok(())
+    match refs.insert(word, name) {
+        Ok(_) => Ok(()),
+        Err(_) => Err(NoMemory),
+    }
 }

@@ -1,71 +1,37 @@
-//! A script's run, from its first client to its journal.
+//! What a script settles before its run, and the journal of what the run leaves.
 
-ghost use Rattle.std.specs.Prelude.{◌≡◌, ◌≤◌, ◌∷◌, [], All, if◌then◌else◌, length, count_by, Some, IfOk};
+ghost use Rattle.std.specs.Prelude.{◌≡◌, ◌≤◌, if◌then◌else◌, count_by, IfOk};
 ghost use Rattle.std.specs.List.{list_any};
-ghost use Rattle.vg_machine.specs.Setup.{IsSetup};
-ghost use Rattle.vg_script.specs.Limits.{ClientInLimits, ScriptInLimits};
-ghost use Rattle.vg_machine.specs.State.{start};
+ghost use Rattle.vg_script.specs.Limits.{ScriptInLimits};
 ghost use Rattle.vg_run.specs.Setup as setups;
 ghost use Rattle.vg_run.specs.Legal as legal;
-ghost use Rattle.vg_run.specs.Legal.{IsLegalJournal};
-ghost use Rattle.vg_run.specs.Session.{IsFresh};
-ghost use Rattle.vg_run.specs.Run.{IsRunOf};
 
-use crate::calls::run_line;
-use crate::client::{end, enter};
 use crate::journal::Journal;
-use crate::refs::Refs;
-use crate::session::{LANES, Session};
 use std::alloc::{AllocError, Global};
-use std::collections::BTreeMap;
-use std::marker::Brand;
-use std::sync::Wait;
-use vg_book::{Naming, Opened};
 use vg_list::Seq;
-use vg_machine::{Display, Entry, Frame, Setup};
-use vg_script::{Feature, Line, Script};
+use vg_machine::{Entry, Frame, Setup};
+use vg_script::{Feature, Script};
 use vg_wire::Queue;
 
-/// Runs a script on a display of its own.
-pub(crate) fn run<R: Wait>(rt: &R, alloc: Global, script: &Script) -> Result<Journal, AllocError>
-    requires { ScriptInLimits script.now }
-    ensures { IfOk result (IsLegalJournal script.now) }
+/// The journal of a history: its setup, the history, how many of its commands are on each queue, and its frames.
+pub(crate) fn journal_of(setup: Setup, entries: Vec<Entry>, frames: Vec<Frame>) -> Journal
+    ensures parts { (result.setup ≡ setup) × (result.entries ≡ entries.items) × (result.frames ≡ frames.items) }
+    ensures control { result.control ≡ count_by legal.is_on_control entries.items }
+    ensures cursor { result.cursor ≡ count_by legal.is_on_cursor entries.items }
 {
-    let setup = setup_of(alloc, script)?;
-    let display = Display::new(alloc, &setup)?;
-    let opened = Opened::new(alloc, display, LANES)?;
-    run_in::<Brand, R>(rt, alloc, opened, setup, script)
-}
-
-/// Runs a script in a book that was just opened over a display of its own.
-fn run_in<B: Naming, R: Wait>(
-    rt: &R,
-    alloc: Global,
-    opened: Opened<Display>,
-    setup: Setup,
-    script: &Script,
-) -> Result<Journal, AllocError>
-    requires limits { ScriptInLimits script.now }
-    requires setup { setup ≡ setups.setup_of script.now }
-    requires book { (opened.table ≡ B.table) × (opened.lanes ≡ 66) }
-    requires start { opened.start ≡ Some (start setup) }
-    ensures { IfOk result (IsLegalJournal script.now) }
-{
-    let session = Session::<B>::new(alloc, opened)?;
-    let (entries, frames) = run_clients(rt, alloc, session, &setup, script.clients.as_slice())?;
     let control = count_control(entries.as_slice());
     let cursor = count_cursor(entries.as_slice());
-    Ok(Journal {
+    Journal {
         setup,
         entries: Seq::from_vec(entries),
         control,
         cursor,
         frames: Seq::from_vec(frames),
-    })
+    }
 }
 
 /// What a script settles before its first client enters.
-fn setup_of(alloc: Global, script: &Script) -> Result<Setup, AllocError>
+pub(crate) fn setup_of(alloc: Global, script: &Script) -> Result<Setup, AllocError>
     requires { ScriptInLimits script.now }
     ensures { IfOk result (λ setup. setup ≡ setups.setup_of script.now) }
 {
@@ -140,51 +106,6 @@ fn left_out(out: bool, bits: u64) -> u64
     ensures at_most { result ≤ bits }
 {
     if out { bits } else { 0 }
-}
-
-/// Runs the clients, of whom there is one at most, and gives the history and the frames.
-fn run_clients<B: Naming, R: Wait>(
-    rt: &R,
-    alloc: Global,
-    session: Session<B>,
-    setup: &Setup,
-    clients: &[Seq<Line>],
-) -> Result<(Vec<Entry>, Vec<Frame>), AllocError>
-    requires setup { IsSetup setup.now }
-    requires fresh { IsFresh (Some (start setup.now)) session }
-    requires one { length clients.now ≤ 1 }
-    requires short { All (λ lines. length lines ≤ 100000) clients.now }
-    requires limits { All (ClientInLimits (length setup.now.displays)) clients.now }
-    ensures { IfOk result (λ done. IsRunOf setup.now clients.now done.0.items done.1.items) }
-{
-    match clients {
-        [lines] => run_client(rt, alloc, session, setup, lines.as_slice()),
-        _ => Ok(session.close_empty()),
-    }
-}
-
-/// Runs the one client, and gives the history and the frames.
-fn run_client<B: Naming, R: Wait>(
-    rt: &R,
-    alloc: Global,
-    session: Session<B>,
-    setup: &Setup,
-    lines: &[Line],
-) -> Result<(Vec<Entry>, Vec<Frame>), AllocError>
-    requires setup { IsSetup setup.now }
-    requires fresh { IsFresh (Some (start setup.now)) session }
-    requires short { length lines.now ≤ 100000 }
-    requires limits { ClientInLimits (length setup.now.displays) lines.now }
-    ensures { IfOk result (λ done. IsRunOf setup.now (lines.now ∷ []) done.0.items done.1.items) }
-{
-    let mut session = session;
-    let mut client = enter(rt, alloc, &mut session, setup)?;
-    let mut refs: Refs = BTreeMap::new(alloc);
-    for line in lines {
-        run_line(rt, alloc, &mut session, &mut client, &mut refs, &line.step)?;
-    }
-    let token = end(rt, alloc, &mut session, client)?;
-    Ok(session.close(token))
 }
 
 /// Whether the entry is a command on the control queue.

@@ -1,6 +1,6 @@
 //! The program's one call.
 
-ghost use Rattle.std.specs.Prelude.{◌≡◌, ◌≤◌, ◌↔◌, ◌<◌, ◌⊎◌, ℕ, length, map, string_bytes, Err, IfOk, IfErr, OnOk, IfSome, IsTrue};
+ghost use Rattle.std.specs.Prelude.{◌≡◌, ◌≤◌, ◌↔◌, ◌<◌, ◌⊎◌, ℕ, length, map, string_bytes, Err, IfOk, IfErr, OnOk, IfSome};
 ghost use Rattle.vg_io.specs.Streams.{GivesUpTo, IsAtEnd, Rose};
 ghost use Rattle.vg_script.specs.Grammar.{Faulty, Parses};
 ghost use Rattle.vg_script.specs.Limits.{ScriptInLimits};
@@ -9,12 +9,16 @@ ghost use Rattle.vg_run.specs.Printing.{Written};
 ghost use Rattle.vg_run.specs.Status.{Ended, IsFaultless, Unread};
 ghost use Rattle.vg_run.specs.Text.{text_of};
 
+use crate::driving::drive;
 use crate::journal::{Journal, print};
-use crate::run::run;
+use crate::words::workers_of;
 use std::alloc::Global;
+use std::marker::Sync;
 use std::sync::Wait;
+use std::thread::Threads;
 use vg_io::{ReadError, Sink, Source, read_all};
 use vg_script::{Script, parse};
+use vg_worker::Gate;
 
 /// How a call of the program ended.
 #[derive(Clone, Copy, Debug, PartialEq, Eq)]
@@ -38,17 +42,19 @@ pub enum Status {
 /// How many bytes a script has at most.
 const LIMIT: usize = 16_777_216;
 
-/// Runs the program: `words` are those after its name. The one word `run` reads a script from `source`
-/// and writes its journal to `sink`.
+/// Runs the program: `words` are those after its name. `run` reads a script from `source`, runs its clients on threads beside
+/// two workers of the device, or as many as `--workers` says, and writes the journal to `sink`. Workers pass the gate with each
+/// command that they take.
 ///
 /// At most one byte past the longest script is taken from the source. After want of memory nothing, or
 /// a front of the journal that isn't all of it, is written.
-pub fn vgpu<R: Wait, S: Source, K: Sink>(
+pub fn vgpu<R: Threads + Wait + Sync, S: Source, K: Sink, G: Gate>(
     rt: &R,
     alloc: Global,
     words: &[String],
     source: &mut S,
     sink: &mut K,
+    gate: &G,
 ) -> Status
     // The source was read to its end; its bytes are a script, within the limit; and what the sink took is the journal and
     // the frames of one history that is legal for that script.
@@ -78,22 +84,12 @@ pub fn vgpu<R: Wait, S: Source, K: Sink>(
     ensures read_count { S.faults source.old ≤ S.faults source.new }
     ensures write_count { K.faults sink.old ≤ K.faults sink.new }
 {
-    if !is_run(words) {
+    let Some(workers) = workers_of(words) else {
         return Status::Usage;
-    }
+    };
     match read_script(alloc, source) {
-        Ok(script) => write_run(rt, alloc, &script, sink),
+        Ok(script) => write_run(rt, alloc, &script, workers, sink, gate),
         Err(status) => status,
-    }
-}
-
-/// Whether the words are the one word `run`.
-fn is_run(words: &[String]) -> bool
-    ensures { IsTrue result ↔ IsRun (map string_bytes words.now) }
-{
-    match words {
-        [word] => word.as_str() == "run",
-        _ => false,
     }
 }
 
@@ -125,13 +121,21 @@ fn read_script<S: Source>(alloc: Global, source: &mut S) -> Result<Script, Statu
 }
 
 /// Runs a script, and writes its journal.
-fn write_run<R: Wait, K: Sink>(rt: &R, alloc: Global, script: &Script, sink: &mut K) -> Status
-    requires { ScriptInLimits script.now }
+fn write_run<R: Threads + Wait + Sync, K: Sink, G: Gate>(
+    rt: &R,
+    alloc: Global,
+    script: &Script,
+    workers: u32,
+    sink: &mut K,
+    gate: &G,
+) -> Status
+    requires limits { ScriptInLimits script.now }
+    requires workers { (1 ≤ workers) × (workers ≤ 8) }
     ensures ended { (Ended result script.now (K.held sink.old) (K.held sink.new) (K.faults sink.old) (K.faults sink.new))
         ⊎ ((result ≡ Status.NoMemory) × (sink.new ≡ sink.old)) }
     ensures count { K.faults sink.old ≤ K.faults sink.new }
 {
-    match run(rt, alloc, script) {
+    match drive(rt, alloc, script, workers, gate) {
         Ok(journal) => write(alloc, &journal, sink),
         Err(_) => Status::NoMemory,
     }

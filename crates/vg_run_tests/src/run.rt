@@ -1,10 +1,13 @@
 //! What no row of rows/ can show: reads and writes that fail at each call, and sources and sinks that move single bytes.
 
 use std::alloc::{AllocError, Global};
+use std::marker::Sync;
 use std::sync::Wait;
 use std::test::Fail;
+use std::thread::Threads;
 use vg_io::{Failed, MemSink, MemSource, Sink, Source};
 use vg_run::{Status, vgpu};
+use vg_worker::FreeGate;
 
 /// How many bytes the journal here has at most.
 const ROOM: usize = 3_000;
@@ -46,24 +49,32 @@ impl<K: Sink> Sink for Sip<K> {
 
 /// A run of the script whose reads and writes of these numbers fail, into a sink of this room, and what it wrote. No call has
 /// the number 0.
-fn ran<R: Wait>(rt: &R, alloc: Global, row: &Row) -> Result<(Status, Vec<u8>), AllocError> {
+fn ran<R: Threads + Wait + Sync>(
+    rt: &R,
+    alloc: Global,
+    row: &Row,
+) -> Result<(Status, Vec<u8>), AllocError> {
     let (read, write, room, _, _) = row;
     let run = run_word(alloc)?;
     let text = Vec::from_slice(alloc, SCRIPT)?;
     let mut source = MemSource::new(text, vec![in alloc; *read]?);
     let mut sink = MemSink::new(alloc, *room, vec![in alloc; *write]?)?;
-    let status = vgpu(rt, alloc, run.as_slice(), &mut source, &mut sink);
+    let status = vgpu(rt, alloc, run.as_slice(), &mut source, &mut sink, &FreeGate);
     Ok((status, sink.bytes().to_vec(alloc)?))
 }
 
 /// The same by single bytes.
-fn sipped<R: Wait>(rt: &R, alloc: Global, row: &Row) -> Result<(Status, Vec<u8>), AllocError> {
+fn sipped<R: Threads + Wait + Sync>(
+    rt: &R,
+    alloc: Global,
+    row: &Row,
+) -> Result<(Status, Vec<u8>), AllocError> {
     let (read, write, room, _, _) = row;
     let run = run_word(alloc)?;
     let text = Vec::from_slice(alloc, SCRIPT)?;
     let mut source = Sip(MemSource::new(text, vec![in alloc; *read]?));
     let mut sink = Sip(MemSink::new(alloc, *room, vec![in alloc; *write]?)?);
-    let status = vgpu(rt, alloc, run.as_slice(), &mut source, &mut sink);
+    let status = vgpu(rt, alloc, run.as_slice(), &mut source, &mut sink, &FreeGate);
     Ok((status, sink.0.bytes().to_vec(alloc)?))
 }
 

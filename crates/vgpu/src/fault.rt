@@ -9,7 +9,7 @@ use vg_run::Status;
 /// Why a call didn't end well.
 #[derive(Clone, Copy, Debug, PartialEq, Eq, Error)]
 pub enum Fault {
-    #[error("usage: vgpu run")]
+    #[error("usage: vgpu run | run --workers N")]
     Usage,
     #[error("script line {line}: {kind}")]
     Script { line: u32, kind: Kind },

@@ -8,6 +8,7 @@ use std::io;
 use std::process::ExitCode;
 use vg_io::{StdSink, StdSource};
 use vg_run::{Status, vgpu};
+use vg_worker::FreeGate;
 
 #[cfg(test)]
 mod tests;
@@ -17,7 +18,14 @@ fn main(rt: HostRuntime) -> ExitCode {
         Ok(words) => {
             let mut source = StdSource::new(rt.stdin());
             let mut sink = StdSink::new(rt.stdout());
-            vgpu(&rt, rt.alloc(), words.as_slice(), &mut source, &mut sink)
+            vgpu(
+                &rt,
+                rt.alloc(),
+                words.as_slice(),
+                &mut source,
+                &mut sink,
+                &FreeGate,
+            )
         }
         Err(status) => status,
     };

@@ -1,0 +1,13 @@
+use Rattle.std.proofs.Common.{◌∙◌, ◌++◌, ap, map}
+use Rattle.vg_machine.specs.declared.holds.Holds.{Holds}
+use Rattle.vg_client.specs.Table.{release_task}
+use Rattle.vg_client.specs.Tasks.{leases_back}
+use Rattle.vg_client.proofs.PlayLemmas.{both-ok, ended-by}
+use Rattle.vg_client.proofs.caller.end.Goals as goal
+
+pub returns-clause-ended : goal.returns-clause-ended
+returns-clause-ended g c =
+    let client = c.args.client.now in
+    let done = c.in_ok-play.ensures.done in
+    let tasks = c.from.ensures.0 ∙ c.in_ok-tasks.ensures.tasks ∙ ap (λ (h : Holds). leases_back h.scanouts 0 h.displays ++ map release_task client.names.current) c.holds.ensures in
+    both-ok _ (λ account entry. ended-by client c.play.new.client _ done.0 c.leave.new.token tasks done.1 done.2.added account entry) c.leave.ensures.account c.leave.ensures.entry

@@ -1,0 +1,41 @@
+use Rattle.std.proofs.Common.{◌≡◌, ◌∙◌, ap, arith, []}
+use Rattle.vg_client.specs.Names.{NamesState}
+use Rattle.vg_client.proofs.PlayLemmas.{added-length, left-smaller, map_err, none-left, on_err, played-all, playing-more, stood-done, stood-make}
+use Rattle.vg_client.proofs.play.play.Goals as goal
+
+pub returns-in_err-given-clause-begun : goal.returns-in_err-given-clause-begun
+returns-in_err-given-clause-begun g c =
+    on_err _ (stood-make c.args.stops c.args.tasks.items c.args.client.now c.loop-task.client c.make.new.client c.loop-task.left.items c.loop-task.invariant c.in_err-given.ensures.err)
+
+pub learn-requires-clause-room : goal.learn-requires-clause-room
+learn-requires-clause-room g c =
+    let is = c.loop-task.invariant in
+    let used = is.on.ready.active.account_is.used in
+    let names = ap (λ (n : NamesState). n.made) c.in_ok-given.ensures.done.2.names in
+    omega (arith, names, is.on.ready.small.made, used, added-length is.on.added, is.room, c.requires.room)
+
+pub returns-in_err-learn-clause-begun : goal.returns-in_err-learn-clause-begun
+returns-in_err-learn-clause-begun g c =
+    let done = c.in_ok-given.ensures.done in
+    on_err _ (stood-done c.args.stops c.args.tasks.items c.args.client.now c.loop-task.client c.make.new.client c.learn.new.client c.loop-task.left.items c.pop_front.new.self.items c.in-Some.task done.0 c.in_ok-given.given
+    c.loop-task.invariant c.in-Some.ensures.items done.1 done.2 c.learn.ensures.kept)
+
+pub returns-in_err-leave_tasks-clause-begun : goal.returns-in_err-leave_tasks-clause-begun
+returns-in_err-leave_tasks-clause-begun g c =
+    let done = c.in_ok-given.ensures.done in
+    on_err _ (stood-done c.args.stops c.args.tasks.items c.args.client.now c.loop-task.client c.make.new.client c.learn.new.client c.loop-task.left.items c.pop_front.new.self.items c.in-Some.task done.0 c.in_ok-given.given
+    c.loop-task.invariant c.in-Some.ensures.items done.1 done.2 c.learn.ensures.kept)
+
+pub loop-task-smaller : goal.loop-task-smaller
+loop-task-smaller g c = left-smaller c.args.stops c.in-Some.task c.in_ok-given.given c.loop-task.left.items c.pop_front.new.self.items c.leave_tasks.new.left.items c.in-Some.ensures.items c.in_ok-leave_tasks.ensures
+
+pub loop-task-preserved : goal.loop-task-preserved
+loop-task-preserved g c =
+    let done = c.in_ok-given.ensures.done in
+    playing-more c.args.stops c.args.tasks.items c.args.client.now c.loop-task.client c.make.new.client c.learn.new.client c.loop-task.left.items c.pop_front.new.self.items c.leave_tasks.new.left.items c.in-Some.task done.0 c.in_ok-given.given
+    c.loop-task.invariant c.in-Some.ensures.items done.1 done.2 done.3 c.learn.ensures.kept c.in_ok-learn.ensures.names c.in_ok-learn.ensures.shows c.in_ok-leave_tasks.ensures
+
+pub returns-clause-done : goal.returns-clause-done
+returns-clause-done g c =
+    let none : c.loop-task.left.items ≡ [] = none-left c.loop-task.left.items (c.in_default.ensures.items ∙ c.in_default.ensures.rest) in
+    played-all c.args.stops c.args.tasks.items c.args.client.now c.loop-task.client c.loop-task.left.items none c.loop-task.invariant

@@ -1,0 +1,144 @@
+-- A client, and how its calls go on.
+use Rattle.std.specs.Prelude.{◌≡◌, ◌≤◌, ◌<◌, ◌+◌, ℕ, Bool, false, Option, Some, None, List, [], ◌∷◌, ◌++◌, length, Result, Ok, Err, Vec}
+use Rattle.std.specs.List.{AllByRecursion}
+use Rattle.vg_machine.specs.Entries.{Entry}
+use Rattle.vg_machine.specs.declared.act.ActReply.{ActReply}
+use Rattle.vg_machine.specs.declared.act.ActReply.TheVariants.{Reserved}
+use Rattle.vg_machine.specs.declared.act.ActReply.TheVariants as act_replies
+use Rattle.vg_machine.specs.declared.act.Act.TheVariants.{Enter, Leave}
+use Rattle.vg_machine.specs.declared.setup.Setup.{Setup}
+use Rattle.vg_history.specs.declared.entry.Entry.TheVariants.{Act}
+use Rattle.vg_driver.specs.Tickets.{Token}
+use Rattle.vg_machine.specs.declared.act.What.{What}
+use Rattle.vg_machine.specs.declared.holds.Holds.{Holds}
+use Rattle.vg_machine.specs.Holds.{Deniable}
+use Rattle.vg_machine.specs.Order.{updated}
+use Rattle.vg_chain.specs.Made.{IsCount}
+use Rattle.vg_client.specs.declared.call.Call.{Call}
+use Rattle.vg_client.specs.declared.call.Call.TheVariants as calls
+use Rattle.vg_client.specs.declared.caller.Caller.{Caller}
+use Rattle.vg_client.specs.declared.given.Given.{Given}
+use Rattle.vg_client.specs.declared.given.Given.TheVariants as givens
+use Rattle.vg_client.specs.declared.task.Change.{Change}
+use Rattle.vg_client.specs.declared.task.Change.TheVariants.{NewBuffer, EndOfName}
+use Rattle.vg_client.specs.declared.task.Task.{Task}
+use Rattle.vg_client.specs.Given.{given_of}
+use Rattle.vg_client.specs.declared.names.NameRef.{NameRef}
+use Rattle.vg_client.specs.Known.{Known, first_known}
+use Rattle.vg_client.specs.Fits.{IsFit}
+use Rattle.vg_client.specs.Accounts.{IsAccount, IsActive, IsNew, mine_of}
+use Rattle.vg_client.specs.Calls.{Plays}
+use Rattle.vg_client.specs.Tasks.{end_tasks}
+
+-- A client, and whether it has stopped for want of memory.
+pub record ClientState (B : Type 0) : Type 0 where
+  pub caller : Caller B
+  pub stopped : Bool
+
+-- What a client knows.
+abbrev pub known : {B : Type 0} → Caller B → Known
+known client = record { holds = client.token.account.holds; names = client.names; shows = client.shows.items }
+
+-- No more names are current than were made, no more were made than numbers drawn, and there are few scanouts.
+pub record IsSmall (used : ℕ) (known : Known) : Type 0 where
+  pub few_displays : known.holds.displays ≤ 16
+  pub current : length known.names.current ≤ known.names.made
+  pub made : known.names.made ≤ used
+  pub scanouts : length known.shows ≤ 16
+
+-- A client that can make calls.
+pub record IsReady {B : Type 0} (client : Caller B) : Type 0 where
+  pub active : IsActive client.token
+  pub small : IsSmall client.token.account.used (known client)
+
+-- A client has added these entries, and nothing of it is outstanding.
+pub record HasAdded {B : Type 0} (client : Caller B) (mine : List Entry) (client' : Caller B) : Type 0 where
+  pub start : client'.token.start ≡ client.token.start
+  pub number : client'.token.account.number ≡ client.token.account.number
+  pub idle : client'.token.account.out ≡ []
+  pub own : mine_of client'.token ≡ mine_of client.token ++ mine
+
+-- The same of a client that goes on: it can make more calls.
+pub record HasGoneOn {B : Type 0} (client : Caller B) (mine : List Entry) (client' : Caller B) : Type 0 where
+  pub added : HasAdded client mine client'
+  pub displays : client'.token.account.holds.displays ≡ client.token.account.holds.displays
+  pub made : client.names.made ≤ client'.names.made
+  pub ready : IsReady client'
+
+-- What one task adds: its entry, by which the client's holds change. Of the rest that the client knows nothing is changed.
+pub record HasDone {B : Type 0} (client : Caller B) (entry : Entry) (given : Given) (client' : Caller B) : Type 0 where
+  pub added : HasAdded client (entry ∷ []) client'
+  pub active : IsActive client'.token
+  pub used : client'.token.account.used ≡ client.token.account.used + 1
+  pub holds : client'.token.account.holds ≡ updated client.token.account.holds entry
+  pub names : client'.names ≡ client.names
+  pub shows : client'.shows.items ≡ client.shows.items
+  pub given_is : given ≡ given_of entry
+
+-- How many entries a task can give, with those that follow from it.
+abbrev pub weight_of : Change → ℕ
+weight_of (NewBuffer width height format) = 3
+weight_of (EndOfName generation key) = 3
+weight_of change = 1
+
+abbrev pub weights : List Task → ℕ
+weights [] = 0
+weights (task ∷ more) = weight_of task.change + weights more
+
+-- The pages of a reply are few enough to be told in one request: those of the largest buffer are 300.
+abbrev pub HasFewPages : ActReply → Type 0
+HasFewPages (Reserved key pages) = length pages ≤ 300
+HasFewPages reply = Unit {0}
+
+abbrev pub IsFewPages : Given → Type 0
+IsFewPages (givens.Act reply) = HasFewPages reply
+IsFewPages given = Unit {0}
+
+-- A call whose numbers are within its limits, with so many displays.
+abbrev pub IsCallFit : ℕ → Call → Type 0
+IsCallFit displays (calls.Buffer width height format) = (width ≤ 640) × (height ≤ 480)
+IsCallFit displays (calls.Drop scanout) = scanout < displays
+IsCallFit displays (calls.Raw queue room shape bytes) = (length bytes ≤ 49152) × (room ≤ 8192) × IsCount shape
+IsCallFit displays call = Unit {0}
+
+-- What was made of a plan: its tasks, which are few and fit, or what is denied.
+abbrev pub IsPlanOf : {A : Type 0} → Result (List Task) What → Result (Vec Task A) What → Type 0
+IsPlanOf plan (Ok tasks) = (plan ≡ Ok tasks.items) × AllByRecursion IsFit tasks.items × (weights tasks.items ≤ 19)
+IsPlanOf plan (Err what) = plan ≡ Err what
+
+-- The same, where memory may lack.
+abbrev pub Plans : {A E : Type 0} → Result (List Task) What → Result (Result (Vec Task A) What) E → Type 0
+Plans plan (Ok made) = IsPlanOf plan made
+Plans plan (Err none) = Unit {0}
+
+-- What is planned, as lists.
+abbrev pub planned : {A : Type 0} → Result (Vec Task A) What → Result (List Task) What
+planned (Ok tasks) = Ok tasks.items
+planned (Err what) = Err what
+
+-- The tasks are few and fit; what is denied may be.
+abbrev pub IsFitPlan : {A : Type 0} → Holds → Result (Vec Task A) What → Type 0
+IsFitPlan holds (Ok tasks) = AllByRecursion IsFit tasks.items × (weights tasks.items ≤ 19)
+IsFitPlan holds (Err what) = Deniable holds what
+
+-- The generation of the name that a call gave; 0 where it gave none.
+abbrev pub generation_of : Option NameRef → ℕ
+generation_of (Some name) = name.generation
+generation_of None = 0
+
+-- A client has entered, and knows what a client knows before its first call.
+pub record HasEntered {B : Type 0} (token : Token) (client : Caller B) : Type 0 where
+  pub start : client.token.start ≡ token.start
+  pub number : client.token.account.number ≡ token.account.number
+  pub mine : mine_of client.token ≡ Act token.account.number 1 Enter act_replies.Ok ∷ []
+  pub known_is : (setup : Setup) → IsNew setup token → known client ≡ first_known setup token.account.number
+  pub ready : IsReady client
+
+-- A client has ended: it gave up all that it had, and left.
+pub record HasEnded {B : Type 0} (client : Caller B) (token : Token) : Type 0 where
+  pub account_is : IsAccount token
+  pub ending : List Entry
+  pub after : Known
+  pub last : ℕ
+  pub plays : Plays client.token.account.number false (known client) (end_tasks (known client)) ending after []
+  pub own : mine_of token ≡ mine_of client.token ++ (ending ++ Act client.token.account.number last Leave act_replies.Ok ∷ [])

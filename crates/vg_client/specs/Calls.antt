@@ -1,0 +1,102 @@
+-- The entries that a client's calls give.
+use Rattle.std.specs.Prelude.{◌≡◌, ◌⊎◌, ◌==◌, ℕ, Bool, true, List, [], ◌∷◌, slice_set, if◌then◌else◌, Option, Some, None, Result, Ok, Err}
+use Rattle.vg_machine.specs.declared.act.Act.TheVariants.{Denied}
+use Rattle.vg_machine.specs.declared.act.ActReply.{ActReply}
+use Rattle.vg_machine.specs.declared.act.ActReply.TheVariants as act_replies
+use Rattle.vg_machine.specs.declared.act.What.{What}
+use Rattle.vg_machine.specs.Entries.{Entry}
+use Rattle.vg_history.specs.declared.entry.Entry.TheVariants as entries
+use Rattle.vg_machine.specs.declared.history.Reply.{Reply}
+use Rattle.vg_machine.specs.declared.history.Request.{Request}
+use Rattle.vg_machine.specs.declared.holds.Holds.{Holds}
+use Rattle.vg_machine.specs.Holds.{denied_of}
+use Rattle.vg_machine.specs.Order.{updated}
+use Rattle.vg_client.specs.declared.call.Call.{Call}
+use Rattle.vg_client.specs.declared.given.Given.{Given}
+use Rattle.vg_client.specs.declared.given.Given.TheVariants as givens
+use Rattle.vg_client.specs.declared.task.Change.{Change}
+use Rattle.vg_client.specs.declared.task.Change.TheVariants.{NewBuffer, EndOfName, Shows}
+use Rattle.vg_client.specs.declared.task.Deed.{Deed}
+use Rattle.vg_client.specs.declared.task.Deed.TheVariants as deeds
+use Rattle.vg_client.specs.declared.task.Task.{Task}
+use Rattle.vg_client.specs.Given.{given_of, is_accepted, left_after}
+use Rattle.vg_client.specs.Known.{Known}
+use Rattle.vg_client.specs.Names.{NamesState, with_name, without_name}
+use Rattle.vg_driver.specs.Requests.{denied_by, raw_request, request_by}
+use Rattle.vg_client.specs.Tasks.{tasks_of}
+
+-- A request is asked of the device, with some ordinal, or denied to its client for the first thing that it names and that isn't
+-- allowed.
+abbrev pub IsAsked : ℕ → Option What → (ℕ → Request) → Entry → Type 0
+IsAsked client (Some what) request entry = (call : ℕ) × (reply : ActReply) × (entry ≡ entries.Act client call (Denied what) reply)
+IsAsked client None request entry = (call ordinal : ℕ) × (reply : Reply) × (entry ≡ entries.Command client call (request ordinal) reply)
+
+-- The entry that a client with these holds gives for a task.
+abbrev pub IsDone : ℕ → Holds → Deed → Entry → Type 0
+IsDone client holds (deeds.Act act) entry = (call : ℕ) × (reply : ActReply) × (entry ≡ entries.Act client call act reply)
+IsDone client holds (deeds.Command way command) entry = IsAsked client (denied_by holds way command) (request_by way command) entry
+IsDone client holds (deeds.Raw queue room shape bytes) entry = IsAsked client (denied_of holds queue bytes) (raw_request queue room shape bytes) entry
+
+abbrev pub IsEntryOf : ℕ → Holds → Task → Entry → Type 0
+IsEntryOf client holds task entry = IsDone client holds task.deed entry
+
+-- The names after a buffer was reserved.
+abbrev pub names_reserved : ℕ → ℕ → Given → NamesState → NamesState
+names_reserved width height (givens.Act (act_replies.Reserved key pages)) names = with_name key width height names
+names_reserved width height given names = names
+
+-- A name is current from the reserve of its buffer until the release of it, where these are accepted.
+abbrev pub names_after : Change → Given → NamesState → NamesState
+names_after (NewBuffer width height format) given names = names_reserved width height given names
+names_after (EndOfName generation key) given names = if is_accepted given then without_name generation names else names
+names_after change given names = names
+
+-- What the scanouts show: a task changes it where it is accepted.
+abbrev pub shows_after : Change → Given → List (Option ℕ) → List (Option ℕ)
+shows_after (Shows scanout key) given shows = if is_accepted given then slice_set shows scanout key else shows
+shows_after change given shows = shows
+
+-- What a client knows after a task's entry.
+abbrev pub learned : Known → Task → Entry → Known
+learned known task entry = record {
+  holds = updated known.holds entry;
+  names = names_after task.change (given_of entry) known.names;
+  shows = shows_after task.change (given_of entry) known.shows;
+}
+
+-- A client that knows this at first has given these entries for the tasks, and for what followed from them, one after another;
+-- then it knows that, and these tasks are left.
+abbrev pub Plays : ℕ → Bool → Known → List Task → List Entry → Known → List Task → Type 0
+Plays client stops known tasks [] known' left = (known' ≡ known) × (left ≡ tasks)
+Plays client stops known [] (entry ∷ more) known' left = ⊥
+Plays client stops known (task ∷ tasks) (entry ∷ more) known' left =
+    IsEntryOf client known.holds task entry
+    × Plays client stops (learned known task entry) (left_after stops task.change (given_of entry) tasks) more known' left
+
+-- These are the first entries of the tasks: all of them, or fewer where memory lacked.
+abbrev pub IsFrontOf : ℕ → Bool → Known → List Task → List Entry → Type 0
+IsFrontOf client stops known tasks mine = (known' : Known) × (left : List Task) × Plays client stops known tasks mine known' left
+
+-- The one entry that says what was denied.
+abbrev pub IsDenial : ℕ → What → List Entry → Type 0
+IsDenial client what mine = (call : ℕ) × (reply : ActReply) × (mine ≡ entries.Act client call (Denied what) reply ∷ [])
+
+-- These are the entries of a call: of its tasks, until one isn't accepted; or the one that says what was denied.
+abbrev pub GivesTasks : ℕ → Known → Result (List Task) What → List Entry → Known → Type 0
+GivesTasks client known (Ok tasks) mine known' = Plays client true known tasks mine known' []
+GivesTasks client known (Err what) mine known' = IsDenial client what mine × (known' ≡ known)
+
+abbrev pub Gives : ℕ → Known → Call → List Entry → Known → Type 0
+Gives client known call mine known' = GivesTasks client known (tasks_of known call) mine known'
+
+-- These are the first entries of a call.
+abbrev pub BeginsTasks : ℕ → Known → Result (List Task) What → List Entry → Type 0
+BeginsTasks client known (Ok tasks) mine = IsFrontOf client true known tasks mine
+BeginsTasks client known (Err what) mine = (mine ≡ []) ⊎ IsDenial client what mine
+
+abbrev pub Begins : ℕ → Known → Call → List Entry → Type 0
+Begins client known call mine = BeginsTasks client known (tasks_of known call) mine
+
+-- The generation of the name that a call made, if it made one.
+abbrev pub newest : Known → Known → ℕ
+newest before known = if known.names.made == before.names.made then 0 else known.names.made

@@ -1,0 +1,10 @@
+pub mod Names
+pub mod Known
+pub mod Own
+pub mod Accounts
+pub mod Table
+pub mod Given
+pub mod Fits
+pub mod Tasks
+pub mod Calls
+pub mod Callers

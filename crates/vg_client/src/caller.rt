@@ -1,0 +1,186 @@
+//! What a client is between its calls, and how it makes one.
+
+ghost use Rattle.std.specs.Prelude.{◌≡◌, ◌==◌, ◌<◌, ◌≤◌, ◌-◌, ◌+◌, ◌^◌, ◌++◌, ◌∷◌, if◌then◌else◌, [], ℕ, false, List, length, replicate, None, IfOk, MatchResult, OnOk, OnErr};
+ghost use Rattle.vg_history.specs.declared.entry.Entry.TheVariants as entries;
+ghost use Rattle.vg_machine.specs.declared.act.Act.TheVariants as acts;
+ghost use Rattle.vg_machine.specs.declared.act.ActReply.TheVariants as act_replies;
+ghost use Rattle.vg_machine.specs.declared.setup.Setup.{Setup as Setups};
+ghost use Rattle.vg_machine.specs.Entries.{Entry as Entries};
+ghost use Rattle.vg_client.specs.Accounts.{IsAccount, IsActive, IsNew, IsUnadded, mine_of};
+ghost use Rattle.vg_client.specs.Callers.{HasAdded, HasGoneOn, HasEnded, HasEntered, IsCallFit, IsFitPlan, IsReady, generation_of, known, planned};
+ghost use Rattle.vg_client.specs.Calls.{Begins, BeginsTasks, Gives, GivesTasks, newest};
+
+use crate::call::Call;
+use crate::names::{NameRef, Names};
+use crate::play::{deny, play};
+use crate::task::Task;
+use crate::tasks;
+use crate::tasks::tasks_of;
+use crate::tokens::{Token, act};
+use std::alloc::{AllocError, Global};
+use std::collections::VecDeque;
+use std::sync::Wait;
+use vg_book::{Book, Naming};
+use vg_driver::Driver;
+use vg_machine::{Act, Display, What};
+use vg_ring::Rings;
+
+/// A client, which draws its own call numbers from 1.
+#[derive(Drop)]
+pub(crate) struct Caller<B: Naming> {
+    pub(crate) token: Token<B>,
+    pub(crate) names: Names,
+    /// For each scanout the key of the buffer that the client shows there.
+    pub(crate) shows: Vec<Option<u32>>,
+}
+
+/// A client begins.
+pub(crate) fn enter<B: Naming, R: Wait>(
+    rt: &R,
+    alloc: Global,
+    book: &Book<Display, B>,
+    token: Token<B>,
+) -> Result<Caller<B>, Token<B>>
+    requires { (setup : Setups) × IsNew setup token × (length setup.displays ≤ 16) }
+    ensures { MatchResult result (λ client. HasEntered token client) (λ left. IsUnadded token left) }
+{
+    let mut token = token;
+    let Ok(shows) = shows_none(alloc, token.holds().displays as usize) else {
+        return Err(token);
+    };
+    match act(rt, alloc, book, &mut token, Act::Enter) {
+        Ok(_) => Ok(Caller {
+            token,
+            names: Names::new(alloc),
+            shows,
+        }),
+        Err(_) => Err(token),
+    }
+}
+
+/// Nothing is shown on so many scanouts.
+fn shows_none(alloc: Global, scanouts: usize) -> Result<Vec<Option<u32>>, AllocError>
+    ensures { IfOk result (λ shows. shows.items ≡ replicate scanouts None) }
+{
+    vec![in alloc; None; scanouts]
+}
+
+/// Makes a call: its tasks one after another, or the act that says what was denied. It gives the name that the call made, if
+/// it made one. Where memory lacks, the entries that were made stand, and no name is given.
+pub(crate) fn make_call<B: Naming, N: Rings, R: Wait>(
+    rt: &R,
+    alloc: Global,
+    book: &Book<Display, B>,
+    driver: &Driver<B, N>,
+    client: &mut Caller<B>,
+    call: &Call,
+) -> Result<Option<NameRef>, AllocError>
+    requires ready { IsReady client.old }
+    requires fit { IsCallFit client.old.token.account.holds.displays call.now }
+    requires room { length (mine_of client.old.token) + 20 < 2 ^ 31 - 1 }
+    ensures done { OnOk result ((mine : List Entries)
+        × Gives client.old.token.account.number (known client.old) call.now mine (known client.new)
+        × HasGoneOn client.old mine client.new
+        × (length mine ≤ 19)) }
+    ensures name { IfOk result (λ name. generation_of name ≡ newest (known client.old) (known client.new)) }
+    ensures begun { OnErr result ((mine : List Entries)
+        × Begins client.old.token.account.number (known client.old) call.now mine
+        × HasAdded client.old mine client.new) }
+{
+    let made = client.names.made();
+    let plan = tasks_of(
+        alloc,
+        client.token.holds(),
+        &client.names,
+        client.shows.as_slice(),
+        call,
+    )?;
+    follow(rt, alloc, book, driver, client, plan)?;
+    Ok(name_made(&client.names, made))
+}
+
+/// Does the tasks of a call, or tells what was denied.
+fn follow<B: Naming, N: Rings, R: Wait>(
+    rt: &R,
+    alloc: Global,
+    book: &Book<Display, B>,
+    driver: &Driver<B, N>,
+    client: &mut Caller<B>,
+    plan: Result<Vec<Task>, What>,
+) -> Result<(), AllocError>
+    requires ready { IsReady client.old }
+    requires plan { IsFitPlan client.old.token.account.holds plan }
+    requires room { length (mine_of client.old.token) + 20 < 2 ^ 31 - 1 }
+    ensures done { OnOk result ((mine : List Entries)
+        × GivesTasks client.old.token.account.number (known client.old) (planned plan) mine (known client.new)
+        × HasGoneOn client.old mine client.new
+        × (length mine ≤ 19)) }
+    ensures begun { OnErr result ((mine : List Entries)
+        × BeginsTasks client.old.token.account.number (known client.old) (planned plan) mine
+        × HasAdded client.old mine client.new) }
+{
+    match plan {
+        Ok(tasks) => play(rt, alloc, book, driver, client, true, VecDeque::from(tasks)),
+        Err(what) => deny(rt, alloc, book, client, what),
+    }
+}
+
+/// The name that was made, where so many were made before.
+fn name_made(names: &Names, before: u32) -> Option<NameRef>
+    requires room { names.now.made < 2 ^ 32 }
+    requires rising { before ≤ names.now.made }
+    ensures { generation_of result ≡ (if names.now.made == before then 0 else names.now.made) }
+{
+    if names.made() == before {
+        None
+    } else {
+        Some(names.newest())
+    }
+}
+
+/// Ends the client: it gives up all that it has, and leaves.
+pub(crate) fn end<B: Naming, N: Rings, R: Wait>(
+    rt: &R,
+    alloc: Global,
+    book: &Book<Display, B>,
+    driver: &Driver<B, N>,
+    client: &mut Caller<B>,
+) -> Result<(), AllocError>
+    requires ready { IsReady client.old }
+    requires room { length (mine_of client.old.token) < 2 ^ 24 }
+    ensures number { client.new.token.account.number ≡ client.old.token.account.number }
+    ensures start { client.new.token.start ≡ client.old.token.start }
+    ensures idle { client.new.token.account.out ≡ [] }
+    ensures ended { OnOk result (HasEnded client.old client.new.token) }
+{
+    let tasks = tasks::end_tasks(alloc, client.token.holds(), &client.names)?;
+    play(
+        rt,
+        alloc,
+        book,
+        driver,
+        client,
+        false,
+        VecDeque::from(tasks),
+    )?;
+    leave(rt, alloc, book, &mut client.token)
+}
+
+/// The client leaves.
+fn leave<B: Naming, R: Wait>(
+    rt: &R,
+    alloc: Global,
+    book: &Book<Display, B>,
+    token: &mut Token<B>,
+) -> Result<(), AllocError>
+    requires { IsActive token.old }
+    ensures entry { OnOk result (mine_of token.new
+        ≡ mine_of token.old ++ entries.Act token.old.account.number (token.old.account.used + 1) acts.Leave act_replies.Ok ∷ []) }
+    ensures account { OnOk result (IsAccount token.new) }
+    ensures number { token.new.account.number ≡ token.old.account.number }
+    ensures start { token.new.start ≡ token.old.start }
+    ensures idle { token.new.account.out ≡ [] }
+{
+    act(rt, alloc, book, token, Act::Leave)?;
+    Ok(())
+}

@@ -1,0 +1,145 @@
+//! The life of a client: it enters, makes calls, and ends.
+
+ghost use Rattle.std.specs.Prelude.{◌≡◌, ◌<◌, ◌≤◌, ◌-◌, ◌+◌, ◌^◌, ◌⊎◌, [], true, false, List, length, IfOk, MatchResult, OnOk, OnErr};
+ghost use mathlib.Core.List.{IsPrefix};
+ghost use Rattle.vg_machine.specs.declared.setup.Setup.{Setup as Setups};
+ghost use Rattle.vg_machine.specs.Entries.{Entry as Entries};
+ghost use Rattle.vg_client.specs.Accounts.{IsNew, IsUnadded, mine_of};
+ghost use Rattle.vg_client.specs.Callers.{HasAdded, HasEnded, HasEntered, HasGoneOn, IsCallFit, generation_of, known};
+ghost use Rattle.vg_client.specs.Calls.{Begins, Gives, newest};
+
+use crate::call::Call;
+use crate::caller::{Caller, end, enter, make_call};
+use crate::names::NameRef;
+use std::alloc::Global;
+use std::marker::Model;
+use std::sync::Wait;
+use vg_book::{Book, ClientToken, Naming, NoMemory, Note, entries_in_step};
+use vg_driver::Driver;
+use vg_machine::Display;
+use vg_ring::Rings;
+
+/// A client of a display, which submits its commands by a driver and makes one call at a time.
+///
+/// Once a call has answered want of memory the client has stopped: each further call answers the same and adds nothing.
+#[derive(Drop)]
+pub struct Client<B: Naming> {
+    caller: Caller<B>,
+    stopped: bool,
+}
+
+impl<B: Naming> Model for Client<B> {
+    ghost use Rattle.std.specs.Prelude.{◌≡◌, [], false};
+    ghost use Rattle.vg_client.specs.Callers.{ClientState, IsReady};
+
+    ghost Value = { ClientState B };
+
+    ghost view = { λ c. record { caller = c.caller; stopped = c.stopped } };
+
+    ghost invariant = { λ c. (c.caller.token.account.out ≡ []) × (c.stopped ≡ false → IsReady c.caller) };
+}
+
+impl<B: Naming> Client<B> {
+    /// A client begins, with the act that it enters. For want of memory its token comes back.
+    pub fn enter<R: Wait>(
+        rt: &R,
+        alloc: Global,
+        book: &Book<Display, B>,
+        token: ClientToken<Display, B>,
+    ) -> Result<Client<B>, (ClientToken<Display, B>, NoMemory)>
+        requires { (setup : Setups) × IsNew setup token × (length setup.displays ≤ 16) }
+        ensures { MatchResult result (λ client. HasEntered token client.caller × (client.stopped ≡ false)) (λ left. IsUnadded token left.0) }
+    {
+        match enter(rt, alloc, book, token) {
+            Ok(caller) => Ok(Client {
+                caller,
+                stopped: false,
+            }),
+            Err(token) => Err((token, NoMemory)),
+        }
+    }
+
+    /// Makes a call: its entries one after another, until one isn't accepted, or the act that says what was denied. It gives the
+    /// name that the call made, if it made one. For want of memory the entries that were made stand, no name is given, and the
+    /// client has stopped.
+    pub fn call<N: Rings, R: Wait>(
+        &mut self,
+        rt: &R,
+        alloc: Global,
+        book: &Book<Display, B>,
+        driver: &Driver<B, N>,
+        call: &Call,
+    ) -> Result<Option<NameRef>, NoMemory>
+        requires fit { IsCallFit self.old.caller.token.account.holds.displays call.now }
+        requires room { length (mine_of self.old.caller.token) + 20 < 2 ^ 31 - 1 }
+        ensures done { OnOk result ((mine : List Entries)
+            × Gives self.old.caller.token.account.number (known self.old.caller) call.now mine (known self.new.caller)
+            × HasGoneOn self.old.caller mine self.new.caller
+            × (length mine ≤ 19)) }
+        ensures name { IfOk result (λ name. generation_of name ≡ newest (known self.old.caller) (known self.new.caller)) }
+        ensures goes_on { OnOk result ((self.old.stopped ≡ false) × (self.new.stopped ≡ false)) }
+        ensures begun { OnErr result ((mine : List Entries)
+            × Begins self.old.caller.token.account.number (known self.old.caller) call.now mine
+            × HasAdded self.old.caller mine self.new.caller) }
+        ensures stops { OnErr result (self.new.stopped ≡ true) }
+        ensures nothing { self.old.stopped ≡ true → self.new ≡ self.old }
+    {
+        if self.stopped {
+            return Err(NoMemory);
+        }
+        match make_call(rt, alloc, book, driver, &mut self.caller, call) {
+            Ok(name) => Ok(name),
+            Err(_) => {
+                self.stopped = true;
+                Err(NoMemory)
+            }
+        }
+    }
+
+    /// Ends the client: it gives up all that it has, and leaves. Its token comes back with nothing outstanding. A client that
+    /// has stopped gives nothing up.
+    pub fn end<N: Rings, R: Wait>(
+        self,
+        rt: &R,
+        alloc: Global,
+        book: &Book<Display, B>,
+        driver: &Driver<B, N>,
+    ) -> (ClientToken<Display, B>, Result<(), NoMemory>)
+        requires room { (self.stopped ≡ true) ⊎ (length (mine_of self.caller.token) < 2 ^ 24) }
+        ensures number { result.0.account.number ≡ self.caller.token.account.number }
+        ensures start { result.0.start ≡ self.caller.token.start }
+        ensures idle { result.0.account.out ≡ [] }
+        ensures ended { OnOk result.1 ((self.stopped ≡ false) × HasEnded self.caller result.0) }
+    {
+        let Client { caller, stopped } = self;
+        if stopped {
+            return (caller.token, Err(NoMemory));
+        }
+        let mut caller = caller;
+        match end(rt, alloc, book, driver, &mut caller) {
+            Ok(()) => (caller.token, Ok(())),
+            Err(_) => (caller.token, Err(NoMemory)),
+        }
+    }
+
+    /// A note that has seen what the client has.
+    pub fn note(&mut self, book: &Book<Display, B>) -> Note<Display, B>
+        ensures same { self.new ≡ self.old }
+        ensures note { (result.seen ≡ self.old.caller.token.seen) × (result.start ≡ self.old.caller.token.start) }
+    {
+        self.caller.token.note(book)
+    }
+
+    /// Sees all that the note has seen.
+    pub fn meet(&mut self, book: &Book<Display, B>, note: Note<Display, B>)
+        ensures account { self.new.caller.token.account ≡ self.old.caller.token.account }
+        ensures more { IsPrefix self.old.caller.token.seen self.new.caller.token.seen }
+        ensures met { IsPrefix note.seen self.new.caller.token.seen }
+        ensures known { known self.new.caller ≡ known self.old.caller }
+        ensures stopped { self.new.stopped ≡ self.old.stopped }
+    {
+        // A law, and no work: the client sees its entries in the order in which it made them.
+        entries_in_step::<Display>();
+        self.caller.token.meet(book, note);
+    }
+}

@@ -1,0 +1,73 @@
+//! What a client learns from what a task was answered.
+
+ghost use Rattle.std.specs.Prelude.{◌≡◌, ◌≤◌, ◌<◌, ◌^◌, OnOk};
+ghost use Rattle.vg_client.specs.Calls.{names_after, names_reserved, shows_after};
+ghost use Rattle.vg_client.specs.Fits.{IsFitChange};
+ghost use Rattle.vg_client.specs.declared.task.Change.TheVariants as changes;
+
+use crate::caller::Caller;
+use crate::given::{Given, is_accepted};
+use crate::names::Names;
+use crate::task::Change;
+use std::alloc::AllocError;
+use vg_book::Naming;
+use vg_machine::ActReply;
+
+/// What the client knows after a task was answered.
+pub(crate) fn learn<B: Naming>(
+    client: &mut Caller<B>,
+    change: Change,
+    given: &Given,
+) -> Result<(), AllocError>
+    requires fit { IsFitChange change }
+    requires room { client.old.names.made < 2 ^ 31 }
+    ensures kept { client.new.token ≡ client.old.token }
+    ensures names { OnOk result (client.new.names ≡ names_after change given.now client.old.names) }
+    ensures shows { OnOk result (client.new.shows.items ≡ shows_after change given.now client.old.shows.items) }
+{
+    match change {
+        Change::NewBuffer { width, height, .. } => {
+            name_reserved(&mut client.names, width, height, given)
+        }
+        Change::EndOfName { generation, .. } => {
+            if is_accepted(given) {
+                client.names.end(generation);
+            }
+            Ok(())
+        }
+        Change::Shows { scanout, key } => {
+            show(&mut client.shows, scanout, key, given);
+            Ok(())
+        }
+        Change::Nothing | Change::GoesOn => Ok(()),
+    }
+}
+
+/// The name of a buffer that was reserved.
+fn name_reserved(
+    names: &mut Names,
+    width: u32,
+    height: u32,
+    given: &Given,
+) -> Result<(), AllocError>
+    requires width { width ≤ 640 }
+    requires height { height ≤ 480 }
+    requires room { names.old.made < 2 ^ 31 }
+    ensures { OnOk result (names.new ≡ names_reserved width height given.now names.old) }
+{
+    match given {
+        Given::Act {
+            reply: ActReply::Reserved { key, .. },
+        } => names.make(*key, width, height),
+        _ => Ok(()),
+    }
+}
+
+/// What a scanout shows after a task that is accepted.
+fn show(shows: &mut Vec<Option<u32>>, scanout: u32, key: Option<u32>, given: &Given)
+    ensures { shows.new.items ≡ shows_after (changes.Shows scanout key) given.now shows.old.items }
+{
+    if is_accepted(given) && (scanout as usize) < shows.len() {
+        shows[scanout as usize] = key;
+    }
+}

@@ -1,0 +1,285 @@
+//! The tasks of a call, done one after another.
+
+ghost use Rattle.std.specs.Prelude.{◌≡◌, ◌<◌, ◌≤◌, ◌-◌, ◌+◌, ◌^◌, ◌⊎◌, ℕ, [], List, length, false, None, if◌then◌else◌, IfOk, OnErr, OnOk};
+ghost use Rattle.std.specs.List.{AllByRecursion};
+ghost use Rattle.vg_chain.specs.Made.{IsCount};
+ghost use Rattle.vg_history.specs.declared.entry.Entry.TheVariants as entries;
+ghost use Rattle.vg_machine.specs.declared.act.ActReply.{ActReply as ActReplies};
+ghost use Rattle.vg_machine.specs.declared.history.Reply.{Reply as Replies};
+ghost use Rattle.vg_machine.specs.Entries.{Entry as Entries};
+ghost use Rattle.vg_machine.specs.Holds.{Deniable, denied_of};
+ghost use Rattle.vg_driver.specs.Requests.{IsShort, MayGo};
+ghost use Rattle.vg_driver.specs.Requests as requests;
+ghost use Rattle.vg_client.specs.declared.given.Given.TheVariants as givens;
+ghost use Rattle.vg_client.specs.Accounts.{IsActive, MayAct, leaves, mine_of};
+ghost use Rattle.vg_client.specs.Callers.{HasAdded, HasDone, HasGoneOn, IsFewPages, IsReady, known, weights};
+ghost use Rattle.vg_client.specs.Calls.{IsAsked, IsDenial, IsDone, IsFrontOf, Plays};
+ghost use Rattle.vg_client.specs.Fits.{HasFewBytes, IsFit, IsFitDeed};
+ghost use Rattle.vg_client.specs.Given.{tells_denial};
+
+use crate::caller::Caller;
+use crate::given::{Given, leave_tasks};
+use crate::learn::learn;
+use crate::task::{Deed, Task};
+use crate::tokens::{act as add_act, command as ask, raw_command};
+use std::alloc::{AllocError, Global};
+use std::collections::VecDeque;
+use std::sync::Wait;
+use vg_book::{Book, Naming};
+use vg_chain::Shape;
+use vg_driver::{Driver, Way, denied_by, queue_by};
+use vg_machine::{Act, ActReply, Display, What, denied};
+use vg_ring::Rings;
+use vg_wire::Queue;
+use vg_wire_ext::Command;
+
+/// Does these tasks, and what follows from them, one after another. A call that stops does so after its first task that
+/// isn't accepted.
+pub(crate) fn play<B: Naming, N: Rings, R: Wait>(
+    rt: &R,
+    alloc: Global,
+    book: &Book<Display, B>,
+    driver: &Driver<B, N>,
+    client: &mut Caller<B>,
+    stops: bool,
+    tasks: VecDeque<Task>,
+) -> Result<(), AllocError>
+    requires ready { IsReady client.old }
+    requires fit { AllByRecursion IsFit tasks.items }
+    requires room { length (mine_of client.old.token) + weights tasks.items < 2 ^ 31 - 1 }
+    ensures done { OnOk result ((mine : List Entries)
+        × Plays client.old.token.account.number stops (known client.old) tasks.items mine (known client.new) []
+        × HasGoneOn client.old mine client.new
+        × (length mine ≤ weights tasks.items)) }
+    ensures begun { OnErr result ((mine : List Entries)
+        × IsFrontOf client.old.token.account.number stops (known client.old) tasks.items mine
+        × HasAdded client.old mine client.new) }
+{
+    let mut left = tasks;
+    while let Some(task) = left.pop_front() {
+        let Task { deed, change } = task;
+        let given = make(rt, alloc, book, driver, client, deed)?;
+        learn(client, change, &given)?;
+        leave_tasks(alloc, stops, change, given, &mut left)?;
+    }
+    Ok(())
+}
+
+/// Does what is to be done for a task, which gives its entry.
+fn make<B: Naming, N: Rings, R: Wait>(
+    rt: &R,
+    alloc: Global,
+    book: &Book<Display, B>,
+    driver: &Driver<B, N>,
+    client: &mut Caller<B>,
+    deed: Deed,
+) -> Result<Given, AllocError>
+    requires active { IsActive client.old.token }
+    requires fit { IsFitDeed deed }
+    ensures done { IfOk result (λ given. (entry : Entries)
+        × IsDone client.old.token.account.number client.old.token.account.holds deed entry
+        × HasDone client.old entry given client.new
+        × IsFewPages given) }
+    ensures err { OnErr result (HasAdded client.old [] client.new) }
+{
+    match deed {
+        Deed::Act { act } => make_act(rt, alloc, book, client, act),
+        Deed::Command { way, command } => {
+            make_command(rt, alloc, book, driver, client, way, &command)
+        }
+        Deed::Raw {
+            queue,
+            room,
+            shape,
+            bytes,
+        } => make_raw(
+            rt,
+            alloc,
+            book,
+            driver,
+            client,
+            queue,
+            room,
+            shape,
+            bytes.as_slice(),
+        ),
+    }
+}
+
+/// Adds an act of the client, with which it doesn't leave.
+pub(crate) fn make_act<B: Naming, R: Wait>(
+    rt: &R,
+    alloc: Global,
+    book: &Book<Display, B>,
+    client: &mut Caller<B>,
+    act: Act,
+) -> Result<Given, AllocError>
+    requires may { MayAct client.old.token act }
+    requires stays { leaves act ≡ false }
+    requires few { HasFewBytes act }
+    ensures done { IfOk result (λ given. (reply : ActReplies)
+        × HasDone client.old (entries.Act client.old.token.account.number (client.old.token.account.used + 1) act reply) given client.new
+        × IsFewPages given) }
+    ensures err { OnErr result (HasAdded client.old [] client.new) }
+{
+    let is_told = is_denial(&act);
+    let reply = add_act(rt, alloc, book, &mut client.token, act)?;
+    Ok(given_act(is_told, reply))
+}
+
+/// Whether the act tells a denial.
+fn is_denial(act: &Act) -> bool
+    ensures { result ≡ tells_denial act.now }
+{
+    match act {
+        Act::Denied { .. } => true,
+        _ => false,
+    }
+}
+
+/// What an act was answered: that it was denied, where it tells so.
+fn given_act(is_told: bool, reply: ActReply) -> Given
+    ensures { result ≡ (if is_told then givens.Denied else givens.Act reply) }
+{
+    if is_told {
+        Given::Denied
+    } else {
+        Given::Act { reply }
+    }
+}
+
+/// Asks a command of the device, or tells that the client may not.
+fn make_command<B: Naming, N: Rings, R: Wait>(
+    rt: &R,
+    alloc: Global,
+    book: &Book<Display, B>,
+    driver: &Driver<B, N>,
+    client: &mut Caller<B>,
+    way: Way,
+    command: &Command,
+) -> Result<Given, AllocError>
+    requires active { IsActive client.old.token }
+    requires may { MayGo way command.now }
+    requires short { IsShort command.now }
+    ensures done { IfOk result (λ given. (entry : Entries)
+        × IsAsked client.old.token.account.number (requests.denied_by client.old.token.account.holds way command.now) (requests.request_by way command.now) entry
+        × HasDone client.old entry given client.new
+        × IsFewPages given) }
+    ensures err { OnErr result (HasAdded client.old [] client.new) }
+{
+    match denied_by(alloc, client.token.holds(), way, command)? {
+        Some(what) => make_act(rt, alloc, book, client, Act::Denied { what }),
+        None => submit(rt, alloc, book, driver, client, way, command),
+    }
+}
+
+/// Submits a command of the client, and takes its response.
+fn submit<B: Naming, N: Rings, R: Wait>(
+    rt: &R,
+    alloc: Global,
+    book: &Book<Display, B>,
+    driver: &Driver<B, N>,
+    client: &mut Caller<B>,
+    way: Way,
+    command: &Command,
+) -> Result<Given, AllocError>
+    requires active { IsActive client.old.token }
+    requires may { MayGo way command.now }
+    requires short { IsShort command.now }
+    requires allowed { requests.denied_by client.old.token.account.holds way command.now ≡ None }
+    ensures done { IfOk result (λ given. (ordinal : ℕ) × (reply : Replies)
+        × HasDone client.old (entries.Command client.old.token.account.number (client.old.token.account.used + 1) (requests.request_by way command.now ordinal) reply) given client.new
+        × IsFewPages given) }
+    ensures err { OnErr result (HasAdded client.old [] client.new) }
+{
+    let reply = ask(rt, alloc, book, driver, &mut client.token, way, command)?;
+    Ok(Given::Command {
+        queue: queue_by(way),
+        reply,
+    })
+}
+
+/// Asks bytes of the device as they are, or tells that the client may not.
+fn make_raw<B: Naming, N: Rings, R: Wait>(
+    rt: &R,
+    alloc: Global,
+    book: &Book<Display, B>,
+    driver: &Driver<B, N>,
+    client: &mut Caller<B>,
+    queue: Queue,
+    room: u32,
+    shape: Shape,
+    bytes: &[u8],
+) -> Result<Given, AllocError>
+    requires active { IsActive client.old.token }
+    requires short { length bytes.now ≤ 49152 }
+    requires room { room ≤ 8192 }
+    requires count { IsCount shape }
+    ensures done { IfOk result (λ given. (entry : Entries)
+        × IsAsked client.old.token.account.number (denied_of client.old.token.account.holds queue bytes.now) (requests.raw_request queue room shape bytes.now) entry
+        × HasDone client.old entry given client.new
+        × IsFewPages given) }
+    ensures err { OnErr result (HasAdded client.old [] client.new) }
+{
+    match denied(alloc, client.token.holds(), queue, bytes)? {
+        Some(what) => make_act(rt, alloc, book, client, Act::Denied { what }),
+        None => submit_raw(rt, alloc, book, driver, client, queue, room, shape, bytes),
+    }
+}
+
+/// Submits bytes of the client, and takes the response.
+fn submit_raw<B: Naming, N: Rings, R: Wait>(
+    rt: &R,
+    alloc: Global,
+    book: &Book<Display, B>,
+    driver: &Driver<B, N>,
+    client: &mut Caller<B>,
+    queue: Queue,
+    room: u32,
+    shape: Shape,
+    bytes: &[u8],
+) -> Result<Given, AllocError>
+    requires active { IsActive client.old.token }
+    requires short { length bytes.now ≤ 49152 }
+    requires room { room ≤ 8192 }
+    requires count { IsCount shape }
+    requires allowed { denied_of client.old.token.account.holds queue bytes.now ≡ None }
+    ensures done { IfOk result (λ given. (ordinal : ℕ) × (reply : Replies)
+        × HasDone client.old (entries.Command client.old.token.account.number (client.old.token.account.used + 1) (requests.raw_request queue room shape bytes.now ordinal) reply) given client.new
+        × IsFewPages given) }
+    ensures err { OnErr result (HasAdded client.old [] client.new) }
+{
+    let reply = raw_command(
+        rt,
+        alloc,
+        book,
+        driver,
+        &mut client.token,
+        queue,
+        room,
+        shape,
+        bytes,
+    )?;
+    Ok(Given::Command { queue, reply })
+}
+
+/// Tells what was denied.
+pub(crate) fn deny<B: Naming, R: Wait>(
+    rt: &R,
+    alloc: Global,
+    book: &Book<Display, B>,
+    client: &mut Caller<B>,
+    what: What,
+) -> Result<(), AllocError>
+    requires ready { IsReady client.old }
+    requires may { Deniable client.old.token.account.holds what }
+    ensures done { OnOk result ((mine : List Entries)
+        × IsDenial client.old.token.account.number what mine
+        × HasGoneOn client.old mine client.new
+        × (known client.new ≡ known client.old)
+        × (length mine ≡ 1)) }
+    ensures err { OnErr result (HasAdded client.old [] client.new) }
+{
+    make_act(rt, alloc, book, client, Act::Denied { what })?;
+    Ok(())
+}
