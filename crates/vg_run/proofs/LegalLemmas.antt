@@ -1,5 +1,5 @@
 -- The journal of what a session gives.
-use Rattle.std.proofs.Common.{◌≡◌, ◌<◌, ◌≤◌, ◌+◌, ◌∙◌, ap, subst, arith, ℕ, Bool, true, false, cond, List, Option, count_by, get_or, length, take}
+use Rattle.std.proofs.Common.{◌≡◌, ◌<◌, ◌≤◌, ◌+◌, ◌∙◌, ap, refl, subst, arith, ℕ, Bool, true, false, cond, List, [], ◌∷◌, Option, count_by, get_or, length, take}
 use Rattle.std.specs.List.{AllByRecursion}
 use Rattle.std.proofs.lemmas.List.{length-take}
 use Rattle.std.proofs.lemmas.List.Sums.{count_by-le-length, count_by_more_no, count_by_more_yes}
@@ -10,7 +10,7 @@ use Rattle.vg_machine.specs.Order.{Sound}
 use Rattle.vg_machine.specs.Replay.{replay}
 use Rattle.vg_script.specs.declared.types.Script.{Script}
 use Rattle.vg_script.specs.declared.types.Line.{Line}
-use Rattle.vg_run.specs.Legal.{FollowAll, IsLegalJournal, Legal, is_on_control, is_on_cursor}
+use Rattle.vg_run.specs.Legal.{FollowAll, IsLegalJournal, IsOfClients, Legal, is_on_control, is_on_cursor, journal_of}
 use Rattle.vg_io.specs.Streams.{Takes, TakesPart, TakesSome}
 use Rattle.vg_run.specs.declared.journal.Journal.{Journal}
 use Rattle.vg_run.specs.declared.top.Status.{Status}
@@ -74,3 +74,17 @@ written-ends Usage script journal held held' faults faults' legal written = writ
 written-ends (statuses.Script line kind) script journal held held' faults faults' legal written = written
 written-ends ReadFault script journal held held' faults faults' legal written = written
 written-ends TooLong script journal held held' faults faults' legal written = written
+
+-- where there are no clients, no entry is of one
+pub no-entries : (script : Script) (H : List Entry) → script.clients ≡ [] → AllByRecursion (IsOfClients script) H → H ≡ []
+no-entries script [] none owned = refl
+no-entries script (entry ∷ more) none owned =
+    let first = owned.0 in
+    let none' : length script.clients ≡ 0 = ap length none in
+    absurd (omega (arith, first, none'))
+
+pub empty-journal : (script : Script) (journal : Journal) → script.clients ≡ [] → IsLegalJournal script journal
+    → journal ≡ record { setup = setup_of script; entries = []; control = 0; cursor = 0; frames = [] }
+empty-journal script journal none legal =
+    let (H, is_legal, is_journal) = legal in
+    is_journal ∙ ap (journal_of script) (no-entries script H none is_legal.clients)

@@ -1,6 +1,6 @@
 //! Laws of the definitions, each the contract of a function that does nothing.
 
-ghost use Rattle.std.specs.Prelude.{◌≡◌, ◌≤◌, List, length};
+ghost use Rattle.std.specs.Prelude.{◌≡◌, ◌≤◌, List, [], length};
 ghost use Rattle.std.specs.List.{AllByRecursion};
 ghost use Rattle.vg_history.specs.History.{Ordered};
 ghost use Rattle.vg_script.specs.declared.types.Line.{Line as Lines};
@@ -9,14 +9,22 @@ ghost use Rattle.vg_machine.specs.declared.setup.Setup.{Setup as Setups};
 ghost use Rattle.vg_machine.specs.Entries.{Entry as Entries};
 ghost use Rattle.vg_machine.specs.Order.{Sound};
 ghost use Rattle.vg_machine.specs.Replay.{Agrees, display};
+ghost use Rattle.vg_run.specs.declared.journal.Journal.{Journal as Journals};
 ghost use Rattle.vg_run.specs.Kept.{KeptAll};
-ghost use Rattle.vg_run.specs.Legal.{AreFinished, FollowAll, Legal};
+ghost use Rattle.vg_run.specs.Legal.{AreFinished, FollowAll, IsLegalJournal, Legal};
 ghost use Rattle.vg_run.specs.Run.{IsOwned};
+ghost use Rattle.vg_run.specs.Setup.{setup_of};
 
 /// A script of at most one client, none of whose commands is left unfinished, has at most one legal
 /// history. So what is written is a function of the script.
 pub fn at_most_one_history()
     ensures { (script : Scripts) (G H : List Entries) → length script.clients ≤ 1 → AreFinished script.clients → Legal script G → Legal script H → G ≡ H }
+{}
+
+/// A law, and no work: the journal of a script without clients has no entries, nothing on either ring, and no frames.
+pub fn nothing_without_clients()
+    ensures { (script : Scripts) (journal : Journals) → script.clients ≡ [] → IsLegalJournal script journal
+        → journal ≡ record { setup = setup_of script; entries = []; control = 0; cursor = 0; frames = [] } }
 {}
 
 /// A law, and no work: a history that the display agrees with, whose lanes are in order, and of which each client knows that

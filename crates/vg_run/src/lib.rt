@@ -13,6 +13,6 @@ mod words;
 
 pub use driving::{Driven, drive, drive_in};
 pub use journal::{Journal, print};
-pub use laws::{at_most_one_history, clients_make_one_history};
+pub use laws::{at_most_one_history, clients_make_one_history, nothing_without_clients};
 pub use performing::{Performed, perform};
 pub use top::{Status, vgpu};
