@@ -6,9 +6,11 @@ ghost use Rattle.vg_crew.specs.Jobs.{AllGive};
 
 use std::alloc::AllocError;
 use std::marker::{Send, Sync};
+use std::snapshot::Snapshot;
 use std::sync::Wait;
 use std::sync::atomic::{AtomicBool, Ordering};
-use std::thread::{Threads, join, map_vec};
+use std::thread;
+use std::thread::{Promise, Threads, join, map_vec};
 
 /// What a thread does, and gives at its end.
 pub trait Job<D: Drop>: Drop {
@@ -22,7 +24,28 @@ pub trait Job<D: Drop>: Drop {
         ensures { gives self result };
 }
 
+/// The promise that a thread gives what its job may give.
+#[derive(Drop)]
+struct JobGives<J: Drop> {
+    job: Snapshot<J>,
+}
+
+impl<D: Drop, J: Job<D>> Promise<D> for JobGives<J> {
+    ghost kept_by = { λ p r. J.gives p.job.value r };
+}
+
+/// The promise that a thread gives what each of its jobs may give, unless memory lacks.
+#[derive(Drop)]
+struct LotGives<J: Drop> {
+    jobs: Snapshot<Vec<J>>,
+}
+
+impl<D: Drop, J: Job<D>> Promise<Result<Vec<D>, AllocError>> for LotGives<J> {
+    ghost kept_by = { λ p r. IfOk r (λ v. AllGive J.gives p.jobs.value.items v.items) };
+}
+
 /// Runs each job on a thread of its own, and gives what they give, in order.
+/// A job that gets no thread runs on another's, before or behind that one's own: jobs that wait for each other may then wait for ever.
 pub fn each<D: Drop + Send, J: Job<D> + Send, R: Threads + Wait + Sync>(
     rt: &R,
     jobs: Vec<J>,
@@ -37,7 +60,8 @@ pub fn each<D: Drop + Send, J: Job<D> + Send, R: Threads + Wait + Sync>(
     map_vec(rt, jobs, &run)
 }
 
-/// Runs both lots of jobs, and raises the flag once the first are done.
+/// Runs both lots of jobs, the second on this thread and on others, and raises the flag once the first are done.
+/// Where the first get no thread beside this one, no job runs, and that is answered as want of memory.
 pub fn all<
     D: Drop + Send,
     E: Drop + Send,
@@ -48,22 +72,30 @@ pub fn all<
     requires { All A.is_ready first.items × All W.is_ready second.items }
     ensures { IfOk result (λ r. AllGive A.gives first.items r.0.items × AllGive W.gives second.items r.1.items) }
 {
-    let (done, served) = join(
+    thread::scope(
+        thread::scope_env(),
         rt,
-        move || -> Result<Vec<D>, AllocError>
-            requires { IsSync R.row × IsSend D.row × IsSend A.row × All A.is_ready first.items }
-            ensures { IfOk result (λ v. AllGive A.gives first.items v.items) }
+        move |scope| -> Result<(Vec<D>, Vec<E>), AllocError>
+            requires { IsSync R.row × IsSend D.row × IsSend A.row × IsSend E.row × IsSend W.row × All A.is_ready first.items × All W.is_ready second.items }
+            ensures { IfOk result (λ r. AllGive A.gives first.items r.0.items × AllGive W.gives second.items r.1.items) }
         {
-            let done = each(rt, first);
-            stop.store(true, Ordering::SeqCst);
-            done
+            let jobs = Snapshot::of(&first);
+            let child = scope.spawn_with(
+                LotGives { jobs },
+                move || -> Result<Vec<D>, AllocError>
+                    requires { IsSync R.row × IsSend D.row × IsSend A.row × All A.is_ready first.items }
+                    ensures { IfOk result (λ v. AllGive A.gives first.items v.items) }
+                {
+                    let done = each(rt, first);
+                    stop.store(true, Ordering::SeqCst);
+                    done
+                },
+            )?;
+            let served = each_last_here(rt, second);
+            let done = child.join(rt);
+            Ok((done?, served?))
         },
-        move || -> Result<Vec<E>, AllocError>
-            requires { IsSync R.row × IsSend E.row × IsSend W.row × All W.is_ready second.items }
-            ensures { IfOk result (λ v. AllGive W.gives second.items v.items) }
-        { each_last_here(rt, second) },
-    );
-    Ok((done?, served?))
+    )
 }
 
 /// Runs each job as `each` does, the last one on the thread that calls: that one needs neither memory nor a thread to begin.
@@ -95,30 +127,39 @@ fn each_last_here<D: Drop + Send, J: Job<D> + Send, R: Threads + Wait + Sync>(
     Ok(given)
 }
 
-/// Runs two jobs, each on a thread, and raises the flag once the first is done.
+/// Runs the first job on a thread of its own, the second on this one, and raises the flag once the first is done.
+/// Where no thread can be made, neither runs, and that is answered as want of memory.
 pub fn both<
     D: Drop + Send,
     E: Drop + Send,
     A: Job<D> + Send,
     B: Job<E> + Send,
     R: Threads + Wait + Sync,
->(rt: &R, stop: &AtomicBool, first: A, second: B) -> (D, E)
+>(rt: &R, stop: &AtomicBool, first: A, second: B) -> Result<(D, E), AllocError>
     requires { A.is_ready first × B.is_ready second }
-    ensures { A.gives first result.0 × B.gives second result.1 }
+    ensures { IfOk result (λ r. A.gives first r.0 × B.gives second r.1) }
 {
-    join(
+    thread::scope(
+        thread::scope_env(),
         rt,
-        move || -> D
-            requires { IsSync R.row × A.is_ready first }
-            ensures { A.gives first result }
+        move |scope| -> Result<(D, E), AllocError>
+            requires { IsSync R.row × IsSend D.row × IsSend A.row × A.is_ready first × B.is_ready second }
+            ensures { IfOk result (λ r. A.gives first r.0 × B.gives second r.1) }
         {
-            let done = first.run(rt);
-            stop.store(true, Ordering::SeqCst);
-            done
+            let job = Snapshot::of(&first);
+            let child = scope.spawn_with(
+                JobGives { job },
+                move || -> D
+                    requires { IsSync R.row × A.is_ready first }
+                    ensures { A.gives first result }
+                {
+                    let done = first.run(rt);
+                    stop.store(true, Ordering::SeqCst);
+                    done
+                },
+            )?;
+            let served = second.run(rt);
+            Ok((child.join(rt), served))
         },
-        move || -> E
-            requires { IsSync R.row × B.is_ready second }
-            ensures { B.gives second result }
-        { second.run(rt) },
     )
 }

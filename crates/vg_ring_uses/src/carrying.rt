@@ -38,7 +38,7 @@ pub fn carry<N: Naming + Send, R: Threads + Wait + Sync>(
         device,
         stop: &stop,
     };
-    let (asked, answered) = both(rt, &stop, asking, answering);
+    let (asked, answered) = both(rt, &stop, asking, answering)?;
     let (mut driver, right) = asked?;
     let mut device = answered;
     ends_agree(&mut driver, &mut device);

@@ -7,3 +7,5 @@ mod journal;
 mod machine;
 #[cfg(test)]
 mod run;
+#[cfg(test)]
+mod workers;

@@ -24,22 +24,22 @@ asking_send g κs n = search (sendable, crosses, driver_send) depth 20
 answering_send : (g : Over) (κs : contract.Lifetimes.Lfts 8) → IsSend (param 0 g.row.N) → IsSend (lts.arg-2-3 g.row.N g.row.R g.N.laws g.R.laws g.N.Naming g.N.Naming-dict g.R.Threads g.R.Threads-dict g.R.Wait g.R.Wait-dict κs)
 answering_send g κs n = search (sendable, crosses, device_send) depth 20
 
-pub both-asked-requires-send-D : goal.both-asked-requires-send-D
-both-asked-requires-send-D g c κs within = param_send _ _ (asked_send g κs c.type_bounds.send-N)
+pub both-requires-send-D : goal.both-requires-send-D
+both-requires-send-D g c κs within = param_send _ _ (asked_send g κs c.type_bounds.send-N)
 
-pub both-asked-requires-send-E : goal.both-asked-requires-send-E
-both-asked-requires-send-E g c κs within = param_send _ _ (answered_send g κs c.type_bounds.send-N)
+pub both-requires-send-E : goal.both-requires-send-E
+both-requires-send-E g c κs within = param_send _ _ (answered_send g κs c.type_bounds.send-N)
 
-pub both-asked-requires-send-A : goal.both-asked-requires-send-A
-both-asked-requires-send-A g c κs within = param_send _ _ (asking_send g κs c.type_bounds.send-N)
+pub both-requires-send-A : goal.both-requires-send-A
+both-requires-send-A g c κs within = param_send _ _ (asking_send g κs c.type_bounds.send-N)
 
-pub both-asked-requires-send-B : goal.both-asked-requires-send-B
-both-asked-requires-send-B g c κs within = param_send _ _ (answering_send g κs c.type_bounds.send-N)
+pub both-requires-send-B : goal.both-requires-send-B
+both-requires-send-B g c κs within = param_send _ _ (answering_send g κs c.type_bounds.send-N)
 
 pub returns : goal.returns
 returns g c =
     let o = c.args.order in
-    let got = subst (λ r. IfOk r (λ x. HasAsked o.queue o.lane o.count x.0 × (length x.0.reaped ≡ o.count))) c.in_ok-driver.was c.both-asked.ensures.0 in
+    let got = subst (λ r. IfOk r (λ x. HasAsked o.queue o.lane o.count x.0 × (length x.0.reaped ≡ o.count))) c.in_ok-driver.was c.in_ok-asked.ensures.0 in
     let same = c.ends_agree.ensures in
     subst (λ (x : DriverLists × DeviceLists). HaveCarried o.queue o.lane o.count x.0 x.1) (λ i. (sym same.driver i, sym same.device i))
-    (have_carried o.queue o.lane o.count _ _ got.0 got.1 c.both-asked.ensures.1 same.fetched same.reaped)
+    (have_carried o.queue o.lane o.count _ _ got.0 got.1 c.in_ok-asked.ensures.1 same.fetched same.reaped)
