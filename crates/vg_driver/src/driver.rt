@@ -1,6 +1,6 @@
 //! Both queues of a device, as its clients share them.
 
-ghost use Rattle.std.specs.Prelude.{◌≡◌, ℕ, ◌≤◌, None, length, MatchResult};
+ghost use Rattle.std.specs.Prelude.{◌≡◌, ℕ, ◌≤◌, None, length, IfSome, MatchResult};
 ghost use Rattle.vg_chain.specs.Made.{IsCount};
 ghost use Rattle.vg_wire.specs.declared.request.Queue.TheVariants as queues;
 ghost use Rattle.vg_ring.specs.Making.{IsNewDriver};
@@ -98,6 +98,25 @@ fn submit_raw_on<R: Wait, B: vg_book::Naming, Q: vg_ring::Naming + OfQueue>(
     unreachable!()
 }
 
+/// What came back of a client's call. None where it hasn't come, or somebody else has the lock: a client that looks for its reply
+/// doesn't sleep on the lock, so nobody has to wake it.
+fn look<B: vg_book::Naming, Q: vg_ring::Naming + OfQueue>(
+    half: &Mutex<Half<Display, B, Q>>,
+    book: &Book<Display, B>,
+    client: u32,
+    call: u64,
+) -> Option<Ran<Display, B>>
+    ensures { IfSome result (IsOf client call) }
+{
+    match half.try_lock() {
+        Some(half) => {
+            let mut half = half;
+            half.answer(book, client, call)
+        }
+        None => None,
+    }
+}
+
 /// Waits for what comes back of a client's call.
 fn wait_for<R: Wait, B: vg_book::Naming, Q: vg_ring::Naming + OfQueue>(
     rt: &R,
@@ -110,7 +129,7 @@ fn wait_for<R: Wait, B: vg_book::Naming, Q: vg_ring::Naming + OfQueue>(
 {
     let backoff = Backoff::new();
     for _ in rt.forever() {
-        if let Some(ran) = half.lock(rt).answer(book, client, call) {
+        if let Some(ran) = look(half, book, client, call) {
             return ran;
         }
         backoff.snooze();

@@ -33,5 +33,5 @@ IsReadyIf count_of token right None = Unit {0}
 
 abbrev pub IsFound : {P T N : Type 0} → (P → Bool) → (T → ℕ) → (T → ℕ) → Found P T N → Type 0
 IsFound wanted lane_of count_of Fetched = Unit {0}
-IsFound wanted lane_of count_of (Idle busy) = Unit {0}
+IsFound wanted lane_of count_of (Idle ended) = Unit {0}
 IsFound wanted lane_of count_of (Run token right cargo chain) = IsOut wanted lane_of token right cargo × IsReadyIf count_of token right chain

@@ -45,7 +45,7 @@ pub(crate) fn serve_past<G: Passage, B: Naming, N: Rings, R: Wait>(
     let backoff = Backoff::new();
     for _turn in rt.forever() {
         let stopped = stop.load(Ordering::SeqCst);
-        match take(rt, alloc, front) {
+        match take(alloc, front, stopped) {
             Found::Fetched => backoff.reset(),
             Found::Run {
                 token,
@@ -56,8 +56,8 @@ pub(crate) fn serve_past<G: Passage, B: Naming, N: Rings, R: Wait>(
                 work(rt, alloc, front, book, gate, token, right, cargo, chain);
                 backoff.reset();
             }
-            Found::Idle { busy } => {
-                if stopped && !busy {
+            Found::Idle { ended } => {
+                if ended {
                     return;
                 }
                 backoff.snooze();

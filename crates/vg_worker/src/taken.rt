@@ -25,39 +25,65 @@ pub(crate) enum Found<P: Tagged, T: Turn + Drop, N: Rings> {
         cargo: Cargo<P>,
         chain: Option<Result<Chain, ChainFault>>,
     },
-    /// There is nothing to do; whether a command waits, or somebody works on a lane.
+    /// There is nothing to do now; and, where the worker is to stop, whether nothing waits and nobody works on a lane.
     Idle {
-        busy: bool,
+        ended: bool,
     },
 }
 
-/// Takes a step, all of it under one lock.
-pub(crate) fn take<P: Tagged, T: Turn + Drop, N: Rings, R: Wait>(
-    rt: &R,
+/// Takes a step, all of it under one lock. Where somebody else has the lock there is nothing to do now: a worker that looks for
+/// work doesn't sleep on the lock, so nobody has to wake it.
+pub(crate) fn take<P: Tagged, T: Turn + Drop, N: Rings>(
     alloc: Global,
     front: &Mutex<Front<P, T, N>>,
+    stopped: bool,
 ) -> Found<P, T, N>
     ensures { IsFound P.is_wanted T.lane_of T.count_of result }
 {
-    let mut front = front.lock(rt);
-    step(alloc, &mut front)
+    match front.try_lock() {
+        Some(front) => {
+            let mut front = front;
+            step(alloc, &mut front, stopped)
+        }
+        None => Found::Idle { ended: false },
+    }
 }
 
-/// Takes a step.
+/// Takes a step, and one more where that fetched a command: mostly it is the one that is given out.
 fn step<P: Tagged, T: Turn + Drop, N: Rings>(
+    alloc: Global,
+    front: &mut Front<P, T, N>,
+    stopped: bool,
+) -> Found<P, T, N>
+    ensures { IsFound P.is_wanted T.lane_of T.count_of result }
+{
+    match front.step() {
+        Work::Fetched => step_on(alloc, front),
+        Work::Run {
+            token,
+            right,
+            cargo,
+        } => given_out(alloc, front, token, right, cargo),
+        Work::Idle => Found::Idle {
+            ended: stopped && !front.busy(),
+        },
+    }
+}
+
+/// Takes the step behind one that fetched a command.
+fn step_on<P: Tagged, T: Turn + Drop, N: Rings>(
     alloc: Global,
     front: &mut Front<P, T, N>,
 ) -> Found<P, T, N>
     ensures { IsFound P.is_wanted T.lane_of T.count_of result }
 {
     match front.step() {
-        Work::Fetched => Found::Fetched,
         Work::Run {
             token,
             right,
             cargo,
         } => given_out(alloc, front, token, right, cargo),
-        Work::Idle => Found::Idle { busy: front.busy() },
+        Work::Fetched | Work::Idle => Found::Fetched,
     }
 }
 
