@@ -1,6 +1,9 @@
 -- One entry more of a client keeps what its token says of it.
 use Rattle.std.proofs.Common.{◌≡◌, ◌⊎◌, inl, inr, ⊎_elim, ◌+◌, ◌<◌, ◌≤◌, ◌∙◌, sym, ap, refl, subst, arith, ℕ, false, List, [], ◌∷◌, ◌++◌, length, length-append, Some}
 use Rattle.std.specs.List.{AllByRecursion}
+use mathlib.Core.List.{IsPrefix}
+use mathlib.Core.Option.{some}
+use lib.ListN.{get_elem?}
 use Rattle.vg_machine.specs.declared.setup.Setup.{Setup}
 use Rattle.vg_machine.specs.declared.act.Act as the_act
 use Rattle.vg_machine.specs.declared.act.Act.TheVariants as acts
@@ -8,7 +11,7 @@ use Rattle.vg_machine.specs.declared.act.ActReply.{ActReply}
 use Rattle.vg_machine.specs.Entries.{Entry}
 use Rattle.vg_history.specs.declared.entry.Entry.TheVariants.{Act, Command}
 use Rattle.vg_history.specs.Lists.{Has}
-use Rattle.vg_history.proofs.ListLemmas.{has_last}
+use Rattle.vg_history.proofs.ListLemmas.{has_last, prefix_more, prefix_self}
 use Rattle.vg_machine.specs.declared.history.Request.{Request}
 use Rattle.vg_machine.specs.declared.holds.Holds.{Holds}
 use Rattle.vg_machine.specs.Holds.{Allowed}
@@ -23,18 +26,23 @@ use Rattle.vg_driver.specs.declared.ticket.Ticket.{Ticket}
 use Rattle.vg_driver.specs.Tickets.{Account, DonePass, Finished, IsOut, Order, Pass, Spent, Submitted, Token}
 use Rattle.vg_client.specs.Accounts.{IsAccount, IsActive, IsAdded, IsAddedAct, IsNew, IsPresent, IsReply, IsUnadded, MayAct, MayBeDenied, mine_of}
 use Rattle.vg_client.specs.Own.{IsOnItsLane, IsOwn}
+use Rattle.vg_client.specs.Outcomes.{IsNumbered}
 use Rattle.vg_client.proofs.HoldsLemmas.{holds-more}
+use Rattle.vg_client.proofs.OutcomeLemmas.{at-last, prefix-length, stands-behind}
 use Rattle.vg_client.proofs.OwnLemmas.{IsNext, own-more, own-none}
 use Rattle.vg_client.proofs.ReplayLemmas.{agrees-last}
 
--- what a token is after one entry more
-pub record IsMore (token : Token) (entry : Entry) (token' : Token) : Type 0 where
+-- what a token is after one entry more, which has number n
+pub record IsMore (token : Token) (n : ℕ) (entry : Entry) (token' : Token) : Type 0 where
   pub start : token'.start ≡ token.start
   pub in_step : IsInStep token'
   pub number : token'.account.number ≡ token.account.number
   pub used : token'.account.used ≡ token.account.used + 1
   pub holds : token'.account.holds ≡ updated token.account.holds entry
   pub mine : mine_of token' ≡ mine_of token ++ entry ∷ []
+  pub more : IsPrefix token.seen token'.seen
+  pub numbered : IsNumbered token'.seen n entry
+  pub behind : length token.seen < n
 
 -- what an entry is that may be the next
 pub record MayFollow (token : Token) (entry : Entry) : Type 0 where
@@ -44,8 +52,8 @@ pub record MayFollow (token : Token) (entry : Entry) : Type 0 where
   pub first : token.account.used ≡ 0 → IsFirst entry
   pub allowed : IsAllowed token.account.holds entry
 
-pub entry-more : (token token' : Token) (entry : Entry) → IsAccount token → IsPresent token → MayFollow token entry → IsMore token entry token' → IsAdded token entry token'
-entry-more token token' entry is present next more =
+pub entry-more : (token token' : Token) (k : ℕ) (entry : Entry) → IsAccount token → IsPresent token → MayFollow token entry → IsMore token k entry token' → IsAdded token k entry token'
+entry-more token token' k entry is present next more =
     let n : ℕ = token.account.number in
     let mine : List Entry = mine_of token in
     let Allow : Holds → Type 0 = λ h. IsAllowed h entry in
@@ -64,6 +72,9 @@ entry-more token token' entry is present next more =
       used = more.used;
       holds = more.holds;
       mine = more.mine;
+      more = more.more;
+      numbered = more.numbered;
+      behind = more.behind;
       account_is = record {
         setup = is.setup;
         begun = more.start ∙ is.begun;
@@ -94,15 +105,29 @@ reply-in : (token : Token) (setup : Setup) (log : List Entry) (client call : ℕ
 reply-in token setup log client call act reply begun seen agrees =
     (_, agrees-last (start setup) log (Act client call act reply) (subst (λ (xs : List Entry). AgreesFrom (start setup) xs) seen (agrees (start setup) begun)))
 
+-- what was seen ends with this entry, behind all that was seen before
+abbrev IsEndedBy : List Entry → List Entry → ℕ → Entry → Type 0
+IsEndedBy seen seen' number entry = IsPrefix seen seen' × IsNumbered seen' number entry × (length seen < number)
+
+ended-by-one : (seen seen' log : List Entry) (number : ℕ) (entry : Entry) → IsPrefix seen log → seen' ≡ log ++ entry ∷ [] → number ≡ length seen' → IsEndedBy seen seen' number entry
+ended-by-one seen seen' log number entry p is counted =
+    let last : number ≡ length log + 1 = counted ∙ ap (λ (xs : List Entry). length xs) is ∙ length-append log (entry ∷ []) in
+    let longer = prefix-length seen log p in (
+      subst (λ (xs : List Entry). IsPrefix seen xs) (sym is) (prefix_more seen log (entry ∷ []) p),
+      (length log, last, subst (λ (xs : List Entry). get_elem? xs (length log) ≡ some entry) (sym is) (at-last log entry (length log) refl)),
+      omega (arith, last, longer),
+    )
+
 -- an act more
-pub act-added : (token token' : Token) (act : the_act.Act) (n : ℕ) (reply : ActReply) → MayAct token act → IsInStep token' → Acted display token act token' n reply → IsAddedAct token act reply token'
+pub act-added : (token token' : Token) (act : the_act.Act) (n : ℕ) (reply : ActReply) → MayAct token act → IsInStep token' → Acted display token act token' n reply → IsAddedAct token n act reply token'
 act-added token token' act n reply may step acted =
     let is = may.account_is in
     let number : ℕ = token.account.number in
     let call : ℕ = token.account.used + 1 in
     let entry : Entry = Act number call act reply in
-    let told = acted.account in (
-      entry-more token token' entry is may.present
+    let told = acted.account in
+    let ends : IsEndedBy token.seen token'.seen n entry = ended-by-one token.seen token'.seen acted.log n entry acted.more acted.seen acted.number_is in (
+      entry-more token token' n entry is may.present
           (record {
             owner = refl;
             number = refl;
@@ -117,6 +142,9 @@ act-added token token' act n reply may step acted =
             used = ap (λ (a : Account). a.used) told;
             holds = ap (λ (a : Account). a.holds) told;
             mine = ap (λ (a : Account). a.mine) told;
+            more = ends.0;
+            numbered = ends.1;
+            behind = ends.2;
           }),
       reply-in token' is.setup acted.log number call act reply (acted.start ∙ is.begun) acted.seen acted.history.agrees,
     )
@@ -128,6 +156,7 @@ watched-kept token token' idle watched = record {
   number = ap (λ (a : Account). a.number) watched.account;
   mine = ap (λ (a : Account). a.mine) watched.account;
   idle = ap (λ (a : Account). a.out) watched.account ∙ idle;
+  more = watched.more;
 }
 
 -- nothing was done
@@ -137,6 +166,7 @@ same-kept token token' idle same = record {
   number = ap (λ (t : Token). t.account.number) same;
   mine = ap (λ (t : Token). mine_of t) same;
   idle = ap (λ (t : Token). t.account.out) same ∙ idle;
+  more = subst (λ (t : Token). IsPrefix token.seen t.seen) (sym same) (prefix_self token.seen);
 }
 
 -- what is out of a client that had nothing out, once it has submitted a request
@@ -159,9 +189,9 @@ only-one xs x y one has =
     ⊎_elim (λ same. sym same) (λ none. absurd none) (subst P one has)
 
 -- a command more: what was submitted has come back
-pub command-added : (token mid token' : Token) (requests : ℕ → Request) (ticket : Ticket) (done : DonePass) → IsActive token → Submitted token requests ticket mid → TakesBack display mid done token' → IsInStep token'
-    → IsAdded token (Command token.account.number (token.account.used + 1) (requests ticket.fence.ordinal) done.reply) token'
-command-added token mid token' requests ticket done active is takes step =
+pub command-added : (token mid token' : Token) (requests : ℕ → Request) (ticket : Ticket) (done : DonePass) (n : ℕ) → n ≡ done.place + 1 → IsActive token → Submitted token requests ticket mid → TakesBack display mid done token' → IsInStep token'
+    → IsAdded token n (Command token.account.number (token.account.used + 1) (requests ticket.fence.ordinal) done.reply) token'
+command-added token mid token' requests ticket done n n_is active is takes step =
     let request = requests ticket.fence.ordinal in
     let number : ℕ = token.account.number in
     let call : ℕ = token.account.used + 1 in
@@ -169,7 +199,12 @@ command-added token mid token' requests ticket done active is takes step =
     let told : token'.account ≡ settled (drawn token.account request) (record { order = ordered_of token.account request; reply = done.reply; place = done.place }) =
     takes.account ∙ ap (λ (a : Account). settled a (finished_of display done)) is.drawn.account
     ∙ ap (λ (o : Order). settled (drawn token.account request) (record { order = o; reply = done.reply; place = done.place })) order in
-    entry-more token token' (Command number call request done.reply) active.account_is active.present
+    let entry : Entry = Command number call request done.reply in
+    let more : IsPrefix token.seen token'.seen = subst (λ (xs : List Entry). IsPrefix xs token'.seen) is.drawn.seen takes.more in
+    let stands : get_elem? token'.seen done.place ≡ some entry =
+    subst (λ (o : Order). get_elem? token'.seen done.place ≡ some (Command o.client o.call o.request done.reply)) order takes.place in
+    let behind = stands-behind token token'.seen done.place entry active.account_is more refl refl stands in
+    entry-more token token' n entry active.account_is active.present
     (record {
       owner = refl;
       number = refl;
@@ -184,6 +219,9 @@ command-added token mid token' requests ticket done active is takes step =
       used = ap (λ (a : Account). a.used) told;
       holds = ap (λ (a : Account). a.holds) told;
       mine = ap (λ (a : Account). a.mine) told;
+      more = more;
+      numbered = (done.place, n_is, stands);
+      behind = omega (arith, behind, n_is);
     })
 
 -- a command that came back unrun
@@ -193,6 +231,7 @@ unrun-kept token mid token' requests ticket is spent step = record {
   number = ap (λ (a : Account). a.number) spent.back.account ∙ ap (λ (a : Account). a.number) is.drawn.account;
   mine = ap (λ (a : Account). a.mine) spent.back.account ∙ ap (λ (a : Account). a.mine) is.drawn.account;
   idle = step.idle;
+  more = subst (λ (xs : List Entry). IsPrefix xs token'.seen) is.drawn.seen spent.back.more;
 }
 
 -- the order of what came back unrun is that of the pass

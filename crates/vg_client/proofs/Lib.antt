@@ -2,6 +2,7 @@ pub mod ReplayLemmas
 pub mod HoldsLemmas
 pub mod OwnLemmas
 pub mod TaskLemmas
+pub mod OutcomeLemmas
 pub mod AccountLemmas
 pub mod ReplyLemmas
 pub mod PlayLemmas

@@ -2,6 +2,7 @@
 use Rattle.std.proofs.Common.{◌≡◌, ◌⊎◌, ◌+◌, ◌<◌, ◌≤◌, ◌∙◌, sym, ap, refl, subst, arith, inl, inr, ℕ, Bool, true, false, cond, not, ◌||◌, List, [], ◌∷◌, ◌++◌, length, map, drop, filter, slice_set, append_assoc, append-nil, length-append, Option, Some, None, Result, Ok, Err, Vec}
 use Rattle.std.specs.Prelude.{IfErr, IfOk, OnErr, OnOk}
 use Rattle.std.specs.List.{AllByRecursion}
+use mathlib.Core.List.{IsPrefix}
 use Rattle.std.proofs.lemmas.List.{length-map, length-set}
 use Rattle.vg_machine.specs.declared.act.Act as the_act
 use Rattle.vg_machine.specs.declared.act.Act.TheVariants as acts
@@ -15,28 +16,34 @@ use Rattle.vg_machine.specs.Entries.{Entry}
 use Rattle.vg_machine.specs.declared.holds.Holds.{Holds}
 use Rattle.vg_machine.specs.Holds.{Deniable}
 use Rattle.vg_machine.specs.Order.{is_leave, updated}
+use Rattle.vg_client.specs.declared.call.Call.{Call}
 use Rattle.vg_client.specs.declared.caller.Caller.{Caller}
+use Rattle.vg_client.specs.declared.given.Added.{Added}
 use Rattle.vg_client.specs.declared.given.Given.{Given}
 use Rattle.vg_client.specs.declared.given.Given.TheVariants as givens
 use Rattle.vg_client.specs.declared.names.Held.{Held}
+use Rattle.vg_client.specs.declared.outcome.Played.{Played}
 use Rattle.vg_client.specs.declared.task.Change.{Change}
 use Rattle.vg_client.specs.declared.task.Change.TheVariants.{NewBuffer, EndOfName, Shows}
 use Rattle.vg_client.specs.declared.task.Deed.{Deed}
 use Rattle.vg_client.specs.declared.task.Deed.TheVariants as deeds
 use Rattle.vg_client.specs.declared.task.Task.{Task}
-use Rattle.vg_client.specs.Calls.{IsAsked, IsDone, IsEntryOf, IsFrontOf, Plays, learned, names_after, names_reserved, shows_after}
-use Rattle.vg_client.specs.Tasks.{end_tasks}
-use Rattle.vg_client.specs.Callers.{HasAdded, HasDone, HasEnded, HasGoneOn, IsFewPages, IsFitPlan, IsPlanOf, IsReady, IsSmall, known, planned, weight_of, weights}
+use Rattle.vg_client.specs.Calls.{Begins, BeginsTasks, Gives, GivesTasks, IsAsked, IsDenial, IsDone, IsEntryOf, IsFrontOf, Plays, learned, names_after, names_reserved, shows_after}
+use Rattle.vg_client.specs.Tasks.{end_tasks, tasks_of}
+use Rattle.vg_client.specs.Callers.{HasAdded, HasDone, HasEnded, HasGoneOn, HasLeftBy, IsFewPages, IsFitPlan, IsPlanOf, IsReady, IsSmall, known, planned, weight_of, weights}
 use Rattle.vg_client.specs.Given.{follow_ups, given_of, goes_on, is_accepted, left_after, tells_denial}
 use Rattle.vg_client.specs.Known.{Known}
 use Rattle.vg_client.specs.Names.{NamesState, is_generation, without_name}
 use Rattle.vg_client.specs.Fits.{IsFit}
+use Rattle.vg_client.specs.Outcomes.{HasPlayed, IsNumbered, last_given}
 use Rattle.vg_client.specs.Table.{page_entry}
 use Rattle.vg_driver.specs.Tickets.{Token}
-use Rattle.vg_client.specs.Accounts.{IsAccount, IsActive, IsAdded, IsPresent, IsUnadded, leaves, mine_of}
+use Rattle.vg_client.specs.Accounts.{IsAccount, IsActive, IsAdded, IsAddedAct, IsPresent, IsUnadded, leaves, mine_of}
 use Rattle.vg_client.proofs.HoldsLemmas.{updated-kept}
+use Rattle.vg_client.proofs.OutcomeLemmas.{played-more}
 use Rattle.vg_client.proofs.OwnLemmas.{all-more}
 use Rattle.vg_client.proofs.TaskLemmas.{fit-append, weights-append}
+use Rattle.vg_history.proofs.ListLemmas.{prefix_self, prefix_trans}
 
 -- one entry more, of the first task that was left
 plays-more : (client : ℕ) (stops : Bool) (known0 : Known) (tasks0 : List Task) (mine : List Entry) (known : Known) (task : Task) (left : List Task) (entry : Entry)
@@ -140,16 +147,17 @@ small-more used used' known known' task entry small next learns =
     })
 
 -- how far a client has come with these tasks
-pub record IsPlaying {B : Type 0} (stops : Bool) (tasks0 : List Task) (client0 : Caller B) (client : Caller B) (left : List Task) : Type 0 where
+pub record IsPlaying {B : Type 0} (stops : Bool) (tasks0 : List Task) (client0 : Caller B) (client : Caller B) (left : List Task) (gathered : Played) : Type 0 where
   pub mine : List Entry
   pub on : HasGoneOn client0 mine client
   pub fit : AllByRecursion IsFit left
   pub room : length mine + weights left ≤ weights tasks0
   pub played : Plays client0.token.account.number stops (known client0) tasks0 mine (known client) left
+  pub has : HasPlayed client0.token.seen mine client.token.seen gathered
 
 -- nothing is added
 pub added-none : {B : Type 0} (client : Caller B) → client.token.account.out ≡ [] → HasAdded client [] client
-added-none client idle = record { start = refl; number = refl; idle = idle; own = sym (append-nil _) }
+added-none client idle = record { start = refl; number = refl; idle = idle; own = sym (append-nil _); more = prefix_self client.token.seen }
 
 pub added-length : {B : Type 0} {client client' : Caller B} {mine : List Entry} → HasAdded client mine client' → length (mine_of client'.token) ≡ length (mine_of client.token) + length mine
 added-length {client = client} {mine = mine} added = ap (λ (xs : List Entry). length xs) added.own ∙ length-append (mine_of client.token) mine
@@ -161,15 +169,17 @@ added-then client0 client client' mine more one other = record {
   number = other.number ∙ one.number;
   idle = other.idle;
   own = other.own ∙ ap (λ (xs : List Entry). xs ++ more) one.own ∙ append_assoc _ mine more;
+  more = prefix_trans client0.token.seen client.token.seen client'.token.seen one.more other.more;
 }
 
-pub playing-first : {B : Type 0} (stops : Bool) (tasks : List Task) (client : Caller B) → IsReady client → AllByRecursion IsFit tasks → IsPlaying stops tasks client client tasks
-playing-first stops tasks client ready fit = record {
+pub playing-first : {B : Type 0} (stops : Bool) (tasks : List Task) (client : Caller B) (gathered : Played) → IsReady client → AllByRecursion IsFit tasks → HasPlayed client.token.seen [] client.token.seen gathered → IsPlaying stops tasks client client tasks gathered
+playing-first stops tasks client gathered ready fit has = record {
   mine = [];
   on = record { added = added-none client ready.active.account_is.in_step.idle; displays = refl; made = omega arith; ready = ready };
   fit = fit;
   room = omega arith;
   played = (refl, refl);
+  has = has;
 }
 
 learned-is : (known0 known : Known) (task : Task) (entry : Entry) → known.holds ≡ updated known0.holds entry → known.names ≡ names_after task.change (given_of entry) known0.names → known.shows ≡ shows_after task.change (given_of entry) known0.shows
@@ -186,22 +196,23 @@ added-same client client' client'' mine added same = record {
   number = ap (λ (t : Token). t.account.number) same ∙ added.number;
   idle = ap (λ (t : Token). t.account.out) same ∙ added.idle;
   own = ap mine_of same ∙ added.own;
+  more = subst (λ (t : Token). IsPrefix client.token.seen t.seen) (sym same) added.more;
 }
 
 -- the tasks with the next one done
-next-plays : {B : Type 0} (stops : Bool) (tasks0 : List Task) (client0 client : Caller B) (left left1 : List Task) (task : Task) (entry : Entry) → (playing : IsPlaying stops tasks0 client0 client left) → left ≡ task ∷ left1
+next-plays : {B : Type 0} (stops : Bool) (tasks0 : List Task) (client0 client : Caller B) (left left1 : List Task) (gathered : Played) (task : Task) (entry : Entry) → (playing : IsPlaying stops tasks0 client0 client left gathered) → left ≡ task ∷ left1
     → IsDone client.token.account.number client.token.account.holds task.deed entry
     → Plays client0.token.account.number stops (known client0) tasks0 (playing.mine ++ entry ∷ []) (learned (known client) task entry) (left_after stops task.change (given_of entry) left1)
-next-plays stops tasks0 client0 client left left1 task entry playing first made =
+next-plays stops tasks0 client0 client left left1 gathered task entry playing first made =
     let Left : List Task → Type 0 = λ ts. Plays client0.token.account.number stops (known client0) tasks0 playing.mine (known client) ts in
     let Owner : ℕ → Type 0 = λ n. IsDone n client.token.account.holds task.deed entry in
     plays-more client0.token.account.number stops (known client0) tasks0 playing.mine (known client) task left1 entry (subst Left first playing.played) (subst Owner playing.on.added.number made)
 
-pub playing-more : {B : Type 0} (stops : Bool) (tasks0 : List Task) (client0 client client' client'' : Caller B) (left left1 left' : List Task) (task : Task) (entry : Entry) (given : Given)
-    → IsPlaying stops tasks0 client0 client left → left ≡ task ∷ left1 → IsDone client.token.account.number client.token.account.holds task.deed entry → HasDone client entry given client' → IsFewPages given
-    → client''.token ≡ client'.token → client''.names ≡ names_after task.change given client'.names → client''.shows.items ≡ shows_after task.change given client'.shows.items → left' ≡ left_after stops task.change given left1
-    → IsPlaying stops tasks0 client0 client'' left'
-playing-more stops tasks0 client0 client client' client'' left left1 left' task entry given playing first made done few same names shows leaves =
+pub playing-more : {B : Type 0} (stops : Bool) (tasks0 : List Task) (client0 client client' client'' : Caller B) (left left1 left' : List Task) (gathered gathered' : Played) (task : Task) (entry : Entry) (gave : Added)
+    → IsPlaying stops tasks0 client0 client left gathered → left ≡ task ∷ left1 → IsDone client.token.account.number client.token.account.holds task.deed entry → HasDone client entry gave client' → IsFewPages gave.given
+    → client''.token ≡ client'.token → client''.names ≡ names_after task.change gave.given client'.names → client''.shows.items ≡ shows_after task.change gave.given client'.shows.items → left' ≡ left_after stops task.change gave.given left1
+    → gathered'.entries.items ≡ gathered.entries.items ++ gave.number ∷ [] → gathered'.last ≡ Some (last_given gave.number gave.given) → IsPlaying stops tasks0 client0 client'' left' gathered'
+playing-more stops tasks0 client0 client client' client'' left left1 left' gathered gathered' task entry gave playing first made done few same names shows leaves numbers last =
     let is = done.given_is in
     let learns : known client'' ≡ learned (known client) task entry =
     learned-is (known client) (known client'') task entry (ap (λ (t : Token). t.account.holds) same ∙ done.holds)
@@ -236,35 +247,41 @@ playing-more stops tasks0 client0 client client' client'' left left1 left' task 
       fit = subst Fit (sym left_is) (left-fit stops task.change (given_of entry) left1 (subst Few is few) fits.1);
       room = omega (arith, longer, fewer, playing.room);
       played = subst (λ (ts : List Task). Plays_to (known client'') ts) (sym left_is) (subst (λ (k : Known). Plays_to k (left_after stops task.change (given_of entry) left1)) (sym learns)
-          (next-plays stops tasks0 client0 client left left1 task entry playing first made));
+          (next-plays stops tasks0 client0 client left left1 gathered task entry playing first made));
+      has = subst (λ (t : Token). HasPlayed client0.token.seen (playing.mine ++ entry ∷ []) t.seen gathered') (sym same)
+          (played-more client0.token.seen client.token.seen client'.token.seen playing.mine entry gathered gathered' gave playing.has playing.on.added.more done.added.more is done.numbered done.behind numbers last);
     }
 
 -- what stands where memory lacks
 abbrev pub Stood : {B : Type 0} → Bool → List Task → Caller B → Caller B → Type 0
 Stood stops tasks0 client0 client' = (mine : List Entry) × IsFrontOf client0.token.account.number stops (known client0) tasks0 mine × HasAdded client0 mine client'
 
-pub stood-make : {B : Type 0} (stops : Bool) (tasks0 : List Task) (client0 client client' : Caller B) (left : List Task)
-    → IsPlaying stops tasks0 client0 client left → HasAdded client [] client' → Stood stops tasks0 client0 client'
-stood-make stops tasks0 client0 client client' left playing added =
+pub stood-none : {B : Type 0} (stops : Bool) (tasks : List Task) (client : Caller B) → IsReady client → Stood stops tasks client client
+stood-none stops tasks client ready = ([], (known client, tasks, (refl, refl)), added-none client ready.active.account_is.in_step.idle)
+
+pub stood-make : {B : Type 0} (stops : Bool) (tasks0 : List Task) (client0 client client' : Caller B) (left : List Task) (gathered : Played)
+    → IsPlaying stops tasks0 client0 client left gathered → HasAdded client [] client' → Stood stops tasks0 client0 client'
+stood-make stops tasks0 client0 client client' left gathered playing added =
     let All : List Entry → Type 0 = λ xs. Plays client0.token.account.number stops (known client0) tasks0 xs (known client) left in
     let same : playing.mine ++ [] ≡ playing.mine = append-nil playing.mine in
     (playing.mine ++ [], (known client, left, subst All (sym same) playing.played), added-then client0 client client' playing.mine [] playing.on.added added)
 
-pub stood-done : {B : Type 0} (stops : Bool) (tasks0 : List Task) (client0 client client' client'' : Caller B) (left left1 : List Task) (task : Task) (entry : Entry) (given : Given)
-    → IsPlaying stops tasks0 client0 client left → left ≡ task ∷ left1 → IsDone client.token.account.number client.token.account.holds task.deed entry → HasDone client entry given client' → client''.token ≡ client'.token
+pub stood-done : {B : Type 0} (stops : Bool) (tasks0 : List Task) (client0 client client' client'' : Caller B) (left left1 : List Task) (gathered : Played) (task : Task) (entry : Entry) (gave : Added)
+    → IsPlaying stops tasks0 client0 client left gathered → left ≡ task ∷ left1 → IsDone client.token.account.number client.token.account.holds task.deed entry → HasDone client entry gave client' → client''.token ≡ client'.token
     → Stood stops tasks0 client0 client''
-stood-done stops tasks0 client0 client client' client'' left left1 task entry given playing first made done same = (
+stood-done stops tasks0 client0 client client' client'' left left1 gathered task entry gave playing first made done same = (
   playing.mine ++ entry ∷ [],
-  (learned (known client) task entry, left_after stops task.change (given_of entry) left1, next-plays stops tasks0 client0 client left left1 task entry playing first made),
+  (learned (known client) task entry, left_after stops task.change (given_of entry) left1, next-plays stops tasks0 client0 client left left1 gathered task entry playing first made),
   added-then client0 client client'' playing.mine (entry ∷ []) playing.on.added (added-same client client' client'' (entry ∷ []) done.added same),
 )
 
 -- all tasks are done
-pub played-all : {B : Type 0} (stops : Bool) (tasks0 : List Task) (client0 client : Caller B) (left : List Task) → left ≡ [] → IsPlaying stops tasks0 client0 client left
+pub played-all : {B : Type 0} (stops : Bool) (tasks0 : List Task) (client0 client : Caller B) (left : List Task) (gathered : Played) → left ≡ [] → IsPlaying stops tasks0 client0 client left gathered
     → (mine : List Entry) × Plays client0.token.account.number stops (known client0) tasks0 mine (known client) [] × HasGoneOn client0 mine client × (length mine ≤ weights tasks0)
-played-all stops tasks0 client0 client left none playing =
+    × HasPlayed client0.token.seen mine client.token.seen gathered
+played-all stops tasks0 client0 client left gathered none playing =
     let Left : List Task → Type 0 = λ ts. Plays client0.token.account.number stops (known client0) tasks0 playing.mine (known client) ts in
-    (playing.mine, subst Left none playing.played, playing.on, omega (arith, playing.room))
+    (playing.mine, subst Left none playing.played, playing.on, omega (arith, playing.room), playing.has)
 
 pub left-smaller : (stops : Bool) (task : Task) (given : Given) (left left1 left' : List Task) → left ≡ task ∷ left1 → left' ≡ left_after stops task.change given left1 → weights left' < weights left
 left-smaller stops task given left left1 left' first leaves =
@@ -286,11 +303,25 @@ pub plan-fits : {A : Type 0} (holds : Holds) (plan : Result (List Task) What) (m
 plan-fits holds plan (Ok tasks) plans may = (plans.1, plans.2)
 plan-fits holds plan (Err what) plans may = may
 
+pub gives-planned : {A : Type 0} (client : ℕ) (known known' : Known) (call : Call) (made : Result (Vec Task A) What) (mine : List Entry) → IsPlanOf (tasks_of known call) made → GivesTasks client known (planned made) mine known' → Gives client known call mine known'
+gives-planned client known known' call made mine plans gives = subst (λ (plan : Result (List Task) What). GivesTasks client known plan mine known') (sym (plan-is (tasks_of known call) made plans)) gives
+
+-- a call that hasn't begun
+pub begins-none : (client : ℕ) (known : Known) (plan : Result (List Task) What) → BeginsTasks client known plan []
+begins-none client known (Ok tasks) = (known, tasks, (refl, refl))
+begins-none client known (Err what) = inl refl
+
+abbrev pub StoodCall : {B : Type 0} → Call → Caller B → Caller B → Type 0
+StoodCall call client client' = (mine : List Entry) × Begins client.token.account.number (known client) call mine × HasAdded client mine client'
+
+pub unbegun : {B : Type 0} (call : Call) (client : Caller B) → IsReady client → StoodCall call client client
+unbegun call client ready = ([], begins-none client.token.account.number (known client) (tasks_of (known client) call), added-none client ready.active.account_is.in_step.idle)
+
 -- one entry more of a client, that it made by a task or to tell a denial
-pub done-by : {B : Type 0} (client client' : Caller B) (entry : Entry) (given : Given) → IsAdded client.token entry client'.token → IsPresent client.token → is_leave entry ≡ false
-    → client'.names ≡ client.names → client'.shows.items ≡ client.shows.items → given ≡ given_of entry → HasDone client entry given client'
-done-by client client' entry given is present stays names shows given_is = record {
-  added = record { start = is.start; number = is.number; idle = is.account_is.in_step.idle; own = is.mine };
+pub done-by : {B : Type 0} (client client' : Caller B) (entry : Entry) (gave : Added) → IsAdded client.token gave.number entry client'.token → IsPresent client.token → is_leave entry ≡ false
+    → client'.names ≡ client.names → client'.shows.items ≡ client.shows.items → gave.given ≡ given_of entry → HasDone client entry gave client'
+done-by client client' entry gave is present stays names shows given_is = record {
+  added = record { start = is.start; number = is.number; idle = is.account_is.in_step.idle; own = is.mine; more = is.more };
   active = record {
     account_is = is.account_is;
     begun = let used = is.used in omega (arith, used);
@@ -301,6 +332,8 @@ done-by client client' entry given is present stays names shows given_is = recor
   names = names;
   shows = shows;
   given_is = given_is;
+  numbered = is.numbered;
+  behind = is.behind;
 }
 
 -- an act that doesn't leave is no leave
@@ -309,12 +342,12 @@ stays-act client call acts.Leave reply e = absurd (cc e)
 stays-act client call act reply e = refl
 
 -- what is told of an act is what its entry gives
-pub given-is : (client call : ℕ) (act : the_act.Act) (reply : ActReply) (told : Bool) (given : Given) → told ≡ tells_denial act → given ≡ cond told givens.Denied (givens.Act reply) → given ≡ given_of (Act client call act reply)
-given-is client call act reply told given is made = made ∙ ap (λ (b : Bool). cond b givens.Denied (givens.Act reply)) is
+pub given-is : (client call : ℕ) (act : the_act.Act) (reply : ActReply) (told : Bool) (given : Given) → told ≡ tells_denial act → given ≡ cond told (givens.Denied reply) (givens.Act reply) → given ≡ given_of (Act client call act reply)
+given-is client call act reply told given is made = made ∙ ap (λ (b : Bool). cond b (givens.Denied reply) (givens.Act reply)) is
 
 -- what stands where memory lacked: nothing more
 pub unadded : {B : Type 0} (client client' : Caller B) → IsUnadded client.token client'.token → HasAdded client [] client'
-unadded client client' kept = record { start = kept.start; number = kept.number; idle = kept.idle; own = kept.mine ∙ sym (append-nil _) }
+unadded client client' kept = record { start = kept.start; number = kept.number; idle = kept.idle; own = kept.mine ∙ sym (append-nil _); more = kept.more }
 
 pub map_ok : {T E : Type 0} {P Q : T → Type 0} (r : Result T E) → ((x : T) → P x → Q x) → IfOk r P → IfOk r Q
 map_ok (Ok x) f p = f x p
@@ -325,25 +358,78 @@ map_err (Ok x) f a = tt
 map_err (Err e) f a = f a
 
 -- what was asked, or denied, by what the client was denied
-pub asked-done : {B : Type 0} (client client' : Caller B) (denied : Option What) (requests : ℕ → Request) → denied ≡ None → (given : Given)
-    → (ordinal : ℕ) × (reply : Reply) × HasDone client (Command client.token.account.number (client.token.account.used + 1) (requests ordinal) reply) given client' × IsFewPages given
-    → (entry : Entry) × IsAsked client.token.account.number denied requests entry × HasDone client entry given client' × IsFewPages given
-asked-done client client' denied requests is given (ordinal, reply, done, few) =
+pub asked-done : {B : Type 0} (client client' : Caller B) (denied : Option What) (requests : ℕ → Request) → denied ≡ None → (gave : Added)
+    → (ordinal : ℕ) × (reply : Reply) × HasDone client (Command client.token.account.number (client.token.account.used + 1) (requests ordinal) reply) gave client' × IsFewPages gave.given
+    → (entry : Entry) × IsAsked client.token.account.number denied requests entry × HasDone client entry gave client' × IsFewPages gave.given
+asked-done client client' denied requests is gave (ordinal, reply, done, few) =
     let entry : Entry = Command client.token.account.number (client.token.account.used + 1) (requests ordinal) reply in
     let P : Option What → Type 0 = λ d. IsAsked client.token.account.number d requests entry in
     (entry, subst P (sym is) (client.token.account.used + 1, ordinal, reply, refl), done, few)
 
-pub denied-done : {B : Type 0} (client client' : Caller B) (denied : Option What) (requests : ℕ → Request) (what : What) → denied ≡ Some what → (given : Given)
-    → (reply : ActReply) × HasDone client (Act client.token.account.number (client.token.account.used + 1) (acts.Denied what) reply) given client' × IsFewPages given
-    → (entry : Entry) × IsAsked client.token.account.number denied requests entry × HasDone client entry given client' × IsFewPages given
-denied-done client client' denied requests what is given (reply, done, few) =
+pub denied-done : {B : Type 0} (client client' : Caller B) (denied : Option What) (requests : ℕ → Request) (what : What) → denied ≡ Some what → (gave : Added)
+    → (reply : ActReply) × HasDone client (Act client.token.account.number (client.token.account.used + 1) (acts.Denied what) reply) gave client' × IsFewPages gave.given
+    → (entry : Entry) × IsAsked client.token.account.number denied requests entry × HasDone client entry gave client' × IsFewPages gave.given
+denied-done client client' denied requests what is gave (reply, done, few) =
     let entry : Entry = Act client.token.account.number (client.token.account.used + 1) (acts.Denied what) reply in
     let P : Option What → Type 0 = λ d. IsAsked client.token.account.number d requests entry in
     (entry, subst P (sym is) (client.token.account.used + 1, reply, refl), done, few)
 
+-- a denial that was told, and what it was answered
+pub denied-told : {B : Type 0} (client client' : Caller B) (what : What) (gathered gathered' : Played) (gave : Added) → IsReady client → HasPlayed client.token.seen [] client.token.seen gathered
+    → (reply : ActReply) × HasDone client (Act client.token.account.number (client.token.account.used + 1) (acts.Denied what) reply) gave client' × IsFewPages gave.given
+    → gathered'.entries.items ≡ gathered.entries.items ++ gave.number ∷ [] → gathered'.last ≡ Some (last_given gave.number gave.given)
+    → (mine : List Entry) × IsDenial client.token.account.number what mine × HasGoneOn client mine client' × (known client' ≡ known client) × (length mine ≡ 1) × HasPlayed client.token.seen mine client'.token.seen gathered'
+denied-told client client' what gathered gathered' gave ready has (reply, done, few) numbers last =
+    let entry : Entry = Act client.token.account.number (client.token.account.used + 1) (acts.Denied what) reply in
+    let holds : client'.token.account.holds ≡ client.token.account.holds = done.holds in
+    let same : known client' ≡ known client =
+    ap (λ (h : Holds). record { holds = h; names = client'.names; shows = client'.shows.items }) holds
+    ∙ ap (λ (ns : NamesState). record { holds = client.token.account.holds; names = ns; shows = client'.shows.items }) done.names
+    ∙ ap (λ (ss : List (Option ℕ)). record { holds = client.token.account.holds; names = client.names; shows = ss }) done.shows in
+    let used = done.used in
+    let small : IsSmall client'.token.account.used (known client) = record {
+      few_displays = ready.small.few_displays;
+      current = ready.small.current;
+      made = omega (arith, ready.small.made, used);
+      scanouts = ready.small.scanouts;
+    } in
+    let made = ap (λ (ns : NamesState). ns.made) done.names in (
+      entry ∷ [],
+      (client.token.account.used + 1, reply, refl),
+      record {
+        added = done.added;
+        displays = ap (λ (h : Holds). h.displays) holds;
+        made = omega (arith, made);
+        ready = record { active = done.active; small = subst (λ (k : Known). IsSmall client'.token.account.used k) (sym same) small };
+      },
+      same,
+      refl,
+      played-more client.token.seen client.token.seen client'.token.seen [] entry gathered gathered' gave has (prefix_self client.token.seen) done.added.more done.given_is done.numbered done.behind numbers last,
+    )
+
+-- what stands of a denial where memory lacked
+abbrev pub StoodDenial : {B : Type 0} → What → Caller B → Caller B → Type 0
+StoodDenial what client client' = (mine : List Entry) × ((mine ≡ []) ⊎ IsDenial client.token.account.number what mine) × HasAdded client mine client'
+
+pub stood-undenied : {B : Type 0} (client client' : Caller B) (what : What) → HasAdded client [] client' → StoodDenial what client client'
+stood-undenied client client' what added = ([], inl refl, added)
+
+pub stood-denied : {B : Type 0} (client client' : Caller B) (what : What) (gave : Added)
+    → (reply : ActReply) × HasDone client (Act client.token.account.number (client.token.account.used + 1) (acts.Denied what) reply) gave client' × IsFewPages gave.given → StoodDenial what client client'
+stood-denied client client' what gave (reply, done, few) =
+    (Act client.token.account.number (client.token.account.used + 1) (acts.Denied what) reply ∷ [], inr (client.token.account.used + 1, reply, refl), done.added)
+
 pub on_err : {T E : Type 0} {P : Type 0} (r : Result T E) → P → OnErr r P
 on_err (Ok x) p = tt
 on_err (Err e) p = p
+
+-- the entry with which a client left, by its number
+pub left-by : (token token' : Token) (n : ℕ) (reply : ActReply) → IsAddedAct token n acts.Leave reply token' → HasLeftBy token' n
+left-by token token' n reply (added, (state, is)) =
+    let Left : ℕ → ℕ → ActReply → Type 0 = λ c k r. IsNumbered token'.seen n (Act c k acts.Leave r) in
+    let told : Left token.account.number (token.account.used + 1) act_replies.Ok = subst (λ (r : ActReply). Left token.account.number (token.account.used + 1) r) is added.numbered in
+    let numbered : Left token.account.number token'.account.used act_replies.Ok = subst (λ (k : ℕ). Left token.account.number k act_replies.Ok) (sym added.used) told in
+    subst (λ (c : ℕ). Left c token'.account.used act_replies.Ok) (sym added.number) numbered
 
 -- the end of a client: what it gives up, and its leave
 pub ended-by : {B : Type 0} (client client' : Caller B) (tasks : List Task) (ending : List Entry) (token : Token) → tasks ≡ end_tasks (known client) → Plays client.token.account.number false (known client) tasks ending (known client') []

@@ -37,12 +37,12 @@ few-effect state client (acts.Take scanout) few = few-replied _ state _ act_repl
 few-effect state client (acts.Drop scanout) few = few-replied _ state _ act_replies.Ok tt
 few-effect state client act few = tt
 
-few-given : (told : Bool) (reply : ActReply) → HasFewPages reply → IsFewPages (cond told givens.Denied (givens.Act reply))
+few-given : (told : Bool) (reply : ActReply) → HasFewPages reply → IsFewPages (cond told (givens.Denied reply) (givens.Act reply))
 few-given true reply few = tt
 few-given false reply few = few
 
 -- what is given for an act has few pages
-pub few-act : (state : State) (client : ℕ) (act : Act) (reply : ActReply) (told : Bool) (given : Given) → HasFewBytes act → reply ≡ (act_step state client act).1 → given ≡ cond told givens.Denied (givens.Act reply) → IsFewPages given
+pub few-act : (state : State) (client : ℕ) (act : Act) (reply : ActReply) (told : Bool) (given : Given) → HasFewBytes act → reply ≡ (act_step state client act).1 → given ≡ cond told (givens.Denied reply) (givens.Act reply) → IsFewPages given
 few-act state client act reply told given few is made =
     let pages : HasFewPages reply = subst HasFewPages (sym is) (few-effect (counted state) client act few) in
     subst IsFewPages (sym made) (few-given told reply pages)

@@ -1,6 +1,7 @@
 -- What a client's token says of its own calls.
-use Rattle.std.specs.Prelude.{◌≡◌, ◌≤◌, ◌+◌, ℕ, Bool, true, false, List, [], ◌∷◌, ◌++◌, length, Some}
+use Rattle.std.specs.Prelude.{◌≡◌, ◌≤◌, ◌<◌, ◌+◌, ℕ, Bool, true, false, List, [], ◌∷◌, ◌++◌, length, Some}
 use Rattle.std.specs.List.{AllByRecursion}
+use mathlib.Core.List.{IsPrefix}
 use Rattle.vg_book.specs.Own.{IsInStep}
 use Rattle.vg_machine.specs.declared.setup.Setup.{Setup}
 use Rattle.vg_machine.specs.declared.act.Act as the_act
@@ -15,6 +16,7 @@ use Rattle.vg_machine.specs.State.{State, start}
 use Rattle.vg_machine.specs.Order.{holds_of, is_leave, updated}
 use Rattle.vg_driver.specs.Tickets.{Token}
 use Rattle.vg_client.specs.Own.{IsOwn}
+use Rattle.vg_client.specs.Outcomes.{IsNumbered}
 
 -- The client's entries, in the order in which it made them.
 abbrev pub mine_of : Token → List Entry
@@ -64,22 +66,25 @@ pub record MayAct (token : Token) (act : the_act.Act) : Type 0 where
   pub present : IsPresent token
   pub denied : MayBeDenied token.account.holds act
 
--- One entry more of the client, of which its token tells.
-pub record IsAdded (token : Token) (entry : Entry) (token' : Token) : Type 0 where
+-- One entry more of the client, of which its token tells, with its number n in the history.
+pub record IsAdded (token : Token) (n : ℕ) (entry : Entry) (token' : Token) : Type 0 where
   pub start : token'.start ≡ token.start
   pub number : token'.account.number ≡ token.account.number
   pub used : token'.account.used ≡ token.account.used + 1
   pub holds : token'.account.holds ≡ updated token.account.holds entry
   pub mine : mine_of token' ≡ mine_of token ++ entry ∷ []
   pub account_is : IsAccount token'
+  pub more : IsPrefix token.seen token'.seen
+  pub numbered : IsNumbered token'.seen n entry
+  pub behind : length token.seen < n
 
 -- The reply is the display's in some state.
 abbrev pub IsReply : ℕ → the_act.Act → ActReply → Type 0
 IsReply client act reply = (state : State) × (reply ≡ (act_step state client act).1)
 
-abbrev pub IsAddedAct : Token → the_act.Act → ActReply → Token → Type 0
-IsAddedAct token act reply token' =
-    IsAdded token (Act token.account.number (token.account.used + 1) act reply) token' × IsReply token.account.number act reply
+abbrev pub IsAddedAct : Token → ℕ → the_act.Act → ActReply → Token → Type 0
+IsAddedAct token number act reply token' =
+    IsAdded token number (Act token.account.number (token.account.used + 1) act reply) token' × IsReply token.account.number act reply
 
 -- No entry more, where memory lacked, and nothing outstanding: of a command the number may be spent.
 pub record IsUnadded (token : Token) (token' : Token) : Type 0 where
@@ -87,3 +92,4 @@ pub record IsUnadded (token : Token) (token' : Token) : Type 0 where
   pub number : token'.account.number ≡ token.account.number
   pub mine : mine_of token' ≡ mine_of token
   pub idle : token'.account.out ≡ []
+  pub more : IsPrefix token.seen token'.seen

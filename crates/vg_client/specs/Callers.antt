@@ -1,6 +1,7 @@
 -- A client, and how its calls go on.
 use Rattle.std.specs.Prelude.{◌≡◌, ◌≤◌, ◌<◌, ◌+◌, ℕ, Bool, false, Option, Some, None, List, [], ◌∷◌, ◌++◌, length, Result, Ok, Err, Vec}
 use Rattle.std.specs.List.{AllByRecursion}
+use mathlib.Core.List.{IsPrefix}
 use Rattle.vg_machine.specs.Entries.{Entry}
 use Rattle.vg_machine.specs.declared.act.ActReply.{ActReply}
 use Rattle.vg_machine.specs.declared.act.ActReply.TheVariants.{Reserved}
@@ -17,6 +18,7 @@ use Rattle.vg_chain.specs.Made.{IsCount}
 use Rattle.vg_client.specs.declared.call.Call.{Call}
 use Rattle.vg_client.specs.declared.call.Call.TheVariants as calls
 use Rattle.vg_client.specs.declared.caller.Caller.{Caller}
+use Rattle.vg_client.specs.declared.given.Added.{Added}
 use Rattle.vg_client.specs.declared.given.Given.{Given}
 use Rattle.vg_client.specs.declared.given.Given.TheVariants as givens
 use Rattle.vg_client.specs.declared.task.Change.{Change}
@@ -28,6 +30,7 @@ use Rattle.vg_client.specs.Known.{Known, first_known}
 use Rattle.vg_client.specs.Fits.{IsFit}
 use Rattle.vg_client.specs.Accounts.{IsAccount, IsActive, IsNew, mine_of}
 use Rattle.vg_client.specs.Calls.{Plays}
+use Rattle.vg_client.specs.Outcomes.{IsNumbered}
 use Rattle.vg_client.specs.Tasks.{end_tasks}
 
 -- A client, and whether it has stopped for want of memory.
@@ -51,12 +54,13 @@ pub record IsReady {B : Type 0} (client : Caller B) : Type 0 where
   pub active : IsActive client.token
   pub small : IsSmall client.token.account.used (known client)
 
--- A client has added these entries, and nothing of it is outstanding.
+-- A client has added these entries, and nothing of it is outstanding. It still sees what it had seen.
 pub record HasAdded {B : Type 0} (client : Caller B) (mine : List Entry) (client' : Caller B) : Type 0 where
   pub start : client'.token.start ≡ client.token.start
   pub number : client'.token.account.number ≡ client.token.account.number
   pub idle : client'.token.account.out ≡ []
   pub own : mine_of client'.token ≡ mine_of client.token ++ mine
+  pub more : IsPrefix client.token.seen client'.token.seen
 
 -- The same of a client that goes on: it can make more calls.
 pub record HasGoneOn {B : Type 0} (client : Caller B) (mine : List Entry) (client' : Caller B) : Type 0 where
@@ -65,15 +69,18 @@ pub record HasGoneOn {B : Type 0} (client : Caller B) (mine : List Entry) (clien
   pub made : client.names.made ≤ client'.names.made
   pub ready : IsReady client'
 
--- What one task adds: its entry, by which the client's holds change. Of the rest that the client knows nothing is changed.
-pub record HasDone {B : Type 0} (client : Caller B) (entry : Entry) (given : Given) (client' : Caller B) : Type 0 where
+-- What one task adds: its entry, by which the client's holds change, with its number. Of the rest that the client knows nothing
+-- is changed.
+pub record HasDone {B : Type 0} (client : Caller B) (entry : Entry) (done : Added) (client' : Caller B) : Type 0 where
   pub added : HasAdded client (entry ∷ []) client'
   pub active : IsActive client'.token
   pub used : client'.token.account.used ≡ client.token.account.used + 1
   pub holds : client'.token.account.holds ≡ updated client.token.account.holds entry
   pub names : client'.names ≡ client.names
   pub shows : client'.shows.items ≡ client.shows.items
-  pub given_is : given ≡ given_of entry
+  pub given_is : done.given ≡ given_of entry
+  pub numbered : IsNumbered client'.token.seen done.number entry
+  pub behind : length client.token.seen < done.number
 
 -- How many entries a task can give, with those that follow from it.
 abbrev pub weight_of : Change → ℕ
@@ -142,3 +149,7 @@ pub record HasEnded {B : Type 0} (client : Caller B) (token : Token) : Type 0 wh
   pub last : ℕ
   pub plays : Plays client.token.account.number false (known client) (end_tasks (known client)) ending after []
   pub own : mine_of token ≡ mine_of client.token ++ (ending ++ Act client.token.account.number last Leave act_replies.Ok ∷ [])
+
+-- The client's last entry is that it left, and has this number in the history.
+abbrev pub HasLeftBy : Token → ℕ → Type 0
+HasLeftBy token number = IsNumbered token.seen number (Act token.account.number token.account.used Leave act_replies.Ok)

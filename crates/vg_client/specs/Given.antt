@@ -23,9 +23,9 @@ abbrev pub tells_denial : Act → Bool
 tells_denial (acts.Denied what) = true
 tells_denial act = false
 
--- What an act and a command are answered: of the act that tells a denial, that it was denied.
+-- What an act and a command are answered: of the act that tells a denial, that it was denied, too.
 abbrev pub given_act : Act → ActReply → Given
-given_act act reply = if tells_denial act then givens.Denied else givens.Act reply
+given_act act reply = if tells_denial act then givens.Denied reply else givens.Act reply
 
 abbrev pub given_of : Entry → Given
 given_of (entries.Act client call act reply) = given_act act reply
@@ -49,7 +49,7 @@ is_refused (act_replies.Refused refusal) = true
 is_refused reply = false
 
 abbrev pub is_accepted : Given → Bool
-is_accepted givens.Denied = false
+is_accepted (givens.Denied reply) = false
 is_accepted (givens.Act reply) = not (is_refused reply)
 is_accepted (givens.Command queue reply) = is_ok queue reply
 

@@ -4,6 +4,7 @@ pub mod Own
 pub mod Accounts
 pub mod Table
 pub mod Given
+pub mod Outcomes
 pub mod Fits
 pub mod Tasks
 pub mod Calls

@@ -7,11 +7,13 @@ ghost use Rattle.vg_machine.specs.declared.act.ActReply.TheVariants as act_repli
 ghost use Rattle.vg_machine.specs.declared.setup.Setup.{Setup as Setups};
 ghost use Rattle.vg_machine.specs.Entries.{Entry as Entries};
 ghost use Rattle.vg_client.specs.Accounts.{IsAccount, IsActive, IsNew, IsUnadded, mine_of};
-ghost use Rattle.vg_client.specs.Callers.{HasAdded, HasGoneOn, HasEnded, HasEntered, IsCallFit, IsFitPlan, IsReady, generation_of, known, planned};
+ghost use Rattle.vg_client.specs.Callers.{HasAdded, HasGoneOn, HasEnded, HasEntered, HasLeftBy, IsCallFit, IsFitPlan, IsReady, generation_of, known, planned};
 ghost use Rattle.vg_client.specs.Calls.{Begins, BeginsTasks, Gives, GivesTasks, newest};
+ghost use Rattle.vg_client.specs.Outcomes.{HasPlayed, IsOutcome};
 
 use crate::call::Call;
 use crate::names::{NameRef, Names};
+use crate::outcome::{Outcome, Played};
 use crate::play::{deny, play};
 use crate::task::Task;
 use crate::tasks;
@@ -65,8 +67,8 @@ fn shows_none(alloc: Global, scanouts: usize) -> Result<Vec<Option<u32>>, AllocE
     vec![in alloc; None; scanouts]
 }
 
-/// Makes a call: its tasks one after another, or the act that says what was denied. It gives the name that the call made, if
-/// it made one. Where memory lacks, the entries that were made stand, and no name is given.
+/// Makes a call: its tasks one after another, or the act that says what was denied. It gives what the call made. Where memory
+/// lacks, the entries that were made stand, and no outcome is given.
 pub(crate) fn make_call<B: Naming, N: Rings, R: Wait>(
     rt: &R,
     alloc: Global,
@@ -74,15 +76,16 @@ pub(crate) fn make_call<B: Naming, N: Rings, R: Wait>(
     driver: &Driver<B, N>,
     client: &mut Caller<B>,
     call: &Call,
-) -> Result<Option<NameRef>, AllocError>
+) -> Result<Outcome, AllocError>
     requires ready { IsReady client.old }
     requires fit { IsCallFit client.old.token.account.holds.displays call.now }
     requires room { length (mine_of client.old.token) + 20 < 2 ^ 31 - 1 }
-    ensures done { OnOk result ((mine : List Entries)
+    ensures done { IfOk result (λ outcome. (mine : List Entries)
         × Gives client.old.token.account.number (known client.old) call.now mine (known client.new)
         × HasGoneOn client.old mine client.new
-        × (length mine ≤ 19)) }
-    ensures name { IfOk result (λ name. generation_of name ≡ newest (known client.old) (known client.new)) }
+        × (length mine ≤ 19)
+        × IsOutcome client.old.token.seen mine client.new.token.seen outcome) }
+    ensures name { IfOk result (λ outcome. generation_of outcome.name ≡ newest (known client.old) (known client.new)) }
     ensures begun { OnErr result ((mine : List Entries)
         × Begins client.old.token.account.number (known client.old) call.now mine
         × HasAdded client.old mine client.new) }
@@ -95,8 +98,8 @@ pub(crate) fn make_call<B: Naming, N: Rings, R: Wait>(
         client.shows.as_slice(),
         call,
     )?;
-    follow(rt, alloc, book, driver, client, plan)?;
-    Ok(name_made(&client.names, made))
+    let played = follow(rt, alloc, book, driver, client, plan)?;
+    Ok(played.outcome(name_made(&client.names, made)))
 }
 
 /// Does the tasks of a call, or tells what was denied.
@@ -107,14 +110,15 @@ fn follow<B: Naming, N: Rings, R: Wait>(
     driver: &Driver<B, N>,
     client: &mut Caller<B>,
     plan: Result<Vec<Task>, What>,
-) -> Result<(), AllocError>
+) -> Result<Played, AllocError>
     requires ready { IsReady client.old }
     requires plan { IsFitPlan client.old.token.account.holds plan }
     requires room { length (mine_of client.old.token) + 20 < 2 ^ 31 - 1 }
-    ensures done { OnOk result ((mine : List Entries)
+    ensures done { IfOk result (λ played. (mine : List Entries)
         × GivesTasks client.old.token.account.number (known client.old) (planned plan) mine (known client.new)
         × HasGoneOn client.old mine client.new
-        × (length mine ≤ 19)) }
+        × (length mine ≤ 19)
+        × HasPlayed client.old.token.seen mine client.new.token.seen played) }
     ensures begun { OnErr result ((mine : List Entries)
         × BeginsTasks client.old.token.account.number (known client.old) (planned plan) mine
         × HasAdded client.old mine client.new) }
@@ -138,20 +142,21 @@ fn name_made(names: &Names, before: u32) -> Option<NameRef>
     }
 }
 
-/// Ends the client: it gives up all that it has, and leaves.
+/// Ends the client: it gives up all that it has, and leaves. It gives the number of the entry with which it left.
 pub(crate) fn end<B: Naming, N: Rings, R: Wait>(
     rt: &R,
     alloc: Global,
     book: &Book<Display, B>,
     driver: &Driver<B, N>,
     client: &mut Caller<B>,
-) -> Result<(), AllocError>
+) -> Result<u64, AllocError>
     requires ready { IsReady client.old }
     requires room { length (mine_of client.old.token) < 2 ^ 24 }
     ensures number { client.new.token.account.number ≡ client.old.token.account.number }
     ensures start { client.new.token.start ≡ client.old.token.start }
     ensures idle { client.new.token.account.out ≡ [] }
     ensures ended { OnOk result (HasEnded client.old client.new.token) }
+    ensures entry { IfOk result (HasLeftBy client.new.token) }
 {
     let tasks = tasks::end_tasks(alloc, client.token.holds(), &client.names)?;
     play(
@@ -166,21 +171,22 @@ pub(crate) fn end<B: Naming, N: Rings, R: Wait>(
     leave(rt, alloc, book, &mut client.token)
 }
 
-/// The client leaves.
+/// The client leaves. It gives the number of the entry.
 fn leave<B: Naming, R: Wait>(
     rt: &R,
     alloc: Global,
     book: &Book<Display, B>,
     token: &mut Token<B>,
-) -> Result<(), AllocError>
+) -> Result<u64, AllocError>
     requires { IsActive token.old }
     ensures entry { OnOk result (mine_of token.new
         ≡ mine_of token.old ++ entries.Act token.old.account.number (token.old.account.used + 1) acts.Leave act_replies.Ok ∷ []) }
     ensures account { OnOk result (IsAccount token.new) }
+    ensures left { IfOk result (HasLeftBy token.new) }
     ensures number { token.new.account.number ≡ token.old.account.number }
     ensures start { token.new.start ≡ token.old.start }
     ensures idle { token.new.account.out ≡ [] }
 {
-    act(rt, alloc, book, token, Act::Leave)?;
-    Ok(())
+    let (number, _) = act(rt, alloc, book, token, Act::Leave)?;
+    Ok(number)
 }

@@ -5,12 +5,13 @@ ghost use mathlib.Core.List.{IsPrefix};
 ghost use Rattle.vg_machine.specs.declared.setup.Setup.{Setup as Setups};
 ghost use Rattle.vg_machine.specs.Entries.{Entry as Entries};
 ghost use Rattle.vg_client.specs.Accounts.{IsNew, IsUnadded, mine_of};
-ghost use Rattle.vg_client.specs.Callers.{HasAdded, HasEnded, HasEntered, HasGoneOn, IsCallFit, generation_of, known};
+ghost use Rattle.vg_client.specs.Callers.{HasAdded, HasEnded, HasEntered, HasGoneOn, HasLeftBy, IsCallFit, generation_of, known};
 ghost use Rattle.vg_client.specs.Calls.{Begins, Gives, newest};
+ghost use Rattle.vg_client.specs.Outcomes.{IsOutcome};
 
 use crate::call::Call;
 use crate::caller::{Caller, end, enter, make_call};
-use crate::names::NameRef;
+use crate::outcome::Outcome;
 use std::alloc::Global;
 use std::marker::Model;
 use std::sync::Wait;
@@ -60,8 +61,8 @@ impl<B: Naming> Client<B> {
     }
 
     /// Makes a call: its entries one after another, until one isn't accepted, or the act that says what was denied. It gives the
-    /// name that the call made, if it made one. For want of memory the entries that were made stand, no name is given, and the
-    /// client has stopped.
+    /// numbers of the entries, what the last one was answered, and the name that the call made, if it made one. For want of memory
+    /// the entries that were made stand, no outcome is given, and the client has stopped.
     pub fn call<N: Rings, R: Wait>(
         &mut self,
         rt: &R,
@@ -69,14 +70,15 @@ impl<B: Naming> Client<B> {
         book: &Book<Display, B>,
         driver: &Driver<B, N>,
         call: &Call,
-    ) -> Result<Option<NameRef>, NoMemory>
+    ) -> Result<Outcome, NoMemory>
         requires fit { IsCallFit self.old.caller.token.account.holds.displays call.now }
         requires room { length (mine_of self.old.caller.token) + 20 < 2 ^ 31 - 1 }
-        ensures done { OnOk result ((mine : List Entries)
+        ensures done { IfOk result (λ outcome. (mine : List Entries)
             × Gives self.old.caller.token.account.number (known self.old.caller) call.now mine (known self.new.caller)
             × HasGoneOn self.old.caller mine self.new.caller
-            × (length mine ≤ 19)) }
-        ensures name { IfOk result (λ name. generation_of name ≡ newest (known self.old.caller) (known self.new.caller)) }
+            × (length mine ≤ 19)
+            × IsOutcome self.old.caller.token.seen mine self.new.caller.token.seen outcome) }
+        ensures name { IfOk result (λ outcome. generation_of outcome.name ≡ newest (known self.old.caller) (known self.new.caller)) }
         ensures goes_on { OnOk result ((self.old.stopped ≡ false) × (self.new.stopped ≡ false)) }
         ensures begun { OnErr result ((mine : List Entries)
             × Begins self.old.caller.token.account.number (known self.old.caller) call.now mine
@@ -88,7 +90,7 @@ impl<B: Naming> Client<B> {
             return Err(NoMemory);
         }
         match make_call(rt, alloc, book, driver, &mut self.caller, call) {
-            Ok(name) => Ok(name),
+            Ok(outcome) => Ok(outcome),
             Err(_) => {
                 self.stopped = true;
                 Err(NoMemory)
@@ -96,20 +98,21 @@ impl<B: Naming> Client<B> {
         }
     }
 
-    /// Ends the client: it gives up all that it has, and leaves. Its token comes back with nothing outstanding. A client that
-    /// has stopped gives nothing up.
+    /// Ends the client: it gives up all that it has, and leaves. Its token comes back with nothing outstanding, beside the number
+    /// in the history of the entry with which it left. A client that has stopped gives nothing up.
     pub fn end<N: Rings, R: Wait>(
         self,
         rt: &R,
         alloc: Global,
         book: &Book<Display, B>,
         driver: &Driver<B, N>,
-    ) -> (ClientToken<Display, B>, Result<(), NoMemory>)
+    ) -> (ClientToken<Display, B>, Result<u64, NoMemory>)
         requires room { (self.stopped ≡ true) ⊎ (length (mine_of self.caller.token) < 2 ^ 24) }
         ensures number { result.0.account.number ≡ self.caller.token.account.number }
         ensures start { result.0.start ≡ self.caller.token.start }
         ensures idle { result.0.account.out ≡ [] }
         ensures ended { OnOk result.1 ((self.stopped ≡ false) × HasEnded self.caller result.0) }
+        ensures entry { IfOk result.1 (HasLeftBy result.0) }
     {
         let Client { caller, stopped } = self;
         if stopped {
@@ -117,7 +120,7 @@ impl<B: Naming> Client<B> {
         }
         let mut caller = caller;
         match end(rt, alloc, book, driver, &mut caller) {
-            Ok(()) => (caller.token, Ok(())),
+            Ok(number) => (caller.token, Ok(number)),
             Err(_) => (caller.token, Err(NoMemory)),
         }
     }

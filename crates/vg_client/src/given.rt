@@ -14,10 +14,17 @@ use vg_wire::{Queue, read_header};
 /// What a task was answered.
 #[derive(Debug, Drop)]
 pub(crate) enum Given {
-    /// It was denied.
-    Denied,
+    /// It was denied, by an act that was answered so.
+    Denied { reply: ActReply },
     Act { reply: ActReply },
     Command { queue: Queue, reply: Reply },
+}
+
+/// What a task gave: the number of its entry in the history, from 1, and what it was answered.
+#[derive(Drop)]
+pub(crate) struct Added {
+    pub(crate) number: u64,
+    pub(crate) given: Given,
 }
 
 /// Whether a task was accepted: neither denied nor refused, and its response one of the OK ones. A cursor command has none,
@@ -26,7 +33,7 @@ pub(crate) fn is_accepted(given: &Given) -> bool
     ensures { result ≡ answers.is_accepted given.now }
 {
     match given {
-        Given::Denied => false,
+        Given::Denied { .. } => false,
         Given::Act { reply } => !is_refused(reply),
         Given::Command { queue, reply } => is_ok(*queue, reply),
     }
@@ -81,18 +88,6 @@ fn goes_on(change: &Change, given: &Given) -> bool
 
 /// What is left to do after a task. A call that stops does so after its first task that isn't accepted.
 pub(crate) fn leave_tasks(
-    alloc: Global,
-    stops: bool,
-    change: Change,
-    given: Given,
-    left: &mut VecDeque<Task>,
-) -> Result<(), AllocError>
-    ensures { OnOk result (left.new.items ≡ answers.left_after stops change given left.old.items) }
-{
-    leave_of(alloc, stops, change, &given, left)
-}
-
-fn leave_of(
     alloc: Global,
     stops: bool,
     change: Change,

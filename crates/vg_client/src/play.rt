@@ -16,10 +16,12 @@ ghost use Rattle.vg_client.specs.Callers.{HasAdded, HasDone, HasGoneOn, IsFewPag
 ghost use Rattle.vg_client.specs.Calls.{IsAsked, IsDenial, IsDone, IsFrontOf, Plays};
 ghost use Rattle.vg_client.specs.Fits.{HasFewBytes, IsFit, IsFitDeed};
 ghost use Rattle.vg_client.specs.Given.{tells_denial};
+ghost use Rattle.vg_client.specs.Outcomes.{HasPlayed};
 
 use crate::caller::Caller;
-use crate::given::{Given, leave_tasks};
+use crate::given::{Added, Given, leave_tasks};
 use crate::learn::learn;
+use crate::outcome::Played;
 use crate::task::{Deed, Task};
 use crate::tokens::{act as add_act, command as ask, raw_command};
 use std::alloc::{AllocError, Global};
@@ -34,7 +36,7 @@ use vg_wire::Queue;
 use vg_wire_ext::Command;
 
 /// Does these tasks, and what follows from them, one after another. A call that stops does so after its first task that
-/// isn't accepted.
+/// isn't accepted. For want of memory the entries that were made stand.
 pub(crate) fn play<B: Naming, N: Rings, R: Wait>(
     rt: &R,
     alloc: Global,
@@ -43,26 +45,29 @@ pub(crate) fn play<B: Naming, N: Rings, R: Wait>(
     client: &mut Caller<B>,
     stops: bool,
     tasks: VecDeque<Task>,
-) -> Result<(), AllocError>
+) -> Result<Played, AllocError>
     requires ready { IsReady client.old }
     requires fit { AllByRecursion IsFit tasks.items }
     requires room { length (mine_of client.old.token) + weights tasks.items < 2 ^ 31 - 1 }
-    ensures done { OnOk result ((mine : List Entries)
+    ensures done { IfOk result (λ played. (mine : List Entries)
         × Plays client.old.token.account.number stops (known client.old) tasks.items mine (known client.new) []
         × HasGoneOn client.old mine client.new
-        × (length mine ≤ weights tasks.items)) }
+        × (length mine ≤ weights tasks.items)
+        × HasPlayed client.old.token.seen mine client.new.token.seen played) }
     ensures begun { OnErr result ((mine : List Entries)
         × IsFrontOf client.old.token.account.number stops (known client.old) tasks.items mine
         × HasAdded client.old mine client.new) }
 {
+    let mut played = Played::with_room(alloc, tasks.len())?;
     let mut left = tasks;
     while let Some(task) = left.pop_front() {
         let Task { deed, change } = task;
-        let given = make(rt, alloc, book, driver, client, deed)?;
-        learn(client, change, &given)?;
-        leave_tasks(alloc, stops, change, given, &mut left)?;
+        let added = make(rt, alloc, book, driver, client, deed)?;
+        learn(client, change, &added.given)?;
+        leave_tasks(alloc, stops, change, &added.given, &mut left)?;
+        played.add(added)?;
     }
-    Ok(())
+    Ok(played)
 }
 
 /// Does what is to be done for a task, which gives its entry.
@@ -73,13 +78,13 @@ fn make<B: Naming, N: Rings, R: Wait>(
     driver: &Driver<B, N>,
     client: &mut Caller<B>,
     deed: Deed,
-) -> Result<Given, AllocError>
+) -> Result<Added, AllocError>
     requires active { IsActive client.old.token }
     requires fit { IsFitDeed deed }
-    ensures done { IfOk result (λ given. (entry : Entries)
+    ensures done { IfOk result (λ added. (entry : Entries)
         × IsDone client.old.token.account.number client.old.token.account.holds deed entry
-        × HasDone client.old entry given client.new
-        × IsFewPages given) }
+        × HasDone client.old entry added client.new
+        × IsFewPages added.given) }
     ensures err { OnErr result (HasAdded client.old [] client.new) }
 {
     match deed {
@@ -113,18 +118,21 @@ pub(crate) fn make_act<B: Naming, R: Wait>(
     book: &Book<Display, B>,
     client: &mut Caller<B>,
     act: Act,
-) -> Result<Given, AllocError>
+) -> Result<Added, AllocError>
     requires may { MayAct client.old.token act }
     requires stays { leaves act ≡ false }
     requires few { HasFewBytes act }
-    ensures done { IfOk result (λ given. (reply : ActReplies)
-        × HasDone client.old (entries.Act client.old.token.account.number (client.old.token.account.used + 1) act reply) given client.new
-        × IsFewPages given) }
+    ensures done { IfOk result (λ added. (reply : ActReplies)
+        × HasDone client.old (entries.Act client.old.token.account.number (client.old.token.account.used + 1) act reply) added client.new
+        × IsFewPages added.given) }
     ensures err { OnErr result (HasAdded client.old [] client.new) }
 {
     let is_told = is_denial(&act);
-    let reply = add_act(rt, alloc, book, &mut client.token, act)?;
-    Ok(given_act(is_told, reply))
+    let (number, reply) = add_act(rt, alloc, book, &mut client.token, act)?;
+    Ok(Added {
+        number,
+        given: given_act(is_told, reply),
+    })
 }
 
 /// Whether the act tells a denial.
@@ -139,10 +147,10 @@ fn is_denial(act: &Act) -> bool
 
 /// What an act was answered: that it was denied, where it tells so.
 fn given_act(is_told: bool, reply: ActReply) -> Given
-    ensures { result ≡ (if is_told then givens.Denied else givens.Act reply) }
+    ensures { result ≡ (if is_told then givens.Denied reply else givens.Act reply) }
 {
     if is_told {
-        Given::Denied
+        Given::Denied { reply }
     } else {
         Given::Act { reply }
     }
@@ -157,14 +165,14 @@ fn make_command<B: Naming, N: Rings, R: Wait>(
     client: &mut Caller<B>,
     way: Way,
     command: &Command,
-) -> Result<Given, AllocError>
+) -> Result<Added, AllocError>
     requires active { IsActive client.old.token }
     requires may { MayGo way command.now }
     requires short { IsShort command.now }
-    ensures done { IfOk result (λ given. (entry : Entries)
+    ensures done { IfOk result (λ added. (entry : Entries)
         × IsAsked client.old.token.account.number (requests.denied_by client.old.token.account.holds way command.now) (requests.request_by way command.now) entry
-        × HasDone client.old entry given client.new
-        × IsFewPages given) }
+        × HasDone client.old entry added client.new
+        × IsFewPages added.given) }
     ensures err { OnErr result (HasAdded client.old [] client.new) }
 {
     match denied_by(alloc, client.token.holds(), way, command)? {
@@ -182,20 +190,23 @@ fn submit<B: Naming, N: Rings, R: Wait>(
     client: &mut Caller<B>,
     way: Way,
     command: &Command,
-) -> Result<Given, AllocError>
+) -> Result<Added, AllocError>
     requires active { IsActive client.old.token }
     requires may { MayGo way command.now }
     requires short { IsShort command.now }
     requires allowed { requests.denied_by client.old.token.account.holds way command.now ≡ None }
-    ensures done { IfOk result (λ given. (ordinal : ℕ) × (reply : Replies)
-        × HasDone client.old (entries.Command client.old.token.account.number (client.old.token.account.used + 1) (requests.request_by way command.now ordinal) reply) given client.new
-        × IsFewPages given) }
+    ensures done { IfOk result (λ added. (ordinal : ℕ) × (reply : Replies)
+        × HasDone client.old (entries.Command client.old.token.account.number (client.old.token.account.used + 1) (requests.request_by way command.now ordinal) reply) added client.new
+        × IsFewPages added.given) }
     ensures err { OnErr result (HasAdded client.old [] client.new) }
 {
-    let reply = ask(rt, alloc, book, driver, &mut client.token, way, command)?;
-    Ok(Given::Command {
-        queue: queue_by(way),
-        reply,
+    let answer = ask(rt, alloc, book, driver, &mut client.token, way, command)?;
+    Ok(Added {
+        number: answer.entry,
+        given: Given::Command {
+            queue: queue_by(way),
+            reply: answer.reply,
+        },
     })
 }
 
@@ -210,15 +221,15 @@ fn make_raw<B: Naming, N: Rings, R: Wait>(
     room: u32,
     shape: Shape,
     bytes: &[u8],
-) -> Result<Given, AllocError>
+) -> Result<Added, AllocError>
     requires active { IsActive client.old.token }
     requires short { length bytes.now ≤ 49152 }
     requires room { room ≤ 8192 }
     requires count { IsCount shape }
-    ensures done { IfOk result (λ given. (entry : Entries)
+    ensures done { IfOk result (λ added. (entry : Entries)
         × IsAsked client.old.token.account.number (denied_of client.old.token.account.holds queue bytes.now) (requests.raw_request queue room shape bytes.now) entry
-        × HasDone client.old entry given client.new
-        × IsFewPages given) }
+        × HasDone client.old entry added client.new
+        × IsFewPages added.given) }
     ensures err { OnErr result (HasAdded client.old [] client.new) }
 {
     match denied(alloc, client.token.holds(), queue, bytes)? {
@@ -238,18 +249,18 @@ fn submit_raw<B: Naming, N: Rings, R: Wait>(
     room: u32,
     shape: Shape,
     bytes: &[u8],
-) -> Result<Given, AllocError>
+) -> Result<Added, AllocError>
     requires active { IsActive client.old.token }
     requires short { length bytes.now ≤ 49152 }
     requires room { room ≤ 8192 }
     requires count { IsCount shape }
     requires allowed { denied_of client.old.token.account.holds queue bytes.now ≡ None }
-    ensures done { IfOk result (λ given. (ordinal : ℕ) × (reply : Replies)
-        × HasDone client.old (entries.Command client.old.token.account.number (client.old.token.account.used + 1) (requests.raw_request queue room shape bytes.now ordinal) reply) given client.new
-        × IsFewPages given) }
+    ensures done { IfOk result (λ added. (ordinal : ℕ) × (reply : Replies)
+        × HasDone client.old (entries.Command client.old.token.account.number (client.old.token.account.used + 1) (requests.raw_request queue room shape bytes.now ordinal) reply) added client.new
+        × IsFewPages added.given) }
     ensures err { OnErr result (HasAdded client.old [] client.new) }
 {
-    let reply = raw_command(
+    let answer = raw_command(
         rt,
         alloc,
         book,
@@ -260,26 +271,37 @@ fn submit_raw<B: Naming, N: Rings, R: Wait>(
         shape,
         bytes,
     )?;
-    Ok(Given::Command { queue, reply })
+    Ok(Added {
+        number: answer.entry,
+        given: Given::Command {
+            queue,
+            reply: answer.reply,
+        },
+    })
 }
 
-/// Tells what was denied.
+/// Tells what was denied. For want of memory the entry that was made stands.
 pub(crate) fn deny<B: Naming, R: Wait>(
     rt: &R,
     alloc: Global,
     book: &Book<Display, B>,
     client: &mut Caller<B>,
     what: What,
-) -> Result<(), AllocError>
+) -> Result<Played, AllocError>
     requires ready { IsReady client.old }
     requires may { Deniable client.old.token.account.holds what }
-    ensures done { OnOk result ((mine : List Entries)
+    ensures done { IfOk result (λ played. (mine : List Entries)
         × IsDenial client.old.token.account.number what mine
         × HasGoneOn client.old mine client.new
         × (known client.new ≡ known client.old)
-        × (length mine ≡ 1)) }
-    ensures err { OnErr result (HasAdded client.old [] client.new) }
+        × (length mine ≡ 1)
+        × HasPlayed client.old.token.seen mine client.new.token.seen played) }
+    ensures begun { OnErr result ((mine : List Entries)
+        × ((mine ≡ []) ⊎ IsDenial client.old.token.account.number what mine)
+        × HasAdded client.old mine client.new) }
 {
-    make_act(rt, alloc, book, client, Act::Denied { what })?;
-    Ok(())
+    let mut played = Played::with_room(alloc, 1)?;
+    let added = make_act(rt, alloc, book, client, Act::Denied { what })?;
+    played.add(added)?;
+    Ok(played)
 }

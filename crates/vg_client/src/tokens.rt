@@ -11,8 +11,8 @@ use std::alloc::{AllocError, Global};
 use std::sync::Wait;
 use vg_book::{Book, ClientToken, Naming, entries_in_step};
 use vg_chain::Shape;
-use vg_driver::{Driver, Way};
-use vg_machine::{Act, ActReply, Display, Reply};
+use vg_driver::{Answer, Driver, Way};
+use vg_machine::{Act, ActReply, Display};
 use vg_ring::Rings;
 use vg_wire::Queue;
 use vg_wire_ext::Command;
@@ -20,27 +20,27 @@ use vg_wire_ext::Command;
 /// What a client acts by: its number, how many call numbers it has drawn, and what it holds.
 pub(crate) type Token<B> = ClientToken<Display, B>;
 
-/// An act of the client, and its reply. For want of memory there is no entry.
+/// An act of the client: the number of its entry in the history, and its reply. For want of memory there is no entry.
 pub(crate) fn act<B: Naming, R: Wait>(
     rt: &R,
     alloc: Global,
     book: &Book<Display, B>,
     token: &mut Token<B>,
     act: Act,
-) -> Result<ActReply, AllocError>
+) -> Result<(u64, ActReply), AllocError>
     requires { MayAct token.old act }
-    ensures added { IfOk result (λ reply. IsAddedAct token.old act reply token.new) }
+    ensures added { IfOk result (λ done. IsAddedAct token.old done.0 act done.1 token.new) }
     ensures err { OnErr result (IsUnadded token.old token.new) }
 {
     // A law, and no work: the client sees its entries in the order in which it made them.
     entries_in_step::<Display>();
     match token.act(rt, alloc, book, act) {
-        Ok((_, reply)) => Ok(reply),
+        Ok(done) => Ok(done),
         Err(_) => Err(AllocError),
     }
 }
 
-/// A command of the client, from its submission to its reply. For want of memory there is no entry, and the number of the call
+/// A command of the client, from its submission to its answer. For want of memory there is no entry, and the number of the call
 /// may be spent.
 pub(crate) fn command<B: Naming, N: Rings, R: Wait>(
     rt: &R,
@@ -50,13 +50,13 @@ pub(crate) fn command<B: Naming, N: Rings, R: Wait>(
     token: &mut Token<B>,
     way: Way,
     command: &Command,
-) -> Result<Reply, AllocError>
+) -> Result<Answer, AllocError>
     requires active { IsActive token.old }
     requires way { MayGo way command.now }
     requires short { IsShort command.now }
     requires allowed { denied_by token.old.account.holds way command.now ≡ None }
-    ensures added { IfOk result (λ reply. (ordinal : ℕ)
-        × IsAdded token.old (entries.Command token.old.account.number (token.old.account.used + 1) (request_by way command.now ordinal) reply) token.new) }
+    ensures added { IfOk result (λ answer. (ordinal : ℕ)
+        × IsAdded token.old answer.entry (entries.Command token.old.account.number (token.old.account.used + 1) (request_by way command.now ordinal) answer.reply) token.new) }
     ensures err { OnErr result (IsUnadded token.old token.new) }
 {
     // A law, and no work: the client sees its entries in the order in which it made them.
@@ -65,7 +65,7 @@ pub(crate) fn command<B: Naming, N: Rings, R: Wait>(
         return Err(AllocError);
     };
     match driver.finish(rt, book, token, ticket) {
-        Ok(answer) => Ok(answer.reply),
+        Ok(answer) => Ok(answer),
         Err(_) => Err(AllocError),
     }
 }
@@ -81,14 +81,14 @@ pub(crate) fn raw_command<B: Naming, N: Rings, R: Wait>(
     room: u32,
     shape: Shape,
     bytes: &[u8],
-) -> Result<Reply, AllocError>
+) -> Result<Answer, AllocError>
     requires active { IsActive token.old }
     requires short { length bytes.now ≤ 49152 }
     requires room { room ≤ 8192 }
     requires count { IsCount shape }
     requires allowed { denied_of token.old.account.holds queue bytes.now ≡ None }
-    ensures added { IfOk result (λ reply. (ordinal : ℕ)
-        × IsAdded token.old (entries.Command token.old.account.number (token.old.account.used + 1) (raw_request queue room shape bytes.now ordinal) reply) token.new) }
+    ensures added { IfOk result (λ answer. (ordinal : ℕ)
+        × IsAdded token.old answer.entry (entries.Command token.old.account.number (token.old.account.used + 1) (raw_request queue room shape bytes.now ordinal) answer.reply) token.new) }
     ensures err { OnErr result (IsUnadded token.old token.new) }
 {
     // A law, and no work: the client sees its entries in the order in which it made them.
@@ -97,7 +97,7 @@ pub(crate) fn raw_command<B: Naming, N: Rings, R: Wait>(
         return Err(AllocError);
     };
     match driver.finish(rt, book, token, ticket) {
-        Ok(answer) => Ok(answer.reply),
+        Ok(answer) => Ok(answer),
         Err(_) => Err(AllocError),
     }
 }

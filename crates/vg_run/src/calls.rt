@@ -50,7 +50,7 @@ pub(crate) fn run_line<'a, B: Naming, N: Rings, R: Wait>(
         return Err(NoMemory);
     };
     let made = client.call(rt, alloc, book, driver, &asked)?;
-    name_made(refs, step, made)
+    name_made(refs, step, made.name)
 }
 
 /// Gives the name of a buffer line to what its call made.

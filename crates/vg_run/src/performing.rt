@@ -70,7 +70,7 @@ fn follow<B: Naming, N: Rings, R: Wait>(
     let went = run_lines(rt, alloc, book, driver, script, lines, &mut client);
     let (token, ended) = client.end(rt, alloc, book, driver);
     match ended {
-        Ok(()) => Performed { token, done: went },
+        Ok(_) => Performed { token, done: went },
         Err(_) => Performed { token, done: false },
     }
 }

@@ -1,9 +1,42 @@
-use Rattle.std.proofs.Common.{arith}
-use Rattle.vg_client.proofs.PlayLemmas.{added-length}
+use Rattle.std.proofs.Common.{◌≡◌, ◌∙◌, List, Option, ap, arith, subst, ℕ}
+use Rattle.vg_machine.specs.declared.holds.Holds.{Holds}
+use Rattle.vg_client.specs.Callers.{IsPlanOf, known}
+use Rattle.vg_client.specs.Known.{Known}
+use Rattle.vg_client.specs.Tasks.{tasks_of}
+use Rattle.vg_client.proofs.OutcomeLemmas.{ends-some, outcome-is}
+use Rattle.vg_client.proofs.PlayLemmas.{added-length, gives-planned, on_err, unbegun}
+use Rattle.vg_client.proofs.TaskLemmas.{gives-some}
 use Rattle.vg_client.proofs.caller.make_call.Goals as goal
+
+pub returns-in_err-plan-clause-begun : goal.returns-in_err-plan-clause-begun
+returns-in_err-plan-clause-begun g c = on_err _ (unbegun c.args.call.now c.args.client.now c.requires.ready)
 
 pub name_made-requires-clause-room : goal.name_made-requires-clause-room
 name_made-requires-clause-room g c =
-    let done = c.in_ok-follow.ensures.done in
+    let done = c.in_ok-played.ensures.done in
     let ready = done.2.ready in
     omega (arith, ready.small.made, ready.active.account_is.used, added-length done.2.added, done.3, c.requires.room)
+
+pub outcome-requires : goal.outcome-requires
+outcome-requires g c =
+    let old = c.args.client.now in
+    let call = c.args.call.now in
+    let done = c.in_ok-played.ensures.done in
+    let same : record { holds = c.holds.result.now; names = old.names; shows = c.as_slice.result.now } ≡ known old =
+    ap (λ (h : Holds). let k : Known = record { holds = h; names = old.names; shows = c.as_slice.result.now } in k) c.holds.ensures
+    ∙ ap (λ (s : List (Option ℕ)). let k : Known = record { holds = old.token.account.holds; names = old.names; shows = s } in k) c.as_slice.ensures.value in
+    let plans : IsPlanOf (tasks_of (known old) call) c.in_ok-plan.plan = subst (λ (k : Known). IsPlanOf (tasks_of k call) c.in_ok-plan.plan) same c.in_ok-plan.ensures.plans in
+    let gives = gives-planned old.token.account.number (known old) (known c.follow.new.client) call c.in_ok-plan.plan done.0 plans done.1 in
+    ends-some c.in_ok-played.played.entries.items done.0 c.in_ok-played.played.last done.4.ends (gives-some old.token.account.number (known old) (known c.follow.new.client) call done.0 gives)
+
+pub returns-clause-done : goal.returns-clause-done
+returns-clause-done g c =
+    let old = c.args.client.now in
+    let call = c.args.call.now in
+    let done = c.in_ok-played.ensures.done in
+    let same : record { holds = c.holds.result.now; names = old.names; shows = c.as_slice.result.now } ≡ known old =
+    ap (λ (h : Holds). let k : Known = record { holds = h; names = old.names; shows = c.as_slice.result.now } in k) c.holds.ensures
+    ∙ ap (λ (s : List (Option ℕ)). let k : Known = record { holds = old.token.account.holds; names = old.names; shows = s } in k) c.as_slice.ensures.value in
+    let plans : IsPlanOf (tasks_of (known old) call) c.in_ok-plan.plan = subst (λ (k : Known). IsPlanOf (tasks_of k call) c.in_ok-plan.plan) same c.in_ok-plan.ensures.plans in
+    let gives = gives-planned old.token.account.number (known old) (known c.follow.new.client) call c.in_ok-plan.plan done.0 plans done.1 in
+    (done.0, gives, done.2, done.3, outcome-is old.token.seen done.0 c.follow.new.client.token.seen c.in_ok-played.played c.outcome.result done.4 c.outcome.ensures.entries c.outcome.ensures.last)

@@ -1,41 +1,55 @@
 use Rattle.std.proofs.Common.{◌≡◌, ◌∙◌, ap, arith, []}
 use Rattle.vg_client.specs.Names.{NamesState}
-use Rattle.vg_client.proofs.PlayLemmas.{added-length, left-smaller, map_err, none-left, on_err, played-all, playing-more, stood-done, stood-make}
+use Rattle.vg_client.proofs.OutcomeLemmas.{played-none}
+use Rattle.vg_client.proofs.PlayLemmas.{added-length, left-smaller, none-left, on_err, played-all, playing-first, playing-more, stood-done, stood-make, stood-none}
 use Rattle.vg_client.proofs.play.play.Goals as goal
 
-pub returns-in_err-given-clause-begun : goal.returns-in_err-given-clause-begun
-returns-in_err-given-clause-begun g c =
-    on_err _ (stood-make c.args.stops c.args.tasks.items c.args.client.now c.loop-task.client c.make.new.client c.loop-task.left.items c.loop-task.invariant c.in_err-given.ensures.err)
+pub returns-in_err-played-clause-begun : goal.returns-in_err-played-clause-begun
+returns-in_err-played-clause-begun g c = on_err _ (stood-none c.args.stops c.args.tasks.items c.args.client.now c.requires.ready)
+
+pub loop-task-init : goal.loop-task-init
+loop-task-init g c =
+    playing-first c.args.stops c.args.tasks.items c.args.client.now c.in_ok-played.played c.requires.ready c.requires.fit (played-none c.args.client.now.token.seen c.in_ok-played.played c.in_ok-played.ensures.0 c.in_ok-played.ensures.1)
+
+pub returns-in_err-added-clause-begun : goal.returns-in_err-added-clause-begun
+returns-in_err-added-clause-begun g c =
+    on_err _ (stood-make c.args.stops c.args.tasks.items c.args.client.now c.loop-task.client c.make.new.client c.loop-task.left.items c.loop-task.played c.loop-task.invariant c.in_err-added.ensures.err)
 
 pub learn-requires-clause-room : goal.learn-requires-clause-room
 learn-requires-clause-room g c =
     let is = c.loop-task.invariant in
     let used = is.on.ready.active.account_is.used in
-    let names = ap (λ (n : NamesState). n.made) c.in_ok-given.ensures.done.2.names in
+    let names = ap (λ (n : NamesState). n.made) c.in_ok-added.ensures.done.2.names in
     omega (arith, names, is.on.ready.small.made, used, added-length is.on.added, is.room, c.requires.room)
 
 pub returns-in_err-learn-clause-begun : goal.returns-in_err-learn-clause-begun
 returns-in_err-learn-clause-begun g c =
-    let done = c.in_ok-given.ensures.done in
-    on_err _ (stood-done c.args.stops c.args.tasks.items c.args.client.now c.loop-task.client c.make.new.client c.learn.new.client c.loop-task.left.items c.pop_front.new.self.items c.in-Some.task done.0 c.in_ok-given.given
+    let done = c.in_ok-added.ensures.done in
+    on_err _ (stood-done c.args.stops c.args.tasks.items c.args.client.now c.loop-task.client c.make.new.client c.learn.new.client c.loop-task.left.items c.pop_front.new.self.items c.loop-task.played c.in-Some.task done.0 c.in_ok-added.added
     c.loop-task.invariant c.in-Some.ensures.items done.1 done.2 c.learn.ensures.kept)
 
 pub returns-in_err-leave_tasks-clause-begun : goal.returns-in_err-leave_tasks-clause-begun
 returns-in_err-leave_tasks-clause-begun g c =
-    let done = c.in_ok-given.ensures.done in
-    on_err _ (stood-done c.args.stops c.args.tasks.items c.args.client.now c.loop-task.client c.make.new.client c.learn.new.client c.loop-task.left.items c.pop_front.new.self.items c.in-Some.task done.0 c.in_ok-given.given
+    let done = c.in_ok-added.ensures.done in
+    on_err _ (stood-done c.args.stops c.args.tasks.items c.args.client.now c.loop-task.client c.make.new.client c.learn.new.client c.loop-task.left.items c.pop_front.new.self.items c.loop-task.played c.in-Some.task done.0 c.in_ok-added.added
+    c.loop-task.invariant c.in-Some.ensures.items done.1 done.2 c.learn.ensures.kept)
+
+pub returns-in_err-add-clause-begun : goal.returns-in_err-add-clause-begun
+returns-in_err-add-clause-begun g c =
+    let done = c.in_ok-added.ensures.done in
+    on_err _ (stood-done c.args.stops c.args.tasks.items c.args.client.now c.loop-task.client c.make.new.client c.learn.new.client c.loop-task.left.items c.pop_front.new.self.items c.loop-task.played c.in-Some.task done.0 c.in_ok-added.added
     c.loop-task.invariant c.in-Some.ensures.items done.1 done.2 c.learn.ensures.kept)
 
 pub loop-task-smaller : goal.loop-task-smaller
-loop-task-smaller g c = left-smaller c.args.stops c.in-Some.task c.in_ok-given.given c.loop-task.left.items c.pop_front.new.self.items c.leave_tasks.new.left.items c.in-Some.ensures.items c.in_ok-leave_tasks.ensures
+loop-task-smaller g c = left-smaller c.args.stops c.in-Some.task c.in_ok-added.added.given c.loop-task.left.items c.pop_front.new.self.items c.leave_tasks.new.left.items c.in-Some.ensures.items c.in_ok-leave_tasks.ensures
 
 pub loop-task-preserved : goal.loop-task-preserved
 loop-task-preserved g c =
-    let done = c.in_ok-given.ensures.done in
-    playing-more c.args.stops c.args.tasks.items c.args.client.now c.loop-task.client c.make.new.client c.learn.new.client c.loop-task.left.items c.pop_front.new.self.items c.leave_tasks.new.left.items c.in-Some.task done.0 c.in_ok-given.given
-    c.loop-task.invariant c.in-Some.ensures.items done.1 done.2 done.3 c.learn.ensures.kept c.in_ok-learn.ensures.names c.in_ok-learn.ensures.shows c.in_ok-leave_tasks.ensures
+    let done = c.in_ok-added.ensures.done in
+    playing-more c.args.stops c.args.tasks.items c.args.client.now c.loop-task.client c.make.new.client c.learn.new.client c.loop-task.left.items c.pop_front.new.self.items c.leave_tasks.new.left.items c.loop-task.played c.add.new.self c.in-Some.task done.0 c.in_ok-added.added
+    c.loop-task.invariant c.in-Some.ensures.items done.1 done.2 done.3 c.learn.ensures.kept c.in_ok-learn.ensures.names c.in_ok-learn.ensures.shows c.in_ok-leave_tasks.ensures c.in_ok-add.ensures.entries c.in_ok-add.ensures.last
 
 pub returns-clause-done : goal.returns-clause-done
 returns-clause-done g c =
     let none : c.loop-task.left.items ≡ [] = none-left c.loop-task.left.items (c.in_default.ensures.items ∙ c.in_default.ensures.rest) in
-    played-all c.args.stops c.args.tasks.items c.args.client.now c.loop-task.client c.loop-task.left.items none c.loop-task.invariant
+    played-all c.args.stops c.args.tasks.items c.args.client.now c.loop-task.client c.loop-task.left.items c.loop-task.played none c.loop-task.invariant

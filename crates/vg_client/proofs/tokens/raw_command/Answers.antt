@@ -14,5 +14,5 @@ returns-in-Ok-finish-clause-added g c =
     let submitted = c.in-Ok.ensures in
     let finished = c.in-Ok-finish.ensures in
     let step = c.entries_in_step.ensures.back _ _ _ _ _ _ c.requires.active.account_is.in_step submitted.drawn finished.back in
-    let P : Reply → Type 0 = λ reply. IsAdded token (entries.Command token.account.number (token.account.used + 1) (requests ticket.fence.ordinal) reply) c.finish.new.token in
-    (ticket.fence.ordinal, subst P (sym finished.reply) (command-added token c.submit_raw.new.token c.finish.new.token requests ticket finished.done c.requires.active submitted finished.back step))
+    let P : Reply → Type 0 = λ reply. IsAdded token c.in-Ok-finish.answer.entry (entries.Command token.account.number (token.account.used + 1) (requests ticket.fence.ordinal) reply) c.finish.new.token in
+    (ticket.fence.ordinal, subst P (sym finished.reply) (command-added token c.submit_raw.new.token c.finish.new.token requests ticket finished.done c.in-Ok-finish.answer.entry finished.entry c.requires.active submitted finished.back step))

@@ -1,0 +1,90 @@
+//! What a call made, and what it was answered.
+
+ghost use Rattle.std.specs.Prelude.{◌≡◌, ◌++◌, ◌∷◌, [], IfOk, IsSome, None, OnOk, Some};
+ghost use Rattle.vg_client.specs.Outcomes as outcomes;
+
+use crate::given::{Added, Given};
+use crate::names::NameRef;
+use std::alloc::{AllocError, Global};
+use vg_driver::Answer;
+use vg_list::Seq;
+use vg_machine::ActReply;
+
+/// What the last entry of a call was answered.
+#[derive(Debug, Drop)]
+pub enum Last {
+    /// It is an act.
+    Act { reply: ActReply },
+    /// It is a command.
+    Command { answer: Answer },
+}
+
+/// What a call made: the numbers of its entries in the history, from 1 and rising, what the last of them was answered, and the
+/// name of the buffer that it made, if it made one.
+#[derive(Debug, Drop)]
+pub struct Outcome {
+    pub entries: Seq<u64>,
+    pub last: Last,
+    pub name: Option<NameRef>,
+}
+
+/// What tasks have given so far: the numbers of their entries, and what the last of them was answered.
+#[derive(Drop)]
+pub(crate) struct Played {
+    pub(crate) entries: Vec<u64>,
+    pub(crate) last: Option<Last>,
+}
+
+impl Played {
+    /// Nothing so far, with room for so many entries.
+    pub(crate) fn with_room(alloc: Global, room: usize) -> Result<Played, AllocError>
+        ensures { IfOk result (λ played. (played.entries.items ≡ []) × (played.last ≡ None)) }
+    {
+        Ok(Played {
+            entries: Vec::with_capacity(alloc, room)?,
+            last: None,
+        })
+    }
+
+    /// What one task more has given.
+    pub(crate) fn add(&mut self, added: Added) -> Result<(), AllocError>
+        ensures entries { OnOk result (self.new.entries.items ≡ self.old.entries.items ++ added.number ∷ []) }
+        ensures last { OnOk result (self.new.last ≡ Some (outcomes.last_given added.number added.given)) }
+    {
+        let Added { number, given } = added;
+        self.entries.push(number)?;
+        self.last = Some(last_given(number, given));
+        Ok(())
+    }
+
+    /// The outcome of a call that gave at least one entry, and made this name.
+    pub(crate) fn outcome(self, name: Option<NameRef>) -> Outcome
+        requires { IsSome self.last }
+        ensures entries { result.entries ≡ self.entries.items }
+        ensures last { self.last ≡ Some result.last }
+        ensures name { result.name ≡ name }
+    {
+        let Played { entries, last } = self;
+        Outcome {
+            entries: Seq::from_vec(entries),
+            last: last.unwrap(),
+            name,
+        }
+    }
+}
+
+/// What an entry of this number was answered.
+fn last_given(number: u64, given: Given) -> Last
+    ensures { result ≡ outcomes.last_given number given }
+{
+    match given {
+        Given::Denied { reply } => Last::Act { reply },
+        Given::Act { reply } => Last::Act { reply },
+        Given::Command { reply, .. } => Last::Command {
+            answer: Answer {
+                entry: number,
+                reply,
+            },
+        },
+    }
+}
