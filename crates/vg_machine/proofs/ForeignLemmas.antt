@@ -1,14 +1,16 @@
 -- The tables of a client's own pages.
-use Rattle.std.proofs.Common.{◌≡◌, ◌<◌, ◌≤◌, ◌+◌, ◌-◌, ℕ, zero, suc, Bool, true, false, cond, not, List, [], ◌∷◌, length, drop, get_or, Option, Some, None, refl, sym, ap, ◌∙◌, arith}
+use Rattle.std.proofs.Common.{◌≡◌, ◌<◌, ◌≤◌, ◌+◌, ◌-◌, ℕ, zero, suc, Bool, true, false, cond, not, List, [], ◌∷◌, length, drop, get_or, Option, Some, None, inl, inr, refl, sym, ap, ◌∙◌, arith}
 use Rattle.std.specs.Prelude.{is_some, option_map}
 use Rattle.std.specs.List.{find, range_with_len, AllByRecursion}
 use Rattle.std.specs.Option.{option_or}
 use Rattle.std.proofs.lemmas.List.{drop_more, drop_all}
+use Rattle.std.proofs.lemmas.Bool.{cases_Bool}
 use Rattle.std.proofs.lemmas.List.Folds.{find-append}
+use Rattle.vg_pages.specs.Memory.{is_among}
 use Rattle.vg_formats.specs.declared.entry.MemEntry.{MemEntry}
 use Rattle.vg_machine.specs.declared.act.What.TheVariants.{Page}
 use Rattle.vg_machine.specs.declared.holds.Holds.{Holds}
-use Rattle.vg_machine.specs.Foreign.{AreOwn, AreStarts, between, foreign_page, is_foreign, is_missing}
+use Rattle.vg_machine.specs.Foreign.{AreOwn, AreOwnPages, AreStarts, between, foreign_page, is_foreign, is_missing, is_outside}
 use Rattle.vg_machine.specs.Holds.{pages_in, pages_in_entry}
 use Rattle.vg_machine.proofs.DeniedLemmas.{below-pages}
 
@@ -25,6 +27,44 @@ none-in own zero a there = refl
 none-in own (suc n) a there =
     ap (λ b. cond (not b) (Some a) (find (is_missing own) (range_with_len (a + 1) n))) (there a (omega arith) (omega arith))
     ∙ none-in own n (a + 1) (λ page from below. there page (omega (arith, from)) (omega (arith, below)))
+
+-- entry by entry, for any test
+pub found-next : (test : ℕ → Bool) (count : ℕ) (entries : List MemEntry) (i : ℕ) (d : MemEntry) → i < length entries
+    → find test (pages_in count (drop i entries)) ≡ option_or (find test (pages_in_entry count (get_or entries i d))) (find test (pages_in count (drop (i + 1) entries)))
+found-next test count entries i d within =
+    ap (λ es. find test (pages_in count es)) (drop_more entries i d within)
+    ∙ find-append test (pages_in_entry count (get_or entries i d)) (pages_in count (drop (i + 1) entries))
+
+-- an entry with no page that passes
+pub found-later : (test : ℕ → Bool) (count : ℕ) (entries : List MemEntry) (i : ℕ) (d : MemEntry) → i < length entries → find test (pages_in_entry count (get_or entries i d)) ≡ None
+    → find test (pages_in count (drop i entries)) ≡ find test (pages_in count entries) → find test (pages_in count (drop (i + 1) entries)) ≡ find test (pages_in count entries)
+found-later test count entries i d within none so_far =
+    sym (ap (λ m. option_or m (find test (pages_in count (drop (i + 1) entries)))) none)
+    ∙ sym (found-next test count entries i d within)
+    ∙ so_far
+
+pub found-end : (test : ℕ → Bool) (count : ℕ) (entries : List MemEntry) (i : ℕ) → length entries ≤ i → find test (pages_in count (drop i entries)) ≡ find test (pages_in count entries) → find test (pages_in count entries) ≡ None
+found-end test count entries i past so_far = sym so_far ∙ ap (λ es. find test (pages_in count es)) (drop_all i entries past)
+
+-- where no page passes a test, none passes one that passes less
+found-weaker : (f g : ℕ → Bool) → ((page : ℕ) → f page ≡ false → g page ≡ false) → (pages : List ℕ) → find f pages ≡ None → find g pages ≡ None
+found-weaker f g weaker [] none = refl
+found-weaker f g weaker (page ∷ more) none =
+    elim (cases_Bool (f page)) [
+      | inl is ↦ absurd (cc (none, ap (λ b. cond b (Some page) (find f more)) is))
+      | inr isnt ↦
+          ap (λ b. cond b (Some page) (find g more)) (weaker page isnt)
+          ∙ found-weaker f g weaker more (sym (ap (λ b. cond b (Some page) (find f more)) isnt) ∙ none)
+    ]
+
+-- entries that are pages of the key's buffer
+inside-own : (b : Bool) → not b ≡ false → b ≡ true
+inside-own true is = refl
+inside-own false is = absurd (cc is)
+
+pub none-foreign : (holds : Holds) (key : ℕ) (own pages : List ℕ) → AreOwnPages key own holds.buffers → find (is_outside own) pages ≡ None → find (is_foreign holds key) pages ≡ None
+none-foreign holds key own pages are none =
+    found-weaker (is_outside own) (is_foreign holds key) (λ page isnt. ap not (are.each page (inside-own (is_among own page) isnt))) pages none
 
 -- entry by entry
 pub missing-next : (own : List Bool) (count : ℕ) (entries : List MemEntry) (i : ℕ) (d : MemEntry) → i < length entries

@@ -1,10 +1,11 @@
 -- Pages that requests name and that aren't those of their resource's buffer: words on the code's own tables.
 use Rattle.std.specs.Prelude.{◌≡◌, ℕ, ◌-◌, ◌<◌, ◌≤◌, ◌||◌, Bool, true, false, not, List, [], length, slice_index_or, Option, Some, None, option_map}
-use Rattle.std.specs.List.{find, range_with_len}
+use Rattle.std.specs.List.{find, list_any, range_with_len}
+use Rattle.vg_pages.specs.Memory.{is_among}
 use Rattle.vg_machine.specs.declared.act.What.{What}
 use Rattle.vg_machine.specs.declared.act.What.TheVariants.{Page}
 use Rattle.vg_machine.specs.declared.holds.Holds.{Holds}
-use Rattle.vg_machine.specs.Holds.{is_allowed_page}
+use Rattle.vg_machine.specs.Holds.{has_page, is_allowed_page}
 
 abbrev pub is_foreign : Holds → ℕ → ℕ → Bool
 is_foreign holds key page = not (is_allowed_page holds key page)
@@ -12,6 +13,14 @@ is_foreign holds key page = not (is_allowed_page holds key page)
 -- The first of these pages that isn't one of the key's buffer, as something that is denied.
 abbrev pub foreign_page : Holds → ℕ → List ℕ → Option What
 foreign_page holds key pages = option_map Page (find (is_foreign holds key) pages)
+
+-- The page is none of these.
+abbrev pub is_outside : List ℕ → ℕ → Bool
+is_outside pages page = not (is_among pages page)
+
+-- Each of these pages is one of the key's buffer.
+pub record AreOwnPages (key : ℕ) (pages : List ℕ) (buffers : List (ℕ × List ℕ)) : Type 0 where
+  pub each : (page : ℕ) → is_among pages page ≡ true → list_any (has_page key page) buffers ≡ true
 
 -- A table says of each page whether it is one of the key's buffer.
 pub record AreOwn (holds : Holds) (key : ℕ) (own : List Bool) : Type 0 where

@@ -4,8 +4,7 @@ ghost use Rattle.std.specs.Prelude.{◌≡◌, ◌^◌, ◌-◌, ◌<◌, IfOk, 
 ghost use Rattle.vg_machine.specs.declared.act.Act.TheVariants as acts;
 ghost use Rattle.vg_machine.specs.declared.act.ActReply.TheVariants as act_replies;
 ghost use Rattle.vg_machine.specs.ActStep.{HasNoList, drop_step, effect_of, free_step, is_shown_on, load_step, release_step, reserve_step, shown_at, store_step, take_step};
-ghost use Rattle.vg_machine.specs.Holds.{has_key, update};
-ghost use Rattle.vg_machine.specs.Lists.{without_first};
+ghost use Rattle.vg_machine.specs.Holds.{update};
 
 use crate::act::{Act, ActReply};
 use crate::cells::{load, pages_of, repeated, store};
@@ -93,7 +92,7 @@ impl Display {
         let key = self.share.next_key();
         let own = list.as_slice().to_vec(alloc)?;
         let copy = list.as_slice().to_vec(alloc)?;
-        holds.buffers.push((key, Seq::from_vec(own)))?;
+        holds.buffers.push(key, Seq::from_vec(own))?;
         let pages = &mut self.pages;
         match self
             .share
@@ -163,7 +162,7 @@ impl Display {
             Ok(true) => Ok(ActReply::Last),
             Ok(false) => {
                 holds.taking_down.pop();
-                remove_key(&mut holds.buffers, key);
+                holds.buffers.remove(key);
                 Ok(ActReply::Kept)
             }
             Err(refusal) => {
@@ -197,7 +196,7 @@ impl Display {
         let live = self.resources.get(key).is_some();
         match self.share.free(&mut self.pages, client, key, live) {
             Ok(()) => {
-                remove_key(&mut holds.buffers, key);
+                holds.buffers.remove(key);
                 remove_number(&mut holds.taking_down, key);
                 ActReply::Ok
             }
@@ -275,15 +274,5 @@ fn twice(reply: ActReply) -> (ActReply, ActReply)
         ActReply::Last => (ActReply::Last, ActReply::Last),
         ActReply::Refused { refusal } => refused_twice(refusal),
         ActReply::Reserved { .. } | ActReply::Bytes { .. } => unreachable!(),
-    }
-}
-
-/// Takes the first pair with this key away, if there is one.
-fn remove_key(pairs: &mut Seq<(u32, Seq<u32>)>, key: u32)
-    ensures { pairs.new ≡ without_first (has_key key) pairs.old }
-{
-    let place = pairs.as_slice().iter().position(|pair| pair.0 == key);
-    if let Some(index) = place {
-        pairs.remove(index);
     }
 }

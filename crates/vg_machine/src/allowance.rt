@@ -128,16 +128,5 @@ fn allows_between(holds: &Holds, key: u32, first: u32, end: u32) -> bool
 fn allows_page(holds: &Holds, key: u32, page: u32) -> bool
     ensures { result ≡ holding.is_allowed_page holds.now key page }
 {
-    holds
-        .buffers
-        .as_slice()
-        .iter()
-        .any(|pair| has_page(key, page, pair))
-}
-
-/// Whether the buffer of this key has the page, by the pair of its key and pages.
-fn has_page(key: u32, page: u32, pair: &(u32, Seq<u32>)) -> bool
-    ensures { result ≡ holding.has_page key page pair.now }
-{
-    pair.0 == key && pair.1.as_slice().contains(&page)
+    holds.buffers.has_page(key, page)
 }

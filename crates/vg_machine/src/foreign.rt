@@ -1,8 +1,8 @@
 //! The pages that a request names and that aren't those of its resource's buffer.
 
-ghost use Rattle.std.specs.Prelude.{◌≡◌, ◌<◌, ◌≤◌, ◌^◌, ◌+◌, ◌-◌, true, if◌then◌else◌, length, slice_index_or, Some, IfOk, IfSome};
-ghost use Rattle.std.specs.List.{find, slice_set};
-ghost use Rattle.vg_machine.specs.Foreign.{AreMarked, AreOwn, AreStarts, between, foreign_page};
+ghost use Rattle.std.specs.Prelude.{◌≡◌, ◌<◌, ◌≤◌, ◌^◌, ◌+◌, ◌-◌, true, if◌then◌else◌, length, slice_index_or, Some, None, IfOk, IfSome};
+ghost use Rattle.std.specs.List.{find, list_any, slice_set};
+ghost use Rattle.vg_machine.specs.Foreign.{AreMarked, AreOwn, AreStarts, between, foreign_page, is_outside};
 ghost use Rattle.vg_machine.specs.Foreign as tables;
 ghost use Rattle.vg_machine.specs.Holds.{has_page, pages_in, pages_in_entry};
 ghost use Rattle.vg_pages.specs.Memory.{is_among};
@@ -24,6 +24,9 @@ pub(crate) fn first_foreign(
 ) -> Result<Option<What>, AllocError>
     ensures { IfOk result (λ what. what ≡ foreign_page holds.now key (pages_in holds.now.pages entries.now)) }
 {
+    if are_own(holds, key, entries) {
+        return Ok(None);
+    }
     let own = own_pages(alloc, holds, key)?;
     let starts = starts_for(alloc, own.as_slice(), entries)?;
     match missing_of(holds.pages, own.as_slice(), starts.as_slice(), entries) {
@@ -32,15 +35,66 @@ pub(crate) fn first_foreign(
     }
 }
 
+/// Whether each entry is a page of the buffer of this key, in the order of its pages. It may say no where all of their pages are.
+fn are_own(holds: &Holds, key: u32, entries: &[MemEntry]) -> bool
+    ensures { result ≡ true → find (tables.is_foreign holds.now key) (pages_in holds.now.pages entries.now) ≡ None }
+{
+    match holds.buffers.pages_by_halving(key) {
+        Some(pages) => are_each(holds.pages, pages, entries),
+        None => false,
+    }
+}
+
+/// Whether each entry is the page in its place, or names none.
+fn are_each(count: u32, pages: &[u32], entries: &[MemEntry]) -> bool
+    ensures { result ≡ true → find (is_outside pages.now) (pages_in count entries.now) ≡ None }
+{
+    for (place, entry) in entries.iter().enumerate() {
+        if !is_page_at(count, pages, place, *entry) {
+            return false;
+        }
+    }
+    true
+}
+
+/// Whether an entry is the page in this place, or names none.
+fn is_page_at(count: u32, pages: &[u32], place: usize, entry: MemEntry) -> bool
+    ensures { result ≡ true → find (is_outside pages.now) (pages_in_entry count entry) ≡ None }
+{
+    match pages_between(count, entry) {
+        Some((first, end)) => end == first + 1 && stands_at(pages, place, first),
+        None => true,
+    }
+}
+
+/// Whether the page stands in this place.
+fn stands_at(pages: &[u32], place: usize, page: u32) -> bool
+    ensures { result ≡ true → is_among pages.now page ≡ true }
+{
+    match pages.get(place) {
+        Some(one) => *one == page,
+        None => false,
+    }
+}
+
 /// Of each page whether it is one of the buffer of this key.
 fn own_pages(alloc: Global, holds: &Holds, key: u32) -> Result<Vec<bool>, AllocError>
     ensures { IfOk result (λ own. AreOwn holds.now key own.items) }
 {
     let mut own = vec![in alloc; false; holds.pages as usize]?;
-    for pair in holds.buffers.as_slice() {
-        mark_pair(own.as_mut_slice(), key, pair);
-    }
+    let (front, rest) = holds.buffers.parts();
+    mark_pairs(own.as_mut_slice(), key, front);
+    mark_pairs(own.as_mut_slice(), key, rest);
     Ok(own)
+}
+
+/// Marks the pages of each of these buffers that has this key.
+fn mark_pairs(own: &mut [bool], key: u32, pairs: &[(u32, Seq<u32>)])
+    ensures { AreMarked own.old (λ page. list_any (has_page key page) pairs.now) own.new }
+{
+    for pair in pairs {
+        mark_pair(own, key, pair);
+    }
 }
 
 /// Marks the pages of a buffer, if it has this key.

@@ -1,14 +1,14 @@
 //! What a client holds, and what it may ask of the device.
 
 ghost use Rattle.std.specs.Prelude.{◌≡◌, false, not, if◌then◌else◌, map, Some, None, IfOk, IfSome};
-ghost use Rattle.std.specs.List.{list_any};
 ghost use Rattle.vg_wire_ext.specs.declared.command.Command.TheVariants as commands;
 ghost use Rattle.vg_machine.specs.declared.act.What.TheVariants as whats;
 ghost use Rattle.vg_machine.specs.Setup.{IsSetup};
 ghost use Rattle.vg_machine.specs.Holds as holding;
-ghost use Rattle.vg_machine.specs.Holds.{Deniable, context_in, denied_of, entries_in, first_holds, has_key, is_allowed_resource, is_allowed_scanout, names_in, names_of_2d, pages_in};
+ghost use Rattle.vg_machine.specs.Holds.{Deniable, context_in, denied_of, entries_in, first_holds, is_allowed_resource, is_allowed_scanout, names_in, names_of_2d, pages_in};
 
 use crate::act::What;
+use crate::buffers::Buffers;
 use crate::foreign::first_foreign;
 use crate::setup::Setup;
 use std::alloc::{AllocError, Global};
@@ -26,7 +26,7 @@ pub struct Holds {
     /// How many guest pages there are.
     pub pages: u32,
     /// Keys and pages of the buffers that it holds or takes down.
-    pub buffers: Seq<(u32, Seq<u32>)>,
+    pub buffers: Buffers,
     /// The keys of the buffers that it takes down.
     pub taking_down: Seq<u32>,
     /// The scanouts leased to it.
@@ -43,7 +43,7 @@ impl Holds {
             client,
             displays: setup.displays.len() as u32,
             pages: setup.pages,
-            buffers: Seq::from_vec(Vec::new(alloc)),
+            buffers: Buffers::new(alloc),
             taking_down: Seq::from_vec(Vec::new(alloc)),
             scanouts: Seq::from_vec(Vec::new(alloc)),
         }
@@ -175,14 +175,7 @@ pub(crate) fn is_allowed_resource(holds: &Holds, creating: bool, n: u32) -> bool
     ensures { result ≡ holding.is_allowed_resource holds.now creating n }
 {
     let is_free = n == 0 || (n >= 0x8000_0000 && !creating);
-    is_free || has_buffer(holds, n) || holds.taking_down.as_slice().contains(&n)
-}
-
-/// Whether the client holds a buffer of this key, or takes it down.
-fn has_buffer(holds: &Holds, key: u32) -> bool
-    ensures { result ≡ list_any (has_key key) holds.now.buffers }
-{
-    holds.buffers.as_slice().iter().any(|pair| pair.0 == key)
+    is_free || holds.buffers.has(n) || holds.taking_down.as_slice().contains(&n)
 }
 
 /// The scanout, if it isn't allowed.

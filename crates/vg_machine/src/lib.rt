@@ -5,6 +5,7 @@
 mod act;
 mod acts;
 mod allowance;
+mod buffers;
 mod cells;
 mod commands;
 mod cursors;
@@ -27,6 +28,7 @@ mod uuids;
 
 pub use act::{Act, ActReply, What};
 pub use allowance::allowed;
+pub use buffers::Buffers;
 pub use display::Display;
 pub use growing::holds_only_grow;
 pub use history::{Reply, Request};

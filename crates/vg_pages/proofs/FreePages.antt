@@ -1,11 +1,12 @@
 -- Free pages, counted and listed from the first page on.
-use Rattle.std.proofs.Common.{◌≡◌, ◌≢◌, ℕ, ◌+◌, ◌<◌, ◌≤◌, Bool, true, false, not, cond, min, slice_index_or, List, [], ◌∷◌, ◌++◌, length, take, drop, sym, ap, ◌∙◌, arith}
+use Rattle.std.proofs.Common.{◌≡◌, ◌≢◌, ℕ, ◌+◌, ◌<◌, ◌≤◌, Bool, true, false, not, cond, zero, suc, refl, inl, inr, min, slice_index_or, List, [], ◌∷◌, ◌++◌, length, take, drop, sym, ap, ◌∙◌, arith}
 use Rattle.std.specs.List.{filter, range_with_len, All, AllPairs}
 use Rattle.std.proofs.lemmas.List.{map-id, take_at, take_all, take-append-drop, get_or_default, append-nil, length_push, length-take, get_or-take}
 use Rattle.std.proofs.lemmas.List.Elements.{filter-append, All-filter, All-take}
 use Rattle.std.proofs.lemmas.List.Kept.{AllPairs-filter}
 use Rattle.std.proofs.lemmas.List.FromFn.{length-range_with_len, get_or-range_with_len, map-range_with_len_more, take-map-range_with_len}
-use Rattle.vg_pages.specs.Memory.{is_free, free_pages}
+use Rattle.std.proofs.lemmas.Bool.{cases_lt}
+use Rattle.vg_pages.specs.Memory.{AreTakenBelow, is_free, free_pages}
 
 -- the free pages among the first i
 abbrev pub free_below : List Bool → ℕ → List ℕ
@@ -22,6 +23,28 @@ range-take n i within =
 
 pub free_below_more : (taken : List Bool) (i : ℕ) → free_below taken (i + 1) ≡ free_below taken i ++ cond (is_free taken i) (i ∷ []) []
 free_below_more taken i = ap (filter (is_free taken)) (range-more i) ∙ filter-append (is_free taken) (range_with_len 0 i) (i ∷ [])
+
+-- none of the first is free
+pub none-below : (taken : List Bool) (i : ℕ) → AreTakenBelow taken i → free_below taken i ≡ []
+none-below taken zero are = refl
+none-below taken (suc i) are =
+    let next : suc i ≡ i + 1 = omega arith in
+    ap (free_below taken) next ∙ free_below_more taken i
+    ∙ ap (λ b. free_below taken i ++ cond b (i ∷ []) []) (are.each i (omega arith))
+    ∙ append-nil (free_below taken i)
+    ∙ none-below taken i (record { each = λ page below. are.each page (omega (arith, below)) })
+
+-- one page more is taken
+pub taken-more : (taken : List Bool) (i : ℕ) → i < length taken → slice_index_or taken i false ≡ true → AreTakenBelow taken i → AreTakenBelow taken (i + 1)
+taken-more taken i within read are = record {
+  each = λ page below.
+      elim (cases_lt page i) [
+        | inl less ↦ are.each page less
+        | inr more ↦
+            let same : page ≡ i = omega (arith, below, more) in
+            ap (is_free taken) same ∙ ap not (get_or_default taken i true false within ∙ read)
+      ];
+}
 
 pub free_pages-from : (taken : List Bool) (i : ℕ) → i ≤ length taken → free_pages taken ≡ free_below taken i ++ filter (is_free taken) (drop i (range_with_len 0 (length taken)))
 free_pages-from taken i within =

@@ -1,14 +1,14 @@
 -- Pages marked, and pages zeroed, one after another.
-use Rattle.std.proofs.Common.{◌≡◌, ◌≢◌, ℕ, ◌+◌, ◌*◌, ◌/◌, ◌<◌, ◌≤◌, ◌==◌, Bool, true, false, cond, ◌||◌, List, [], ◌++◌, Some, length, get_or, slice_get, slice_index_or, set, take, drop, replicate, sym, ap, ◌∙◌, refl, inl, inr, arith}
+use Rattle.std.proofs.Common.{◌≡◌, ◌≢◌, ℕ, ◌+◌, ◌*◌, ◌/◌, ◌<◌, ◌≤◌, ◌==◌, Bool, true, false, not, cond, min, subst, ◌||◌, List, [], ◌++◌, Some, length, get_or, slice_get, slice_index_or, set, take, drop, replicate, sym, ap, ◌∙◌, refl, inl, inr, arith}
 use Rattle.std.specs.List.{All, range_with_len}
 use Rattle.std.proofs.lemmas.Bool.{cases_lt, eq-eqb, ne_eqb, or_right}
 use Rattle.std.proofs.lemmas.List.Elements.{All-take, filter_passes}
 use Rattle.std.proofs.lemmas.List.{append_assoc, drop-drop, get_or_past, get_or_default, take_at, length-replicate, get_or-replicate}
 use Rattle.std.proofs.lemmas.Option.{slice_get_cases, get_or_from_slice_get}
-use Rattle.std.proofs.lemmas.List.Folds.{list_any_more, list_any-from_Any}
+use Rattle.std.proofs.lemmas.List.Folds.{list_any_more, list_any_none, list_any-from_Any}
 use borrow.Rule.Slice.PartMut.{put_mid}
-use Rattle.vg_places.proofs.Places.{length-tabulate, slice_get-tabulate, tabulate_from_places}
-use Rattle.vg_pages.specs.Memory.{AreGivable, AreTakeable, is_free, is_among, free_pages, marked, zeroed}
+use Rattle.vg_places.proofs.Places.{length-tabulate, get_or-tabulate, slice_get-tabulate, tabulate_from_places}
+use Rattle.vg_pages.specs.Memory.{AreTakenBelow, AreGivable, AreTakeable, is_free, is_among, free_pages, marked, zeroed}
 use Rattle.vg_pages.proofs.FreePages.{lowest-apart}
 use Rattle.vg_places.proofs.Tabulated.{set-tabulate, put_mid-tabulate}
 
@@ -156,3 +156,49 @@ zeroed-next pages bytes i start within from inside =
     append_assoc (take start now) (replicate 4096 0) (drop (start + 4096) now)
     ∙ ap (λ rest. take start now ++ (replicate 4096 0 ++ rest)) (sym (drop-drop 4096 start now))
     ∙ zeroed_more pages bytes (replicate 4096 0) i start within from inside (length-replicate {A = ℕ} 4096 0) (λ k low. get_or-replicate 4096 k 0 0 low)
+
+still-taken : (among read : Bool) → not read ≡ false → not (cond among true read) ≡ false
+still-taken true read is = refl
+still-taken false read is = is
+
+-- what was taken is taken still, where others are taken too
+pub below-taken : (pages : List ℕ) (taken : List Bool) (low : ℕ) → low ≤ length taken → AreTakenBelow taken low → AreTakenBelow (marked pages true taken) low
+unfolding marked
+below-taken pages taken low inside are = record {
+  each = λ page below.
+      let among = is_among pages page in
+      let read = slice_index_or taken page true in
+      let kept : not read ≡ false = are.each page below in
+      ap not (get_or-tabulate (λ place. cond (is_among pages place) true (slice_index_or taken place true)) (length taken) page true (omega (arith, below, inside)))
+      ∙ still-taken among read kept;
+}
+
+none-among : (pages : List ℕ) (low page : ℕ) → All (λ one. low ≤ one) pages → page < low → is_among pages page ≡ false
+none-among pages low page above below =
+    list_any_none (λ one. one == page) pages
+    (λ k d within. ne_eqb (get_or pages k d) page (λ same. omega (arith, same, above k d within, below)))
+
+-- and where only pages from there on are given back
+pub below-given : (pages : List ℕ) (taken : List Bool) (low : ℕ) → low ≤ length taken → All (λ page. low ≤ page) pages → AreTakenBelow taken low → AreTakenBelow (marked pages false taken) low
+unfolding marked
+below-given pages taken low inside above are = record {
+  each = λ page below.
+      let short : page < length taken = omega (arith, below, inside) in
+      ap not (get_or-tabulate (λ place. cond (is_among pages place) false (slice_index_or taken place false)) (length taken) page true short)
+      ∙ ap (λ b. not (cond b false (slice_index_or taken page false))) (none-among pages low page above below)
+      ∙ ap not (get_or_default taken page false true short)
+      ∙ are.each page below;
+}
+
+pub below-less : (taken : List Bool) (low less : ℕ) → less ≤ low → AreTakenBelow taken low → AreTakenBelow taken less
+below-less taken low less fewer are = record { each = λ page below. are.each page (omega (arith, below, fewer)) }
+
+-- the least of one page more
+pub least-more : (pages : List ℕ) (i old new : ℕ) → new ≡ min old (get_or pages i 0) → ((k : ℕ) → k < i → old ≤ get_or pages k 0) → (k : ℕ) → k < i + 1 → new ≤ get_or pages k 0
+least-more pages i old new is so k below =
+    elim (cases_lt k i) [
+      | inl less ↦ omega (arith, is, so k less)
+      | inr more ↦
+          let same : k ≡ i = omega (arith, below, more) in
+          subst (λ n. new ≤ get_or pages n 0) (sym same) (omega (arith, is))
+    ]

@@ -46,6 +46,10 @@ is_free taken page = not (slice_index_or taken page true)
 abbrev pub free_pages : List Bool → List ℕ
 free_pages taken = filter (is_free taken) (range_with_len 0 (length taken))
 
+-- No page below this one is free.
+pub record AreTakenBelow (taken : List Bool) (low : ℕ) : Type 0 where
+  pub each : (page : ℕ) → page < low → is_free taken page ≡ false
+
 abbrev pub is_among : List ℕ → ℕ → Bool
 is_among pages page = list_any (λ one. one == page) pages
 

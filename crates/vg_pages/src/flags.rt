@@ -1,7 +1,7 @@
 //! The flags of pages, and the bytes of pages by their numbers.
 
 ghost use Rattle.std.specs.Prelude.{◌≡◌, ◌+◌, ◌*◌, ◌<◌, ◌≤◌, All, IfOk, length, take};
-ghost use Rattle.vg_pages.specs.Memory.{free_pages, marked, zeroed};
+ghost use Rattle.vg_pages.specs.Memory.{AreTakenBelow, free_pages, marked, zeroed};
 
 use crate::PAGE_BYTES;
 use crate::lazy::LazyBytes;
@@ -21,22 +21,56 @@ pub(crate) fn count_free(taken: &[bool]) -> u32
     count
 }
 
-/// The `n` lowest free pages, rising.
-pub(crate) fn lowest_free(alloc: Global, taken: &[bool], n: usize) -> Result<Vec<u32>, AllocError>
-    requires { length taken.now ≤ 65536 }
+/// The `n` lowest free pages, rising, or all where there are fewer. None below `low` is free.
+pub(crate) fn lowest_free(
+    alloc: Global,
+    taken: &[bool],
+    low: usize,
+    n: usize,
+) -> Result<Vec<u32>, AllocError>
+    requires pages { length taken.now ≤ 65536 }
+    requires low { low ≤ length taken.now }
+    requires below { AreTakenBelow taken.now low }
     ensures lowest { IfOk result (λ pages. pages.items ≡ take n (free_pages taken.now)) }
     ensures inside { IfOk result (λ pages. All (λ page. page < length taken.now) pages.items) }
 {
-    let mut pages = Vec::with_capacity(alloc, n)?;
-    for (page, is_taken) in taken.iter().enumerate() {
+    let mut pages = Vec::with_capacity(alloc, n.min(taken.len() - low))?;
+    for page in low..taken.len() {
         if pages.len() == n {
             return Ok(pages);
         }
-        if !*is_taken {
+        if !taken[page] {
             pages.push(page as u32)?;
         }
     }
     Ok(pages)
+}
+
+/// The first page from `low` on that is free, or how many pages there are. None below `low` is free.
+pub(crate) fn next_free(taken: &[bool], low: usize) -> usize
+    requires low { low ≤ length taken.now }
+    requires below { AreTakenBelow taken.now low }
+    ensures inside { result ≤ length taken.now }
+    ensures below { AreTakenBelow taken.now result }
+{
+    for page in low..taken.len() {
+        if !taken[page] {
+            return page;
+        }
+    }
+    taken.len()
+}
+
+/// The least of these.
+pub(crate) fn least(low: usize, pages: &[u32]) -> usize
+    ensures low { result ≤ low }
+    ensures pages { All (λ page. result ≤ page) pages.now }
+{
+    let mut least = low;
+    for page in pages {
+        least = least.min(*page as usize);
+    }
+    least
 }
 
 /// Marks these pages as taken or free.

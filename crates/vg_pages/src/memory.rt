@@ -3,7 +3,7 @@
 ghost use Rattle.std.specs.Prelude.{◌≡◌, ℕ, List, All, ◌<◌, ◌≤◌, ◌*◌, ◌↔◌, IfOk, IfSome, IfNone, OnErr, IsNone, IsTrue, length, take, false, vec_len};
 ghost use Rattle.vg_pages.specs.Memory.{HasWholePages, fresh_memory, HoldsRange, bytes_at, written_at, free_pages, is_among, marked, after_taking, AreGivable, AreTakeable, page_address};
 
-use crate::flags::{count_free, lowest_free, mark, zero};
+use crate::flags::{count_free, least, lowest_free, mark, next_free, zero};
 use crate::lazy::LazyBytes;
 use crate::{MEMORY_START, PAGE_BYTES, page_address};
 use std::alloc::{AllocError, Global};
@@ -15,16 +15,19 @@ use std::marker::Model;
 pub struct Pages {
     bytes: LazyBytes,
     taken: Vec<bool>,
+    /// No page below this one is free.
+    low: usize,
 }
 
 impl Model for Pages {
-    ghost use Rattle.vg_pages.specs.Memory.{Memory, HasWholePages};
+    ghost use Rattle.std.specs.Prelude.{◌≤◌, length};
+    ghost use Rattle.vg_pages.specs.Memory.{Memory, HasWholePages, AreTakenBelow};
 
     ghost Value = { Memory };
 
     ghost view = { λ p. record { bytes = p.bytes; taken = p.taken.items } };
 
-    ghost invariant = { λ p. HasWholePages (record { bytes = p.bytes; taken = p.taken.items }) };
+    ghost invariant = { λ p. HasWholePages (record { bytes = p.bytes; taken = p.taken.items }) × (p.low ≤ length p.taken.items) × AreTakenBelow p.taken.items p.low };
 }
 
 impl Pages {
@@ -40,7 +43,11 @@ impl Pages {
     {
         let bytes = LazyBytes::new(alloc, count as usize * PAGE_BYTES)?;
         let taken = vec![in alloc; false; count as usize]?;
-        Ok(Pages { bytes, taken })
+        Ok(Pages {
+            bytes,
+            taken,
+            low: 0,
+        })
     }
 
     /// The `n` lowest free pages, which stay free. None where fewer are free.
@@ -51,10 +58,10 @@ impl Pages {
         ensures count { IfOk result (λ answer. IfSome answer (λ pages. vec_len pages ≡ n)) }
         ensures takeable { IfOk result (λ answer. IfSome answer (λ pages. AreTakeable self.now.taken pages.items)) }
     {
-        if self.free() < n {
+        let pages = lowest_free(alloc, self.taken.as_slice(), self.low, n as usize)?;
+        if pages.len() < n as usize {
             return Ok(None);
         }
-        let pages = lowest_free(alloc, self.taken.as_slice(), n as usize)?;
         Ok(Some(pages))
     }
 
@@ -67,6 +74,7 @@ impl Pages {
     {
         mark(self.taken.as_mut_slice(), list, true);
         zero(&mut self.bytes, list);
+        self.low = next_free(self.taken.as_slice(), self.low);
     }
 
     /// Takes the `n` lowest free pages, and zeros them. None where fewer are free.
@@ -100,6 +108,7 @@ impl Pages {
             → All (λ page. is_among list.now page ≡ false) mine → AreGivable self.new.taken mine }
     {
         mark(self.taken.as_mut_slice(), list, false);
+        self.low = least(self.low, list);
     }
 
     /// How many pages are free.

@@ -11,3 +11,4 @@ pub mod WordLemmas
 pub mod Sent
 pub mod PrintingLemmas
 pub mod JournalLemmas
+pub mod DigitLemmas

@@ -4,6 +4,7 @@ ghost use Rattle.std.specs.Prelude.{◌≡◌, ◌≤◌, IfOk, OnOk, OnErr};
 ghost use Rattle.vg_io.specs.Streams.{Rose, Takes, TakesPart, TakesSome};
 ghost use Rattle.vg_run.specs.Text.{text_of};
 
+mod digits;
 mod lines;
 mod printer;
 

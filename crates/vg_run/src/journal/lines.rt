@@ -4,6 +4,7 @@ ghost use Rattle.std.specs.Prelude.{◌≡◌, ◌++◌, codes, decimal, OnOk};
 ghost use Rattle.vg_run.specs.Text.{numbered, hex_text, act_text, act_reply_text, comma_text, fault_text, load_text, pages_text, refusal_text, reserve_text, reserved_text, shape_text, store_text, what_text, reply_text, request_text, entry_line, display_line, frame_line, title_text, head_text, counts_text, without_line, without_text};
 ghost use Rattle.vg_history.specs.declared.entry.Entry.TheVariants as entries;
 
+use super::digits::spell;
 use itoa::Buffer;
 use std::alloc::AllocError;
 use vg_chain::{ChainFault, Shape};
@@ -32,7 +33,7 @@ fn put_hex(out: &mut Vec<u8>, bytes: &[u8]) -> Result<(), AllocError>
     }
     let at = out.len();
     out.resize(at.saturating_add(2 * bytes.len()), 0)?;
-    hex::encode_to_slice(bytes, &mut out.as_mut_slice()[at..]).unwrap();
+    spell(bytes, &mut out.as_mut_slice()[at..]);
     Ok(())
 }
 

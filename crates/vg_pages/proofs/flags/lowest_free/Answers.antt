@@ -1,10 +1,10 @@
 -- The list has the free pages passed so far, until it is full.
-use Rattle.std.proofs.Common.{◌≡◌, ◌∷◌, [], ap, sym, ◌∙◌, length, vec_len, arith}
+use Rattle.std.proofs.Common.{◌≡◌, ◌∷◌, [], ap, sym, ◌∙◌, length, vec_len, arith, rules}
 use Rattle.std.proofs.lemmas.Slice.{pushed}
 use Rattle.std.proofs.lemmas.Grind.{common_steps}
-use Rattle.vg_pages.proofs.FreePages.{free_below, free_below_yes, free_below_no, lowest-full, below-inside}
+use Rattle.vg_pages.proofs.FreePages.{free_below, free_below_yes, free_below_no, lowest-full, below-inside, none-below}
 use Rattle.vg_pages.proofs.flags.lowest_free.Goals as goal
-use Rattle.vg_pages.proofs.flags.lowest_free.Goals.{then-not-is_taken+in_ok-push, else-not-is_taken}
+use Rattle.vg_pages.proofs.flags.lowest_free.Goals.{then-not-taken-page+in_ok-push, else-not-taken-page}
 
 pub returns-then-len-n-clause-lowest : goal.returns-then-len-n-clause-lowest
 returns-then-len-n-clause-lowest c =
@@ -13,18 +13,24 @@ returns-then-len-n-clause-lowest c =
     let many : length (free_below taken c.loop-page.page) ≡ c.args.n = omega (arith, ap length pages) in
     pages ∙ lowest-full taken c.loop-page.page c.args.n (omega arith) many
 
+pub loop-page-init : goal.loop-page-init
+loop-page-init c = record {
+  pages = search (rules, none-below);
+  few = search rules;
+}
+
 pub loop-page-preserved : goal.loop-page-preserved
 loop-page-preserved c =
     let taken = c.args.taken.now in
     let i = c.loop-page.page in
     let so_far = c.loop-page.invariant.pages in
-    elim c.if-not-is_taken.branch [
-      | then-not-is_taken+in_ok-push w ↦
-          let more = free_below_yes taken i c.loop-page-test.true w.if-not-is_taken.true in
+    elim c.if-not-taken-page.branch [
+      | then-not-taken-page+in_ok-push w ↦
+          let more = free_below_yes taken i c.loop-page-test.true w.if-not-taken-page.true in
           let items = ap (λ v. v.items) w.pages-is ∙ pushed (i ∷ []) so_far w.in_ok-push.was w.push.ensures.items in
           record { pages = items ∙ sym more; few = grind (arith, common_steps) }
-      | else-not-is_taken w ↦
-          let same = free_below_no taken i c.loop-page-test.true w.if-not-is_taken.false in
+      | else-not-taken-page w ↦
+          let same = free_below_no taken i c.loop-page-test.true w.if-not-taken-page.false in
           record { pages = ap (λ v. v.items) w.pages-is ∙ so_far ∙ sym same; few = omega (arith, ap vec_len w.pages-is) }
     ]
 

@@ -1,5 +1,4 @@
 use Rattle.std.proofs.Common.{◌+◌, ◌*◌, ◌≤◌, ◌++◌, ◌∙◌, ap, List, ℕ, get_or, length, take, drop, refl, replicate, arith}
-use Rattle.vg_pages.specs.Memory.{zeroed}
 use Rattle.vg_pages.proofs.Marked.{length-zeroed, zeroed-next, zeroed_none}
 use Rattle.vg_pages.proofs.flags.zero.Goals as goal
 

@@ -30,7 +30,7 @@ returns-clause-holds c =
       | in-Ok-true w ↦ search rules
       | in-Ok-false w ↦
           let same = popped c.args.holds.now.taking_down c.push.new.self w.pop.new.self c.args.key c.in_ok-push.ensures.ok w.pop.ensures.rest in
-          rw (w.result-is, w.holds-is, same, w.remove_key.ensures) refl
+          rw (w.result-is, w.holds-is, same, w.remove.ensures) refl
       | in-Err w ↦
           let same = popped c.args.holds.now.taking_down c.push.new.self w.pop-in-Err.new.self c.args.key c.in_ok-push.ensures.ok w.pop-in-Err.ensures.rest in
           rw (w.result-is, w.refused.ensures, w.holds-is, same) refl

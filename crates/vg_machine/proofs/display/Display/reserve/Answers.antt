@@ -26,7 +26,7 @@ returns-clause-err c =
     elim c.match-reserve.branch [
       | in-Ok w ↦ rw w.result-is tt
       | in-Err w ↦
-          let same = popped c.args.holds.now.buffers c.push.new.self w.pop.new.self _ c.in_ok-push.ensures.ok w.pop.ensures.rest in
+          let same = popped c.args.holds.now.buffers c.push.new.self w.pop.new.self _ c.in_ok-push.ensures.ok w.pop.ensures in
           let was = w.in-Err.ensures.err in
           rw (w.result-is, w.holds-is, same, was.0, was.1) (c.self.view_is, refl)
     ]

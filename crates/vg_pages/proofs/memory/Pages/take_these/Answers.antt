@@ -1,7 +1,7 @@
 -- Pages that are taken may be given back, and what could be given back still may.
 use Rattle.std.proofs.Common.{ap, sym, subst, ◌∙◌, length, true, arith}
-use Rattle.vg_pages.specs.Memory.{AreGivable, AreTakeable}
-use Rattle.vg_pages.proofs.Marked.{givable-taken, givable-after_taking, length-marked, length-zeroed, marked-in_place}
+use Rattle.vg_pages.specs.Memory.{AreGivable, AreTakeable, AreTakenBelow}
+use Rattle.vg_pages.proofs.Marked.{below-taken, givable-taken, givable-after_taking, length-marked, length-zeroed, marked-in_place}
 use Rattle.vg_pages.proofs.memory.Pages.take_these.Goals as goal
 
 pub returns-clause-givable : goal.returns-clause-givable
@@ -26,5 +26,16 @@ invariant_of-self c =
     let pages = c.args.list.now in
     let flags = marked-in_place pages true old _ c.mark.new.taken c.self.inside.taken.len c.as_mut_slice.ensures.value c.mark.ensures (omega arith) in
     let taken = ap length flags ∙ length-marked pages true old in
-    let bytes = ap length c.zero.ensures ∙ length-zeroed pages c.self.inside.bytes in
-    (omega (arith, bytes, taken, c.self.invariant.0), omega (arith, taken, c.self.invariant.1), omega (arith, taken, c.self.invariant.2))
+    let bytes = ap length c.zero.ensures ∙ length-zeroed pages c.self.inside.bytes in (
+      (omega (arith, bytes, taken, c.self.invariant.0.0), omega (arith, taken, c.self.invariant.0.1), omega (arith, taken, c.self.invariant.0.2)),
+      omega (arith, c.next_free-self-inside.ensures.inside, ap length c.as_slice.ensures.value),
+      subst (λ flags. AreTakenBelow flags c.next_free-self-inside.result) c.as_slice.ensures.value c.next_free-self-inside.ensures.below,
+    )
+
+pub next_free-self-inside-requires-clause-below : goal.next_free-self-inside-requires-clause-below
+next_free-self-inside-requires-clause-below c =
+    let old = c.self.inside.taken.items in
+    let pages = c.args.list.now in
+    let flags = marked-in_place pages true old _ c.mark.new.taken c.self.inside.taken.len c.as_mut_slice.ensures.value c.mark.ensures (omega arith) in
+    let below = below-taken pages old c.self.inside.low c.self.invariant.1 c.self.invariant.2 in
+    subst (λ flags. AreTakenBelow flags c.self.inside.low) (sym (c.as_slice.ensures.value ∙ flags)) below
