@@ -1,5 +1,5 @@
 -- One entry more of a client keeps what its token says of it.
-use Rattle.std.proofs.Common.{◌≡◌, ◌⊎◌, inl, inr, ⊎_elim, ◌+◌, ◌<◌, ◌≤◌, ◌∙◌, sym, ap, refl, subst, arith, ℕ, false, List, [], ◌∷◌, ◌++◌, length, length-append, Some}
+use Rattle.std.proofs.Common.{◌≡◌, ⊎_elim, ◌+◌, ◌<◌, ◌≤◌, ◌∙◌, sym, ap, refl, subst, arith, ℕ, false, List, [], ◌∷◌, ◌++◌, length, length-append, Some}
 use Rattle.std.specs.List.{AllByRecursion}
 use mathlib.Core.List.{IsPrefix}
 use mathlib.Core.Option.{some}
@@ -14,22 +14,20 @@ use Rattle.vg_history.specs.Lists.{Has}
 use Rattle.vg_history.proofs.ListLemmas.{has_last, prefix_more, prefix_self}
 use Rattle.vg_machine.specs.declared.history.Request.{Request}
 use Rattle.vg_machine.specs.declared.holds.Holds.{Holds}
-use Rattle.vg_machine.specs.Holds.{Allowed}
-use Rattle.vg_machine.specs.Lane.{lane_of}
 use Rattle.vg_machine.specs.State.{State, start}
 use Rattle.vg_machine.specs.Replay.{AgreesFrom, display}
 use Rattle.vg_machine.specs.Order.{IsAllowed, IsFirst, call_of, client_of, holds_of, is_leave, updated}
 use Rattle.vg_book.specs.Own.{IsInStep}
-use Rattle.vg_book.specs.Tokens.{Acted, Drawn, Meets, TakesBack, TakesUnrun, Watched, finished_of}
-use Rattle.vg_book.specs.Views.{drawn, ordered_of, settled, without}
+use Rattle.vg_book.specs.Tokens.{Acted, Drawn, TakesBack, Watched, finished_of}
+use Rattle.vg_book.specs.Views.{drawn, ordered_of, settled}
 use Rattle.vg_driver.specs.declared.ticket.Ticket.{Ticket}
-use Rattle.vg_driver.specs.Tickets.{Account, DonePass, Finished, IsOut, Order, Pass, Spent, Submitted, Token}
+use Rattle.vg_driver.specs.Tickets.{Account, DonePass, IsOut, Order, Pass, Spent, Submitted, Token}
 use Rattle.vg_client.specs.Accounts.{IsAccount, IsActive, IsAdded, IsAddedAct, IsNew, IsPresent, IsReply, IsUnadded, MayAct, MayBeDenied, mine_of}
 use Rattle.vg_client.specs.Own.{IsOnItsLane, IsOwn}
 use Rattle.vg_client.specs.Outcomes.{IsNumbered}
 use Rattle.vg_client.proofs.HoldsLemmas.{holds-more}
 use Rattle.vg_client.proofs.OutcomeLemmas.{at-last, prefix-length, stands-behind}
-use Rattle.vg_client.proofs.OwnLemmas.{IsNext, own-more, own-none}
+use Rattle.vg_client.proofs.OwnLemmas.{own-more, own-none}
 use Rattle.vg_client.proofs.ReplayLemmas.{agrees-last}
 
 -- what a token is after one entry more, which has number n

@@ -25,8 +25,6 @@ use Rattle.vg_client.specs.declared.names.Held.{Held}
 use Rattle.vg_client.specs.declared.outcome.Played.{Played}
 use Rattle.vg_client.specs.declared.task.Change.{Change}
 use Rattle.vg_client.specs.declared.task.Change.TheVariants.{NewBuffer, EndOfName, Shows}
-use Rattle.vg_client.specs.declared.task.Deed.{Deed}
-use Rattle.vg_client.specs.declared.task.Deed.TheVariants as deeds
 use Rattle.vg_client.specs.declared.task.Task.{Task}
 use Rattle.vg_client.specs.Calls.{Begins, BeginsTasks, Gives, GivesTasks, IsAsked, IsDenial, IsDone, IsEntryOf, IsFrontOf, Plays, learned, names_after, names_reserved, shows_after}
 use Rattle.vg_client.specs.Tasks.{end_tasks, tasks_of}
