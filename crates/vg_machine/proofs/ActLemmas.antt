@@ -15,7 +15,7 @@ use Rattle.vg_machine.specs.declared.share.ShareRefusal.{ShareRefusal}
 use Rattle.vg_machine.specs.declared.share.Buffer.{Buffer}
 use Rattle.vg_machine.specs.declared.share.ShareRefusal.TheVariants.{NotHeld, OutOfRange}
 use Rattle.vg_refusals.specs.Refusals.{refusal_of}
-use Rattle.vg_machine.specs.Cells.{pages_of, repeated, stored}
+use Rattle.vg_machine.specs.Cells.{pages_of, stored}
 use Rattle.vg_machine.specs.Share.{ShareState, SharesPages, buffer_at, ended, entered, freed, given_back, is_holder, leased, pages_at, pages_in, place_refusal, refused_by, released, unleased, with_buffer, drop_refusal, free_refusal, has_holder, release_refusal, reserve_refusal, take_refusal}
 use Rattle.vg_backing.specs.Backing.{AreHeld}
 use Rattle.vg_machine.specs.declared.act.Act.{Act}
@@ -193,10 +193,6 @@ fits-reserved count entries client geometry pages (Ok done) old new share shared
 fits-reserved count entries client geometry pages (Err e) old new share shared buffer taken err leases reserved =
     reserved-as count entries old new old shared share err.0 err.1
     (record { large = large-itself old; leases = leases; reserved = omega (arith, reserved) })
-
-pub length-repeated : (bytes : List ℕ) (times : ℕ) → length (repeated bytes times) ≡ length bytes * times
-unfolding repeated
-length-repeated bytes times = simp length-map (length-range_with_len 0 (length bytes * times))
 
 -- a refused act has changed nothing
 kept-replied : (refusal : Option ShareRefusal) (state next : State) (reply : ActReply) → KeepsIfRefused reply state next

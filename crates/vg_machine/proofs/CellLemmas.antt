@@ -1,11 +1,13 @@
 -- A buffer's bytes in guest memory, piece by piece.
 use Rattle.std.proofs.Common.{◌≡◌, ◌≢◌, ℕ, zero, suc, append-nil, ◌+◌, ◌-◌, ◌*◌, ◌/◌, ◌%◌, ◌<◌, ◌≤◌, ◌==◌, ◌&&◌, Bool, true, cond, nat_le, nat_lt, List, [], ◌++◌, length, get_or, slice_index, take, drop, append_assoc, sym, ap, ◌∙◌, refl, inl, inr, arith}
+use Rattle.std.proofs.Math.Nat.{div-add-mod}
+use Rattle.std.proofs.Math.Seq.{take-append_seam}
 use Rattle.std.specs.List.{AllPairs, position_or_len}
 use Rattle.std.proofs.lemmas.Bool.{cases_lt, eq-eqb, ne_eqb}
 use Rattle.std.proofs.lemmas.Bool.Decides.{nat_tests}
 use Rattle.std.proofs.lemmas.List.{get_or-take, get_or-drop, get_or_append_left, get_or-append_right, length-append, length-take, length-drop, drop-drop}
 use Rattle.std.proofs.lemmas.List.Sums.{position_or_len_is, passes_at_first}
-use Rattle.std.proofs.lemmas.Nat.{mod-mul-add}
+use Rattle.std.proofs.lemmas.Nat.{mod-mul-add, mod_below}
 use borrow.Rule.Slice.PartMut.{put_mid}
 use Rattle.vg_places.specs.Places.{tabulate}
 use Rattle.vg_places.proofs.Places.{length-tabulate, get_or-tabulate, tabulate_from_places}
@@ -206,3 +208,116 @@ stored_turn first old new pages offset piece done n addr differ inside more fits
     ∙ ap (λ xs. record { bytes = xs; taken = old.taken })
     (stored_next pages offset piece first.bytes old.bytes done n addr differ inside more fits below stands room (ap (λ (memory : Memory). memory.bytes) was))
     ∙ ap (λ flags. record { bytes = stored pages offset (take (done + n) piece) first.bytes; taken = flags }) (ap (λ (memory : Memory). memory.taken) was)
+
+-- a byte, once one piece was stored and another behind it
+two-pieces : (offset b : ℕ) (xs ys : List ℕ) (old : ℕ)
+    → cond (nat_le (offset + length xs) b && nat_lt b (offset + length xs + length ys)) (slice_index ys (b - (offset + length xs)))
+    (cond (nat_le offset b && nat_lt b (offset + length xs)) (slice_index xs (b - offset)) old)
+    ≡ cond (nat_le offset b && nat_lt b (offset + length (xs ++ ys))) (slice_index (xs ++ ys) (b - offset)) old
+two-pieces offset b xs ys old =
+    let inner = cond (nat_le offset b && nat_lt b (offset + length xs)) (slice_index xs (b - offset)) old in
+    let both : length (xs ++ ys) ≡ length xs + length ys = length-append xs ys in
+    elim (cases_lt b (offset + length xs)) [
+      | inl front ↦ stored-before (offset + length xs) b ys inner front ∙ elim (cases_lt b offset) [
+        | inl low ↦ stored-before offset b xs old low ∙ sym (stored-before offset b (xs ++ ys) old low)
+        | inr high ↦
+            stored-here offset b xs old high front
+            ∙ sym (get_or_append_left xs ys 0 (b - offset) (omega (arith, front, high)))
+            ∙ sym (stored-here offset b (xs ++ ys) old high (omega (arith, front, both)))
+      ]
+      | inr behind ↦ elim (cases_lt b (offset + length xs + length ys)) [
+        | inl inside ↦
+            stored-here (offset + length xs) b ys inner behind inside
+            ∙ ap (λ n. get_or ys n 0) (omega (arith, behind))
+            ∙ sym (get_or-append_right xs ys (length xs) (b - offset) 0 refl (omega (arith, behind)))
+            ∙ sym (stored-here offset b (xs ++ ys) old (omega (arith, behind)) (omega (arith, inside, both)))
+        | inr after ↦
+            stored-past (offset + length xs) b ys inner after
+            ∙ stored-past offset b xs old behind
+            ∙ sym (stored-past offset b (xs ++ ys) old (omega (arith, after, both)))
+      ]
+    ]
+
+-- one piece was stored, and another behind it
+pub stored_append : (pages : List ℕ) (offset : ℕ) (xs ys bytes : List ℕ) → stored pages (offset + length xs) ys (stored pages offset xs bytes) ≡ stored pages offset (xs ++ ys) bytes
+unfolding stored
+stored_append pages offset xs ys bytes =
+    let first = tabulate (length bytes) (stored_byte pages offset xs bytes) in
+    let long : length first ≡ length bytes = length-tabulate (stored_byte pages offset xs bytes) (length bytes) in
+    let next = stored_byte pages (offset + length xs) ys first in
+    tabulate_from_places (stored_byte pages offset (xs ++ ys) bytes) (tabulate (length first) next) (length bytes) 0 (length-tabulate next (length first) ∙ long) (λ k within.
+    let b = place_in_buffer pages k in
+    get_or-tabulate next (length first) k 0 (omega (arith, within, long))
+    ∙ ap (λ old. cond (nat_le (offset + length xs) b && nat_lt b (offset + length xs + length ys)) (slice_index ys (b - (offset + length xs))) old)
+    (get_or-tabulate (stored_byte pages offset xs bytes) (length bytes) k 0 within)
+    ∙ two-pieces offset b xs ys (slice_index bytes k))
+
+pub length-repeated : (bytes : List ℕ) (times : ℕ) → length (repeated bytes times) ≡ length bytes * times
+unfolding repeated
+length-repeated bytes times = length-tabulate (λ k. slice_index bytes (k % length bytes)) (length bytes * times)
+
+-- the front of a block is fewer turns
+take-repeated : (bytes : List ℕ) (m n : ℕ) → m ≤ n → take (m * length bytes) (repeated bytes n) ≡ repeated bytes m
+take-repeated bytes m n less =
+    let rest : m + (n - m) ≡ n = omega (arith, less) in
+    let size : m * length bytes ≡ length (repeated bytes m) = omega (arith, length-repeated bytes m) in
+    ap (λ xs. take (m * length bytes) xs) (ap (repeated bytes) (sym rest) ∙ sym (repeated_append bytes m (n - m)))
+    ∙ ap (λ count. take count (repeated bytes m ++ repeated bytes (n - m))) size
+    ∙ take-append_seam (repeated bytes m) (repeated bytes (n - m))
+
+pub front-of-block : (bytes block : List ℕ) (turns times : ℕ) → 0 < turns → block ≡ repeated bytes turns → take (times % turns * length bytes) block ≡ repeated bytes (times % turns)
+front-of-block bytes block turns times some is =
+    let fewer : times % turns ≤ turns = omega (arith, mod_below times turns some) in
+    ap (take (times % turns * length bytes)) is ∙ take-repeated bytes (times % turns) turns fewer
+
+-- the sizes of whole blocks and of the front of one more
+pub blocks-and-rest : (len turns times n : ℕ) → n ≡ len * turns → n * (times / turns) + times % turns * len ≡ len * times
+blocks-and-rest len turns times n is =
+    ap (λ m. m * (times / turns) + times % turns * len) is
+    ∙ (grind (arith))
+    ∙ ap (λ m. len * m) (div-add-mod times turns)
+
+-- one turn more is stored
+pub stored_each : (first old new : Memory) (pages : List ℕ) (offset at : ℕ) (bytes : List ℕ) (turn : ℕ)
+    → at ≡ offset + length bytes * turn
+    → old ≡ record first { bytes = stored pages offset (repeated bytes turn) first.bytes }
+    → new ≡ record old { bytes = stored pages at bytes old.bytes }
+    → new ≡ record first { bytes = stored pages offset (repeated bytes (turn + 1)) first.bytes }
+stored_each first old new pages offset at bytes turn stands was is =
+    let start : at ≡ offset + length (repeated bytes turn) = omega (arith, stands, length-repeated bytes turn) in
+    let more : stored pages at bytes old.bytes ≡ stored pages offset (repeated bytes (turn + 1)) first.bytes =
+    ap (stored pages at bytes) (ap (λ (memory : Memory). memory.bytes) was)
+    ∙ ap (λ n. stored pages n bytes (stored pages offset (repeated bytes turn) first.bytes)) start
+    ∙ stored_append pages offset (repeated bytes turn) bytes first.bytes
+    ∙ ap (λ xs. stored pages offset xs first.bytes) (repeated_more bytes turn)
+    in
+    is
+    ∙ ap (λ xs. record { bytes = xs; taken = old.taken }) more
+    ∙ ap (λ flags. record { bytes = stored pages offset (repeated bytes (turn + 1)) first.bytes; taken = flags }) (ap (λ (memory : Memory). memory.taken) was)
+
+-- whole blocks are stored, and the front of one more
+pub stored_blocks : (first blocks new : Memory) (pages : List ℕ) (offset end : ℕ) (bytes block rest : List ℕ) (turns times : ℕ)
+    → 0 < turns
+    → block ≡ repeated bytes turns
+    → blocks ≡ record first { bytes = stored pages offset (repeated block (times / turns)) first.bytes }
+    → end ≡ offset + length block * (times / turns)
+    → rest ≡ repeated bytes (times % turns)
+    → new ≡ record blocks { bytes = stored pages end rest blocks.bytes }
+    → new ≡ record first { bytes = stored pages offset (repeated bytes times) first.bytes }
+stored_blocks first blocks new pages offset end bytes block rest turns times some is was stands left now =
+    let m = times / turns in
+    let front : repeated block m ≡ repeated bytes (turns * m) = ap (λ xs. repeated xs m) is ∙ repeated_block bytes turns m in
+    let size : length (repeated block m) ≡ length block * m = length-repeated block m in
+    let start : end ≡ offset + length (repeated block m) = stands ∙ ap (λ n. offset + n) (sym size) in
+    let whole : repeated block m ++ rest ≡ repeated bytes times =
+    ap (λ xs. xs ++ rest) front ∙ ap (λ xs. repeated bytes (turns * m) ++ xs) left ∙ repeated_append bytes (turns * m) (times % turns) ∙ ap (repeated bytes) (div-add-mod times turns)
+    in
+    let more : stored pages end rest blocks.bytes ≡ stored pages offset (repeated bytes times) first.bytes =
+    ap (stored pages end rest) (ap (λ (memory : Memory). memory.bytes) was)
+    ∙ ap (λ n. stored pages n rest (stored pages offset (repeated block m) first.bytes)) start
+    ∙ stored_append pages offset (repeated block m) rest first.bytes
+    ∙ ap (λ xs. stored pages offset xs first.bytes) whole
+    in
+    now
+    ∙ ap (λ xs. record { bytes = xs; taken = blocks.taken }) more
+    ∙ ap (λ flags. record { bytes = stored pages offset (repeated bytes times) first.bytes; taken = flags }) (ap (λ (memory : Memory). memory.taken) was)

@@ -7,7 +7,7 @@ ghost use Rattle.vg_machine.specs.ActStep.{HasNoList, drop_step, effect_of, free
 ghost use Rattle.vg_machine.specs.Holds.{update};
 
 use crate::act::{Act, ActReply};
-use crate::cells::{load, pages_of, repeated, store};
+use crate::cells::{load, pages_of, store_times};
 use crate::display::Display;
 use crate::holds::Holds;
 use crate::lists::remove_number;
@@ -121,8 +121,7 @@ impl Display {
         let length = bytes.len() as u128 * u128::from(times);
         match self.share.place(client, key, offset, length) {
             Ok(pages) => {
-                let piece = repeated(alloc, bytes, times)?;
-                store(&mut self.pages, pages, offset, piece.as_slice());
+                store_times(alloc, &mut self.pages, pages, offset, bytes, times)?;
                 Ok(ActReply::Ok)
             }
             Err(refusal) => Ok(refused(refusal)),

@@ -1,6 +1,6 @@
 //! The bytes of a buffer, which are spread over its guest pages.
 
-ghost use Rattle.std.specs.Prelude.{◌≡◌, ◌+◌, ◌-◌, ◌*◌, ◌%◌, ◌≤◌, ◌<◌, ◌++◌, IfOk, OnOk, length, ◌^◌};
+ghost use Rattle.std.specs.Prelude.{◌≡◌, ◌+◌, ◌-◌, ◌*◌, ◌%◌, ◌≤◌, ◌<◌, IfOk, OnErr, OnOk, length, ◌^◌};
 ghost use Rattle.vg_pages.specs.Memory.{AreGivable};
 ghost use Rattle.vg_machine.specs.Cells.{loaded, pages_of, place_in_memory, repeated, stored};
 
@@ -16,36 +16,70 @@ pub(crate) fn pages_of(bytes: u32) -> u32
     bytes.div_ceil(PAGE_BYTES as u32)
 }
 
-/// These bytes, so many times, one after another.
-pub(crate) fn repeated(alloc: Global, bytes: &[u8], times: u32) -> Result<Vec<u8>, AllocError>
-    requires { length bytes.now * times ≤ 2 ^ 32 }
-    ensures { IfOk result (λ piece. piece.items ≡ repeated bytes.now times) }
+/// Writes these bytes, so many times one after another, into the buffer with these pages, from `offset` on. For want of memory
+/// nothing is written.
+pub(crate) fn store_times(
+    alloc: Global,
+    memory: &mut Pages,
+    pages: &[u32],
+    offset: u32,
+    bytes: &[u8],
+    times: u32,
+) -> Result<(), AllocError>
+    requires pages { AreGivable memory.old.taken pages.now }
+    requires inside { offset + length bytes.now * times ≤ 4096 * length pages.now }
+    requires limit { offset + length bytes.now * times < 2 ^ 32 }
+    ensures stored { OnOk result (memory.new ≡ record memory.old { bytes = stored pages.now offset (repeated bytes.now times) memory.old.bytes }) }
+    ensures err { OnErr result (memory.new ≡ memory.old) }
 {
     if bytes.is_empty() {
-        return Ok(Vec::new(alloc));
+        return Ok(());
     }
-    // Few bytes are first made a block of about a page, so that they aren't copied one turn at a time.
-    let turns = times.min((PAGE_BYTES / bytes.len()) as u32).max(1);
-    let mut block = Vec::new(alloc);
-    put_each(&mut block, bytes, turns)?;
-    let mut piece = Vec::with_capacity(alloc, bytes.len() * times as usize)?;
-    put_each(&mut piece, block.as_slice(), times / turns)?;
-    put_each(&mut piece, bytes, times % turns)?;
-    Ok(piece)
-}
-
-/// Adds these bytes, so many times.
-fn put_each(piece: &mut Vec<u8>, bytes: &[u8], times: u32) -> Result<(), AllocError>
-    ensures { OnOk result (piece.new.items ≡ piece.old.items ++ repeated bytes.now times) }
-{
-    for _turn in 0..times {
-        piece.extend_from_slice(bytes)?;
+    let turns = times.min((PAGE_BYTES / bytes.len()) as u32);
+    if turns < 2 {
+        store_each(memory, pages, offset, bytes, times);
+        return Ok(());
     }
+    // Few bytes are first made a block of about a page, so that they aren't written one turn at a time.
+    let block = repeated(alloc, bytes, turns)?;
+    let blocks = times / turns;
+    let end = store_each(memory, pages, offset, block.as_slice(), blocks);
+    let rest = (times % turns) as usize * bytes.len();
+    store(memory, pages, end, &block[..rest]);
     Ok(())
 }
 
+/// These bytes, so many times, one after another, at most a page of them.
+fn repeated(alloc: Global, bytes: &[u8], times: u32) -> Result<Vec<u8>, AllocError>
+    requires { length bytes.now * times ≤ 4096 }
+    ensures { IfOk result (λ block. block.items ≡ repeated bytes.now times) }
+{
+    let mut block = Vec::with_capacity(alloc, bytes.len() * times as usize)?;
+    for _turn in 0..times {
+        block.extend_from_slice(bytes)?;
+    }
+    Ok(block)
+}
+
+/// Writes these bytes, so many times one after another, into the buffer with these pages, from `offset` on, and gives the offset
+/// behind them.
+fn store_each(memory: &mut Pages, pages: &[u32], offset: u32, bytes: &[u8], times: u32) -> u32
+    requires pages { AreGivable memory.old.taken pages.now }
+    requires inside { offset + length bytes.now * times ≤ 4096 * length pages.now }
+    requires limit { offset + length bytes.now * times < 2 ^ 32 }
+    ensures stored { memory.new ≡ record memory.old { bytes = stored pages.now offset (repeated bytes.now times) memory.old.bytes } }
+    ensures end { result ≡ offset + length bytes.now * times }
+{
+    let mut at = offset;
+    for _turn in 0..times {
+        store(memory, pages, at, bytes);
+        at += bytes.len() as u32;
+    }
+    at
+}
+
 /// Writes `piece` into the buffer with these pages, from `offset` on.
-pub(crate) fn store(memory: &mut Pages, pages: &[u32], offset: u32, piece: &[u8])
+fn store(memory: &mut Pages, pages: &[u32], offset: u32, piece: &[u8])
     requires pages { AreGivable memory.old.taken pages.now }
     requires inside { offset + length piece.now ≤ 4096 * length pages.now }
     ensures { memory.new ≡ record memory.old { bytes = stored pages.now offset piece.now memory.old.bytes } }

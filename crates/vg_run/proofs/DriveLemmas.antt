@@ -42,7 +42,7 @@ use Rattle.vg_worker.proofs.LaneLemmas.{lanes_are_new, lanes_long}
 use Rattle.vg_run.specs.declared.performing.Performed.{Performed}
 use Rattle.vg_run.specs.Driving.{AreNew, HasCompleted, HasJoined, HasTakenAll, HasTakenLanes, HaveAllJoined, HaveCompleted, IsEnd, IsRootWith, Lane, MayPerform, Performs, Root, counted_of, number_of}
 use Rattle.vg_run.specs.Kept.{Kept, KeptAll}
-use Rattle.vg_run.specs.declared.journal.Journal.{Journal}
+use Rattle.vg_journal.specs.declared.journal.Journal.{Journal}
 use Rattle.vg_run.specs.Legal.{FollowAll, IsLegalJournal, is_on_control, is_on_cursor}
 use Rattle.vg_run.specs.Performing.{HasPerformed, lines_of}
 use Rattle.vg_run.specs.Run.{IsOwned, IsRunOf}

@@ -12,14 +12,14 @@ use Rattle.vg_script.specs.declared.types.Script.{Script}
 use Rattle.vg_script.specs.declared.types.Line.{Line}
 use Rattle.vg_run.specs.Legal.{FollowAll, IsLegalJournal, IsOfClients, Legal, is_on_control, is_on_cursor, journal_of}
 use Rattle.vg_io.specs.Streams.{Takes, TakesPart, TakesSome}
-use Rattle.vg_run.specs.declared.journal.Journal.{Journal}
+use Rattle.vg_journal.specs.declared.journal.Journal.{Journal}
 use Rattle.vg_run.specs.declared.top.Status.{Status}
 use Rattle.vg_run.specs.declared.top.Status.TheVariants as statuses
 use Rattle.vg_run.specs.declared.top.Status.TheVariants.{Done, Usage, ReadFault, WriteFault, TooLong, NoMemory}
 use Rattle.vg_run.specs.Printing.{Written}
 use Rattle.vg_run.specs.Run.{IsOwned, IsRunOf}
 use Rattle.vg_run.specs.Status.{Ended}
-use Rattle.vg_run.specs.Text.{text_of}
+use Rattle.vg_journal.specs.Text.{text_of}
 use Rattle.vg_run.specs.Setup.{setup_of}
 
 pub legal-journal : (script : Script) (setup : Setup) (clients : List (List Line)) (H entries : List Entry) (frames frames' : List Frame) (control cursor : ℕ) → setup ≡ setup_of script → clients ≡ script.clients → IsRunOf setup clients H frames

@@ -1,5 +1,4 @@
 pub mod OrderLemmas
-pub mod NumberedLemmas
 pub mod RefLemmas
 pub mod SetupLemmas
 pub mod LineLemmas
@@ -9,6 +8,3 @@ pub mod KeptLemmas
 pub mod DriveLemmas
 pub mod WordLemmas
 pub mod Sent
-pub mod PrintingLemmas
-pub mod JournalLemmas
-pub mod DigitLemmas

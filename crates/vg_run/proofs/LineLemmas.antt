@@ -7,18 +7,15 @@ use Rattle.vg_machine.specs.declared.act.Act.TheVariants.{Enter, Leave}
 use Rattle.vg_machine.specs.declared.act.ActReply.TheVariants as act_replies
 use Rattle.vg_machine.specs.Entries.{Entry}
 use Rattle.vg_history.specs.declared.entry.Entry.TheVariants as entries
-use Rattle.vg_machine.specs.State.{State, start}
+use Rattle.vg_machine.specs.State.{State}
 use Rattle.vg_script.specs.declared.types.Line.{Line}
 use Rattle.vg_driver.specs.Tickets.{Token}
-use Rattle.vg_client.specs.declared.caller.Caller.{Caller}
 use Rattle.vg_client.specs.Accounts.{IsAccount, IsNew, mine_of}
 use Rattle.vg_client.specs.Callers.{ClientState, HasAdded, HasEnded, HasEntered, HasGoneOn, known}
-use Rattle.vg_client.specs.Calls.{Gives, Plays, newest}
+use Rattle.vg_client.specs.Calls.{Gives, newest}
 use Rattle.vg_client.specs.Known.{Known, first_known}
 use Rattle.vg_client.specs.Own.{IsOwn}
-use Rattle.vg_client.specs.Tasks.{end_tasks}
 use Rattle.vg_run.specs.Follows.{GivesAll, GivesCalls, call_of_step, no_refs, refs_after}
-use Rattle.vg_run.specs.Kept.{Kept}
 use Rattle.vg_run.specs.Performing.{GivesRest, HasKept, HasPerformed, IsFollowing}
 
 pub following-first : {B : Type 0} (setup : Setup) (lines : List Line) (token : Token) (client : ClientState B) → IsNew setup token → HasEntered token client.caller → client.stopped ≡ false → IsFollowing setup lines 0 client no_refs

@@ -1,5 +1,5 @@
 -- The words that the program is called with.
-use Rattle.std.proofs.Common.{◌≡◌, ◌⊎◌, inl, inr, ◌+◌, ◌≤◌, ◌∙◌, sym, ap, refl, subst, arith, ℕ, Bool, true, false, not, List, [], ◌∷◌, length, map, get_or, bytes_eq, codes, Option, Some, None}
+use Rattle.std.proofs.Common.{◌≡◌, inl, inr, ◌+◌, ◌≤◌, ◌∙◌, sym, ap, refl, subst, arith, ℕ, Bool, true, false, not, List, [], ◌∷◌, length, map, get_or, bytes_eq, codes, Option, Some, None}
 use Rattle.std.proofs.lemmas.Slice.Eq.{bytes_eq-Decides}
 use Rattle.std.specs.Prelude.{MatchOption}
 use Rattle.vg_run.specs.Headline.{IsRun}

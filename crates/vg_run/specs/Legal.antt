@@ -9,7 +9,7 @@ use Rattle.vg_machine.specs.Order.{Sound, client_of}
 use Rattle.vg_script.specs.declared.types.Line.{Line}
 use Rattle.vg_script.specs.declared.types.Script.{Script}
 use Rattle.vg_script.specs.declared.types.Step.{Step}
-use Rattle.vg_run.specs.declared.journal.Journal.{Journal}
+use Rattle.vg_journal.specs.declared.journal.Journal.{Journal}
 use Rattle.vg_machine.specs.declared.setup.Setup.{Setup}
 use Rattle.vg_run.specs.Setup.{setup_of}
 use Rattle.vg_run.specs.Follows.{Follows}

@@ -1,4 +1,3 @@
-pub mod Text
 pub mod Setup
 pub mod Follows
 pub mod Kept

@@ -8,7 +8,7 @@ use Rattle.vg_run.specs.declared.top.Status.TheVariants as statuses
 use Rattle.vg_script.specs.Grammar.{Faulty}
 use Rattle.vg_run.specs.Headline.{IsWithin}
 use Rattle.vg_run.specs.Legal.{Legal, journal_of}
-use Rattle.vg_run.specs.Text.{text_of}
+use Rattle.vg_journal.specs.Text.{text_of}
 
 -- Why a script couldn't be had from a source that had these bytes: its text has that fault, a read failed, it has more bytes than a script may have, or memory ran out.
 abbrev pub Unread : Status → Option (List ℕ) → ℕ → ℕ → Type 0

@@ -9,7 +9,6 @@ ghost use Rattle.vg_run.specs.Driving.{AreNew, HasTakenAll, HasTakenLanes, HaveA
 ghost use Rattle.vg_run.specs.Legal.{IsLegalJournal};
 ghost use Rattle.vg_run.specs.Setup as setups;
 
-use crate::journal::Journal;
 use crate::laws::clients_make_one_history;
 use crate::performing::{Performed, perform};
 use crate::run::{journal_of, setup_of};
@@ -26,6 +25,7 @@ use vg_crew::{Job, all};
 use vg_driver::Driver;
 use vg_front::Front;
 use vg_history::Turn;
+use vg_journal::Journal;
 use vg_machine::{Display, Entry, Frame, Holds, Setup};
 use vg_ring::{ControlOf, CursorOf, DeviceEnd, Made, Ring, Rings};
 use vg_script::Script;

@@ -9,7 +9,7 @@ ghost use Rattle.vg_machine.specs.declared.setup.Setup.{Setup as Setups};
 ghost use Rattle.vg_machine.specs.Entries.{Entry as Entries};
 ghost use Rattle.vg_machine.specs.Order.{Sound};
 ghost use Rattle.vg_machine.specs.Replay.{Agrees, display};
-ghost use Rattle.vg_run.specs.declared.journal.Journal.{Journal as Journals};
+ghost use Rattle.vg_journal.specs.declared.journal.Journal.{Journal as Journals};
 ghost use Rattle.vg_run.specs.Kept.{KeptAll};
 ghost use Rattle.vg_run.specs.Legal.{AreFinished, FollowAll, IsLegalJournal, Legal};
 ghost use Rattle.vg_run.specs.Run.{IsOwned};

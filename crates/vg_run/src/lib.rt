@@ -3,7 +3,6 @@
 
 mod calls;
 mod driving;
-mod journal;
 mod laws;
 mod performing;
 mod refs;
@@ -12,7 +11,6 @@ mod top;
 mod words;
 
 pub use driving::{Driven, drive, drive_in};
-pub use journal::{Journal, print};
 pub use laws::{at_most_one_history, clients_make_one_history, nothing_without_clients};
 pub use performing::{Performed, perform};
 pub use top::{Status, vgpu};

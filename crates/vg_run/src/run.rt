@@ -6,8 +6,8 @@ ghost use Rattle.vg_script.specs.Limits.{ScriptInLimits};
 ghost use Rattle.vg_run.specs.Setup as setups;
 ghost use Rattle.vg_run.specs.Legal as legal;
 
-use crate::journal::Journal;
 use std::alloc::{AllocError, Global};
+use vg_journal::Journal;
 use vg_list::Seq;
 use vg_machine::{Entry, Frame, Setup};
 use vg_script::{Feature, Script};

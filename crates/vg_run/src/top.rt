@@ -7,16 +7,16 @@ ghost use Rattle.vg_script.specs.Limits.{ScriptInLimits};
 ghost use Rattle.vg_run.specs.Headline.{IsRun, IsWithin, Runs, RunsNotToItsEnd, RunsPartly};
 ghost use Rattle.vg_run.specs.Printing.{Written};
 ghost use Rattle.vg_run.specs.Status.{Ended, IsFaultless, Unread};
-ghost use Rattle.vg_run.specs.Text.{text_of};
+ghost use Rattle.vg_journal.specs.Text.{text_of};
 
 use crate::driving::drive;
-use crate::journal::{Journal, print};
 use crate::words::workers_of;
 use std::alloc::Global;
 use std::marker::Sync;
 use std::sync::Wait;
 use std::thread::Threads;
 use vg_io::{ReadError, Sink, Source, read_all};
+use vg_journal::{Journal, print};
 use vg_script::{Script, parse};
 use vg_worker::Gate;
 

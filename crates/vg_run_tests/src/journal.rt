@@ -4,9 +4,9 @@ use std::alloc::{AllocError, Global};
 use std::test::Fail;
 use vg_chain::Shape;
 use vg_io::MemSink;
+use vg_journal::{Journal, print};
 use vg_list::Seq;
 use vg_machine::{Act, ActReply, Entry, Frame, Reply, Request, Setup, ShareRefusal, What};
-use vg_run::{Journal, print};
 use vg_wire::Queue;
 
 fn act(client: u32, call: u64, act: Act) -> Entry {

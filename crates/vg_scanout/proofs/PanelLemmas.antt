@@ -1,7 +1,8 @@
 -- What is kept of the scanouts, and the screens that it stands for.
-use Rattle.std.proofs.Common.{◌≡◌, inl, inr, ℕ, zero, suc, ◌+◌, ◌-◌, ◌*◌, ◌<◌, ◌≤◌, Bool, true, false, cond, List, [], ◌∷◌, ◌++◌, length, map, take, drop, get_or, slice_set, replicate, Option, Some, None, if◌then◌else◌, refl, sym, ap, ◌∙◌, subst, arith, append_assoc}
+use Rattle.std.proofs.Common.{◌≡◌, inl, inr, ℕ, zero, suc, ◌+◌, ◌-◌, ◌*◌, ◌%◌, ◌<◌, ◌≤◌, Bool, true, false, cond, List, [], ◌∷◌, ◌++◌, length, map, take, drop, get_or, slice_set, replicate, Option, Some, None, if◌then◌else◌, refl, sym, ap, ◌∙◌, subst, arith, append_assoc}
 use Rattle.std.specs.Prelude.{slice_get}
 use Rattle.std.specs.List.{All}
+use Rattle.std.proofs.Math.Nat.{mul_comm, mul-mod_right}
 use Rattle.std.proofs.lemmas.Bool.{cases_eq}
 use Rattle.std.proofs.lemmas.List.{append-nil, map-set, drop_all, take_all, length-append, length-map}
 use Rattle.std.proofs.lemmas.List.{get_or-map, get_or_default, get_or_push, get_or_append_left}
@@ -12,7 +13,8 @@ use Rattle.vg_places.specs.declared.rectangles.Area.{Area}
 use Rattle.vg_places.specs.Places.{tabulate}
 use Rattle.vg_places.specs.Rectangles.{filled, place_of}
 use Rattle.vg_places.proofs.Filled.{filled-inside, filled_whole, row-fits}
-use Rattle.vg_shown.specs.Shown.{shown_byte}
+use Rattle.vg_formats.specs.declared.format.Format.TheVariants.{B8G8R8A8}
+use Rattle.vg_shown.specs.Shown.{shown_byte, shown_rows}
 use Rattle.vg_formats.specs.declared.rect.Rect.{Rect}
 use Rattle.vg_cursor.specs.declared.cursor.Cursor.{Cursor}
 use Rattle.vg_cursor.specs.Blended.{blended}
@@ -300,3 +302,34 @@ own-ground binding part own pixels is = record {
   long = ap length is;
   same = λ surface. ap (pixels_with binding part surface) is;
 }
+
+-- the rows of a screen, one behind the other, lie in the surface
+pub piece-fits : (offset stride y x w h size : ℕ) → 0 < h → offset + stride * (y + h - 1) + 4 * (x + w) ≤ size → stride ≡ 4 * w → offset + stride * y + 4 * x + stride * h ≤ size
+piece-fits offset stride y x w zero size some fits same = absurd (omega (arith, some))
+piece-fits offset stride y x w (suc k) size some fits same =
+    let rows : y + suc k - 1 ≡ y + k = omega arith in
+    let there : offset + stride * (y + k) + 4 * (x + w) ≤ size = subst (λ n. offset + stride * n + 4 * (x + w) ≤ size) rows fits in
+    omega (arith, there, same)
+
+-- a screen that is one piece of the surface
+pub one-piece : (binding : Binding) (surface own : List ℕ)
+    → ((row_length height offset : ℕ) (pixels screen : List ℕ) → 0 < row_length → row_length % 4 ≡ 0 → length screen ≡ height * row_length → offset + height * row_length ≤ length pixels
+    → take (height * row_length) (drop offset pixels) ≡ shown_rows B8G8R8A8 (record { row = 0; column = 0; width = row_length; height = height }) row_length pixels row_length offset screen)
+    → binding.format ≡ B8G8R8A8 → binding.stride ≡ 4 * binding.rect.width → 0 < binding.rect.width → length own ≡ 4 * binding.rect.width * binding.rect.height
+    → binding.offset + binding.stride * binding.rect.y + 4 * binding.rect.x + binding.stride * binding.rect.height ≤ length surface
+    → take (binding.stride * binding.rect.height) (drop (binding.offset + binding.stride * binding.rect.y + 4 * binding.rect.x) surface) ≡ pixels_with binding binding.rect surface own
+one-piece binding surface own law format stride some long inside =
+    let rect = binding.rect in
+    let row = 4 * rect.width in
+    let offset = binding.offset + binding.stride * rect.y + 4 * rect.x in
+    let all : area_of rect rect ≡ record { row = 0; column = 0; width = row; height = rect.height } =
+    ap (λ n. record { row = n; column = 4 * (rect.x - rect.x); width = row; height = rect.height }) (omega arith)
+    ∙ ap (λ n. record { row = 0; column = n; width = row; height = rect.height }) (omega arith)
+    in
+    let size : binding.stride * rect.height ≡ rect.height * row = ap (λ n. n * rect.height) stride ∙ mul_comm row rect.height in
+    let whole = law row rect.height offset surface own (omega (arith, some)) (mul-mod_right 4 rect.width) (omega (arith, long)) (omega (arith, inside, size)) in
+    ap (λ n. take n (drop offset surface)) size
+    ∙ whole
+    ∙ ap (λ area. shown_rows B8G8R8A8 area row surface row offset own) (sym all)
+    ∙ ap (λ n. shown_rows B8G8R8A8 (area_of rect rect) row surface n offset own) (sym stride)
+    ∙ ap (λ f. shown_rows f (area_of rect rect) row surface binding.stride offset own) (sym format)

@@ -1,7 +1,8 @@
 //! The frames that a flush makes, and what the screens stand on after it.
 
-ghost use Rattle.std.specs.Prelude.{◌≡◌, ◌<◌, ◌≤◌, ◌+◌, ◌-◌, ◌*◌, ◌^◌, ◌++◌, [], ◌∷◌, Some, None, All, IfOk, if◌then◌else◌, length, min};
+ghost use Rattle.std.specs.Prelude.{◌≡◌, ◌<◌, ◌≤◌, ◌+◌, ◌-◌, ◌*◌, ◌^◌, ◌++◌, true, [], ◌∷◌, Some, None, All, IfOk, if◌then◌else◌, drop, length, min, take};
 ghost use Rattle.vg_cursor.specs.Cursor.{cursor_of};
+ghost use Rattle.vg_formats.specs.declared.format.Format.TheVariants.{B8G8R8A8};
 ghost use Rattle.vg_formats.specs.Pixels.{HasPixels, LiesWithin};
 ghost use Rattle.vg_scanout.specs.declared.panel.Ground.TheVariants as grounds;
 ghost use Rattle.vg_scanout.specs.Fits.{FitSurface, FitsSurface};
@@ -12,10 +13,10 @@ use crate::panel::{Ground, Panel};
 use crate::scanout::{Binding, Frame};
 use std::alloc::{AllocError, Global};
 use vg_cursor::Cursors;
-use vg_formats::Rect;
+use vg_formats::{Format, Rect};
 use vg_list::Seq;
 use vg_places::Area;
-use vg_shown::show_rows;
+use vg_shown::{rows_are_their_bytes, show_rows};
 
 /// How many bytes all frames have after a flush, if they have so many before it; no more than a `u64` can tell.
 pub(crate) fn bytes_after(panels: &[Option<Panel>], resource: u32, rect: &Rect, bytes: u64) -> u64
@@ -124,9 +125,38 @@ fn pixels_after(
     ensures long { IfOk result (λ pixels. length pixels.items ≡ 4 * panel.now.binding.rect.width * panel.now.binding.rect.height) }
     ensures shown { IfOk result (λ pixels. pixels.items ≡ pixels_with panel.now.binding part.now surface.now (pixels_in before.now panel.now)) }
 {
+    if *part == panel.binding.rect && is_one_piece(&panel.binding) {
+        // A law, and no work: the screen is that piece of the surface, whatever stood there before.
+        rows_are_their_bytes();
+        let pixels = piece_of(alloc, &panel.binding, surface)?;
+        return Ok(pixels);
+    }
     let mut pixels = panel.under(alloc, before, part)?;
     show_part(&panel.binding, part, surface, pixels.as_mut_slice());
     Ok(pixels)
+}
+
+/// Whether the surface has a screen's pixels in one piece: they are shown as they are, and their rows follow each other.
+fn is_one_piece(binding: &Binding) -> bool
+    ensures { result ≡ true → (binding.now.format ≡ B8G8R8A8) × (binding.now.stride ≡ 4 * binding.now.rect.width) }
+{
+    match binding.format {
+        Format::B8G8R8A8 => binding.stride / 4 == binding.rect.width && binding.stride % 4 == 0,
+        _ => false,
+    }
+}
+
+/// The piece of the surface that has a screen's pixels.
+fn piece_of(alloc: Global, binding: &Binding, surface: &[u8]) -> Result<Vec<u8>, AllocError>
+    requires { binding.now.offset + binding.now.stride * binding.now.rect.y + 4 * binding.now.rect.x + binding.now.stride * binding.now.rect.height ≤ length surface.now }
+    ensures { IfOk result (λ pixels. pixels.items
+        ≡ take (binding.now.stride * binding.now.rect.height) (drop (binding.now.offset + binding.now.stride * binding.now.rect.y + 4 * binding.now.rect.x) surface.now)) }
+{
+    let rect = &binding.rect;
+    let stride = binding.stride as usize;
+    let start = binding.offset as usize + stride * rect.y as usize + 4 * rect.x as usize;
+    let end = start + stride * rect.height as usize;
+    surface[start..end].to_vec(alloc)
 }
 
 /// What a screen of these pixels stands on, of which a frame of this number is made: the frame, but where a cursor is in that.

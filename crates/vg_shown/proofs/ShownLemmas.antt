@@ -159,3 +159,29 @@ length-shown_bytes R8G8B8A8 m = refl
 length-shown_bytes X8B8G8R8 m = refl
 length-shown_bytes A8B8G8R8 m = refl
 length-shown_bytes R8G8B8X8 m = refl
+
+-- byte c of pixels that are shown as they are
+byte-as-it-is : (pixels : List ℕ) (c : ℕ) → shown_byte B8G8R8A8 pixels c ≡ get_or pixels c 0
+byte-as-it-is pixels c =
+    let below : c % 4 < 4 = mod_below c 4 (omega arith) in
+    let place : 4 * (c / 4) + c % 4 ≡ c = omega (arith, div-add-mod' c 4) in
+    four-same (pixel_at pixels (c / 4)) (c % 4) below
+    ∙ get_or-take 4 (drop (4 * (c / 4)) pixels) (c % 4) 0 below
+    ∙ get_or-drop (4 * (c / 4)) pixels (c % 4) 0
+    ∙ ap (λ n. get_or pixels n 0) place
+
+-- rows that follow each other, shown as they are
+pub rows-as-they-are : (row_length height offset : ℕ) (pixels screen : List ℕ) → 0 < row_length → length screen ≡ height * row_length → offset + height * row_length ≤ length pixels
+    → take (height * row_length) (drop offset pixels) ≡ shown_rows B8G8R8A8 (record { row = 0; column = 0; width = row_length; height = height }) row_length pixels row_length offset screen
+rows-as-they-are row_length height offset pixels screen some long inside =
+    let byte : ℕ → ℕ = λ k. get_or pixels (offset + k) 0 in
+    let value : ℕ → ℕ → ℕ = λ i c. shown_byte B8G8R8A8 (drop (offset + row_length * i) pixels) c in
+    let size = height * row_length in
+    let taken : length (take size (drop offset pixels)) ≡ size = omega (arith, length-take size (drop offset pixels), length-drop offset pixels, inside) in
+    tabulate_from_places byte (take size (drop offset pixels)) size 0 taken (λ k within.
+    get_or-take size (drop offset pixels) k 0 within ∙ get_or-drop offset pixels k 0)
+    ∙ ap (λ n. tabulate n byte) (sym long)
+    ∙ sym (filled_whole height row_length value screen byte some long (λ i c row column.
+    byte-as-it-is (drop (offset + row_length * i) pixels) c
+    ∙ get_or-drop (offset + row_length * i) pixels c 0
+    ∙ ap (λ n. get_or pixels n 0) (omega arith)))

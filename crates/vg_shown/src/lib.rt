@@ -5,5 +5,5 @@ mod laws;
 mod order;
 mod rows;
 
-pub use laws::show_each_pixel;
+pub use laws::{rows_are_their_bytes, show_each_pixel};
 pub use rows::{show_row, show_rows};

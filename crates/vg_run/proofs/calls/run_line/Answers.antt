@@ -1,4 +1,4 @@
-use Rattle.std.proofs.Common.{inl, inr}
+use Rattle.std.proofs.Common.{inr}
 use Rattle.vg_run.proofs.LineLemmas.{kept-added, on_err}
 use Rattle.vg_run.proofs.calls.run_line.Goals as goal
 

@@ -5,7 +5,7 @@ use Rattle.vg_run.specs.Follows.{no_refs}
 use Rattle.vg_run.specs.Performing.{IsFollowing}
 use Rattle.vg_run.specs.Refs.{refs_of}
 use Rattle.vg_run.specs.Setup.{setup_of}
-use Rattle.vg_run.proofs.LineLemmas.{few-left, following-more}
+use Rattle.vg_run.proofs.LineLemmas.{following-more}
 use Rattle.vg_run.proofs.performing.run_lines.Goals as goal
 
 pub loop-line-init : goal.loop-line-init

@@ -1,0 +1,4 @@
+pub mod NumberedLemmas
+pub mod PrintingLemmas
+pub mod JournalLemmas
+pub mod DigitLemmas

@@ -1,0 +1,143 @@
+use Rattle.std.proofs.Common.{ℕ, codes, ◌≡◌, ◌+◌, ◌<◌, List, get_or, Result, Ok, Err, OnErr, [], ◌++◌, length, take, drop, Option, Some, None, append_assoc, append-nil, sym, ap, ◌∙◌, refl, subst}
+use Rattle.std.proofs.lemmas.List.{take-append-drop, take_at}
+use Rattle.vg_io.specs.Streams.{Takes, TakesPart, TakesSome}
+use Rattle.vg_journal.specs.Printing.{Printed, PrintedSome}
+use Rattle.vg_scanout.specs.declared.scanout.Frame.{Frame}
+use Rattle.vg_journal.specs.Text.{numbered, frame_line, frame_text}
+use Rattle.vg_journal.proofs.NumberedLemmas.{numbered_append, written_more}
+
+-- What holds, holds after an error.
+pub on_err : {T E : Type 0} {P : Type 0} (r : Result T E) → P → OnErr r P
+on_err (Ok x) p = tt
+on_err (Err e) p = p
+
+-- What a sink takes in two calls.
+pub takes_both : (a b c : Option (List ℕ)) (xs ys : List ℕ) → Takes a b xs → Takes b c ys → Takes a c (xs ++ ys)
+takes_both None b c xs ys first second = tt
+takes_both (Some us) None c xs ys first second = absurd first
+takes_both (Some us) (Some vs) None xs ys first second = absurd second
+takes_both (Some us) (Some vs) (Some ws) xs ys first second = rw (second, first, append_assoc)
+
+-- A sink that is left alone takes nothing.
+pub takes_nothing : (a : Option (List ℕ)) → Takes a a []
+takes_nothing None = tt
+takes_nothing (Some xs) = sym (append-nil xs)
+
+-- Nothing is handed on: all is pending.
+pub printed_none : (a : Option (List ℕ)) (text : List ℕ) → Printed a a text text
+printed_none a text = record { front = []; taken = takes_nothing a; whole = refl }
+
+-- All is handed on: nothing is pending.
+pub printed_all : (a b : Option (List ℕ)) (text : List ℕ) → Takes a b text → Printed a b text []
+printed_all a b text taken = record { front = text; taken = taken; whole = append-nil text }
+
+-- More text behind what was pending.
+pub printed_then : (a b c : Option (List ℕ)) (text pending more pending' : List ℕ) → Printed a b text pending → Printed b c (pending ++ more) pending' → Printed a c (text ++ more) pending'
+printed_then a b c text pending more pending' first second =
+    record {
+      front = first.front ++ second.front;
+      taken = takes_both a b c _ _ first.taken second.taken;
+      whole = append_assoc first.front second.front pending' ∙ ap (λ ys. first.front ++ ys) second.whole
+          ∙ sym (append_assoc first.front pending more) ∙ ap (λ ys. ys ++ more) first.whole;
+    }
+
+-- What was pending is handed on, with more text behind it.
+pub taken_then : (a b c : Option (List ℕ)) (text pending : List ℕ) → Printed a b text pending → Takes b c pending → Takes a c text
+taken_then a b c text pending first second = subst (Takes a c) first.whole (takes_both a b c _ _ first.taken second)
+
+-- A front of nothing.
+pub some_none : (a : Option (List ℕ)) (text : List ℕ) → PrintedSome a a text
+some_none a text = record { front = []; rest = text; taken = takes_nothing a; whole = refl }
+
+-- The front of a text is one of a longer text.
+pub some_longer : (a b : Option (List ℕ)) (text more : List ℕ) → PrintedSome a b text → PrintedSome a b (text ++ more)
+some_longer a b text more some =
+    record {
+      front = some.front;
+      rest = some.rest ++ more;
+      taken = some.taken;
+      whole = sym (append_assoc some.front some.rest more) ∙ ap (λ ys. ys ++ more) some.whole;
+    }
+
+-- What was printed but for its end is a front.
+pub some_of : (a b : Option (List ℕ)) (text pending : List ℕ) → Printed a b text pending → PrintedSome a b text
+some_of a b text pending printed =
+    record { front = printed.front; rest = pending; taken = printed.taken; whole = printed.whole }
+
+-- A front of what was pending and of more text behind it.
+pub some_then : (a b c : Option (List ℕ)) (text pending more : List ℕ) → Printed a b text pending → PrintedSome b c (pending ++ more) → PrintedSome a c (text ++ more)
+some_then a b c text pending more first second =
+    record {
+      front = first.front ++ second.front;
+      rest = second.rest;
+      taken = takes_both a b c _ _ first.taken second.taken;
+      whole = append_assoc first.front second.front second.rest ∙ ap (λ ys. first.front ++ ys) second.whole
+          ∙ sym (append_assoc first.front pending more) ∙ ap (λ ys. ys ++ more) first.whole;
+    }
+
+-- The two ways to say that a front was taken.
+pub some_taken : (a b : Option (List ℕ)) (text : List ℕ) → TakesSome a b text → PrintedSome a b text
+some_taken a b text taken =
+    record { front = take taken.0 text; rest = drop taken.0 text; taken = taken.1; whole = take-append-drop taken.0 text }
+
+pub taken_some : (a b : Option (List ℕ)) (text : List ℕ) → PrintedSome a b text → TakesSome a b text
+taken_some a b text some =
+    let front : some.front ≡ take (length some.front) text =
+    sym (take_at some.front some.rest (length some.front) refl) ∙ ap (take (length some.front)) some.whole in
+    (length some.front, subst (Takes a b) front some.taken)
+
+-- A front that leaves something.
+pub taken_part : (a b : Option (List ℕ)) (text front rest : List ℕ) → Takes a b front → front ++ rest ≡ text → length front < length text → TakesPart a b text
+taken_part a b text front rest taken whole less =
+    let same : front ≡ take (length front) text = sym (take_at front rest (length front) refl) ∙ ap (take (length front)) whole in
+    (length front, less, subst (Takes a b) same taken)
+
+-- One text of a list more.
+pub printed_more : {X : Type 0} (text : ℕ → X → List ℕ) (n : ℕ) (xs : List X) (i j : ℕ) (x d : X) (a b c : Option (List ℕ)) (old pending pending' : List ℕ) → Printed a b (old ++ numbered text n (take i xs)) pending → Printed b c (pending ++ text j x) pending' → j ≡ n + i → i < length xs → x ≡ get_or xs i d → Printed a c (old ++ numbered text n (take (i + 1) xs)) pending'
+printed_more text n xs i j x d a b c old pending pending' first second place within is_read =
+    subst (λ ys. Printed a c ys pending') (written_more text n xs i j x d old _ _ refl refl place within is_read)
+    (printed_then a b c _ _ _ _ first second)
+
+-- A front of one text of a list more.
+pub some_more : {X : Type 0} (text : ℕ → X → List ℕ) (n : ℕ) (xs : List X) (i j : ℕ) (x d : X) (a b c : Option (List ℕ)) (old pending : List ℕ) → Printed a b (old ++ numbered text n (take i xs)) pending → PrintedSome b c (pending ++ text j x) → j ≡ n + i → i < length xs → x ≡ get_or xs i d → PrintedSome a c (old ++ numbered text n xs)
+some_more text n xs i j x d a b c old pending first second place within is_read =
+    let front : PrintedSome a c (old ++ numbered text n (take (i + 1) xs)) =
+    subst (PrintedSome a c) (written_more text n xs i j x d old _ _ refl refl place within is_read)
+    (some_then a b c _ _ _ first second) in
+    let whole : old ++ numbered text n (take (i + 1) xs) ++ numbered text (n + length (take (i + 1) xs)) (drop (i + 1) xs) ≡ old ++ numbered text n xs =
+    append_assoc old _ _
+    ∙ ap (λ ys. old ++ ys) (sym (numbered_append text n (take (i + 1) xs) (drop (i + 1) xs)) ∙ ap (numbered text n) (take-append-drop (i + 1) xs)) in
+    subst (PrintedSome a c) whole (some_longer a c _ _ front)
+
+-- A text that is put behind what is pending.
+pub printed_put : (a b : Option (List ℕ)) (text pending more pending' : List ℕ) → Printed a b text pending → pending' ≡ pending ++ more → Printed a b (text ++ more) pending'
+printed_put a b text pending more pending' first is_put =
+    record {
+      front = first.front;
+      taken = first.taken;
+      whole = ap (λ ys. first.front ++ ys) is_put ∙ sym (append_assoc first.front pending more) ∙ ap (λ ys. ys ++ more) first.whole;
+    }
+
+-- Pixels that are handed on from where they stand, behind what waited.
+pub pixels_printed : (a b c : Option (List ℕ)) (buffer pixels pending : List ℕ) → Takes a b buffer → Takes b c pixels → pending ≡ [] → Printed a c (buffer ++ pixels) pending
+pixels_printed a b c buffer pixels pending first second none =
+    let P : List ℕ → Type 0 = λ ys. Printed a c (buffer ++ pixels) ys in
+    subst P (sym none) (printed_all a c (buffer ++ pixels) (takes_both a b c buffer pixels first second))
+
+-- A front of them.
+pub pixels_some : (a b c : Option (List ℕ)) (buffer pixels : List ℕ) → Takes a b buffer → TakesSome b c pixels → PrintedSome a c (buffer ++ pixels)
+pixels_some a b c buffer pixels first some = some_then a b c buffer [] pixels (printed_all a b buffer first) (some_taken b c pixels some)
+
+-- A frame: its line, its pixels, and a line end.
+frame_whole : (old buffer pixels : List ℕ) (n : ℕ) (frame : Frame) → buffer ≡ old ++ frame_line n frame → pixels ≡ frame.pixels → (buffer ++ pixels) ++ codes "\n" ≡ old ++ frame_text n frame
+frame_whole old buffer pixels n frame is_buffer is_pixels = rw (is_buffer, is_pixels) (simp append_assoc)
+
+pub frame_printed : (a b : Option (List ℕ)) (old buffer pixels pending pending' : List ℕ) (n : ℕ) (frame : Frame) → buffer ≡ old ++ frame_line n frame → pixels ≡ frame.pixels → Printed a b (buffer ++ pixels) pending → pending' ≡ pending ++ codes "\n"
+    → Printed a b (old ++ frame_text n frame) pending'
+frame_printed a b old buffer pixels pending pending' n frame is_buffer is_pixels printed is_put =
+    subst (λ ys. Printed a b ys pending') (frame_whole old buffer pixels n frame is_buffer is_pixels) (printed_put a b (buffer ++ pixels) pending (codes "\n") pending' printed is_put)
+
+-- A front of it.
+pub frame_some : (a b : Option (List ℕ)) (old buffer pixels : List ℕ) (n : ℕ) (frame : Frame) → buffer ≡ old ++ frame_line n frame → pixels ≡ frame.pixels → PrintedSome a b (buffer ++ pixels) → PrintedSome a b (old ++ frame_text n frame)
+frame_some a b old buffer pixels n frame is_buffer is_pixels some =
+    subst (PrintedSome a b) (frame_whole old buffer pixels n frame is_buffer is_pixels) (some_longer a b (buffer ++ pixels) (codes "\n") some)

@@ -1,0 +1,9 @@
+//! The journal of a run as text.
+#![tactic(auto)]
+
+mod digits;
+mod journal;
+mod lines;
+mod printer;
+
+pub use journal::{Journal, print};

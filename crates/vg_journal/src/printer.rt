@@ -1,0 +1,235 @@
+//! The text of a journal on its way to a sink, through a buffer.
+
+ghost use Rattle.std.specs.Prelude.{◌≡◌, ◌<◌, ◌≤◌, ◌++◌, [], length, OnOk, OnErr, IsErrOf};
+ghost use Rattle.vg_io.specs.Streams.{Rose, Takes, TakesPart, TakesSome};
+ghost use Rattle.vg_journal.specs.Printing.{Printed, PrintedSome};
+ghost use Rattle.vg_journal.specs.Text.{numbered, entry_line, frame_text, front_text, text_of};
+ghost use Rattle.vg_journal.specs.declared.printer.PrintError.TheVariants.{Memory, Fault};
+
+use crate::journal::Journal;
+use crate::lines::{put, put_counts, put_entry, put_frame, put_head};
+use std::alloc::{AllocError, Global};
+use vg_io::{Failed, Sink, write_all};
+use vg_machine::{Entry, Frame};
+
+/// How many bytes wait in the buffer, at the least, before they are handed on.
+const PIECE: usize = 65_536;
+
+/// Why a text was not printed whole.
+#[derive(Debug, Clone, Copy, PartialEq, Eq)]
+pub(crate) enum PrintError {
+    /// There was no memory for the buffer.
+    Memory,
+    /// A write failed.
+    Fault,
+}
+
+impl From<AllocError> for PrintError {
+    ghost from_gives = { λ _ e. e ≡ Memory };
+
+    fn from(_e: AllocError) -> PrintError {
+        PrintError::Memory
+    }
+}
+
+impl From<Failed> for PrintError {
+    ghost from_gives = { λ _ e. e ≡ Fault };
+
+    fn from(_e: Failed) -> PrintError {
+        PrintError::Fault
+    }
+}
+
+// Hands on all that the buffer has.
+fn hand_on<K: Sink>(sink: &mut K, buffer: &mut Vec<u8>) -> Result<(), Failed>
+    ensures ok { OnOk result (Takes (K.held sink.old) (K.held sink.new) buffer.old.items) }
+    ensures empty { OnOk result (buffer.new.items ≡ []) }
+    ensures failed { OnErr result (TakesSome (K.held sink.old) (K.held sink.new) buffer.old.items) }
+    ensures cause { OnErr result (Rose (K.faults sink.old) (K.faults sink.new)) }
+    ensures same { OnOk result (K.faults sink.new ≡ K.faults sink.old) }
+    ensures count { K.faults sink.old ≤ K.faults sink.new }
+{
+    write_all(sink, buffer.as_slice())?;
+    buffer.clear();
+    Ok(())
+}
+
+// Hands the buffer on where it has a piece.
+fn hand_on_piece<K: Sink>(sink: &mut K, buffer: &mut Vec<u8>) -> Result<(), Failed>
+    ensures ok { OnOk result (
+        Printed (K.held sink.old) (K.held sink.new) buffer.old.items buffer.new.items) }
+    ensures small { OnOk result (length buffer.new.items < 65536) }
+    ensures failed { OnErr result (TakesSome (K.held sink.old) (K.held sink.new) buffer.old.items) }
+    ensures cause { OnErr result (Rose (K.faults sink.old) (K.faults sink.new)) }
+    ensures same { OnOk result (K.faults sink.new ≡ K.faults sink.old) }
+    ensures count { K.faults sink.old ≤ K.faults sink.new }
+{
+    if buffer.len() < PIECE {
+        return Ok(());
+    }
+    hand_on(sink, buffer)
+}
+
+#[tactic(auto, using(crate::proofs::PrintingLemmas::some_taken))]
+fn print_entry<K: Sink>(
+    sink: &mut K,
+    buffer: &mut Vec<u8>,
+    number: u64,
+    entry: &Entry,
+) -> Result<(), PrintError>
+    ensures ok { OnOk result (
+        Printed (K.held sink.old) (K.held sink.new)
+        (buffer.old.items ++ entry_line number entry.now) buffer.new.items) }
+    ensures some { OnErr result (
+        PrintedSome (K.held sink.old) (K.held sink.new)
+        (buffer.old.items ++ entry_line number entry.now)) }
+    ensures cause { IsErrOf result PrintError.Fault → Rose (K.faults sink.old) (K.faults sink.new) }
+    ensures same { OnOk result (K.faults sink.new ≡ K.faults sink.old) }
+    ensures same_memory { IsErrOf result PrintError.Memory → K.faults sink.new ≡ K.faults sink.old }
+    ensures count { K.faults sink.old ≤ K.faults sink.new }
+{
+    put_entry(buffer, number, entry)?;
+    hand_on_piece(sink, buffer)?;
+    Ok(())
+}
+
+// Pixels that are a piece of their own go to the sink from where they stand, and fewer through the buffer.
+fn print_pixels<K: Sink>(
+    sink: &mut K,
+    buffer: &mut Vec<u8>,
+    pixels: &[u8],
+) -> Result<(), PrintError>
+    ensures ok { OnOk result (
+        Printed (K.held sink.old) (K.held sink.new) (buffer.old.items ++ pixels.now) buffer.new.items) }
+    ensures some { OnErr result (
+        PrintedSome (K.held sink.old) (K.held sink.new) (buffer.old.items ++ pixels.now)) }
+    ensures cause { IsErrOf result PrintError.Fault → Rose (K.faults sink.old) (K.faults sink.new) }
+    ensures same { OnOk result (K.faults sink.new ≡ K.faults sink.old) }
+    ensures same_memory { IsErrOf result PrintError.Memory → K.faults sink.new ≡ K.faults sink.old }
+    ensures count { K.faults sink.old ≤ K.faults sink.new }
+{
+    if pixels.len() < PIECE {
+        put(buffer, pixels)?;
+        hand_on_piece(sink, buffer)?;
+        return Ok(());
+    }
+    hand_on(sink, buffer)?;
+    write_all(sink, pixels)?;
+    Ok(())
+}
+
+fn print_frame<K: Sink>(
+    sink: &mut K,
+    buffer: &mut Vec<u8>,
+    number: u64,
+    frame: &Frame,
+) -> Result<(), PrintError>
+    ensures ok { OnOk result (
+        Printed (K.held sink.old) (K.held sink.new)
+        (buffer.old.items ++ frame_text number frame.now) buffer.new.items) }
+    ensures some { OnErr result (
+        PrintedSome (K.held sink.old) (K.held sink.new)
+        (buffer.old.items ++ frame_text number frame.now)) }
+    ensures cause { IsErrOf result PrintError.Fault → Rose (K.faults sink.old) (K.faults sink.new) }
+    ensures same { OnOk result (K.faults sink.new ≡ K.faults sink.old) }
+    ensures same_memory { IsErrOf result PrintError.Memory → K.faults sink.new ≡ K.faults sink.old }
+    ensures count { K.faults sink.old ≤ K.faults sink.new }
+{
+    put_frame(buffer, number, frame)?;
+    print_pixels(sink, buffer, frame.pixels.as_slice())?;
+    put(buffer, b"\n")?;
+    Ok(())
+}
+
+fn print_entries<K: Sink>(
+    sink: &mut K,
+    buffer: &mut Vec<u8>,
+    entries: &[Entry],
+) -> Result<(), PrintError>
+    ensures ok { OnOk result (
+        Printed (K.held sink.old) (K.held sink.new)
+        (buffer.old.items ++ numbered entry_line 1 entries.now) buffer.new.items) }
+    ensures some { OnErr result (
+        PrintedSome (K.held sink.old) (K.held sink.new)
+        (buffer.old.items ++ numbered entry_line 1 entries.now)) }
+    ensures cause { IsErrOf result PrintError.Fault → Rose (K.faults sink.old) (K.faults sink.new) }
+    ensures same { OnOk result (K.faults sink.new ≡ K.faults sink.old) }
+    ensures same_memory { IsErrOf result PrintError.Memory → K.faults sink.new ≡ K.faults sink.old }
+    ensures count { K.faults sink.old ≤ K.faults sink.new }
+{
+    for (at, entry) in entries.iter().enumerate() {
+        print_entry(sink, buffer, at as u64 + 1, entry)?;
+    }
+    Ok(())
+}
+
+fn print_frames<K: Sink>(
+    sink: &mut K,
+    buffer: &mut Vec<u8>,
+    frames: &[Frame],
+) -> Result<(), PrintError>
+    ensures ok { OnOk result (
+        Printed (K.held sink.old) (K.held sink.new)
+        (buffer.old.items ++ numbered frame_text 1 frames.now) buffer.new.items) }
+    ensures some { OnErr result (
+        PrintedSome (K.held sink.old) (K.held sink.new)
+        (buffer.old.items ++ numbered frame_text 1 frames.now)) }
+    ensures cause { IsErrOf result PrintError.Fault → Rose (K.faults sink.old) (K.faults sink.new) }
+    ensures same { OnOk result (K.faults sink.new ≡ K.faults sink.old) }
+    ensures same_memory { IsErrOf result PrintError.Memory → K.faults sink.new ≡ K.faults sink.old }
+    ensures count { K.faults sink.old ≤ K.faults sink.new }
+{
+    for (at, frame) in frames.iter().enumerate() {
+        print_frame(sink, buffer, at as u64 + 1, frame)?;
+    }
+    Ok(())
+}
+
+// All of the text in front of its last line.
+fn print_front<K: Sink>(
+    sink: &mut K,
+    buffer: &mut Vec<u8>,
+    journal: &Journal,
+) -> Result<(), PrintError>
+    requires { buffer.old.items ≡ [] }
+    ensures ok { OnOk result (Printed (K.held sink.old) (K.held sink.new) (front_text journal.now) buffer.new.items) }
+    ensures some { OnErr result (
+        PrintedSome (K.held sink.old) (K.held sink.new) (front_text journal.now)) }
+    ensures cause { IsErrOf result PrintError.Fault → Rose (K.faults sink.old) (K.faults sink.new) }
+    ensures same { OnOk result (K.faults sink.new ≡ K.faults sink.old) }
+    ensures same_memory { IsErrOf result PrintError.Memory → K.faults sink.new ≡ K.faults sink.old }
+    ensures count { K.faults sink.old ≤ K.faults sink.new }
+{
+    put_head(buffer, &journal.setup)?;
+    print_entries(sink, buffer, journal.entries.as_slice())?;
+    put_counts(
+        buffer,
+        journal.control,
+        journal.cursor,
+        journal.frames.len() as u64,
+    )?;
+    print_frames(sink, buffer, journal.frames.as_slice())?;
+    Ok(())
+}
+
+/// Writes all of the journal's text. Where it fails, a front of the text is written; for want of memory never all of it.
+pub(crate) fn print_text<K: Sink>(
+    alloc: Global,
+    sink: &mut K,
+    journal: &Journal,
+) -> Result<(), PrintError>
+    ensures ok { OnOk result (Takes (K.held sink.old) (K.held sink.new) (text_of journal.now)) }
+    ensures some { OnErr result (
+        PrintedSome (K.held sink.old) (K.held sink.new) (text_of journal.now)) }
+    ensures part { IsErrOf result PrintError.Memory → TakesPart (K.held sink.old) (K.held sink.new) (text_of journal.now) }
+    ensures cause { IsErrOf result PrintError.Fault → Rose (K.faults sink.old) (K.faults sink.new) }
+    ensures same { OnOk result (K.faults sink.new ≡ K.faults sink.old) }
+    ensures same_memory { IsErrOf result PrintError.Memory → K.faults sink.new ≡ K.faults sink.old }
+    ensures count { K.faults sink.old ≤ K.faults sink.new }
+{
+    let mut buffer = Vec::new(alloc);
+    print_front(sink, &mut buffer, journal)?;
+    put(&mut buffer, b"end\n")?;
+    hand_on(sink, &mut buffer)?;
+    Ok(())
+}
