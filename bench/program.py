@@ -41,8 +41,16 @@ def run(words, given, taken, said=None, env=None):
         return Run(*json.load(told))
 
 
-def cost(program, text, turns=5):
-    """The least seconds of processor time of some runs over a text, whose output isn't kept, and what the last one said."""
+def processor(ran):
+    return ran.processor
+
+
+def seconds(ran):
+    return ran.seconds
+
+
+def cost(program, text, turns=5, of=processor):
+    """The least of some runs over a text, whose output isn't kept, by default of processor time, and what the last one said."""
     least = float("inf")
     with tempfile.TemporaryFile() as given, open(os.devnull, "wb") as none:
         given.write(text)
@@ -52,16 +60,16 @@ def cost(program, text, turns=5):
                 ran = run([program, "run"], given, none, said)
                 said.seek(0)
                 words = said.read().decode()
-            least = min(least, ran.processor)
+            least = min(least, of(ran))
     return least, ran.status, words.strip()
 
 
-def spent(program, script, turns=5):
-    """The least seconds of processor time of some runs over a script, which have to end with status 0."""
-    seconds, status, said = cost(program, script.encode(), turns)
+def spent(program, script, turns=5, of=processor):
+    """The least of some runs over a script, which have to end with status 0: as `cost`."""
+    least, status, said = cost(program, script.encode(), turns, of)
     if status != 0:
         sys.exit(f"status {status}, {said}")
-    return seconds
+    return least
 
 
 def copied(act, turns=5):
