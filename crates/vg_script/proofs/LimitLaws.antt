@@ -19,7 +19,7 @@ use Rattle.vg_script.specs.Words.{lines_of, words_of, hex_bytes, value, is_posit
 use Rattle.vg_script.proofs.Counts.{no_args_give, one_arg_gives, two_args_give, three_args_give, four_args_give, five_args_give, six_args_give}
 use Rattle.vg_script.specs.Features.{feature_of, is_same}
 use Rattle.vg_script.specs.Seen.{Seen, NameTable, nothing_seen, add_line}
-use Rattle.vg_script.specs.Rows.{Row, info_row, edid_row, buffer_row, store_row, load_row, send_row, flush_row, take_row, drop_row, hide_row, show_row, flip_row, cursor_row, move_row, uuid_row, close_row, raw_row, request_row, queue_of, shape_of, row_of}
+use Rattle.vg_script.specs.Rows.{Row, info_row, edid_row, buffer_row, store_row, load_row, send_row, flush_row, take_row, drop_row, hide_row, show_row, flip_row, cursor_row, move_row, uuid_row, close_row, raw_row, request_row, queue_of, shape_of, row_of, row_of_buffers, row_of_scanouts, row_of_others}
 use Rattle.vg_script.specs.Grammar.{Form, display_form, memory_form, feature_form, without_form, client_form, step_form, skipped_form, called_form, worded_form, form_of, line_form, one_more, script_of, scan, read_script, Parses}
 use Rattle.vg_script.specs.Faults.{fails, given, form_gives, seen_after, AreFaultless, has_fault}
 use Rattle.vg_script.specs.Limits.{IsBetween, IsPosition, ShapeInLimits, StepInLimits, ClientInLimits, DisplayInLimits, ScriptInLimits}
@@ -180,7 +180,7 @@ unfolding raw_row
 raw_fits n table queue room shape hex = request_fits n table (queue_of queue) (shape_of shape) room hex (shape_fits shape)
 
 step_fits : (word : List ℕ) (n : ℕ) (table : NameTable) (args : List (List ℕ)) → RowFits n (row_of word n table args)
-unfolding row_of
+unfolding row_of row_of_buffers row_of_scanouts row_of_others
 step_fits word n table args =
     either_fits n (bytes_eq word (codes "info")) (no_args (info_row table) args) _ (no_args_give (RowFits n) tt (info_row table) (info_fits n table) args)
     (either_fits n (bytes_eq word (codes "edid")) (one_arg (edid_row table) args) _ (one_arg_gives (RowFits n) tt (edid_row table) (edid_fits n table) args)

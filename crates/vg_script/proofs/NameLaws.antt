@@ -14,7 +14,7 @@ use Rattle.vg_script.specs.declared.types.Feature.{Feature}
 use Rattle.vg_script.specs.declared.types.RawShape.{RawShape}
 use Rattle.vg_script.specs.Features.{feature_of}
 use Rattle.vg_script.specs.Seen.{Seen, NameTable, nothing_seen, with_name, without_name}
-use Rattle.vg_script.specs.Rows.{Row, info_row, edid_row, buffer_row, store_row, load_row, send_row, flush_row, take_row, drop_row, hide_row, show_row, flip_row, cursor_row, move_row, uuid_row, close_row, raw_row, request_row, queue_of, shape_of, row_of}
+use Rattle.vg_script.specs.Rows.{Row, info_row, edid_row, buffer_row, store_row, load_row, send_row, flush_row, take_row, drop_row, hide_row, show_row, flip_row, cursor_row, move_row, uuid_row, close_row, raw_row, request_row, queue_of, shape_of, row_of, row_of_buffers, row_of_scanouts, row_of_others}
 use Rattle.vg_script.specs.Grammar.{Form, display_form, memory_form, feature_form, without_form, client_form, step_form, skipped_form, called_form, worded_form, form_of, line_form, one_more}
 use Rattle.vg_script.specs.Faults.{fails, given, form_gives, seen_after, AreFaultless, has_fault}
 use Rattle.vg_script.specs.Names.{begins, says, end_name, IsDefinedBy}
@@ -162,7 +162,7 @@ close_names name word table (a ∷ []) h = close_changes name word a [] table h
 close_names name word table (a ∷ b ∷ more) h = tt
 
 step_names : (name word : List ℕ) (n : ℕ) (table : NameTable) (args : List (List ℕ)) → RowNames name (word ∷ args) table (row_of word n table args)
-unfolding row_of
+unfolding row_of row_of_buffers row_of_scanouts row_of_others
 step_names name word n table args =
     let words = word ∷ args in
     either_row name words table (bytes_eq word (codes "info")) (no_args (info_row table) args) _ (kept_row name word (codes "info") args table (no_args (info_row table) args) (no_args_give (KeepsNames table) tt (info_row table) (info_keeps n table) args) refl refl refl)

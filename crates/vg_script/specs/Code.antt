@@ -7,7 +7,7 @@ use Rattle.std.specs.Ordering.{nat_cmp}
 use denote.Ref.{Bor}
 use Rattle.std.specs.Char.{digit_value}
 use Rattle.vg_script.specs.declared.kind.Kind.{Kind}
-use Rattle.vg_script.specs.declared.kind.Kind.TheVariants.{Number}
+use Rattle.vg_script.specs.declared.kind.Kind.TheVariants.{Number, Name}
 use Rattle.vg_script.specs.declared.kind.Stop.{Stop}
 use Rattle.vg_script.specs.declared.kind.Stop.TheVariants.{Memory, Fault}
 use Rattle.vg_script.specs.declared.names.NameKind.{NameKind}
@@ -39,6 +39,12 @@ abbrev pub Decodes : Bool → List ℕ → Result (List ℕ) Stop → Type 0
 Decodes test bytes (Ok read) = (test ≡ true) × (read ≡ bytes)
 Decodes test bytes (Err Memory) = ⊤
 Decodes test bytes (Err (Fault kind)) = (kind ≡ Number) × (test ≡ false)
+
+-- A name was defined as it has to be and this is it, or the answer is a fault of a name, where memory may be wanting.
+abbrev pub Knows : {X : Type 0} → Bool → X → Result X Stop → Type 0
+Knows test name (Ok read) = (test ≡ true) × (read ≡ name)
+Knows test name (Err Memory) = ⊤
+Knows test name (Err (Fault kind)) = (kind ≡ Name) × (test ≡ false)
 
 -- What a digit says, or 16; and the bytes of pairs of digits, whatever they are.
 abbrev pub digit_or_16 : ℕ → ℕ

@@ -35,6 +35,10 @@ is_any word = is_within 0 4294967295 word
 abbrev pub is_format : List ℕ → Bool
 is_format word = list_any (λ code. value word == code) (1 ∷ 2 ∷ 3 ∷ 4 ∷ 67 ∷ 68 ∷ 121 ∷ 134 ∷ [])
 
+-- A count of bytes and how many times they are stored: each within its limits, and their product too.
+abbrev pub are_times : ℕ → List ℕ → Bool
+are_times count times = is_in_range 1 4096 count && is_within 1 307200 times && nat_le (count * value times) 1228800
+
 -- The number of a display.
 abbrev pub is_scanout : ℕ → List ℕ → Bool
 is_scanout displays word = nat_lt (value word) displays
@@ -83,8 +87,7 @@ buffer_row table name width height format = Some (record {
 unfoldable pub store_row : NameTable → (name offset hex times : List ℕ) → Option Row
 store_row table name offset hex times = Some (record {
   numbers = is_number offset && is_hex hex && is_number times;
-  limits = is_within 0 1228799 offset && is_in_range 1 4096 (length hex / 2) && is_within 1 307200 times
-      && nat_le (length hex / 2 * value times) 1228800;
+  limits = is_within 0 1228799 offset && are_times (length hex / 2) times;
   names = is_kind kinds.Buffer (table name);
   step = Store name (value offset) (hex_bytes hex) (value times);
   after = table;
@@ -254,27 +257,44 @@ request_row table queue shape room hex = None
 unfoldable pub raw_row : NameTable → (queue room shape hex : List ℕ) → Option Row
 raw_row table queue room shape hex = request_row table (queue_of queue) (shape_of shape) room hex
 
--- The row of a line, by its first word and the arguments behind it.
-unfoldable pub row_of : List ℕ → ℕ → NameTable → List (List ℕ) → Option Row
-row_of word displays table args =
-    if bytes_eq word (codes "info") then no_args (info_row table) args
-    else if bytes_eq word (codes "edid") then one_arg (edid_row table) args
-    else if bytes_eq word (codes "buffer") then four_args (buffer_row table) args
-    else if bytes_eq word (codes "store") then four_args (store_row table) args
-    else if bytes_eq word (codes "load") then three_args (load_row table) args
-    else if bytes_eq word (codes "send") then five_args (send_row table) args
-    else if bytes_eq word (codes "flush") then five_args (flush_row table) args
-    else if bytes_eq word (codes "take") then one_arg (take_row displays table) args
-    else if bytes_eq word (codes "drop") then one_arg (drop_row displays table) args
-    else if bytes_eq word (codes "hide") then one_arg (hide_row displays table) args
-    else if bytes_eq word (codes "show") then six_args (show_row displays table) args
-    else if bytes_eq word (codes "flip") then two_args (flip_row displays table) args
-    else if bytes_eq word (codes "cursor") then six_args (cursor_row displays table) args
+-- The row of a line, by its first word and the arguments behind it, in four parts. Each part but the last goes on
+-- to the one that stands above it here, where the word is none of its own. The last part: cursors, names, and
+-- requests that are given by their bytes.
+unfoldable pub row_of_others : List ℕ → ℕ → NameTable → List (List ℕ) → Option Row
+row_of_others word displays table args =
+    if bytes_eq word (codes "cursor") then six_args (cursor_row displays table) args
     else if bytes_eq word (codes "move") then three_args (move_row displays table) args
     else if bytes_eq word (codes "uuid") then one_arg (uuid_row table) args
     else if bytes_eq word (codes "close") then one_arg (close_row table) args
     else if bytes_eq word (codes "raw") then four_args (raw_row table) args
     else None
+
+-- The third: scanouts.
+unfoldable pub row_of_scanouts : List ℕ → ℕ → NameTable → List (List ℕ) → Option Row
+row_of_scanouts word displays table args =
+    if bytes_eq word (codes "take") then one_arg (take_row displays table) args
+    else if bytes_eq word (codes "drop") then one_arg (drop_row displays table) args
+    else if bytes_eq word (codes "hide") then one_arg (hide_row displays table) args
+    else if bytes_eq word (codes "show") then six_args (show_row displays table) args
+    else if bytes_eq word (codes "flip") then two_args (flip_row displays table) args
+    else row_of_others word displays table args
+
+-- The second: buffers, their bytes and their pixels.
+unfoldable pub row_of_buffers : List ℕ → ℕ → NameTable → List (List ℕ) → Option Row
+row_of_buffers word displays table args =
+    if bytes_eq word (codes "buffer") then four_args (buffer_row table) args
+    else if bytes_eq word (codes "store") then four_args (store_row table) args
+    else if bytes_eq word (codes "load") then three_args (load_row table) args
+    else if bytes_eq word (codes "send") then five_args (send_row table) args
+    else if bytes_eq word (codes "flush") then five_args (flush_row table) args
+    else row_of_scanouts word displays table args
+
+-- The first, and so all: what asks the device.
+unfoldable pub row_of : List ℕ → ℕ → NameTable → List (List ℕ) → Option Row
+row_of word displays table args =
+    if bytes_eq word (codes "info") then no_args (info_row table) args
+    else if bytes_eq word (codes "edid") then one_arg (edid_row table) args
+    else row_of_buffers word displays table args
 
 -- A row's call and the names after it, or the least kind of its faults.
 abbrev pub judged : Row → Result (Step × NameTable) Kind

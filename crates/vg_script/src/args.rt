@@ -4,7 +4,7 @@
 macro_rules! with_args {
     ($args:ident, [$($arg:ident),*] => $given:expr) => {
         match $args {
-            [$($arg),*] => $given,
+            &[$($arg),*] => $given,
             _ => Err(crate::kind::Stop::Fault(crate::kind::Kind::Word)),
         }
     };

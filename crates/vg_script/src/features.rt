@@ -7,22 +7,23 @@ ghost use Rattle.vg_script.specs.Code.{Finds};
 
 use crate::kind::Kind;
 use crate::types::Feature;
+use crate::words::is;
 
 /// The feature that a word spells.
 #[tactic(auto, unfolding(crate::specs::Features::feature_of))]
 pub(crate) fn feature_of(word: &[u8]) -> Result<Feature, Kind>
     ensures { Finds (feature_of word.now) Kind.Word result }
 {
-    if word == b"edid".as_slice() {
+    if is(word, b"edid") {
         return Ok(Feature::Edid);
     }
-    if word == b"uuid".as_slice() {
+    if is(word, b"uuid") {
         return Ok(Feature::Uuid);
     }
-    if word == b"blob".as_slice() {
+    if is(word, b"blob") {
         return Ok(Feature::Blob);
     }
-    if word == b"context".as_slice() {
+    if is(word, b"context") {
         return Ok(Feature::Context);
     }
     Err(Kind::Word)

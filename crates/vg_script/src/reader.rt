@@ -10,7 +10,7 @@ use crate::names::{Names, forget};
 use crate::rows::spelled;
 use crate::steps::step_of;
 use crate::types::{Feature, Line, Script, ScriptFault};
-use crate::words::{is_text, limited, put_words};
+use crate::words::{is, is_text, limited, put_words};
 use std::alloc::{AllocError, Global};
 use std::collections::BTreeMap;
 use vg_list::Seq;
@@ -35,7 +35,7 @@ pub(crate) struct Reader<'a> {
 }
 
 impl<'a> Reader<'a> {
-    ghost use Rattle.std.specs.Prelude.{◌≡◌, ◌+◌, ◌-◌, ◌<◌, ◌^◌, [], ◌∷◌, map, IfOk};
+    ghost use Rattle.std.specs.Prelude.{◌≡◌, ◌==◌, ◌&&◌, not, is_none, ◌+◌, ◌-◌, ◌<◌, ◌^◌, [], ◌∷◌, map, IfOk};
     ghost use Rattle.vg_script.specs.Seen.{Seen, nothing_seen};
     ghost use Rattle.vg_script.specs.Grammar.{display_form, memory_form, without_form, client_form, called_form, worded_form, form_of, feature_form, settled, settled_form, after_line, scan};
     ghost use Rattle.vg_script.specs.Reading.{seen, Goes};
@@ -99,19 +99,26 @@ impl<'a> Reader<'a> {
         ensures { Goes (seen self.new) result
             (settled_form (worded_form (seen self.old) word.now (map (λ arg. arg.now) args.now))) }
     {
-        if word == b"display".as_slice() {
+        if is(word, b"display") {
             return with_args!(args, [width, height] => self.display(width, height));
         }
-        if word == b"memory".as_slice() {
+        if is(word, b"memory") {
             return with_args!(args, [pages] => self.memory(pages));
         }
-        if word == b"without".as_slice() {
+        if is(word, b"without") {
             return with_args!(args, [feature] => self.without(feature));
         }
-        if word == b"client".as_slice() {
+        if is(word, b"client") {
             return with_args!(args, [] => self.client(alloc));
         }
         self.step(alloc, word, args)
+    }
+
+    /// Whether there was a line that no display may stand behind.
+    fn is_past_displays(&self) -> bool
+        ensures { result ≡ not (is_none (seen self.now).pages && length (seen self.now).without == 0 && length (seen self.now).clients == 0) }
+    {
+        self.pages.is_some() || !self.without.is_empty() || !self.clients.is_empty()
     }
 
     #[tactic(auto, unfolding(crate::specs::Grammar::display_form))]
@@ -119,7 +126,7 @@ impl<'a> Reader<'a> {
         ensures { Goes (seen self.new) result
             (settled_form (display_form (seen self.old) width.now height.now)) }
     {
-        if self.pages.is_some() || !self.without.is_empty() || !self.clients.is_empty() {
+        if self.is_past_displays() {
             return Err(Stop::Fault(Kind::Word));
         }
         spelled(width)?;
@@ -140,11 +147,7 @@ impl<'a> Reader<'a> {
         ensures { Goes (seen self.new) result
             (settled_form (memory_form (seen self.old) pages.now)) }
     {
-        if self.displays.is_empty()
-            || self.pages.is_some()
-            || !self.without.is_empty()
-            || !self.clients.is_empty()
-        {
+        if self.displays.is_empty() || self.is_past_displays() {
             return Err(Stop::Fault(Kind::Word));
         }
         spelled(pages)?;

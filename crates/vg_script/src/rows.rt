@@ -4,14 +4,14 @@ ghost use Rattle.std.specs.Prelude.{◌≡◌, ◌≤◌, ◌||◌, true, IfOk, 
 ghost use Rattle.vg_script.specs.declared.names.NameKind.TheVariants as kinds;
 ghost use Rattle.vg_script.specs.Words.{is_number, value, is_signed, is_no_name, name_or_none};
 ghost use Rattle.vg_script.specs.Seen.{is_kind};
-ghost use Rattle.vg_script.specs.Rows.{judged_row, is_format, is_scanout, are_numbers, are_any, area_of, queue_of, shape_of, info_row, edid_row, buffer_row, store_row, load_row, send_row, flush_row, take_row, drop_row, hide_row, show_row, flip_row, cursor_row, move_row, uuid_row, close_row, raw_row};
-ghost use Rattle.vg_script.specs.Code.{table_of, Judges, Passes, Yields, Finds};
+ghost use Rattle.vg_script.specs.Rows.{judged_row, is_format, are_times, is_scanout, are_numbers, are_any, area_of, queue_of, shape_of, info_row, edid_row, buffer_row, store_row, load_row, send_row, flush_row, take_row, drop_row, hide_row, show_row, flip_row, cursor_row, move_row, uuid_row, close_row, raw_row};
+ghost use Rattle.vg_script.specs.Code.{table_of, Judges, Passes, Yields, Finds, Knows};
 
 use crate::kind::{Kind, Stop};
 use crate::names::{NameKind, Names, define, end, is_defined, is_kind};
 use crate::types::{Area, RawShape, Step};
 use crate::words::{
-    bytes_or_none, hex_bytes, is_name, is_number, is_signed, limited, position, value,
+    bytes_or_none, hex_bytes, is, is_name, is_number, is_signed, limited, position, value,
 };
 use std::alloc::{AllocError, Global};
 use vg_list::Seq;
@@ -85,22 +85,29 @@ pub(crate) fn store(
     let bytes = hex_bytes(alloc, hex)?;
     spelled(times)?;
     let offset = limited(offset, 0, 1_228_799)?;
-    let count = hex.len() / 2;
-    if count < 1 || count > 4_096 {
-        return Err(Stop::Fault(Kind::Limit));
-    }
-    let times = limited(times, 1, 307_200)?;
-    if count * times as usize > 1_228_800 {
-        return Err(Stop::Fault(Kind::Limit));
-    }
-    known(names, name)?;
-    let name = owned(alloc, name)?;
+    let times = times_of(hex.len() / 2, times)?;
+    let name = known(alloc, names, name)?;
     Ok(Step::Store {
         name,
         offset,
         bytes,
         times,
     })
+}
+
+/// How many times some bytes are stored, of which there are so many.
+fn times_of(count: usize, number: &[u8]) -> Result<u32, Kind>
+    requires { is_number number.now ≡ true }
+    ensures { Yields (are_times count number.now) (value number.now) Kind.Limit result }
+{
+    if count < 1 || count > 4_096 {
+        return Err(Kind::Limit);
+    }
+    let times = limited(number, 1, 307_200)?;
+    if count * times as usize > 1_228_800 {
+        return Err(Kind::Limit);
+    }
+    Ok(times)
 }
 
 /// `load A OFFSET LEN`
@@ -119,8 +126,7 @@ pub(crate) fn load(
     spelled(size)?;
     let offset = limited(offset, 0, 1_228_799)?;
     let length = limited(size, 1, 1_024)?;
-    known(names, name)?;
-    let name = owned(alloc, name)?;
+    let name = known(alloc, names, name)?;
     Ok(Step::Load {
         name,
         offset,
@@ -144,8 +150,7 @@ pub(crate) fn send(
 {
     all_spelled(x, y, width, height)?;
     let area = area(x, y, width, height)?;
-    known(names, name)?;
-    let name = owned(alloc, name)?;
+    let name = known(alloc, names, name)?;
     Ok(Step::Send { name, area })
 }
 
@@ -165,8 +170,7 @@ pub(crate) fn flush(
 {
     all_spelled(x, y, width, height)?;
     let area = area(x, y, width, height)?;
-    known(names, name)?;
-    let name = owned(alloc, name)?;
+    let name = known(alloc, names, name)?;
     Ok(Step::Flush { name, area })
 }
 
@@ -227,8 +231,7 @@ pub(crate) fn show(
     all_spelled(x, y, width, height)?;
     let area = area(x, y, width, height)?;
     let scanout = display(scanout, displays)?;
-    known(names, name)?;
-    let name = owned(alloc, name)?;
+    let name = known(alloc, names, name)?;
     Ok(Step::Show {
         scanout,
         name,
@@ -251,8 +254,7 @@ pub(crate) fn flip(
 {
     spelled(scanout)?;
     let scanout = display(scanout, displays)?;
-    known(names, name)?;
-    let name = owned(alloc, name)?;
+    let name = known(alloc, names, name)?;
     Ok(Step::Flip { scanout, name })
 }
 
@@ -283,8 +285,7 @@ pub(crate) fn cursor(
     let y = position(y)?;
     let hot_x = limited(hot_x, 0, u32::MAX)?;
     let hot_y = limited(hot_y, 0, u32::MAX)?;
-    known_or_none(names, name)?;
-    let name = owned_or_none(alloc, name)?;
+    let name = known_or_none(alloc, names, name)?;
     Ok(Step::Cursor {
         scanout,
         name,
@@ -323,8 +324,7 @@ pub(crate) fn uuid(alloc: Global, names: &Names, name: &[u8]) -> Result<Step, St
     ensures { Judges (table_of names.now) result
         (judged_row (uuid_row (table_of names.now) name.now)) }
 {
-    known(names, name)?;
-    let name = owned(alloc, name)?;
+    let name = known(alloc, names, name)?;
     Ok(Step::Uuid { name })
 }
 
@@ -334,10 +334,9 @@ pub(crate) fn close(alloc: Global, names: &mut Names, name: &[u8]) -> Result<Ste
     ensures { Judges (table_of names.new) result
         (judged_row (close_row (table_of names.old) name.now)) }
 {
-    known(names, name)?;
+    let buffer = known(alloc, names, name)?;
     end(names, name);
-    let name = owned(alloc, name)?;
-    Ok(Step::Close { name })
+    Ok(Step::Close { name: buffer })
 }
 
 /// `raw Q ROOM SHAPE HEX`
@@ -374,10 +373,10 @@ pub(crate) fn raw(
 fn queue_of(word: &[u8]) -> Result<bool, Kind>
     ensures { Finds (queue_of word.now) Kind.Word result }
 {
-    if word == b"control".as_slice() {
+    if is(word, b"control") {
         return Ok(false);
     }
-    if word == b"cursor".as_slice() {
+    if is(word, b"cursor") {
         return Ok(true);
     }
     Err(Kind::Word)
@@ -388,55 +387,55 @@ fn queue_of(word: &[u8]) -> Result<bool, Kind>
 fn shape_of(word: &[u8]) -> Result<RawShape, Kind>
     ensures { Finds (shape_of word.now) Kind.Word result }
 {
-    if word == b"plain".as_slice() {
+    if is(word, b"plain") {
         return Ok(RawShape::Plain);
     }
-    if word == b"pieces2".as_slice() {
+    if is(word, b"pieces2") {
         return Ok(RawShape::Pieces { n: 2 });
     }
-    if word == b"pieces3".as_slice() {
+    if is(word, b"pieces3") {
         return Ok(RawShape::Pieces { n: 3 });
     }
-    if word == b"pieces4".as_slice() {
+    if is(word, b"pieces4") {
         return Ok(RawShape::Pieces { n: 4 });
     }
-    if word == b"pieces5".as_slice() {
+    if is(word, b"pieces5") {
         return Ok(RawShape::Pieces { n: 5 });
     }
-    if word == b"pieces6".as_slice() {
+    if is(word, b"pieces6") {
         return Ok(RawShape::Pieces { n: 6 });
     }
-    if word == b"pieces7".as_slice() {
+    if is(word, b"pieces7") {
         return Ok(RawShape::Pieces { n: 7 });
     }
-    if word == b"pieces8".as_slice() {
+    if is(word, b"pieces8") {
         return Ok(RawShape::Pieces { n: 8 });
     }
-    if word == b"indirect".as_slice() {
+    if is(word, b"indirect") {
         return Ok(RawShape::Indirect);
     }
-    if word == b"mixed".as_slice() {
+    if is(word, b"mixed") {
         return Ok(RawShape::Mixed);
     }
-    if word == b"index".as_slice() {
+    if is(word, b"index") {
         return Ok(RawShape::Index);
     }
-    if word == b"loop".as_slice() {
+    if is(word, b"loop") {
         return Ok(RawShape::Loop);
     }
-    if word == b"nested".as_slice() {
+    if is(word, b"nested") {
         return Ok(RawShape::Nested);
     }
-    if word == b"nextindirect".as_slice() {
+    if is(word, b"nextindirect") {
         return Ok(RawShape::NextIndirect);
     }
-    if word == b"tablelength".as_slice() {
+    if is(word, b"tablelength") {
         return Ok(RawShape::TableLength);
     }
-    if word == b"order".as_slice() {
+    if is(word, b"order") {
         return Ok(RawShape::Order);
     }
-    if word == b"range".as_slice() {
+    if is(word, b"range") {
         return Ok(RawShape::Range);
     }
     Err(Kind::Word)
@@ -517,34 +516,24 @@ fn area(x: &[u8], y: &[u8], width: &[u8], height: &[u8]) -> Result<Area, Kind>
     })
 }
 
-/// Refuses a name that isn't that of a buffer.
-fn known(names: &Names, name: &[u8]) -> Result<(), Kind>
-    ensures { Passes (is_kind kinds.Buffer (table_of names.now name.now)) Kind.Name result }
+/// A name, where it is that of a buffer.
+fn known(alloc: Global, names: &Names, name: &[u8]) -> Result<Seq<u8>, Stop>
+    ensures { Knows (is_kind kinds.Buffer (table_of names.now name.now)) name.now result }
 {
-    if is_kind(names, name, NameKind::Buffer) {
-        return Ok(());
+    if !is_kind(names, name, NameKind::Buffer) {
+        return Err(Stop::Fault(Kind::Name));
     }
-    Err(Kind::Name)
+    Ok(owned(alloc, name)?)
 }
 
-/// Refuses a name that is neither that of a buffer nor `-`.
-fn known_or_none(names: &Names, name: &[u8]) -> Result<(), Kind>
-    ensures { Passes (is_no_name name.now || is_kind kinds.Buffer (table_of names.now name.now)) Kind.Name result }
+/// A name, where it is that of a buffer, or none where it is `-`.
+fn known_or_none(alloc: Global, names: &Names, name: &[u8]) -> Result<Option<Seq<u8>>, Stop>
+    ensures { Knows (is_no_name name.now || is_kind kinds.Buffer (table_of names.now name.now)) (name_or_none name.now) result }
 {
-    if name == b"-".as_slice() {
-        return Ok(());
-    }
-    known(names, name)
-}
-
-/// A name, or none where it is `-`.
-fn owned_or_none(alloc: Global, name: &[u8]) -> Result<Option<Seq<u8>>, AllocError>
-    ensures { IfOk result (λ s. s ≡ name_or_none name.now) }
-{
-    if name == b"-".as_slice() {
+    if is(name, b"-") {
         return Ok(None);
     }
-    Ok(Some(owned(alloc, name)?))
+    Ok(Some(known(alloc, names, name)?))
 }
 
 fn owned(alloc: Global, bytes: &[u8]) -> Result<Seq<u8>, AllocError>

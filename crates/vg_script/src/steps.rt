@@ -1,7 +1,7 @@
 //! Which line of a client some words are.
 
 ghost use Rattle.std.specs.Prelude.{◌≤◌, map};
-ghost use Rattle.vg_script.specs.Rows.{judged_row, row_of, store_row, show_row, cursor_row};
+ghost use Rattle.vg_script.specs.Rows.{judged_row, row_of, row_of_buffers, row_of_scanouts, row_of_others, store_row, show_row, cursor_row};
 ghost use Rattle.vg_script.specs.Words.{four_args, six_args};
 ghost use Rattle.vg_script.specs.Code.{table_of, Judges};
 
@@ -10,6 +10,7 @@ use crate::kind::{Kind, Stop};
 use crate::names::Names;
 use crate::rows;
 use crate::types::Step;
+use crate::words::is;
 use std::alloc::Global;
 
 /// The call of a client's line, by its first word and the arguments behind it.
@@ -25,55 +26,103 @@ pub(crate) fn step_of<'a>(
     ensures { Judges (table_of names.new) result
         (judged_row (row_of word.now displays (table_of names.old) (map (λ arg. arg.now) args.now))) }
 {
-    if word == b"info".as_slice() {
+    if is(word, b"info") {
         return with_args!(args, [] => rows::info(names));
     }
-    if word == b"edid".as_slice() {
+    if is(word, b"edid") {
         return with_args!(args, [scanout] => rows::edid(names, scanout));
     }
-    if word == b"buffer".as_slice() {
+    step_of_buffers(alloc, names, displays, word, args)
+}
+
+/// The call of a line about a buffer, its bytes or its pixels, or else of one of those below.
+#[tactic(auto, unfolding(crate::specs::Rows::row_of_buffers))]
+fn step_of_buffers<'a>(
+    alloc: Global,
+    names: &mut Names<'a>,
+    displays: usize,
+    word: &[u8],
+    args: &[&'a [u8]],
+) -> Result<Step, Stop>
+    requires { displays ≤ 16 }
+    ensures { Judges (table_of names.new) result
+        (judged_row (row_of_buffers word.now displays (table_of names.old) (map (λ arg. arg.now) args.now))) }
+{
+    if is(word, b"buffer") {
         return with_args!(args, [name, width, height, format] => rows::buffer(alloc, names, name, width, height, format));
     }
-    if word == b"store".as_slice() {
+    if is(word, b"store") {
         return store(alloc, names, args);
     }
-    if word == b"load".as_slice() {
+    if is(word, b"load") {
         return with_args!(args, [name, offset, size] => rows::load(alloc, names, name, offset, size));
     }
-    if word == b"send".as_slice() {
+    if is(word, b"send") {
         return with_args!(args, [name, x, y, width, height] => rows::send(alloc, names, name, x, y, width, height));
     }
-    if word == b"flush".as_slice() {
+    if is(word, b"flush") {
         return with_args!(args, [name, x, y, width, height] => rows::flush(alloc, names, name, x, y, width, height));
     }
-    if word == b"take".as_slice() {
+    step_of_scanouts(alloc, names, displays, word, args)
+}
+
+/// The call of a line about a scanout, or else of one of those below.
+#[tactic(auto, unfolding(crate::specs::Rows::row_of_scanouts))]
+fn step_of_scanouts(
+    alloc: Global,
+    names: &mut Names,
+    displays: usize,
+    word: &[u8],
+    args: &[&[u8]],
+) -> Result<Step, Stop>
+    requires { displays ≤ 16 }
+    ensures { Judges (table_of names.new) result
+        (judged_row (row_of_scanouts word.now displays (table_of names.old) (map (λ arg. arg.now) args.now))) }
+{
+    if is(word, b"take") {
         return with_args!(args, [scanout] => rows::take(names, displays, scanout));
     }
-    if word == b"drop".as_slice() {
+    if is(word, b"drop") {
         return with_args!(args, [scanout] => rows::drop_scanout(names, displays, scanout));
     }
-    if word == b"hide".as_slice() {
+    if is(word, b"hide") {
         return with_args!(args, [scanout] => rows::hide(names, displays, scanout));
     }
-    if word == b"show".as_slice() {
+    if is(word, b"show") {
         return show(alloc, names, displays, args);
     }
-    if word == b"flip".as_slice() {
+    if is(word, b"flip") {
         return with_args!(args, [scanout, name] => rows::flip(alloc, names, displays, scanout, name));
     }
-    if word == b"cursor".as_slice() {
+    step_of_others(alloc, names, displays, word, args)
+}
+
+/// The call of a line about a cursor or a name, or of a request that is given by its bytes.
+#[tactic(auto, unfolding(crate::specs::Rows::row_of_others))]
+fn step_of_others(
+    alloc: Global,
+    names: &mut Names,
+    displays: usize,
+    word: &[u8],
+    args: &[&[u8]],
+) -> Result<Step, Stop>
+    requires { displays ≤ 16 }
+    ensures { Judges (table_of names.new) result
+        (judged_row (row_of_others word.now displays (table_of names.old) (map (λ arg. arg.now) args.now))) }
+{
+    if is(word, b"cursor") {
         return cursor(alloc, names, displays, args);
     }
-    if word == b"move".as_slice() {
+    if is(word, b"move") {
         return with_args!(args, [scanout, x, y] => rows::move_cursor(names, displays, scanout, x, y));
     }
-    if word == b"uuid".as_slice() {
+    if is(word, b"uuid") {
         return with_args!(args, [name] => rows::uuid(alloc, names, name));
     }
-    if word == b"close".as_slice() {
+    if is(word, b"close") {
         return with_args!(args, [name] => rows::close(alloc, names, name));
     }
-    if word == b"raw".as_slice() {
+    if is(word, b"raw") {
         return with_args!(args, [queue, room, shape, hex] => rows::raw(alloc, names, queue, room, shape, hex));
     }
     Err(Stop::Fault(Kind::Word))

@@ -3,7 +3,7 @@
 ghost use Rattle.std.specs.List.{list_all, before_first, after_first, position_or_len};
 ghost use Rattle.std.specs.Int.{is_in_range};
 ghost use Rattle.std.specs.Char.{is_ascii_digit, is_ascii_alphanumeric};
-ghost use Rattle.std.specs.Prelude.{◌≡◌, ◌==◌, ◌+◌, ◌-◌, ◌*◌, ◌^◌, ◌<◌, ◌≤◌, min, true, false, length, map, IfOk, OnOk, MatchResult};
+ghost use Rattle.std.specs.Prelude.{◌≡◌, ◌==◌, ◌+◌, ◌-◌, ◌*◌, ◌^◌, ◌<◌, ◌≤◌, min, true, false, length, map, bytes_eq, IfOk, OnOk, MatchResult};
 ghost use Rattle.vg_script.specs.Code.{Yields, Decodes, digit_or_16, decoded};
 ghost use Rattle.vg_script.specs.Words.{is_text, words_of, is_number, value, is_within, is_signed, signed_value, is_position, is_hex, is_hex_digit, hex_bytes, is_hex_or_none, bytes_or_none, is_name};
 
@@ -85,6 +85,14 @@ pub(crate) fn put_words<'a>(words: &mut Vec<&'a [u8]>, line: &'a [u8]) -> Result
         rest = after;
     }
     Ok(())
+}
+
+/// Whether a word is this one.
+#[inline(always)]
+pub(crate) fn is(word: &[u8], this: &[u8]) -> bool
+    ensures { result ≡ bytes_eq word.now this.now }
+{
+    word == this
 }
 
 /// Whether a word is a number.
@@ -221,7 +229,7 @@ pub(crate) fn limited(number: &[u8], low: u32, high: u32) -> Result<u32, Kind>
 pub(crate) fn bytes_or_none(alloc: Global, word: &[u8]) -> Result<Seq<u8>, Stop>
     ensures { Decodes (is_hex_or_none word.now) (bytes_or_none word.now) result }
 {
-    if word == b"-".as_slice() {
+    if is(word, b"-") {
         return Ok(Seq::from_vec(Vec::new(alloc)));
     }
     hex_bytes(alloc, word)
