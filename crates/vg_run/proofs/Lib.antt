@@ -1,10 +1,2 @@
-pub mod OrderLemmas
-pub mod RefLemmas
-pub mod SetupLemmas
-pub mod LineLemmas
-pub mod LegalLemmas
-pub mod LawLemmas
-pub mod KeptLemmas
-pub mod DriveLemmas
+pub mod EndLemmas
 pub mod WordLemmas
-pub mod Sent

@@ -1,11 +1,3 @@
-pub mod Setup
-pub mod Follows
-pub mod Kept
-pub mod Legal
-pub mod Run
-pub mod Refs
-pub mod Performing
-pub mod Driving
 pub mod Headline
 pub mod Status
 pub mod Printing

@@ -1,16 +1,11 @@
-//! Runs a script's clients on threads beside a device's workers, and writes the journal.
+//! The program's one call: a script is read, its clients run, and the journal is written.
 #![tactic(auto)]
 
-mod calls;
-mod driving;
-mod laws;
-mod performing;
-mod refs;
-mod run;
 mod top;
 mod words;
 
-pub use driving::{Driven, drive, drive_in};
-pub use laws::{at_most_one_history, clients_make_one_history, nothing_without_clients};
-pub use performing::{Performed, perform};
 pub use top::{Status, vgpu};
+pub use vg_drive::{
+    Driven, at_most_one_history, clients_make_one_history, drive, drive_in, nothing_without_clients,
+};
+pub use vg_part::{Performed, perform};

@@ -9,12 +9,12 @@ ghost use Rattle.vg_run.specs.Printing.{Written};
 ghost use Rattle.vg_run.specs.Status.{Ended, IsFaultless, Unread};
 ghost use Rattle.vg_journal.specs.Text.{text_of};
 
-use crate::driving::drive;
 use crate::words::workers_of;
 use std::alloc::Global;
 use std::marker::Sync;
 use std::sync::Wait;
 use std::thread::Threads;
+use vg_drive::drive;
 use vg_io::{ReadError, Sink, Source, read_all};
 use vg_journal::{Journal, print};
 use vg_script::{Script, parse};

@@ -1,5 +1,5 @@
 use Rattle.std.proofs.Common.{inl}
-use Rattle.vg_run.proofs.LegalLemmas.{written-ends}
+use Rattle.vg_run.proofs.EndLemmas.{written-ends}
 use Rattle.vg_run.proofs.top.write_run.Goals as goal
 
 pub returns-in-Ok-clause-ended : goal.returns-in-Ok-clause-ended

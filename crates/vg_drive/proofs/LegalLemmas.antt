@@ -1,0 +1,66 @@
+-- The journal of what a run leaves.
+use Rattle.std.proofs.Common.{◌≡◌, ◌<◌, ◌≤◌, ◌+◌, ◌∙◌, ap, refl, subst, arith, ℕ, Bool, true, false, cond, List, [], ◌∷◌, count_by, get_or, length, take}
+use Rattle.std.specs.List.{AllByRecursion}
+use Rattle.std.proofs.lemmas.List.{length-take}
+use Rattle.std.proofs.lemmas.List.Sums.{count_by-le-length, count_by_more_no, count_by_more_yes}
+use Rattle.vg_machine.specs.declared.setup.Setup.{Setup}
+use Rattle.vg_scanout.specs.declared.scanout.Frame.{Frame}
+use Rattle.vg_machine.specs.Entries.{Entry}
+use Rattle.vg_machine.specs.Order.{Sound}
+use Rattle.vg_machine.specs.Replay.{replay}
+use Rattle.vg_script.specs.declared.types.Script.{Script}
+use Rattle.vg_script.specs.declared.types.Line.{Line}
+use Rattle.vg_drive.specs.Legal.{FollowAll, IsLegalJournal, IsOfClients, Legal, is_on_control, is_on_cursor, journal_of}
+use Rattle.vg_journal.specs.declared.journal.Journal.{Journal}
+use Rattle.vg_drive.specs.Run.{IsOwned, IsRunOf}
+use Rattle.vg_part.specs.Setup.{setup_of}
+
+pub legal-journal : (script : Script) (setup : Setup) (clients : List (List Line)) (H entries : List Entry) (frames frames' : List Frame) (control cursor : ℕ) → setup ≡ setup_of script → clients ≡ script.clients → IsRunOf setup clients H frames
+    → entries ≡ H → frames' ≡ frames → control ≡ count_by is_on_control entries → cursor ≡ count_by is_on_cursor entries
+    → IsLegalJournal script (record { setup = setup; entries = entries; control = control; cursor = cursor; frames = frames' })
+legal-journal script setup clients H entries frames frames' control cursor is_setup are_clients run is_history is_frames is_control is_cursor =
+    let Sounds : Setup → Type 0 = λ s. Sound s H in
+    let Follow : Setup → List (List Line) → Type 0 = λ s cs. FollowAll s 1 cs H in
+    let Own : List (List Line) → Type 0 = λ cs. AllByRecursion (IsOwned (length cs)) H in
+    let legal : Legal script H = record {
+      sound = subst Sounds is_setup run.sound;
+      follows = subst (λ (cs : List (List Line)). Follow (setup_of script) cs) are_clients (subst (λ (s : Setup). Follow s clients) is_setup run.follows);
+      clients = subst Own are_clients run.owners;
+    } in (
+      H,
+      legal,
+      ap (λ (s : Setup). record { setup = s; entries = entries; control = control; cursor = cursor; frames = frames' }) is_setup
+          ∙ ap (λ (fs : List Frame). record { setup = setup_of script; entries = entries; control = control; cursor = cursor; frames = fs }) (is_frames ∙ run.frames_are ∙ ap (λ (s : Setup). (replay s H).scanouts.frames) is_setup)
+          ∙ ap (λ (n : ℕ). record { setup = setup_of script; entries = entries; control = n; cursor = cursor; frames = (replay (setup_of script) H).scanouts.frames }) is_control
+          ∙ ap (λ (n : ℕ). record { setup = setup_of script; entries = entries; control = count_by is_on_control entries; cursor = n; frames = (replay (setup_of script) H).scanouts.frames }) is_cursor
+          ∙ ap (λ (es : List Entry). record { setup = setup_of script; entries = es; control = count_by is_on_control es; cursor = count_by is_on_cursor es; frames = (replay (setup_of script) H).scanouts.frames }) is_history,
+    )
+
+-- one entry more is counted, or not
+pub count-more : (test : Entry → Bool) (H : List Entry) (i : ℕ) (d : Entry) (b : Bool) → i < length H → test (get_or H i d) ≡ b → count_by test (take (i + 1) H) ≡ count_by test (take i H) + cond b 1 0
+count-more test H i d true within is = count_by_more_yes test H i d within is
+count-more test H i d false within is = let same = count_by_more_no test H i d within is in omega (arith, same)
+
+pub count-small : (test : Entry → Bool) (H : List Entry) (i : ℕ) → count_by test (take i H) ≤ i
+count-small test H i =
+    let few = count_by-le-length test (take i H) in
+    let long = length-take i H in
+    omega (arith, few, long)
+
+pub one-most : (b : Bool) (n : ℕ) → n ≡ cond b 1 0 → n ≤ 1
+one-most true n is = omega (arith, is)
+one-most false n is = omega (arith, is)
+
+-- where there are no clients, no entry is of one
+pub no-entries : (script : Script) (H : List Entry) → script.clients ≡ [] → AllByRecursion (IsOfClients script) H → H ≡ []
+no-entries script [] none owned = refl
+no-entries script (entry ∷ more) none owned =
+    let first = owned.0 in
+    let none' : length script.clients ≡ 0 = ap length none in
+    absurd (omega (arith, first, none'))
+
+pub empty-journal : (script : Script) (journal : Journal) → script.clients ≡ [] → IsLegalJournal script journal
+    → journal ≡ record { setup = setup_of script; entries = []; control = 0; cursor = 0; frames = [] }
+empty-journal script journal none legal =
+    let (H, is_legal, is_journal) = legal in
+    is_journal ∙ ap (journal_of script) (no-entries script H none is_legal.clients)

@@ -1,0 +1,5 @@
+pub mod OrderLemmas
+pub mod LegalLemmas
+pub mod LawLemmas
+pub mod KeptLemmas
+pub mod DriveLemmas

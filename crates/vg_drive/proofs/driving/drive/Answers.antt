@@ -1,0 +1,7 @@
+use Rattle.std.proofs.Common.{subst, sym}
+use Rattle.vg_machine.specs.Setup.{IsSetup}
+use Rattle.vg_part.proofs.SetupLemmas.{displays-in}
+use Rattle.vg_drive.proofs.driving.drive.Goals as goal
+
+pub new-requires : goal.new-requires
+new-requires g c = subst IsSetup (sym c.in-Ok.ensures) (displays-in c.args.script.now c.requires.limits)

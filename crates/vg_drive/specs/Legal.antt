@@ -1,0 +1,65 @@
+use Rattle.std.specs.Prelude.{◌≡◌, ◌≤◌, ◌+◌, ℕ, Bool, List, [], ◌∷◌, length, count_by, true, false, not}
+use Rattle.std.specs.List.{All, AllByRecursion}
+use Rattle.vg_wire.specs.declared.request.Queue.{Queue}
+use Rattle.vg_wire.specs.declared.request.Queue.TheVariants.{Control, Cursor}
+use Rattle.vg_machine.specs.Entries.{Entry}
+use Rattle.vg_history.specs.declared.entry.Entry.TheVariants as entries
+use Rattle.vg_machine.specs.Replay.{replay}
+use Rattle.vg_machine.specs.Order.{Sound, client_of}
+use Rattle.vg_script.specs.declared.types.Line.{Line}
+use Rattle.vg_script.specs.declared.types.Script.{Script}
+use Rattle.vg_script.specs.declared.types.Step.{Step}
+use Rattle.vg_journal.specs.declared.journal.Journal.{Journal}
+use Rattle.vg_machine.specs.declared.setup.Setup.{Setup}
+use Rattle.vg_part.specs.Setup.{setup_of}
+use Rattle.vg_part.specs.Follows.{Follows}
+
+-- Whether a step leaves its command unfinished, for a later line to wait for. None does yet.
+abbrev pub is_left : Step → Bool
+is_left step = false
+
+-- No client leaves a command unfinished.
+abbrev pub AreFinished : List (List Line) → Type 0
+AreFinished clients = All (λ lines. All (λ line. is_left line.step ≡ false) lines) clients
+
+-- Each client follows its lines, from this client on.
+abbrev pub FollowAll : Setup → ℕ → List (List Line) → List Entry → Type 0
+FollowAll setup client [] H = Unit {0}
+FollowAll setup client (lines ∷ more) H = Follows setup lines H client × FollowAll setup (client + 1) more H
+
+-- The entry belongs to a client of the script.
+abbrev pub IsOfClients : Script → Entry → Type 0
+IsOfClients script entry = (1 ≤ client_of entry) × (client_of entry ≤ length script.clients)
+
+-- A history that the clients of the script can have with the display.
+pub record Legal (script : Script) (H : List Entry) : Type 0 where
+  pub sound : Sound (setup_of script) H
+  pub follows : FollowAll (setup_of script) 1 script.clients H
+  pub clients : AllByRecursion (IsOfClients script) H
+
+abbrev pub is_control : Queue → Bool
+is_control Control = true
+is_control Cursor = false
+
+-- A command on the control queue, and on the cursor queue.
+abbrev pub is_on_control : Entry → Bool
+is_on_control (entries.Act client call act reply) = false
+is_on_control (entries.Command client call request reply) = is_control request.queue
+
+abbrev pub is_on_cursor : Entry → Bool
+is_on_cursor (entries.Act client call act reply) = false
+is_on_cursor (entries.Command client call request reply) = not (is_control request.queue)
+
+-- The journal of a history of the script: its setup, the history, how many of its commands are on each queue, and its frames.
+abbrev pub journal_of : Script → List Entry → Journal
+journal_of script H = record {
+  setup = setup_of script;
+  entries = H;
+  control = count_by is_on_control H;
+  cursor = count_by is_on_cursor H;
+  frames = (replay (setup_of script) H).scanouts.frames;
+}
+
+-- The journal is that of a history that is legal for the script.
+abbrev pub IsLegalJournal : Script → Journal → Type 0
+IsLegalJournal script journal = (H : List Entry) × Legal script H × (journal ≡ journal_of script H)

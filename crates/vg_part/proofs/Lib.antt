@@ -1,0 +1,3 @@
+pub mod RefLemmas
+pub mod SetupLemmas
+pub mod LineLemmas

@@ -1,0 +1,127 @@
+-- What the lines of a client give, one line after another.
+use Rattle.std.proofs.Common.{◌≡◌, ◌⊎◌, inl, inr, ◌+◌, ◌*◌, ◌≤◌, ◌<◌, ◌^◌, ◌∙◌, sym, ap, refl, subst, arith, ℕ, true, false, List, [], ◌∷◌, ◌++◌, length, length-append, drop, append_assoc, append-nil, Option, Some, None, Result, Ok, Err}
+use Rattle.std.specs.Prelude.{OnErr, OnOk}
+use Rattle.std.proofs.lemmas.List.{drop_all}
+use Rattle.vg_machine.specs.declared.setup.Setup.{Setup}
+use Rattle.vg_machine.specs.declared.act.Act.TheVariants.{Enter, Leave}
+use Rattle.vg_machine.specs.declared.act.ActReply.TheVariants as act_replies
+use Rattle.vg_machine.specs.Entries.{Entry}
+use Rattle.vg_history.specs.declared.entry.Entry.TheVariants as entries
+use Rattle.vg_machine.specs.State.{State}
+use Rattle.vg_script.specs.declared.types.Line.{Line}
+use Rattle.vg_driver.specs.Tickets.{Token}
+use Rattle.vg_client.specs.Accounts.{IsAccount, IsNew, mine_of}
+use Rattle.vg_client.specs.Callers.{ClientState, HasAdded, HasEnded, HasEntered, HasGoneOn, known}
+use Rattle.vg_client.specs.Calls.{Gives, newest}
+use Rattle.vg_client.specs.Known.{Known, first_known}
+use Rattle.vg_client.specs.Own.{IsOwn}
+use Rattle.vg_part.specs.Follows.{GivesAll, GivesCalls, call_of_step, no_refs, refs_after}
+use Rattle.vg_part.specs.Performing.{GivesRest, HasKept, HasPerformed, IsFollowing}
+
+pub following-first : {B : Type 0} (setup : Setup) (lines : List Line) (token : Token) (client : ClientState B) → IsNew setup token → HasEntered token client.caller → client.stopped ≡ false → IsFollowing setup lines 0 client no_refs
+following-first setup lines token client new entered goes_on =
+    let number : client.caller.token.account.number ≡ token.account.number = entered.number in
+    let first : known client.caller ≡ first_known setup client.caller.token.account.number = entered.known_is setup new ∙ ap (first_known setup) (sym number) in
+    let mine : mine_of client.caller.token ≡ entries.Act client.caller.token.account.number 1 Enter act_replies.Ok ∷ [] =
+    entered.mine ∙ ap (λ (n : ℕ). entries.Act n 1 Enter act_replies.Ok ∷ []) (sym number) in
+    let Rest : List Entry → Known → Known → Type 0 = λ rest after k. GivesAll client.caller.token.account.number no_refs k lines rest after in
+    let one : length (mine_of client.caller.token) ≡ 1 = ap (λ (xs : List Entry). length xs) mine in
+    record {
+      begun = entered.start ∙ new.begun;
+      displays = ap (λ (k : Known). k.holds.displays) first;
+      few = omega (arith, one);
+      goes_on = goes_on;
+      ready = entered.ready;
+      gives = ([], mine, λ rest after gives. subst (Rest rest after) first gives);
+    }
+
+pub following-more : {B : Type 0} (setup : Setup) (lines : List Line) (i : ℕ) (client client' : ClientState B) (refs refs' : List ℕ → ℕ) (line : Line) (mine : List Entry)
+    → IsFollowing setup lines i client refs → drop i lines ≡ line ∷ drop (i + 1) lines
+    → Gives client.caller.token.account.number (known client.caller) (call_of_step refs line.step) mine (known client'.caller) → HasGoneOn client.caller mine client'.caller → length mine ≤ 19 → client'.stopped ≡ false
+    → refs' ≡ refs_after line.step (newest (known client.caller) (known client'.caller)) refs
+    → IsFollowing setup lines (i + 1) client' refs'
+following-more setup lines i client client' refs refs' line mine following here gives on few goes_on learns =
+    let before = following.gives in
+    let n : ℕ = client.caller.token.account.number in
+    let same : client'.caller.token.account.number ≡ n = on.added.number in
+    let Lines : List Entry → Known → List Line → Type 0 = λ xs after ls. GivesAll n refs (known client.caller) ls xs after in
+    let Refs : List Entry → Known → (List ℕ → ℕ) → Type 0 = λ xs after r. GivesAll n r (known client'.caller) (drop (i + 1) lines) xs after in
+    let All : Known → List Entry → Type 0 = λ after xs. GivesAll n no_refs (first_known setup n) lines xs after in
+    let regroup : (rest : List Entry) → (before.0 ++ mine) ++ rest ≡ before.0 ++ (mine ++ rest) = λ rest. simp append_assoc in
+    let longer : length (mine_of client'.caller.token) ≡ length (mine_of client.caller.token) + length mine = ap (λ (xs : List Entry). length xs) on.added.own ∙ length-append (mine_of client.caller.token) mine in
+    let Rests : ℕ → Type 0 = λ k. GivesRest setup k lines (drop (i + 1) lines) refs' (known client'.caller) (mine_of client'.caller.token) in
+    let rests : Rests n = (
+      before.0 ++ mine,
+      on.added.own ∙ ap (λ (xs : List Entry). xs ++ mine) before.1,
+      λ rest after left.
+          let with_line = subst (Lines (mine ++ rest) after) (sym here) (mine, rest, known client'.caller, refl, gives, subst (Refs rest after) learns left) in
+          subst (All after) (sym (regroup rest)) (before.2 (mine ++ rest) after with_line),
+    ) in
+    record {
+      begun = on.added.start ∙ following.begun;
+      displays = on.displays ∙ following.displays;
+      few = omega (arith, few, longer, following.few);
+      goes_on = goes_on;
+      ready = on.ready;
+      gives = subst Rests (sym same) rests;
+    }
+
+abbrev setup_in : Option State → Setup → Setup
+setup_in (Some state) setup = state.setup
+setup_in None setup = setup
+
+-- once no line is left, and the client has ended, it has kept to its lines
+pub performed : {B : Type 0} (setup : Setup) (lines : List Line) (i : ℕ) (client : ClientState B) (token : Token) (refs : List ℕ → ℕ)
+    → IsFollowing setup lines i client refs → length lines ≤ i → token.account.number ≡ client.caller.token.account.number → token.start ≡ client.caller.token.start → HasEnded client.caller token → HasPerformed setup lines token
+performed setup lines i client token refs following done number start_is ended =
+    let before = following.gives in
+    let n : ℕ = client.caller.token.account.number in
+    let is : IsAccount token = ended.account_is in
+    let same : is.setup ≡ setup = ap (λ (first : Option State). setup_in first setup) (sym is.begun ∙ start_is ∙ following.begun) in
+    let Left : List Line → Type 0 = λ ls. GivesAll n refs (known client.caller) ls [] (known client.caller) in
+    let none : Left (drop i lines) = subst Left (sym (drop_all i lines done)) (refl, refl) in
+    let All : List Entry → Type 0 = λ xs. GivesAll n no_refs (first_known setup n) lines xs (known client.caller) in
+    let tail : List Entry = ended.ending ++ entries.Act n ended.last Leave act_replies.Ok ∷ [] in
+    let calls : GivesCalls setup n lines (mine_of token) = record {
+      first = 1;
+      last = ended.last;
+      middle = before.0;
+      ending = ended.ending;
+      known = known client.caller;
+      at_end = ended.after;
+      whole = ended.own ∙ ap (λ (xs : List Entry). xs ++ tail) before.1;
+      lines_give = subst All (append-nil before.0) (before.2 [] (known client.caller) none);
+      end_gives = ended.plays;
+    } in
+    let Calls : ℕ → Type 0 = λ k. GivesCalls setup k lines (mine_of token) in
+    let Own : Setup → Type 0 = λ s. IsOwn s token.account.number (mine_of token) in
+    record {
+      in_step = is.in_step;
+      kept = record { own = subst Own same is.own; calls = subst Calls (sym number) calls };
+    }
+
+-- what is left of a client after a line that it couldn't make, and behind those before it
+pub kept-added : {B : Type 0} (old new : ClientState B) (mine : List Entry) → HasAdded old.caller mine new.caller → (new.stopped ≡ true) ⊎ (length mine ≤ 19) → HasKept old new
+kept-added old new mine added (inl stopped) = record { number = added.number; few = inl stopped }
+kept-added old new mine added (inr few) =
+    let longer : length (mine_of new.caller.token) ≡ length (mine_of old.caller.token) + length mine = ap (λ (xs : List Entry). length xs) added.own ∙ length-append (mine_of old.caller.token) mine in
+    record { number = added.number; few = inr (omega (arith, few, longer)) }
+
+pub kept-same : {B : Type 0} (old : ClientState B) → HasKept old old
+kept-same old = record { number = refl; few = inr (omega arith) }
+
+-- few entries, where the client hasn't stopped
+pub few-left : {B : Type 0} (old new : ClientState B) → HasKept old new → length (mine_of old.caller.token) ≤ 1 + 19 * 100000 → (new.stopped ≡ true) ⊎ (length (mine_of new.caller.token) < 2 ^ 24)
+few-left old new kept few = by_case kept.few
+  where
+    by_case : (new.stopped ≡ true) ⊎ (length (mine_of new.caller.token) ≤ length (mine_of old.caller.token) + 19) → (new.stopped ≡ true) ⊎ (length (mine_of new.caller.token) < 2 ^ 24)
+    by_case (inl stopped) = inl stopped
+    by_case (inr more) = inr (omega (arith, more, few))
+
+pub on_err : {T E : Type 0} {P : Type 0} (r : Result T E) → P → OnErr r P
+on_err (Ok x) p = tt
+on_err (Err e) p = p
+
+-- what is told of a result that is Ok
+pub ok-told : {T E : Type 0} {P : Type 0} (r : Result T E) (x : T) → r ≡ Ok x → OnOk r P → P
+ok-told {T = T} {E = E} {P = P} r x is told = let Told : Result T E → Type 0 = λ y. OnOk y P in subst Told is told

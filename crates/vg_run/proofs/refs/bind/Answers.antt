@@ -1,5 +1,0 @@
-use Rattle.vg_run.proofs.RefLemmas.{refs-bound}
-use Rattle.vg_run.proofs.refs.bind.Goals as goal
-
-pub returns-in-Ok : goal.returns-in-Ok
-returns-in-Ok c = refs-bound c.args.refs.now c.insert.new.self c.args.word.now c.args.name c.in-Ok.ensures.updates

@@ -1,0 +1,177 @@
+//! A script's clients and a device's workers on threads.
+
+ghost use Rattle.std.specs.Prelude.{◌≡◌, ◌≤◌, [], length, map, max, min, All, IfOk, OnOk};
+ghost use Rattle.vg_script.specs.Limits.{ScriptInLimits};
+ghost use Rattle.vg_part.specs.Setup as setups;
+ghost use Rattle.vg_session.specs.Session.{AreNew, HasTakenAll, HaveAllJoined, IsRootWith, IsStill};
+
+use crate::closing::settle;
+use std::alloc::{AllocError, Global};
+use std::marker::{Send, Sync};
+use std::sync::atomic::AtomicBool;
+use std::sync::{Mutex, Wait};
+use std::thread::Threads;
+use vg_book::{Book, Carried, ClientToken, LaneToken, Naming, NoMemory, Root, entries_in_step};
+use vg_crew::{Job, all};
+use vg_driver::Driver;
+use vg_front::Front;
+use vg_machine::{Display, Holds, Setup};
+use vg_part::{Performed, perform};
+use vg_ring::Rings;
+use vg_script::Script;
+use vg_worker::{Gate, Worker};
+
+/// A client that is to perform its part of a script.
+#[derive(Drop)]
+struct Performing<'a, B: Naming, N: Rings> {
+    alloc: Global,
+    book: &'a Book<Display, B>,
+    driver: &'a Driver<B, N>,
+    script: &'a Script,
+    token: ClientToken<Display, B>,
+}
+
+impl<'a, B: Naming, N: Rings> Job<Performed<B>> for Performing<'a, B, N> {
+    ghost use Rattle.vg_session.specs.Session.{MayPerform, Performs};
+
+    ghost is_ready = { λ job. MayPerform job.script.now job.token };
+
+    ghost gives = { λ job performed. Performs job.script.now job.token performed };
+
+    fn run<R: Threads + Wait + Sync>(self, rt: &R) -> Performed<B> {
+        perform(
+            rt,
+            self.alloc,
+            self.book,
+            self.driver,
+            self.script,
+            self.token,
+        )
+    }
+}
+
+/// Runs the clients of a script and so many workers on threads. The clients have performed and joined the root then, and what
+/// was left in the front is served.
+pub fn run_threads<
+    B: Naming + Send + Sync,
+    N: Rings + Send + Sync,
+    G: Gate,
+    R: Threads + Wait + Sync,
+>(
+    rt: &R,
+    alloc: Global,
+    book: &Book<Display, B>,
+    driver: &Driver<B, N>,
+    root: &mut Root<Display, B>,
+    front: Front<Carried<Display, B>, LaneToken<Display, B>, N>,
+    setup: &Setup,
+    script: &Script,
+    workers: u32,
+    gate: &G,
+) -> Result<Front<Carried<Display, B>, LaneToken<Display, B>, N>, NoMemory>
+    requires limits { ScriptInLimits script.now }
+    requires setup { setup.now ≡ setups.setup_of script.now }
+    requires root { IsRootWith setup.now 0 root.old }
+    ensures joined { OnOk result (HaveAllJoined script.now root.new) }
+    ensures still { IfOk result IsStill }
+{
+    let front = Mutex::new(front);
+    let stop = AtomicBool::new(false);
+    let Ok(clients) = performers(alloc, book, driver, root, setup, script) else {
+        return Err(NoMemory);
+    };
+    let count = useful_workers(script, workers);
+    let Ok(workers) = servers(alloc, &front, book, gate, &stop, count) else {
+        return Err(NoMemory);
+    };
+    let Ok((performed, _)) = all(rt, &stop, clients, workers) else {
+        return Err(NoMemory);
+    };
+    join_all(book, root, performed)?;
+    Ok(settle(rt, alloc, front.into_inner(), book, gate))
+}
+
+/// A job for each client of the script.
+fn performers<'a, B: Naming, N: Rings>(
+    alloc: Global,
+    book: &'a Book<Display, B>,
+    driver: &'a Driver<B, N>,
+    root: &mut Root<Display, B>,
+    setup: &Setup,
+    script: &'a Script,
+) -> Result<Vec<Performing<'a, B, N>>, AllocError>
+    requires limits { ScriptInLimits script.now }
+    requires setup { setup.now ≡ setups.setup_of script.now }
+    requires root { IsRootWith setup.now 0 root.old }
+    ensures root { OnOk result (IsRootWith setup.now (length script.now.clients) root.new) }
+    ensures clients { IfOk result (λ jobs. AreNew setup.now (length script.now.clients) (map (λ job. job.token) jobs.items)) }
+    ensures script { IfOk result (λ jobs. All (λ job. job.script.now ≡ script.now) jobs.items) }
+{
+    // A law, and no work: a new client sees its entries in the order in which it made them.
+    entries_in_step::<Display>();
+    let count = clients_of(script);
+    let mut jobs = Vec::new(alloc);
+    for made in 0..count {
+        let token = root.client(book, Holds::new(alloc, setup, made + 1));
+        jobs.push(Performing {
+            alloc,
+            book,
+            driver,
+            script,
+            token,
+        })?;
+    }
+    Ok(jobs)
+}
+
+/// How many of so many workers can have something to do. A client has one command under way at a time, so more workers than
+/// clients would only look for work; one there is in any case.
+fn useful_workers(script: &Script, workers: u32) -> u32
+    requires limits { ScriptInLimits script.now }
+    ensures { result ≡ max 1 (min workers (length script.now.clients)) }
+{
+    workers.min(clients_of(script)).max(1)
+}
+
+/// How many clients a script has.
+fn clients_of(script: &Script) -> u32
+    requires limits { ScriptInLimits script.now }
+    ensures { result ≡ length script.now.clients }
+{
+    script.clients.len() as u32
+}
+
+/// So many workers.
+fn servers<'a, G: Gate, B: Naming, N: Rings>(
+    alloc: Global,
+    front: &'a Mutex<Front<Carried<Display, B>, LaneToken<Display, B>, N>>,
+    book: &'a Book<Display, B>,
+    gate: &'a G,
+    stop: &'a AtomicBool,
+    count: u32,
+) -> Result<Vec<Worker<'a, G, B, N>>, AllocError> {
+    let mut jobs = Vec::new(alloc);
+    for _made in 0..count {
+        jobs.push(Worker::new(alloc, front, book, gate, stop))?;
+    }
+    Ok(jobs)
+}
+
+/// Takes in the clients, unless one of them hasn't performed its part to its end.
+fn join_all<B: Naming>(
+    book: &Book<Display, B>,
+    root: &mut Root<Display, B>,
+    performed: Vec<Performed<B>>,
+) -> Result<(), NoMemory>
+    requires { All (λ p. p.token.account.out ≡ []) performed.items }
+    ensures { OnOk result (HasTakenAll root.old performed.items root.new) }
+{
+    for client in performed {
+        let Performed { token, done } = client;
+        if !done {
+            return Err(NoMemory);
+        }
+        root.join(book, token);
+    }
+    Ok(())
+}
