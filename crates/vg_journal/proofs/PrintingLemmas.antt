@@ -1,5 +1,6 @@
-use Rattle.std.proofs.Common.{ℕ, codes, ◌≡◌, ◌+◌, ◌<◌, List, get_or, Result, Ok, Err, OnErr, [], ◌++◌, length, take, drop, Option, Some, None, append_assoc, append-nil, sym, ap, ◌∙◌, refl, subst}
-use Rattle.std.proofs.lemmas.List.{take-append-drop, take_at}
+use Rattle.std.proofs.Common.{ℕ, codes, ◌≡◌, ◌+◌, ◌<◌, ◌≤◌, List, get_or, Result, Ok, Err, OnErr, [], ◌++◌, length, take, drop, Option, Some, None, append_assoc, append-nil, sym, ap, ◌∙◌, refl, subst}
+use Rattle.std.proofs.Math.Seq.{take-add}
+use Rattle.std.proofs.lemmas.List.{take-append-drop, take_all, take_at}
 use Rattle.vg_io.specs.Streams.{Takes, TakesPart, TakesSome}
 use Rattle.vg_journal.specs.Printing.{Printed, PrintedSome}
 use Rattle.vg_scanout.specs.declared.scanout.Frame.{Frame}
@@ -128,16 +129,39 @@ pixels_printed a b c buffer pixels pending first second none =
 pub pixels_some : (a b c : Option (List ℕ)) (buffer pixels : List ℕ) → Takes a b buffer → TakesSome b c pixels → PrintedSome a c (buffer ++ pixels)
 pixels_some a b c buffer pixels first some = some_then a b c buffer [] pixels (printed_all a b buffer first) (some_taken b c pixels some)
 
--- A frame: its line, its pixels, and a line end.
-frame_whole : (old buffer pixels : List ℕ) (n : ℕ) (frame : Frame) → buffer ≡ old ++ frame_line n frame → pixels ≡ frame.pixels → (buffer ++ pixels) ++ codes "\n" ≡ old ++ frame_text n frame
-frame_whole old buffer pixels n frame is_buffer is_pixels = rw (is_buffer, is_pixels) (simp append_assoc)
+strip_whole : (front pixels piece : List ℕ) (at : ℕ) → piece ≡ take (length piece) (drop at pixels) → (front ++ take at pixels) ++ piece ≡ front ++ take (at + length piece) pixels
+strip_whole front pixels piece at is =
+    append_assoc front (take at pixels) piece ∙ ap (λ ys. front ++ ys) (ap (λ ys. take at pixels ++ ys) is ∙ sym (take-add at (length piece) pixels))
 
-pub frame_printed : (a b : Option (List ℕ)) (old buffer pixels pending pending' : List ℕ) (n : ℕ) (frame : Frame) → buffer ≡ old ++ frame_line n frame → pixels ≡ frame.pixels → Printed a b (buffer ++ pixels) pending → pending' ≡ pending ++ codes "\n"
-    → Printed a b (old ++ frame_text n frame) pending'
-frame_printed a b old buffer pixels pending pending' n frame is_buffer is_pixels printed is_put =
-    subst (λ ys. Printed a b ys pending') (frame_whole old buffer pixels n frame is_buffer is_pixels) (printed_put a b (buffer ++ pixels) pending (codes "\n") pending' printed is_put)
+-- One strip more of pixels.
+pub strip_printed : (a b c : Option (List ℕ)) (front pixels piece pending pending' : List ℕ) (at : ℕ) → Printed a b (front ++ take at pixels) pending → piece ≡ take (length piece) (drop at pixels)
+    → Printed b c (pending ++ piece) pending' → Printed a c (front ++ take (at + length piece) pixels) pending'
+strip_printed a b c front pixels piece pending pending' at first is second =
+    subst (λ ys. Printed a c ys pending') (strip_whole front pixels piece at is) (printed_then a b c (front ++ take at pixels) pending piece pending' first second)
 
 -- A front of it.
-pub frame_some : (a b : Option (List ℕ)) (old buffer pixels : List ℕ) (n : ℕ) (frame : Frame) → buffer ≡ old ++ frame_line n frame → pixels ≡ frame.pixels → PrintedSome a b (buffer ++ pixels) → PrintedSome a b (old ++ frame_text n frame)
-frame_some a b old buffer pixels n frame is_buffer is_pixels some =
-    subst (PrintedSome a b) (frame_whole old buffer pixels n frame is_buffer is_pixels) (some_longer a b (buffer ++ pixels) (codes "\n") some)
+pub strip_some : (a b c : Option (List ℕ)) (front pixels piece pending : List ℕ) (at : ℕ) → Printed a b (front ++ take at pixels) pending → piece ≡ take (length piece) (drop at pixels)
+    → PrintedSome b c (pending ++ piece) → PrintedSome a c (front ++ pixels)
+strip_some a b c front pixels piece pending at first is second =
+    let so_far = subst (PrintedSome a c) (strip_whole front pixels piece at is) (some_then a b c (front ++ take at pixels) pending piece first second) in
+    let n = at + length piece in
+    subst (PrintedSome a c) (append_assoc front (take n pixels) (drop n pixels) ∙ ap (λ ys. front ++ ys) (take-append-drop n pixels))
+    (some_longer a c (front ++ take n pixels) (drop n pixels) so_far)
+
+-- All strips.
+pub strips_printed : (a b : Option (List ℕ)) (front pixels pending : List ℕ) (at : ℕ) → Printed a b (front ++ take at pixels) pending → length pixels ≤ at → Printed a b (front ++ pixels) pending
+strips_printed a b front pixels pending at printed all = subst (λ ys. Printed a b (front ++ ys) pending) (take_all at pixels all) printed
+
+-- A frame: its line, its pixels, and a line end.
+frame_whole : (old buffer : List ℕ) (n : ℕ) (frame : Frame) → buffer ≡ old ++ frame_line n frame → (buffer ++ frame.pixels) ++ codes "\n" ≡ old ++ frame_text n frame
+frame_whole old buffer n frame is_buffer = rw is_buffer (simp append_assoc)
+
+pub frame_printed : (a b : Option (List ℕ)) (old buffer pending pending' : List ℕ) (n : ℕ) (frame : Frame) → buffer ≡ old ++ frame_line n frame → Printed a b (buffer ++ frame.pixels) pending → pending' ≡ pending ++ codes "\n"
+    → Printed a b (old ++ frame_text n frame) pending'
+frame_printed a b old buffer pending pending' n frame is_buffer printed is_put =
+    subst (λ ys. Printed a b ys pending') (frame_whole old buffer n frame is_buffer) (printed_put a b (buffer ++ frame.pixels) pending (codes "\n") pending' printed is_put)
+
+-- A front of it.
+pub frame_some : (a b : Option (List ℕ)) (old buffer : List ℕ) (n : ℕ) (frame : Frame) → buffer ≡ old ++ frame_line n frame → PrintedSome a b (buffer ++ frame.pixels) → PrintedSome a b (old ++ frame_text n frame)
+frame_some a b old buffer n frame is_buffer some =
+    subst (PrintedSome a b) (frame_whole old buffer n frame is_buffer) (some_longer a b (buffer ++ frame.pixels) (codes "\n") some)

@@ -11,6 +11,7 @@ use crate::lines::{put, put_counts, put_entry, put_frame, put_head};
 use std::alloc::{AllocError, Global};
 use vg_io::{Failed, Sink, write_all};
 use vg_machine::{Entry, Frame};
+use vg_strips::Strips;
 
 /// How many bytes wait in the buffer, at the least, before they are handed on.
 const PIECE: usize = 65_536;
@@ -93,11 +94,32 @@ fn print_entry<K: Sink>(
     Ok(())
 }
 
-// Pixels that are a piece of their own go to the sink from where they stand, and fewer through the buffer.
+// Bytes that are a piece of their own go to the sink from where they stand, and fewer through the buffer.
+fn print_bytes<K: Sink>(sink: &mut K, buffer: &mut Vec<u8>, bytes: &[u8]) -> Result<(), PrintError>
+    ensures ok { OnOk result (
+        Printed (K.held sink.old) (K.held sink.new) (buffer.old.items ++ bytes.now) buffer.new.items) }
+    ensures some { OnErr result (
+        PrintedSome (K.held sink.old) (K.held sink.new) (buffer.old.items ++ bytes.now)) }
+    ensures cause { IsErrOf result PrintError.Fault → Rose (K.faults sink.old) (K.faults sink.new) }
+    ensures same { OnOk result (K.faults sink.new ≡ K.faults sink.old) }
+    ensures same_memory { IsErrOf result PrintError.Memory → K.faults sink.new ≡ K.faults sink.old }
+    ensures count { K.faults sink.old ≤ K.faults sink.new }
+{
+    if bytes.len() < PIECE {
+        put(buffer, bytes)?;
+        hand_on_piece(sink, buffer)?;
+        return Ok(());
+    }
+    hand_on(sink, buffer)?;
+    write_all(sink, bytes)?;
+    Ok(())
+}
+
+// The pixels of a frame, strip by strip.
 fn print_pixels<K: Sink>(
     sink: &mut K,
     buffer: &mut Vec<u8>,
-    pixels: &[u8],
+    pixels: &Strips,
 ) -> Result<(), PrintError>
     ensures ok { OnOk result (
         Printed (K.held sink.old) (K.held sink.new) (buffer.old.items ++ pixels.now) buffer.new.items) }
@@ -108,13 +130,12 @@ fn print_pixels<K: Sink>(
     ensures same_memory { IsErrOf result PrintError.Memory → K.faults sink.new ≡ K.faults sink.old }
     ensures count { K.faults sink.old ≤ K.faults sink.new }
 {
-    if pixels.len() < PIECE {
-        put(buffer, pixels)?;
-        hand_on_piece(sink, buffer)?;
-        return Ok(());
+    let mut at = 0;
+    while at < pixels.len() {
+        let piece = pixels.piece(at);
+        print_bytes(sink, buffer, piece)?;
+        at += piece.len();
     }
-    hand_on(sink, buffer)?;
-    write_all(sink, pixels)?;
     Ok(())
 }
 
@@ -136,7 +157,7 @@ fn print_frame<K: Sink>(
     ensures count { K.faults sink.old ≤ K.faults sink.new }
 {
     put_frame(buffer, number, frame)?;
-    print_pixels(sink, buffer, frame.pixels.as_slice())?;
+    print_pixels(sink, buffer, &frame.pixels)?;
     put(buffer, b"\n")?;
     Ok(())
 }

@@ -7,6 +7,7 @@ use vg_io::MemSink;
 use vg_journal::{Journal, print};
 use vg_list::Seq;
 use vg_machine::{Act, ActReply, Entry, Frame, Reply, Request, Setup, ShareRefusal, What};
+use vg_strips::Strips;
 use vg_wire::Queue;
 
 fn act(client: u32, call: u64, act: Act) -> Entry {
@@ -46,7 +47,7 @@ fn frame(scanout: u32, width: u32, height: u32, entry: u64, pixels: Vec<u8>) -> 
         width,
         height,
         entry,
-        pixels: Seq::from_vec(pixels),
+        pixels: Strips::from_vec(pixels),
     }
 }
 

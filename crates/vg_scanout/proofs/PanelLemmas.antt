@@ -102,6 +102,14 @@ frame-plain entry cursors scanout screen frame made hidden =
     one : {x y : Frame} → ◌≡◌ {A = List Frame} (x ∷ []) (y ∷ []) → x ≡ y
     one same = cc
 
+-- such a frame has the screen's pixels as they are
+pub frame-hidden : (entry : ℕ) (cursors : List Cursor) (scanout : ℕ) (screen : Screen) → (cursor_of cursors scanout).visible ≡ false
+    → ◌≡◌ {A = List Frame} (record { scanout = scanout; width = screen.binding.rect.width; height = screen.binding.rect.height; entry = entry; pixels = screen.pixels } ∷ []) (frame_of entry cursors scanout (Some screen))
+unfolding blended
+frame-hidden entry cursors scanout screen hidden =
+    ap (λ (pixels : List ℕ). record { scanout = scanout; width = screen.binding.rect.width; height = screen.binding.rect.height; entry = entry; pixels = pixels } ∷ [])
+    (sym (hidden-plain (cursor_of cursors scanout).visible _ screen.pixels hidden))
+
 -- what a flush touches
 pub touched-some : {X : Type 0} (touched : Bool) (x y : X) → Some x ≡ (if touched then Some y else None) → (touched ≡ true) × (x ≡ y)
 touched-some true x y is = (refl, cc)

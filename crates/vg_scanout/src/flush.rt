@@ -1,6 +1,7 @@
 //! The frames that a flush makes, and what the screens stand on after it.
 
 ghost use Rattle.std.specs.Prelude.{◌≡◌, ◌<◌, ◌≤◌, ◌+◌, ◌-◌, ◌*◌, ◌^◌, ◌++◌, true, [], ◌∷◌, Some, None, All, IfOk, if◌then◌else◌, drop, length, min, take};
+ghost use Rattle.vg_cursor.specs.Blended.{blended};
 ghost use Rattle.vg_cursor.specs.Cursor.{cursor_of};
 ghost use Rattle.vg_formats.specs.declared.format.Format.TheVariants.{B8G8R8A8};
 ghost use Rattle.vg_formats.specs.Pixels.{HasPixels, LiesWithin};
@@ -14,9 +15,9 @@ use crate::scanout::{Binding, Frame};
 use std::alloc::{AllocError, Global};
 use vg_cursor::Cursors;
 use vg_formats::{Format, Rect};
-use vg_list::Seq;
 use vg_places::Area;
 use vg_shown::{rows_are_their_bytes, show_rows};
+use vg_strips::Strips;
 
 /// How many bytes all frames have after a flush, if they have so many before it; no more than a `u64` can tell.
 pub(crate) fn bytes_after(panels: &[Option<Panel>], resource: u32, rect: &Rect, bytes: u64) -> u64
@@ -103,37 +104,48 @@ fn add_frame(
     let Some(common) = panel.touched(resource, rect) else {
         return Ok(None)
     };
-    let pixels = pixels_after(alloc, panel, &common, surface, before)?;
+    let screen = screen_after(alloc, panel, &common, surface, before)?;
     let number = before.len() + frames.len();
-    let ground = ground_of(alloc, cursors, scanout, number, pixels.as_slice())?;
-    frames.push(frame_of(entry, scanout, &panel.binding, cursors, pixels))?;
+    let (frame, ground) = picture_of(
+        alloc,
+        entry,
+        scanout,
+        number,
+        &panel.binding,
+        cursors,
+        screen,
+    )?;
+    frames.push(frame)?;
     Ok(Some(ground))
 }
 
-/// The pixels of a screen once this part of it is shown as the surface has it now.
-fn pixels_after(
+/// The pixels of a screen once this part of it is shown as the surface has it now. The strips in which nothing changed are those
+/// in which they stood before.
+fn screen_after(
     alloc: Global,
     panel: &Panel,
     part: &Rect,
     surface: &[u8],
     before: &[Frame],
-) -> Result<Vec<u8>, AllocError>
+) -> Result<Strips, AllocError>
     requires panel { IsPanel before.now (Some panel.now) }
     requires some { HasPixels part.now }
     requires within { LiesWithin part.now panel.now.binding.rect }
     requires surface { FitsSurface (length surface.now) panel.now.binding }
-    ensures long { IfOk result (λ pixels. length pixels.items ≡ 4 * panel.now.binding.rect.width * panel.now.binding.rect.height) }
-    ensures shown { IfOk result (λ pixels. pixels.items ≡ pixels_with panel.now.binding part.now surface.now (pixels_in before.now panel.now)) }
+    ensures long { IfOk result (λ pixels. length pixels ≡ 4 * panel.now.binding.rect.width * panel.now.binding.rect.height) }
+    ensures shown { IfOk result (λ pixels. pixels ≡ pixels_with panel.now.binding part.now surface.now (pixels_in before.now panel.now)) }
 {
+    let strips = panel.strips(before);
     if *part == panel.binding.rect && is_one_piece(&panel.binding) {
         // A law, and no work: the screen is that piece of the surface, whatever stood there before.
         rows_are_their_bytes();
-        let pixels = piece_of(alloc, &panel.binding, surface)?;
+        let piece = piece_of(&panel.binding, surface);
+        let pixels = Strips::cut(alloc, piece, strips)?;
         return Ok(pixels);
     }
     let mut pixels = panel.under(alloc, before, part)?;
     show_part(&panel.binding, part, surface, pixels.as_mut_slice());
-    Ok(pixels)
+    Strips::cut(alloc, pixels.as_slice(), strips)
 }
 
 /// Whether the surface has a screen's pixels in one piece: they are shown as they are, and their rows follow each other.
@@ -147,57 +159,85 @@ fn is_one_piece(binding: &Binding) -> bool
 }
 
 /// The piece of the surface that has a screen's pixels.
-fn piece_of(alloc: Global, binding: &Binding, surface: &[u8]) -> Result<Vec<u8>, AllocError>
+fn piece_of<'a>(binding: &Binding, surface: &'a [u8]) -> &'a [u8]
     requires { binding.now.offset + binding.now.stride * binding.now.rect.y + 4 * binding.now.rect.x + binding.now.stride * binding.now.rect.height ≤ length surface.now }
-    ensures { IfOk result (λ pixels. pixels.items
-        ≡ take (binding.now.stride * binding.now.rect.height) (drop (binding.now.offset + binding.now.stride * binding.now.rect.y + 4 * binding.now.rect.x) surface.now)) }
+    ensures { result.now
+        ≡ take (binding.now.stride * binding.now.rect.height) (drop (binding.now.offset + binding.now.stride * binding.now.rect.y + 4 * binding.now.rect.x) surface.now) }
 {
     let rect = &binding.rect;
     let stride = binding.stride as usize;
     let start = binding.offset as usize + stride * rect.y as usize + 4 * rect.x as usize;
     let end = start + stride * rect.height as usize;
-    surface[start..end].to_vec(alloc)
+    &surface[start..end]
 }
 
-/// What a screen of these pixels stands on, of which a frame of this number is made: the frame, but where a cursor is in that.
-fn ground_of(
+/// The frame of a screen of these pixels, with its cursor, and what the screen stands on where the frame has this number: the
+/// frame, but where a cursor is in that.
+fn picture_of(
     alloc: Global,
-    cursors: &Cursors,
+    entry: u64,
     scanout: u32,
     number: usize,
-    pixels: &[u8],
-) -> Result<Ground, AllocError>
-    requires { scanout < length cursors.now }
-    ensures { IfOk result (λ made. made ≡ (if (cursor_of cursors.now scanout).visible then grounds.Kept pixels.now else grounds.Shared number)) }
+    binding: &Binding,
+    cursors: &Cursors,
+    screen: Strips,
+) -> Result<(Frame, Ground), AllocError>
+    requires scanout { scanout < length cursors.now }
+    requires pixels { length screen ≡ 4 * binding.now.rect.width * binding.now.rect.height }
+    ensures frame { IfOk result (λ made. made.0 ∷ [] ≡ frame_of entry cursors.now scanout (Some (record { binding = binding.now; pixels = screen }))) }
+    ensures ground { IfOk result (λ made. made.1 ≡ (if (cursor_of cursors.now scanout).visible then grounds.Kept screen else grounds.Shared number)) }
 {
-    if cursors.visible(scanout) {
-        let own = pixels.to_vec(alloc)?;
-        Ok(Ground::Kept(Seq::from_vec(own)))
-    } else {
-        Ok(Ground::Shared(number))
+    if !cursors.visible(scanout) {
+        return Ok((
+            framed(entry, scanout, binding, screen),
+            Ground::Shared(number),
+        ));
     }
+    let pixels = with_cursor(scanout, binding, cursors, screen.to_vec(alloc)?);
+    let pixels = Strips::cut(alloc, pixels.as_slice(), Some(&screen))?;
+    Ok((
+        framed(entry, scanout, binding, pixels),
+        Ground::Kept(screen),
+    ))
 }
 
-/// The frame of a screen of these pixels, with its cursor.
+/// The frame of a screen of these pixels, with its cursor. It takes no memory.
 pub(crate) fn frame_of(
     entry: u64,
     scanout: u32,
     binding: &Binding,
     cursors: &Cursors,
-    mut pixels: Vec<u8>,
+    pixels: Vec<u8>,
 ) -> Frame
     requires scanout { scanout < length cursors.now }
     requires pixels { length pixels.items ≡ 4 * binding.now.rect.width * binding.now.rect.height }
     ensures { result ∷ [] ≡ frame_of entry cursors.now scanout (Some (record { binding = binding.now; pixels = pixels.items })) }
 {
+    let pixels = with_cursor(scanout, binding, cursors, pixels);
+    framed(entry, scanout, binding, Strips::from_vec(pixels))
+}
+
+/// The pixels of a screen, with its cursor in them.
+fn with_cursor(scanout: u32, binding: &Binding, cursors: &Cursors, mut pixels: Vec<u8>) -> Vec<u8>
+    requires scanout { scanout < length cursors.now }
+    requires pixels { length pixels.items ≡ 4 * binding.now.rect.width * binding.now.rect.height }
+    ensures { result.items ≡ blended (cursor_of cursors.now scanout) binding.now.rect.width pixels.items }
+{
     let (width, height) = (binding.rect.width, binding.rect.height);
     cursors.blend(scanout, width, height, pixels.as_mut_slice());
+    pixels
+}
+
+/// A frame of a screen's size with these pixels.
+fn framed(entry: u64, scanout: u32, binding: &Binding, pixels: Strips) -> Frame
+    ensures { result ≡ record { scanout = scanout; width = binding.now.rect.width; height = binding.now.rect.height; entry = entry; pixels = pixels } }
+{
     Frame {
         scanout,
-        width,
-        height,
+        width: binding.rect.width,
+        height: binding.rect.height,
         entry,
-        pixels: Seq::from_vec(pixels),
+        pixels,
     }
 }
 

@@ -7,8 +7,8 @@ ghost use Rattle.vg_scanout.specs.Panels.{IsGround, IsPanel, IsSmall, is_touched
 use crate::scanout::{Binding, Frame};
 use std::alloc::{AllocError, Global};
 use vg_formats::{Rect, pixel_bytes};
-use vg_list::Seq;
 use vg_places::zeros;
+use vg_strips::Strips;
 
 /// Where the pixels of a screen stand.
 #[derive(Debug, Drop)]
@@ -18,7 +18,7 @@ pub(crate) enum Ground {
     /// They are those of the frame of this number.
     Shared(usize),
     /// The screen has pixels of its own, which no frame has: its frame has a cursor in it.
-    Kept(Seq<u8>),
+    Kept(Strips),
 }
 
 /// A scanout that is bound.
@@ -55,8 +55,20 @@ impl Panel {
     {
         match &self.base {
             Ground::Blank => zeros(alloc, self.size() as usize),
-            Ground::Shared(number) => frames[*number].pixels.as_slice().to_vec(alloc),
-            Ground::Kept(pixels) => pixels.as_slice().to_vec(alloc),
+            Ground::Shared(number) => frames[*number].pixels.to_vec(alloc),
+            Ground::Kept(pixels) => pixels.to_vec(alloc),
+        }
+    }
+
+    /// The strips in which the screen's pixels stand, if they do.
+    pub(crate) fn strips<'a>(&'a self, frames: &'a [Frame]) -> Option<&'a Strips> {
+        match &self.base {
+            Ground::Blank => None,
+            Ground::Shared(number) => match frames.get(*number) {
+                Some(frame) => Some(&frame.pixels),
+                None => None,
+            },
+            Ground::Kept(pixels) => Some(pixels),
         }
     }
 

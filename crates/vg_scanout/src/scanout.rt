@@ -13,6 +13,7 @@ use std::marker::Model;
 use vg_cursor::Cursors;
 use vg_formats::{Format, Rect, pixel_bytes};
 use vg_list::Seq;
+use vg_strips::Strips;
 use vg_wire::kinds::ERR_OUT_OF_MEMORY;
 
 /// How many bytes one screen may have.
@@ -44,8 +45,9 @@ pub struct Frame {
     pub height: u32,
     /// The number of the entry that made it.
     pub entry: u64,
-    /// Rows of four bytes a pixel, in the order blue, green, red, alpha.
-    pub pixels: Seq<u8>,
+    /// Rows of four bytes a pixel, in the order blue, green, red, alpha. Strips that stay as they were are shared with the frames
+    /// before.
+    pub pixels: Strips,
 }
 
 /// The state of all scanouts.

@@ -6,6 +6,7 @@ use denote.Ref.{NamedLft}
 use Rattle.std.proofs.Crossing.{crosses}
 use Rattle.std.proofs.MapsCrossing.{BTreeMap-send}
 use Rattle.vg_list.specs.contracts.seq.Seq as seq
+use Rattle.vg_strips.proofs.Sent.{strips_send}
 use Rattle.vg_scanout.specs.contracts.panel.Panel as panel
 use Rattle.vg_scanout.specs.contracts.ready.Picture as picture
 use Rattle.vg_scanout.specs.contracts.ready.Ready as ready
@@ -37,10 +38,10 @@ seq_send : (X : RattleType) → IsSend X → IsSend (seq.the_row X)
 seq_send X x = search (sendable, crosses) depth 20
 
 frame_send : IsSend frame.the_row
-frame_send = search (sendable, crosses, seq_send) depth 20
+frame_send = search (sendable, crosses, strips_send) depth 20
 
 panel_send : IsSend panel.the_row
-panel_send = search (sendable, crosses) depth 20
+panel_send = search (sendable, crosses, strips_send) depth 20
 
 picture_send : IsSend picture.the_row
 picture_send = let T = picture.the_type in recorded_send _ _ _ T.to_one (struct_send (shape T) (search (sendable, crosses) depth 20, (search (sendable, crosses) depth 20, tt)))

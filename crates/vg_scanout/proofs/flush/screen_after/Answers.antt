@@ -5,10 +5,10 @@ use Rattle.vg_formats.specs.declared.rect.Rect.{Rect}
 use Rattle.vg_scanout.specs.Panels.{pixels_in}
 use Rattle.vg_scanout.specs.Scanout.{pixels_with}
 use Rattle.vg_scanout.proofs.PanelLemmas.{one-piece, piece-fits}
-use Rattle.vg_scanout.proofs.flush.pixels_after.Goals as goal
+use Rattle.vg_scanout.proofs.flush.screen_after.Goals as goal
 
-pub piece_of-requires : goal.piece_of-requires
-piece_of-requires c =
+pub piece_of-piece-requires : goal.piece_of-piece-requires
+piece_of-piece-requires c =
     let binding = c.args.panel.now.binding in
     let rect = binding.rect in
     let same : c.args.part.now ≡ rect = search rules in
@@ -27,7 +27,7 @@ returns-then-is_one_piece-clause-long c =
     let start = binding.offset + binding.stride * rect.y + 4 * rect.x in
     let inside = piece-fits binding.offset binding.stride rect.y rect.x rect.width rect.height (length c.args.surface.now) some c.requires.surface whole.1 in
     let taken : length (take size (drop start c.args.surface.now)) ≡ size = omega (arith, length-take size (drop start c.args.surface.now), length-drop start c.args.surface.now, inside) in
-    ap length c.in_ok-pixels.ensures ∙ taken ∙ ap (λ (n : ℕ). n * rect.height) whole.1
+    ap length (c.in_ok-pixels.ensures ∙ c.piece_of-piece.ensures) ∙ taken ∙ ap (λ (n : ℕ). n * rect.height) whole.1
 
 pub returns-then-is_one_piece-clause-shown : goal.returns-then-is_one_piece-clause-shown
 returns-then-is_one_piece-clause-shown c =
@@ -39,5 +39,6 @@ returns-then-is_one_piece-clause-shown c =
     let own = pixels_in c.args.before.now c.args.panel.now in
     let inside = piece-fits binding.offset binding.stride rect.y rect.x rect.width rect.height (length c.args.surface.now) some.1 c.requires.surface whole.1 in
     c.in_ok-pixels.ensures
+    ∙ c.piece_of-piece.ensures
     ∙ one-piece binding c.args.surface.now own c.rows_are_their_bytes.ensures whole.0 whole.1 some.0 c.requires.panel.1.0 inside
     ∙ ap (λ part. pixels_with binding part c.args.surface.now own) (sym same)
