@@ -1,2 +1,3 @@
 pub mod StripLemmas
 pub mod Sent
+mod PutLemmas

@@ -1,4 +1,4 @@
--- Bytes in strips may go to another thread, and threads may share them.
+-- Bytes in strips may go to another thread.
 use denote.Param.Send.{IsSend, sendable}
 use Rattle.std.proofs.Crossing.{crosses}
 use Rattle.vg_list.specs.contracts.seq.Seq as seq

@@ -15,28 +15,33 @@ pub record IsPiece (bytes : List ℕ) (at : ℕ) (rest : List ℕ) : Type 0 wher
   pub some : 0 < length rest
   pub fits : at + length rest ≤ length bytes
 
-piece : (bytes : List ℕ) (at : ℕ) (strip : List ℕ) → strip ≡ take 1024 (drop (1024 * (at / 1024)) bytes) → at < length bytes → IsPiece bytes at (drop (at % 1024) strip)
-piece bytes at strip is inside =
+-- the first bytes are as many as they are
+pub own-length : (m : ℕ) (bs : List ℕ) → take (length (take m bs)) bs ≡ take m bs
+own-length m bs = elim (cases_lt (length bs) m) [
+  | inl less ↦ take_all (length (take m bs)) bs (omega (arith, length-take m bs, less)) ∙ sym (take_all m bs (omega (arith, less)))
+  | inr not ↦ ap (λ n. take n bs) (omega (arith, length-take m bs, not))
+]
+
+-- what the strip in which a place lies has from it on
+pub rest-of-strip : (bytes : List ℕ) (at : ℕ) → drop (at % 1024) (take 1024 (drop (1024 * (at / 1024)) bytes)) ≡ take (1024 - at % 1024) (drop at bytes)
+rest-of-strip bytes at =
     let k = at / 1024 in
     let skip = at % 1024 in
     let place : 1024 * k + skip ≡ at = omega arith in
-    let small : skip < 1024 = omega arith in
-    let n = 1024 - skip in
-    let size : skip + n ≡ 1024 = omega (arith, small) in
-    let rest = drop skip strip in
-    let same : rest ≡ take n (drop at bytes) =
-    ap (drop skip) is
-    ∙ ap (λ m. drop skip (take m (drop (1024 * k) bytes))) (sym size)
-    ∙ drop-take skip n (drop (1024 * k) bytes)
-    ∙ ap (take n) (drop-drop skip (1024 * k) bytes ∙ ap (λ m. drop m bytes) place)
-    in
+    let size : skip + (1024 - skip) ≡ 1024 = omega arith in
+    ap (λ m. drop skip (take m (drop (1024 * k) bytes))) (sym size)
+    ∙ drop-take skip (1024 - skip) (drop (1024 * k) bytes)
+    ∙ ap (take (1024 - skip)) (drop-drop skip (1024 * k) bytes ∙ ap (λ m. drop m bytes) place)
+
+piece : (bytes : List ℕ) (at : ℕ) (strip : List ℕ) → strip ≡ take 1024 (drop (1024 * (at / 1024)) bytes) → at < length bytes → IsPiece bytes at (drop (at % 1024) strip)
+piece bytes at strip is inside =
+    let n = 1024 - at % 1024 in
+    let rest = drop (at % 1024) strip in
+    let same : rest ≡ take n (drop at bytes) = ap (drop (at % 1024)) is ∙ rest-of-strip bytes at in
     let long = ap length same ∙ length-take n (drop at bytes) in
     let left = length-drop at bytes in
-    let own : take (length rest) (drop at bytes) ≡ take n (drop at bytes) = elim (cases_lt (length (drop at bytes)) n) [
-      | inl less ↦ take_all (length rest) (drop at bytes) (omega (arith, long, less)) ∙ sym (take_all n (drop at bytes) (omega (arith, less)))
-      | inr not ↦ let whole : length rest ≡ n = omega (arith, long, not) in ap (λ m. take m (drop at bytes)) whole
-    ] in
-    record { bytes_are = same ∙ sym own; some = omega (arith, long, left, size, small, inside); fits = omega (arith, long, left, inside) }
+    let own : take (length rest) (drop at bytes) ≡ rest = ap (λ (xs : List ℕ). take (length xs) (drop at bytes)) same ∙ own-length n (drop at bytes) ∙ sym same in
+    record { bytes_are = sym own; some = omega (arith, long, left, inside); fits = omega (arith, long, left, inside) }
 
 pub piece-of : (bytes : List ℕ) (strips : List (List ℕ)) (at : ℕ) (strip shown : List ℕ) → bytes ≡ concat strips → IsCut (concat strips) strips
     → at < length bytes → strip ≡ get_or strips (at / 1024) strip → shown ≡ strip → (at % 1024 ≤ length shown) × IsPiece bytes at (drop (at % 1024) shown)

@@ -1,9 +1,11 @@
 //! Bytes that are cut into strips of one length.
 
-ghost use Rattle.std.specs.Prelude.{◌≡◌, ◌+◌, ◌<◌, ◌≤◌, drop, length, take, IfOk};
+ghost use Rattle.std.specs.Prelude.{◌≡◌, ◌+◌, ◌-◌, ◌*◌, ◌/◌, ◌%◌, ◌<◌, ◌≤◌, ◌++◌, drop, length, take, IfOk, OnOk};
+ghost use Rattle.vg_strips.specs.Plans.{Grows, IsPlanned};
+ghost use Rattle.vg_strips.specs.Strips.{IsWide, strip_with};
 
-use crate::plan::{carried_out, planned};
-use crate::strip::Strip;
+use crate::plan::{Plan, carried_out, planned};
+use crate::strip::{Strip, rest_of, start_of};
 use std::alloc::{AllocError, Global};
 use std::marker::Model;
 use std::sync::ArcSlice;
@@ -53,6 +55,68 @@ impl Cut {
         })
     }
 
+    /// These bytes, with others in place of those from this place on. The strips in which none of the others lie are shared.
+    pub(crate) fn with(&self, alloc: Global, at: usize, bytes: &[u8]) -> Result<Cut, AllocError>
+        requires some { 0 < length bytes.now }
+        requires within { at + length bytes.now ≤ length self.now }
+        ensures { IfOk result (λ cut. cut ≡ take at self.now ++ bytes.now ++ drop (at + length bytes.now) self.now) }
+    {
+        let first = at / STRIP;
+        let wide = self.widened(alloc, at, bytes)?;
+        let mut plans = Vec::with_capacity(alloc, self.strips.len())?;
+        let mut new = Vec::new(alloc);
+        for k in 0..self.strips.len() {
+            let plan = planned_with(
+                &self.strips[k],
+                k,
+                first,
+                wide.as_slice(),
+                plans.last(),
+                &mut new,
+            )?;
+            plans.push(plan)?;
+        }
+        let block = ArcSlice::from_vec(new)?;
+        let strips = carried_out(alloc, plans, &block)?;
+        Ok(Cut {
+            strips,
+            len: self.len,
+        })
+    }
+
+    /// Other bytes for those from this place on, with what stands in front of them and behind them in their strips.
+    fn widened(&self, alloc: Global, at: usize, bytes: &[u8]) -> Result<Vec<u8>, AllocError>
+        requires some { 0 < length bytes.now }
+        requires within { at + length bytes.now ≤ length self.now }
+        ensures { IfOk result (λ wide. IsWide self.now at bytes.now wide.items) }
+    {
+        let room = bytes.len().saturating_add(2 * STRIP).min(self.len);
+        let mut wide = Vec::with_capacity(alloc, room)?;
+        wide.extend_from_slice(self.in_front(at))?;
+        wide.extend_from_slice(bytes)?;
+        wide.extend_from_slice(self.behind(at + bytes.len()))?;
+        Ok(wide)
+    }
+
+    /// What the strip in which this place lies has in front of it.
+    fn in_front(&self, at: usize) -> &[u8]
+        requires { at < length self.now }
+        ensures { result.now ≡ take (at % 1024) (drop (1024 * (at / 1024)) self.now) }
+    {
+        start_of(self.strips[at / STRIP].as_slice(), at % STRIP)
+    }
+
+    /// What the strip in which this place lies has from it on. Behind the last byte there is nothing.
+    fn behind(&self, at: usize) -> &[u8]
+        requires { at ≤ length self.now }
+        ensures { result.now ≡ take (1024 - at % 1024) (drop at self.now) }
+    {
+        match self.strips.get(at / STRIP) {
+            Some(strip) => rest_of(strip.as_slice(), at % STRIP),
+            None => &[],
+        }
+    }
+
     /// How many bytes there are.
     pub(crate) fn len(&self) -> usize
         ensures { result ≡ length self.now }
@@ -76,23 +140,34 @@ fn strip_at(other: Option<&Cut>, k: usize) -> Option<&Strip> {
     other?.strips.get(k)
 }
 
-/// The bytes from this place on.
-fn rest_of(bytes: &[u8], from: usize) -> &[u8]
-    requires { from ≤ length bytes.now }
-    ensures { result.now ≡ drop from bytes.now }
-{
-    &bytes[from..]
-}
-
 /// The bytes from this place on that make up a strip.
 fn strip_in(bytes: &[u8], from: usize) -> &[u8]
     requires { from ≤ length bytes.now }
     ensures { result.now ≡ take 1024 (drop from bytes.now) }
 {
-    let rest = rest_of(bytes, from);
-    if rest.len() < STRIP {
-        rest
-    } else {
-        &rest[..STRIP]
+    start_of(rest_of(bytes, from), STRIP)
+}
+
+/// Where the bytes of this strip, which has the number `k`, are to stand once `wide` stands in place of the strips from number
+/// `first` on, as far as it goes.
+fn planned_with(
+    strip: &Strip,
+    k: usize,
+    first: usize,
+    wide: &[u8],
+    before: Option<&Plan>,
+    new: &mut Vec<u8>,
+) -> Result<Plan, AllocError>
+    ensures planned { IfOk result (λ plan. IsPlanned new.new.items (strip_with first wide.now k strip.now) plan) }
+    ensures grows { OnOk result (Grows new.old.items new.new.items) }
+{
+    if k >= first && k - first < wide.len().div_ceil(STRIP) {
+        return planned(
+            strip_in(wide, STRIP * (k - first)),
+            Some(strip),
+            before,
+            new,
+        );
     }
+    Ok(Plan::Shared(strip.share()?))
 }

@@ -51,6 +51,25 @@ impl Strip {
     }
 }
 
+/// The bytes from this place on.
+pub(crate) fn rest_of(bytes: &[u8], from: usize) -> &[u8]
+    requires { from ≤ length bytes.now }
+    ensures { result.now ≡ drop from bytes.now }
+{
+    &bytes[from..]
+}
+
+/// The first bytes, at most so many.
+pub(crate) fn start_of(bytes: &[u8], most: usize) -> &[u8]
+    ensures { result.now ≡ take most bytes.now }
+{
+    if bytes.len() < most {
+        bytes
+    } else {
+        &bytes[..most]
+    }
+}
+
 /// So many of these bytes, from this place on.
 fn part_of(bytes: &[u8], from: usize, len: usize) -> &[u8]
     requires { from + len ≤ length bytes.now }

@@ -1,8 +1,9 @@
 //! Bytes that lie in one piece or in strips.
 
-ghost use Rattle.std.specs.Prelude.{◌≡◌, ◌+◌, ◌<◌, ◌≤◌, drop, length, take, IfOk};
+ghost use Rattle.std.specs.Prelude.{◌≡◌, ◌+◌, ◌-◌, ◌<◌, ◌≤◌, ◌++◌, drop, length, take, IfOk};
 
 use crate::cut::Cut;
+use crate::strip::start_of;
 use std::alloc::{AllocError, Global};
 use std::marker::Model;
 use vg_list::Seq;
@@ -88,10 +89,38 @@ impl Strips {
     pub fn to_vec(&self, alloc: Global) -> Result<Vec<u8>, AllocError>
         ensures { IfOk result (λ bytes. bytes.items ≡ self.now) }
     {
-        let mut bytes = Vec::with_capacity(alloc, self.len())?;
-        while bytes.len() < self.len() {
-            bytes.extend_from_slice(self.piece(bytes.len()))?;
+        self.part(alloc, 0, self.len())
+    }
+
+    /// A copy of the bytes from the one place on to the other.
+    pub fn part(&self, alloc: Global, from: usize, to: usize) -> Result<Vec<u8>, AllocError>
+        requires order { from ≤ to }
+        requires within { to ≤ length self.now }
+        ensures { IfOk result (λ bytes. bytes.items ≡ take (to - from) (drop from self.now)) }
+    {
+        let mut bytes = Vec::with_capacity(alloc, to - from)?;
+        while from + bytes.len() < to {
+            let piece = self.piece(from + bytes.len());
+            bytes.extend_from_slice(start_of(piece, to - from - bytes.len()))?;
         }
         Ok(bytes)
+    }
+
+    /// These bytes in strips, with others in place of those from this place on. The strips in which none of the others lie are
+    /// shared with these bytes, where they lie in strips, and not looked at.
+    pub fn with(&self, alloc: Global, at: usize, bytes: &[u8]) -> Result<Strips, AllocError>
+        requires some { 0 < length bytes.now }
+        requires within { at + length bytes.now ≤ length self.now }
+        ensures { IfOk result (λ strips. strips ≡ take at self.now ++ bytes.now ++ drop (at + length bytes.now) self.now) }
+    {
+        let cut = match &self.form {
+            Form::Whole(whole) => {
+                Cut::of(alloc, whole.as_slice(), None)?.with(alloc, at, bytes)?
+            }
+            Form::Cut(cut) => cut.with(alloc, at, bytes)?,
+        };
+        Ok(Strips {
+            form: Form::Cut(cut),
+        })
     }
 }
