@@ -106,6 +106,10 @@ pub record IsGround (binding : Binding) (part : Rect) (own pixels : List ℕ) : 
   pub long : length pixels ≡ length own
   pub same : (surface : List ℕ) → pixels_with binding part surface pixels ≡ pixels_with binding part surface own
 
+-- The rows of a screen that this part of it touches, as a screen of their own.
+abbrev pub rows_touched : Binding → Rect → Binding
+rows_touched binding part = record binding { rect = record { x = binding.rect.x; y = part.y; width = binding.rect.width; height = part.height } }
+
 -- The screen of which a copy was made, if there was one.
 abbrev pub screen_copied : Option Picture → Option Screen
 screen_copied (Some picture) = Some (record { binding = picture.binding; pixels = picture.pixels })

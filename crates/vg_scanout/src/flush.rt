@@ -7,7 +7,7 @@ ghost use Rattle.vg_formats.specs.declared.format.Format.TheVariants.{B8G8R8A8};
 ghost use Rattle.vg_formats.specs.Pixels.{HasPixels, LiesWithin};
 ghost use Rattle.vg_scanout.specs.declared.panel.Ground.TheVariants as grounds;
 ghost use Rattle.vg_scanout.specs.Fits.{FitSurface, FitsSurface};
-ghost use Rattle.vg_scanout.specs.Panels.{AreAnew, AreRegrounded, ArePanels, IsAnew, IsPanel, IsSmall, bytes_made, bytes_of, pixels_in, regrounded, screen_in, screens_in};
+ghost use Rattle.vg_scanout.specs.Panels.{AreAnew, AreRegrounded, ArePanels, IsAnew, IsPanel, IsSmall, bytes_made, bytes_of, pixels_in, regrounded, rows_touched, screen_in, screens_in};
 ghost use Rattle.vg_scanout.specs.Scanout.{frame_of, new_frame, new_frames, pixels_with};
 
 use crate::panel::{Ground, Panel};
@@ -143,6 +143,11 @@ fn screen_after(
         let pixels = Strips::cut(alloc, piece, strips)?;
         return Ok(pixels);
     }
+    if *part != panel.binding.rect {
+        if let Some(strips) = strips {
+            return screen_with(alloc, &panel.binding, part, surface, strips);
+        }
+    }
     let mut pixels = panel.under(alloc, before, part)?;
     show_part(&panel.binding, part, surface, pixels.as_mut_slice());
     Strips::cut(alloc, pixels.as_slice(), strips)
@@ -169,6 +174,43 @@ fn piece_of<'a>(binding: &Binding, surface: &'a [u8]) -> &'a [u8]
     let start = binding.offset as usize + stride * rect.y as usize + 4 * rect.x as usize;
     let end = start + stride * rect.height as usize;
     &surface[start..end]
+}
+
+/// The pixels of a screen once this part of it is shown as the surface has it now. Only the rows that it touches are made.
+fn screen_with(
+    alloc: Global,
+    binding: &Binding,
+    part: &Rect,
+    surface: &[u8],
+    screen: &Strips,
+) -> Result<Strips, AllocError>
+    requires some { HasPixels part.now }
+    requires within { LiesWithin part.now binding.now.rect }
+    requires surface { FitsSurface (length surface.now) binding.now }
+    requires pixels { length screen.now ≡ 4 * binding.now.rect.width * binding.now.rect.height }
+    requires small { length screen.now ≤ 33554432 }
+    ensures { IfOk result (λ pixels. pixels ≡ pixels_with binding.now part.now surface.now screen.now) }
+{
+    let row_length = 4 * binding.rect.width as usize;
+    let from = row_length * (part.y - binding.rect.y) as usize;
+    let to = from + row_length * part.height as usize;
+    let mut rows = screen.part(alloc, from, to)?;
+    show_part(&rows_of(binding, part), part, surface, rows.as_mut_slice());
+    screen.with(alloc, from, rows.as_slice())
+}
+
+/// The binding of a screen's rows that this part of it touches.
+fn rows_of(binding: &Binding, part: &Rect) -> Binding
+    ensures { result ≡ rows_touched binding.now part.now }
+{
+    Binding {
+        rect: Rect {
+            y: part.y,
+            height: part.height,
+            ..binding.rect
+        },
+        ..*binding
+    }
 }
 
 /// The frame of a screen of these pixels, with its cursor, and what the screen stands on where the frame has this number: the

@@ -1,6 +1,6 @@
 //! What is kept of a scanout that is bound.
 
-ghost use Rattle.std.specs.Prelude.{◌≡◌, ◌*◌, Some, None, IfOk, if◌then◌else◌};
+ghost use Rattle.std.specs.Prelude.{◌≡◌, ℕ, ◌*◌, List, Some, None, IfOk, if◌then◌else◌, option_copied};
 ghost use Rattle.vg_formats.specs.Pixels.{HasPixels, common_of};
 ghost use Rattle.vg_scanout.specs.Panels.{IsGround, IsPanel, IsSmall, is_touched, pixels_in};
 
@@ -61,7 +61,9 @@ impl Panel {
     }
 
     /// The strips in which the screen's pixels stand, if they do.
-    pub(crate) fn strips<'a>(&'a self, frames: &'a [Frame]) -> Option<&'a Strips> {
+    pub(crate) fn strips<'a>(&'a self, frames: &'a [Frame]) -> Option<&'a Strips>
+        ensures { (pixels : List ℕ) → option_copied result ≡ Some pixels → pixels ≡ pixels_in frames.now self.now }
+    {
         match &self.base {
             Ground::Blank => None,
             Ground::Shared(number) => match frames.get(*number) {
