@@ -32,6 +32,10 @@ printed_none a text = record { front = []; taken = takes_nothing a; whole = refl
 pub printed_all : (a b : Option (List ℕ)) (text : List ℕ) → Takes a b text → Printed a b text []
 printed_all a b text taken = record { front = text; taken = taken; whole = append-nil text }
 
+-- A front is handed on: what is behind it is pending.
+pub printed_front : (a b : Option (List ℕ)) (text front pending : List ℕ) → Takes a b front → front ++ pending ≡ text → Printed a b text pending
+printed_front a b text front pending taken whole = record { front = front; taken = taken; whole = whole }
+
 -- More text behind what was pending.
 pub printed_then : (a b c : Option (List ℕ)) (text pending more pending' : List ℕ) → Printed a b text pending → Printed b c (pending ++ more) pending' → Printed a c (text ++ more) pending'
 printed_then a b c text pending more pending' first second =

@@ -1,6 +1,6 @@
 //! The text of a journal on its way to a sink, through a buffer.
 
-ghost use Rattle.std.specs.Prelude.{◌≡◌, ◌<◌, ◌≤◌, ◌++◌, [], length, OnOk, OnErr, IsErrOf};
+ghost use Rattle.std.specs.Prelude.{◌≡◌, ◌<◌, ◌≤◌, ◌++◌, [], length, take, OnOk, OnErr, IsErrOf};
 ghost use Rattle.vg_io.specs.Streams.{Rose, Takes, TakesPart, TakesSome};
 ghost use Rattle.vg_journal.specs.Printing.{Printed, PrintedSome};
 ghost use Rattle.vg_journal.specs.Text.{numbered, entry_line, frame_text, front_text, text_of};
@@ -13,7 +13,7 @@ use vg_io::{Failed, Sink, write_all};
 use vg_machine::{Entry, Frame};
 use vg_strips::Strips;
 
-/// How many bytes wait in the buffer, at the least, before they are handed on.
+/// How many bytes are handed on at once, or a multiple of that.
 const PIECE: usize = 65_536;
 
 /// Why a text was not printed whole.
@@ -55,7 +55,8 @@ fn hand_on<K: Sink>(sink: &mut K, buffer: &mut Vec<u8>) -> Result<(), Failed>
     Ok(())
 }
 
-// Hands the buffer on where it has a piece.
+// Hands on what the buffer has in whole pieces. So a piece begins at a multiple of its length in a file, where a write is cheaper.
+#[tactic(auto, using(crate::proofs::PrintingLemmas::printed_front))]
 fn hand_on_piece<K: Sink>(sink: &mut K, buffer: &mut Vec<u8>) -> Result<(), Failed>
     ensures ok { OnOk result (
         Printed (K.held sink.old) (K.held sink.new) buffer.old.items buffer.new.items) }
@@ -65,10 +66,23 @@ fn hand_on_piece<K: Sink>(sink: &mut K, buffer: &mut Vec<u8>) -> Result<(), Fail
     ensures same { OnOk result (K.faults sink.new ≡ K.faults sink.old) }
     ensures count { K.faults sink.old ≤ K.faults sink.new }
 {
-    if buffer.len() < PIECE {
+    let rest = buffer.len() % PIECE;
+    let whole = buffer.len() - rest;
+    if whole == 0 {
         return Ok(());
     }
-    hand_on(sink, buffer)
+    write_all(sink, front_of(buffer.as_slice(), whole))?;
+    buffer.copy_within(whole.., 0);
+    buffer.truncate(rest);
+    Ok(())
+}
+
+// The first bytes, so many.
+fn front_of(bytes: &[u8], count: usize) -> &[u8]
+    requires { count ≤ length bytes.now }
+    ensures { result.now ≡ take count bytes.now }
+{
+    &bytes[..count]
 }
 
 #[tactic(auto, using(crate::proofs::PrintingLemmas::some_taken))]
