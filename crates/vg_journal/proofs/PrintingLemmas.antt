@@ -28,6 +28,10 @@ takes_nothing (Some xs) = sym (append-nil xs)
 pub printed_none : (a : Option (List ℕ)) (text : List ℕ) → Printed a a text text
 printed_none a text = record { front = []; taken = takes_nothing a; whole = refl }
 
+-- No text more yet.
+pub printed_start : (a : Option (List ℕ)) (text : List ℕ) → Printed a a (text ++ []) text
+printed_start a text = record { front = []; taken = takes_nothing a; whole = sym (append-nil text) }
+
 -- All is handed on: nothing is pending.
 pub printed_all : (a b : Option (List ℕ)) (text : List ℕ) → Takes a b text → Printed a b text []
 printed_all a b text taken = record { front = text; taken = taken; whole = append-nil text }
@@ -113,6 +117,10 @@ some_more text n xs i j x d a b c old pending first second place within is_read 
     append_assoc old _ _
     ∙ ap (λ ys. old ++ ys) (sym (numbered_append text n (take (i + 1) xs) (drop (i + 1) xs)) ∙ ap (numbered text n) (take-append-drop (i + 1) xs)) in
     subst (PrintedSome a c) whole (some_longer a c _ _ front)
+
+-- All texts of a list.
+pub all_printed : {X : Type 0} (text : ℕ → X → List ℕ) (n : ℕ) (xs : List X) (i : ℕ) (a b : Option (List ℕ)) (old pending : List ℕ) → Printed a b (old ++ numbered text n (take i xs)) pending → length xs ≤ i → Printed a b (old ++ numbered text n xs) pending
+all_printed text n xs i a b old pending printed all = subst (λ ys. Printed a b (old ++ numbered text n ys) pending) (take_all i xs all) printed
 
 -- A text that is put behind what is pending.
 pub printed_put : (a b : Option (List ℕ)) (text pending more pending' : List ℕ) → Printed a b text pending → pending' ≡ pending ++ more → Printed a b (text ++ more) pending'

@@ -38,11 +38,44 @@ fn put_hex(out: &mut Vec<u8>, bytes: &[u8]) -> Result<(), AllocError>
 }
 
 /// Adds a word and a number.
-fn put_numbered(out: &mut Vec<u8>, word: &[u8], number: u32) -> Result<(), AllocError>
+fn put_counted(out: &mut Vec<u8>, word: &[u8], number: u64) -> Result<(), AllocError>
     ensures { OnOk result (out.new.items ≡ out.old.items ++ (word.now ++ decimal number)) }
 {
     put(out, word)?;
-    put_number(out, u64::from(number))
+    put_number(out, number)
+}
+
+fn put_numbered(out: &mut Vec<u8>, word: &[u8], number: u32) -> Result<(), AllocError>
+    ensures { OnOk result (out.new.items ≡ out.old.items ++ (word.now ++ decimal number)) }
+{
+    put_counted(out, word, u64::from(number))
+}
+
+/// Adds a word, a number, and a line end.
+fn put_line(out: &mut Vec<u8>, word: &[u8], number: u64) -> Result<(), AllocError>
+    ensures { OnOk result (out.new.items ≡ out.old.items ++ (word.now ++ decimal number ++ codes "\n")) }
+{
+    put_counted(out, word, number)?;
+    put(out, b"\n")
+}
+
+/// Adds three numbers with blanks between them.
+fn put_three(out: &mut Vec<u8>, first: u64, second: u64, third: u64) -> Result<(), AllocError>
+    ensures { OnOk result (
+        out.new.items ≡
+        out.old.items ++ (decimal first ++ codes " " ++ decimal second ++ codes " " ++ decimal third)) }
+{
+    put_number(out, first)?;
+    put_counted(out, b" ", second)?;
+    put_counted(out, b" ", third)
+}
+
+/// Adds a word, and bytes as hexadecimal digits.
+fn put_bytes(out: &mut Vec<u8>, word: &[u8], bytes: &[u8]) -> Result<(), AllocError>
+    ensures { OnOk result (out.new.items ≡ out.old.items ++ (word.now ++ hex_text bytes.now)) }
+{
+    put(out, word)?;
+    put_hex(out, bytes)
 }
 
 fn put_what(out: &mut Vec<u8>, what: &What) -> Result<(), AllocError>
@@ -67,10 +100,18 @@ fn put_reserve(
 ) -> Result<(), AllocError>
     ensures { OnOk result (out.new.items ≡ out.old.items ++ reserve_text width height format bytes) }
 {
-    put_numbered(out, b"reserve ", width)?;
-    put_numbered(out, b" ", height)?;
-    put_numbered(out, b" ", format)?;
+    put(out, b"reserve ")?;
+    put_three(out, u64::from(width), u64::from(height), u64::from(format))?;
     put_numbered(out, b" ", bytes)
+}
+
+/// Adds bytes and how many times they are written, each behind a blank.
+fn put_repeated(out: &mut Vec<u8>, bytes: &[u8], times: u32) -> Result<(), AllocError>
+    ensures { OnOk result (
+        out.new.items ≡ out.old.items ++ (codes " " ++ hex_text bytes.now ++ codes " " ++ decimal times)) }
+{
+    put_bytes(out, b" ", bytes)?;
+    put_numbered(out, b" ", times)
 }
 
 #[tactic(auto, unfolding(crate::specs::Text::store_text))]
@@ -85,18 +126,15 @@ fn put_store(
 {
     put_numbered(out, b"store ", key)?;
     put_numbered(out, b" ", offset)?;
-    put(out, b" ")?;
-    put_hex(out, bytes)?;
-    put_numbered(out, b" ", times)
+    put_repeated(out, bytes, times)
 }
 
 #[tactic(auto, unfolding(crate::specs::Text::load_text))]
 fn put_load(out: &mut Vec<u8>, key: u32, offset: u32, length: u32) -> Result<(), AllocError>
     ensures { OnOk result (out.new.items ≡ out.old.items ++ load_text key offset length) }
 {
-    put_numbered(out, b"load ", key)?;
-    put_numbered(out, b" ", offset)?;
-    put_numbered(out, b" ", length)
+    put(out, b"load ")?;
+    put_three(out, u64::from(key), u64::from(offset), u64::from(length))
 }
 
 fn put_act(out: &mut Vec<u8>, act: &Act) -> Result<(), AllocError>
@@ -190,20 +228,13 @@ fn put_reserved(out: &mut Vec<u8>, key: u32, pages: &[u32]) -> Result<(), AllocE
     put_pages(out, pages)
 }
 
-fn put_bytes(out: &mut Vec<u8>, bytes: &[u8]) -> Result<(), AllocError>
-    ensures { OnOk result (out.new.items ≡ out.old.items ++ (codes "bytes " ++ hex_text bytes.now)) }
-{
-    put(out, b"bytes ")?;
-    put_hex(out, bytes)
-}
-
 fn put_act_reply(out: &mut Vec<u8>, reply: &ActReply) -> Result<(), AllocError>
     ensures { OnOk result (out.new.items ≡ out.old.items ++ act_reply_text reply.now) }
 {
     match reply {
         ActReply::Ok => put(out, b"ok"),
         ActReply::Reserved { key, pages } => put_reserved(out, *key, pages.as_slice()),
-        ActReply::Bytes { bytes } => put_bytes(out, bytes.as_slice()),
+        ActReply::Bytes { bytes } => put_bytes(out, b"bytes ", bytes.as_slice()),
         ActReply::Kept => put(out, b"kept"),
         ActReply::Last => put(out, b"last"),
         ActReply::Refused { refusal } => put_refusal(out, refusal),
@@ -257,15 +288,15 @@ fn put_reply(out: &mut Vec<u8>, reply: &Reply) -> Result<(), AllocError>
 fn put_request(out: &mut Vec<u8>, request: &Request) -> Result<(), AllocError>
     ensures { OnOk result (out.new.items ≡ out.old.items ++ request_text request.now) }
 {
-    put_number(out, u64::from(request.lane))?;
-    put(out, b" ")?;
-    put_number(out, request.ordinal)?;
-    put(out, b" ")?;
-    put_number(out, u64::from(request.room))?;
+    put_three(
+        out,
+        u64::from(request.lane),
+        request.ordinal,
+        u64::from(request.room),
+    )?;
     put(out, b" ")?;
     put_shape(out, &request.shape)?;
-    put(out, b" ")?;
-    put_hex(out, request.bytes.as_slice())
+    put_bytes(out, b" ", request.bytes.as_slice())
 }
 
 #[tactic(auto, unfolding(crate::specs::Text::entry_line))]
@@ -281,11 +312,7 @@ fn put_act_entry(
         out.new.items ≡
         out.old.items ++ entry_line number (entries.Act client call act.now reply.now)) }
 {
-    put_number(out, number)?;
-    put(out, b" ")?;
-    put_number(out, u64::from(client))?;
-    put(out, b" ")?;
-    put_number(out, call)?;
+    put_three(out, number, u64::from(client), call)?;
     put(out, b" act ")?;
     put_act(out, act)?;
     put(out, b" = ")?;
@@ -306,11 +333,7 @@ fn put_command_entry(
         out.new.items ≡
         out.old.items ++ entry_line number (entries.Command client call request.now reply.now)) }
 {
-    put_number(out, number)?;
-    put(out, b" ")?;
-    put_number(out, u64::from(client))?;
-    put(out, b" ")?;
-    put_number(out, call)?;
+    put_three(out, number, u64::from(client), call)?;
     put(out, b" cmd ")?;
     put_request(out, request)?;
     put(out, b" = ")?;
@@ -342,13 +365,9 @@ pub(crate) fn put_entry(out: &mut Vec<u8>, number: u64, entry: &Entry) -> Result
 fn put_display(out: &mut Vec<u8>, number: u64, size: &(u32, u32)) -> Result<(), AllocError>
     ensures { OnOk result (out.new.items ≡ out.old.items ++ display_line number size.now) }
 {
-    put(out, b"display ")?;
-    put_number(out, number)?;
-    put(out, b" ")?;
-    put_number(out, u64::from(size.0))?;
-    put(out, b" ")?;
-    put_number(out, u64::from(size.1))?;
-    put(out, b"\n")
+    put_counted(out, b"display ", number)?;
+    put_numbered(out, b" ", size.0)?;
+    put_line(out, b" ", u64::from(size.1))
 }
 
 /// Adds the line in front of the pixels of the frame with this number.
@@ -356,17 +375,15 @@ fn put_display(out: &mut Vec<u8>, number: u64, size: &(u32, u32)) -> Result<(), 
 pub(crate) fn put_frame(out: &mut Vec<u8>, number: u64, frame: &Frame) -> Result<(), AllocError>
     ensures { OnOk result (out.new.items ≡ out.old.items ++ frame_line number frame.now) }
 {
-    put(out, b"frame ")?;
-    put_number(out, number)?;
+    put_counted(out, b"frame ", number)?;
     put(out, b" ")?;
-    put_number(out, u64::from(frame.scanout))?;
-    put(out, b" ")?;
-    put_number(out, u64::from(frame.width))?;
-    put(out, b" ")?;
-    put_number(out, u64::from(frame.height))?;
-    put(out, b" ")?;
-    put_number(out, frame.entry)?;
-    put(out, b"\n")
+    put_three(
+        out,
+        u64::from(frame.scanout),
+        u64::from(frame.width),
+        u64::from(frame.height),
+    )?;
+    put_line(out, b" ", frame.entry)
 }
 
 /// Adds the lines that count the commands of each queue, and the frames.
@@ -379,13 +396,9 @@ pub(crate) fn put_counts(
 ) -> Result<(), AllocError>
     ensures { OnOk result (out.new.items ≡ out.old.items ++ counts_text control cursor frames) }
 {
-    put(out, b"rings ")?;
-    put_number(out, control)?;
-    put(out, b" ")?;
-    put_number(out, cursor)?;
-    put(out, b"\nframes ")?;
-    put_number(out, frames)?;
-    put(out, b"\n")
+    put_counted(out, b"rings ", control)?;
+    put_line(out, b" ", cursor)?;
+    put_line(out, b"frames ", frames)
 }
 
 fn put_displays(out: &mut Vec<u8>, displays: &[(u32, u32)]) -> Result<(), AllocError>
@@ -435,11 +448,7 @@ pub(crate) fn put_head(out: &mut Vec<u8>, setup: &Setup) -> Result<(), AllocErro
 {
     put_title(out)?;
     put_displays(out, setup.displays.as_slice())?;
-    put(out, b"memory ")?;
-    put_number(out, u64::from(setup.pages))?;
-    put(out, b"\n")?;
+    put_line(out, b"memory ", u64::from(setup.pages))?;
     put_without(out, setup.accepted)?;
-    put(out, b"clients ")?;
-    put_number(out, u64::from(setup.clients))?;
-    put(out, b"\n")
+    put_line(out, b"clients ", u64::from(setup.clients))
 }

@@ -17,7 +17,7 @@ use vg_strips::Strips;
 const PIECE: usize = 65_536;
 
 /// Why a text was not printed whole.
-#[derive(Debug, Clone, Copy, PartialEq, Eq)]
+#[derive(Clone, Copy)]
 pub(crate) enum PrintError {
     /// There was no memory for the buffer.
     Memory,
@@ -85,7 +85,6 @@ fn front_of(bytes: &[u8], count: usize) -> &[u8]
     &bytes[..count]
 }
 
-#[tactic(auto, using(crate::proofs::PrintingLemmas::some_taken))]
 fn print_entry<K: Sink>(
     sink: &mut K,
     buffer: &mut Vec<u8>,

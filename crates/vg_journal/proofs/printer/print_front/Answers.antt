@@ -1,4 +1,4 @@
-use Rattle.vg_journal.proofs.PrintingLemmas.{on_err}
+use Rattle.vg_journal.proofs.PrintingLemmas.{on_err, some_none}
 use Rattle.vg_journal.proofs.JournalLemmas.{entries_some, entries_printed, counts_some, counts_printed, frames_some, frames_printed}
 use Rattle.vg_journal.proofs.printer.print_front.Goals as goal
 
@@ -22,3 +22,6 @@ returns-clause-ok g c =
     let entries = entries_printed _ _ c.args.journal.now _ _ _ _ c.requires c.in_ok-put_head.ensures c.as_slice.ensures c.in_ok-print_entries.ensures.ok in
     let counts = counts_printed _ _ c.args.journal.now _ _ _ entries c.len.ensures c.in_ok-put_counts.ensures in
     frames_printed _ _ _ c.args.journal.now _ _ _ counts c.as_slice-2.ensures c.in_ok-print_frames.ensures.ok
+
+pub returns-in_err-put_head-clause-some : goal.returns-in_err-put_head-clause-some
+returns-in_err-put_head-clause-some g c = on_err _ (some_none _ _)

@@ -1,5 +1,5 @@
-use Rattle.std.proofs.Common.{◌∙◌, arith}
-use Rattle.vg_journal.proofs.PrintingLemmas.{on_err, strip_printed, strip_some, strips_printed}
+use Rattle.std.proofs.Common.{◌∙◌, arith, refl}
+use Rattle.vg_journal.proofs.PrintingLemmas.{on_err, printed_start, strip_printed, strip_some, strips_printed}
 use Rattle.vg_journal.proofs.printer.print_pixels.Goals as goal
 
 pub returns-in_err-print_bytes-clause-some : goal.returns-in_err-print_bytes-clause-some
@@ -16,3 +16,11 @@ loop-at-preserved g c =
 
 pub returns-clause-ok : goal.returns-clause-ok
 returns-clause-ok g c = strips_printed _ _ _ _ _ _ c.loop-at.invariant.printed (omega (arith, c.loop-at-test.false))
+
+pub loop-at-init : goal.loop-at-init
+loop-at-init g c =
+    record {
+      printed = printed_start (g.K.Sink.held c.args.sink.now) c.args.buffer.now.items;
+      same = refl;
+      within = omega arith;
+    }
