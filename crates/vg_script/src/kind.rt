@@ -3,7 +3,7 @@
 use std::alloc::AllocError;
 
 /// What is wrong with a line. A line's fault is the first of these that it has.
-#[derive(Clone, Copy, Debug, PartialEq, Eq)]
+#[derive(Clone, Copy)]
 pub enum Kind {
     /// A byte that no script has, or too many bytes.
     Text = 1,
@@ -30,7 +30,7 @@ impl Kind {
 }
 
 /// Why the reading of a line stopped.
-#[derive(Clone, Copy, Debug)]
+#[derive(Clone, Copy)]
 pub(crate) enum Stop {
     Memory,
     Fault(Kind),

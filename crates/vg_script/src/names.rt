@@ -8,7 +8,7 @@ use std::alloc::AllocError;
 use std::collections::BTreeMap;
 
 /// What a name is the name of.
-#[derive(Clone, Copy, Debug, PartialEq, Eq)]
+#[derive(Clone, Copy, PartialEq, Eq)]
 pub enum NameKind {
     Buffer,
 }

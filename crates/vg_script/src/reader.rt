@@ -7,7 +7,7 @@ use crate::calls::{add_line, past_limit};
 use crate::features::{feature_of, is_among};
 use crate::kind::{Kind, Stop};
 use crate::names::{Names, forget};
-use crate::rows::spelled;
+use crate::rows::{both_spelled, size, spelled};
 use crate::steps::step_of;
 use crate::types::{Feature, Line, Script, ScriptFault};
 use crate::words::{is, is_text, limited, put_words};
@@ -129,16 +129,12 @@ impl<'a> Reader<'a> {
         if self.is_past_displays() {
             return Err(Stop::Fault(Kind::Word));
         }
-        spelled(width)?;
-        spelled(height)?;
+        both_spelled(width, height)?;
         if self.displays.len() >= 16 {
             return Err(Stop::Fault(Kind::Limit));
         }
-        let width = limited(width, 1, 640)?;
-        let height = limited(height, 1, 480)?;
-        self.displays
-            .push((width, height))
-            .map_err(AllocError::from)?;
+        let size = size(width, height)?;
+        self.displays.push(size).map_err(AllocError::from)?;
         Ok(())
     }
 

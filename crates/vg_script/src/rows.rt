@@ -1,10 +1,10 @@
 //! The lines of a client, one function for each word.
 
-ghost use Rattle.std.specs.Prelude.{◌≡◌, ◌≤◌, ◌||◌, true, IfOk, OnOk};
+ghost use Rattle.std.specs.Prelude.{◌≡◌, ◌≤◌, ◌&&◌, ◌||◌, true, IfOk, OnOk};
 ghost use Rattle.vg_script.specs.declared.names.NameKind.TheVariants as kinds;
-ghost use Rattle.vg_script.specs.Words.{is_number, value, is_signed, is_no_name, name_or_none};
+ghost use Rattle.vg_script.specs.Words.{is_number, value, is_within, is_signed, signed_value, is_position, is_no_name, name_or_none};
 ghost use Rattle.vg_script.specs.Seen.{is_kind};
-ghost use Rattle.vg_script.specs.Rows.{judged_row, is_format, are_times, is_scanout, are_numbers, are_any, area_of, queue_of, shape_of, info_row, edid_row, buffer_row, store_row, load_row, send_row, flush_row, take_row, drop_row, hide_row, show_row, flip_row, cursor_row, move_row, uuid_row, close_row, raw_row};
+ghost use Rattle.vg_script.specs.Rows.{judged_row, is_format, is_any, are_times, is_scanout, are_numbers, are_any, area_of, queue_of, shape_of, info_row, edid_row, buffer_row, store_row, load_row, send_row, flush_row, take_row, drop_row, hide_row, show_row, flip_row, cursor_row, move_row, uuid_row, close_row, raw_row};
 ghost use Rattle.vg_script.specs.Code.{table_of, Judges, Passes, Yields, Finds, Knows};
 
 use crate::kind::{Kind, Stop};
@@ -49,11 +49,9 @@ pub(crate) fn buffer<'a>(
     ensures { Judges (table_of names.new) result
         (judged_row (buffer_row (table_of names.old) name.now width.now height.now format.now)) }
 {
-    spelled(width)?;
-    spelled(height)?;
+    both_spelled(width, height)?;
     spelled(format)?;
-    let width = limited(width, 1, 640)?;
-    let height = limited(height, 1, 480)?;
+    let (width, height) = size(width, height)?;
     let format = format_code(format)?;
     if !is_name(name) || is_defined(names, name) {
         return Err(Stop::Fault(Kind::Name));
@@ -81,9 +79,8 @@ pub(crate) fn store(
     ensures { Judges (table_of names.now) result
         (judged_row (store_row (table_of names.now) name.now offset.now hex.now times.now)) }
 {
-    spelled(offset)?;
+    both_spelled(offset, times)?;
     let bytes = hex_bytes(alloc, hex)?;
-    spelled(times)?;
     let offset = limited(offset, 0, 1_228_799)?;
     let times = times_of(hex.len() / 2, times)?;
     let name = known(alloc, names, name)?;
@@ -122,8 +119,7 @@ pub(crate) fn load(
     ensures { Judges (table_of names.now) result
         (judged_row (load_row (table_of names.now) name.now offset.now size.now)) }
 {
-    spelled(offset)?;
-    spelled(size)?;
+    both_spelled(offset, size)?;
     let offset = limited(offset, 0, 1_228_799)?;
     let length = limited(size, 1, 1_024)?;
     let name = known(alloc, names, name)?;
@@ -276,15 +272,11 @@ pub(crate) fn cursor(
         (judged_row (cursor_row displays (table_of names.now) scanout.now name.now x.now y.now hot_x.now hot_y.now)) }
 {
     spelled(scanout)?;
-    signed(x)?;
-    signed(y)?;
-    spelled(hot_x)?;
-    spelled(hot_y)?;
+    both_signed(x, y)?;
+    both_spelled(hot_x, hot_y)?;
     let scanout = display(scanout, displays)?;
-    let x = position(x)?;
-    let y = position(y)?;
-    let hot_x = limited(hot_x, 0, u32::MAX)?;
-    let hot_y = limited(hot_y, 0, u32::MAX)?;
+    let (x, y) = positions(x, y)?;
+    let (hot_x, hot_y) = pair(hot_x, hot_y)?;
     let name = known_or_none(alloc, names, name)?;
     Ok(Step::Cursor {
         scanout,
@@ -310,11 +302,9 @@ pub(crate) fn move_cursor(
         (judged_row (move_row displays (table_of names.now) scanout.now x.now y.now)) }
 {
     spelled(scanout)?;
-    signed(x)?;
-    signed(y)?;
+    both_signed(x, y)?;
     let scanout = display(scanout, displays)?;
-    let x = position(x)?;
-    let y = position(y)?;
+    let (x, y) = positions(x, y)?;
     Ok(Step::Move { scanout, x, y })
 }
 
@@ -451,14 +441,57 @@ pub(crate) fn spelled(word: &[u8]) -> Result<(), Kind>
     Err(Kind::Number)
 }
 
-/// Refuses a word that is no signed number.
-fn signed(word: &[u8]) -> Result<(), Kind>
-    ensures { Passes (is_signed word.now) Kind.Number result }
+/// Refuses two words of which one is no number.
+pub(crate) fn both_spelled(a: &[u8], b: &[u8]) -> Result<(), Kind>
+    ensures kind { Passes (is_number a.now && is_number b.now) Kind.Number result }
+    ensures a { OnOk result (is_number a.now ≡ true) }
+    ensures b { OnOk result (is_number b.now ≡ true) }
 {
-    if is_signed(word) {
+    if is_number(a) && is_number(b) {
         return Ok(());
     }
     Err(Kind::Number)
+}
+
+/// Refuses two words of which one is no signed number.
+fn both_signed(x: &[u8], y: &[u8]) -> Result<(), Kind>
+    ensures kind { Passes (is_signed x.now && is_signed y.now) Kind.Number result }
+    ensures x { OnOk result (is_signed x.now ≡ true) }
+    ensures y { OnOk result (is_signed y.now ≡ true) }
+{
+    if is_signed(x) && is_signed(y) {
+        return Ok(());
+    }
+    Err(Kind::Number)
+}
+
+/// The width and the height of a display or of a buffer.
+pub(crate) fn size(width: &[u8], height: &[u8]) -> Result<(u32, u32), Kind>
+    requires width { is_number width.now ≡ true }
+    requires height { is_number height.now ≡ true }
+    ensures { Yields (is_within 1 640 width.now && is_within 1 480 height.now)
+        (value width.now, value height.now) Kind.Limit result }
+{
+    Ok((limited(width, 1, 640)?, limited(height, 1, 480)?))
+}
+
+/// Two numbers.
+fn pair(a: &[u8], b: &[u8]) -> Result<(u32, u32), Kind>
+    requires a { is_number a.now ≡ true }
+    requires b { is_number b.now ≡ true }
+    ensures { Yields (is_any a.now && is_any b.now) (value a.now, value b.now) Kind.Limit result }
+{
+    Ok((limited(a, 0, u32::MAX)?, limited(b, 0, u32::MAX)?))
+}
+
+/// The two parts of a position.
+fn positions(x: &[u8], y: &[u8]) -> Result<(i32, i32), Kind>
+    requires x { is_signed x.now ≡ true }
+    requires y { is_signed y.now ≡ true }
+    ensures { Yields (is_position x.now && is_position y.now)
+        (signed_value x.now, signed_value y.now) Kind.Limit result }
+{
+    Ok((position(x)?, position(y)?))
 }
 
 /// The code of a format.
@@ -493,10 +526,8 @@ fn all_spelled(x: &[u8], y: &[u8], width: &[u8], height: &[u8]) -> Result<(), Ki
     ensures width { OnOk result (is_number width.now ≡ true) }
     ensures height { OnOk result (is_number height.now ≡ true) }
 {
-    spelled(x)?;
-    spelled(y)?;
-    spelled(width)?;
-    spelled(height)
+    both_spelled(x, y)?;
+    both_spelled(width, height)
 }
 
 /// A rectangle.
@@ -508,11 +539,13 @@ fn area(x: &[u8], y: &[u8], width: &[u8], height: &[u8]) -> Result<Area, Kind>
     ensures { Yields (are_any x.now y.now width.now height.now)
         (area_of x.now y.now width.now height.now) Kind.Limit result }
 {
+    let (x, y) = pair(x, y)?;
+    let (width, height) = pair(width, height)?;
     Ok(Area {
-        x: limited(x, 0, u32::MAX)?,
-        y: limited(y, 0, u32::MAX)?,
-        width: limited(width, 0, u32::MAX)?,
-        height: limited(height, 0, u32::MAX)?,
+        x,
+        y,
+        width,
+        height,
     })
 }
 

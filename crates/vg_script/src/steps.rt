@@ -1,8 +1,8 @@
 //! Which line of a client some words are.
 
 ghost use Rattle.std.specs.Prelude.{◌≤◌, map};
-ghost use Rattle.vg_script.specs.Rows.{judged_row, row_of, row_of_buffers, row_of_scanouts, row_of_others, store_row, show_row, cursor_row};
-ghost use Rattle.vg_script.specs.Words.{four_args, six_args};
+ghost use Rattle.vg_script.specs.Rows.{judged_row, row_of, row_of_buffers, row_of_scanouts, row_of_others, buffer_row, store_row, load_row, send_row, flush_row, show_row, flip_row, cursor_row, move_row, raw_row};
+ghost use Rattle.vg_script.specs.Words.{two_args, three_args, four_args, five_args, six_args};
 ghost use Rattle.vg_script.specs.Code.{table_of, Judges};
 
 use crate::args::with_args;
@@ -49,19 +49,19 @@ fn step_of_buffers<'a>(
         (judged_row (row_of_buffers word.now displays (table_of names.old) (map (λ arg. arg.now) args.now))) }
 {
     if is(word, b"buffer") {
-        return with_args!(args, [name, width, height, format] => rows::buffer(alloc, names, name, width, height, format));
+        return buffer(alloc, names, args);
     }
     if is(word, b"store") {
         return store(alloc, names, args);
     }
     if is(word, b"load") {
-        return with_args!(args, [name, offset, size] => rows::load(alloc, names, name, offset, size));
+        return load(alloc, names, args);
     }
     if is(word, b"send") {
-        return with_args!(args, [name, x, y, width, height] => rows::send(alloc, names, name, x, y, width, height));
+        return send(alloc, names, args);
     }
     if is(word, b"flush") {
-        return with_args!(args, [name, x, y, width, height] => rows::flush(alloc, names, name, x, y, width, height));
+        return flush(alloc, names, args);
     }
     step_of_scanouts(alloc, names, displays, word, args)
 }
@@ -92,7 +92,7 @@ fn step_of_scanouts(
         return show(alloc, names, displays, args);
     }
     if is(word, b"flip") {
-        return with_args!(args, [scanout, name] => rows::flip(alloc, names, displays, scanout, name));
+        return flip(alloc, names, displays, args);
     }
     step_of_others(alloc, names, displays, word, args)
 }
@@ -114,7 +114,7 @@ fn step_of_others(
         return cursor(alloc, names, displays, args);
     }
     if is(word, b"move") {
-        return with_args!(args, [scanout, x, y] => rows::move_cursor(names, displays, scanout, x, y));
+        return move_cursor(names, displays, args);
     }
     if is(word, b"uuid") {
         return with_args!(args, [name] => rows::uuid(alloc, names, name));
@@ -123,9 +123,16 @@ fn step_of_others(
         return with_args!(args, [name] => rows::close(alloc, names, name));
     }
     if is(word, b"raw") {
-        return with_args!(args, [queue, room, shape, hex] => rows::raw(alloc, names, queue, room, shape, hex));
+        return raw(alloc, names, args);
     }
     Err(Stop::Fault(Kind::Word))
+}
+
+fn buffer<'a>(alloc: Global, names: &mut Names<'a>, args: &[&'a [u8]]) -> Result<Step, Stop>
+    ensures { Judges (table_of names.new) result
+        (judged_row (four_args (buffer_row (table_of names.old)) (map (λ arg. arg.now) args.now))) }
+{
+    with_args!(args, [name, width, height, format] => rows::buffer(alloc, names, name, width, height, format))
 }
 
 fn store(alloc: Global, names: &Names, args: &[&[u8]]) -> Result<Step, Stop>
@@ -133,6 +140,27 @@ fn store(alloc: Global, names: &Names, args: &[&[u8]]) -> Result<Step, Stop>
         (judged_row (four_args (store_row (table_of names.now)) (map (λ arg. arg.now) args.now))) }
 {
     with_args!(args, [name, offset, hex, times] => rows::store(alloc, names, name, offset, hex, times))
+}
+
+fn load(alloc: Global, names: &Names, args: &[&[u8]]) -> Result<Step, Stop>
+    ensures { Judges (table_of names.now) result
+        (judged_row (three_args (load_row (table_of names.now)) (map (λ arg. arg.now) args.now))) }
+{
+    with_args!(args, [name, offset, size] => rows::load(alloc, names, name, offset, size))
+}
+
+fn send(alloc: Global, names: &Names, args: &[&[u8]]) -> Result<Step, Stop>
+    ensures { Judges (table_of names.now) result
+        (judged_row (five_args (send_row (table_of names.now)) (map (λ arg. arg.now) args.now))) }
+{
+    with_args!(args, [name, x, y, width, height] => rows::send(alloc, names, name, x, y, width, height))
+}
+
+fn flush(alloc: Global, names: &Names, args: &[&[u8]]) -> Result<Step, Stop>
+    ensures { Judges (table_of names.now) result
+        (judged_row (five_args (flush_row (table_of names.now)) (map (λ arg. arg.now) args.now))) }
+{
+    with_args!(args, [name, x, y, width, height] => rows::flush(alloc, names, name, x, y, width, height))
 }
 
 fn show(alloc: Global, names: &Names, displays: usize, args: &[&[u8]]) -> Result<Step, Stop>
@@ -143,10 +171,33 @@ fn show(alloc: Global, names: &Names, displays: usize, args: &[&[u8]]) -> Result
     with_args!(args, [scanout, name, x, y, width, height] => rows::show(alloc, names, displays, scanout, name, x, y, width, height))
 }
 
+fn flip(alloc: Global, names: &Names, displays: usize, args: &[&[u8]]) -> Result<Step, Stop>
+    requires { displays ≤ 16 }
+    ensures { Judges (table_of names.now) result
+        (judged_row (two_args (flip_row displays (table_of names.now)) (map (λ arg. arg.now) args.now))) }
+{
+    with_args!(args, [scanout, name] => rows::flip(alloc, names, displays, scanout, name))
+}
+
 fn cursor(alloc: Global, names: &Names, displays: usize, args: &[&[u8]]) -> Result<Step, Stop>
     requires { displays ≤ 16 }
     ensures { Judges (table_of names.now) result
         (judged_row (six_args (cursor_row displays (table_of names.now)) (map (λ arg. arg.now) args.now))) }
 {
     with_args!(args, [scanout, name, x, y, hot_x, hot_y] => rows::cursor(alloc, names, displays, scanout, name, x, y, hot_x, hot_y))
+}
+
+fn move_cursor(names: &Names, displays: usize, args: &[&[u8]]) -> Result<Step, Stop>
+    requires { displays ≤ 16 }
+    ensures { Judges (table_of names.now) result
+        (judged_row (three_args (move_row displays (table_of names.now)) (map (λ arg. arg.now) args.now))) }
+{
+    with_args!(args, [scanout, x, y] => rows::move_cursor(names, displays, scanout, x, y))
+}
+
+fn raw(alloc: Global, names: &Names, args: &[&[u8]]) -> Result<Step, Stop>
+    ensures { Judges (table_of names.now) result
+        (judged_row (four_args (raw_row (table_of names.now)) (map (λ arg. arg.now) args.now))) }
+{
+    with_args!(args, [queue, room, shape, hex] => rows::raw(alloc, names, queue, room, shape, hex))
 }

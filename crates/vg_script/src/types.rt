@@ -3,7 +3,7 @@
 use vg_list::Seq;
 
 /// A whole script, as `parse` gives it.
-#[derive(Debug, Drop, PartialEq)]
+#[derive(Drop)]
 pub struct Script {
     /// The width and height of each display in pixels, from scanout 0 on.
     pub displays: Seq<(u32, u32)>,
@@ -16,7 +16,7 @@ pub struct Script {
 }
 
 /// A feature of the device that a script can leave out. VIRTIO 1.2, 5.7.3.
-#[derive(Clone, Copy, Debug, PartialEq, Eq)]
+#[derive(Clone, Copy, PartialEq, Eq)]
 pub enum Feature {
     /// VIRTIO_GPU_F_EDID
     Edid,
@@ -29,7 +29,7 @@ pub enum Feature {
 }
 
 /// A line of a client.
-#[derive(Debug, Drop, PartialEq)]
+#[derive(Drop)]
 pub struct Line {
     /// The line's number in the text, from 1 on.
     pub number: u32,
@@ -38,7 +38,7 @@ pub struct Line {
 }
 
 /// A rectangle in pixels.
-#[derive(Clone, Copy, Debug, PartialEq, Eq)]
+#[derive(Clone, Copy)]
 pub struct Area {
     pub x: u32,
     pub y: u32,
@@ -47,7 +47,7 @@ pub struct Area {
 }
 
 /// How the bytes of a raw request, and the room for its response, are laid over descriptors.
-#[derive(Clone, Copy, Debug, PartialEq, Eq)]
+#[derive(Clone, Copy)]
 pub enum RawShape {
     /// One descriptor for the request, one for the response.
     Plain,
@@ -74,7 +74,7 @@ pub enum RawShape {
 }
 
 /// A call of a client. A `name` is the bytes of a buffer's name, and a `scanout` counts the displays from 0 on.
-#[derive(Debug, Drop, PartialEq)]
+#[derive(Drop)]
 pub enum Step {
     /// Asks for the display information.
     Info,
@@ -168,7 +168,7 @@ pub enum Step {
 }
 
 /// The first fault of a text that is no script.
-#[derive(Clone, Copy, Debug, PartialEq, Eq)]
+#[derive(Clone, Copy, Debug)]
 pub struct ScriptFault {
     /// The number of the faulty line, from 1 on.
     pub line: u32,

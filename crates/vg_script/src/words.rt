@@ -3,7 +3,7 @@
 ghost use Rattle.std.specs.List.{list_all, before_first, after_first, position_or_len};
 ghost use Rattle.std.specs.Int.{is_in_range};
 ghost use Rattle.std.specs.Char.{is_ascii_digit, is_ascii_alphanumeric};
-ghost use Rattle.std.specs.Prelude.{◌≡◌, ◌==◌, ◌+◌, ◌-◌, ◌*◌, ◌^◌, ◌<◌, ◌≤◌, min, true, false, length, map, bytes_eq, IfOk, OnOk, MatchResult};
+ghost use Rattle.std.specs.Prelude.{◌≡◌, ◌==◌, ◌+◌, ◌-◌, ◌*◌, ◌^◌, ◌<◌, ◌≤◌, ◌-ℤ◌, pos, min, true, false, length, map, bytes_eq, IfOk, OnOk, MatchResult};
 ghost use Rattle.vg_script.specs.Code.{Yields, Decodes, digit_or_16, decoded};
 ghost use Rattle.vg_script.specs.Words.{is_text, words_of, is_number, value, is_within, is_signed, signed_value, is_position, is_hex, is_hex_digit, hex_bytes, is_hex_or_none, bytes_or_none, is_name};
 
@@ -127,9 +127,17 @@ pub(crate) fn position(number: &[u8]) -> Result<i32, Kind>
     ensures { Yields (is_position number.now) (signed_value number.now) Kind.Limit result }
 {
     match number {
-        [b'-', digits @ ..] => Ok(-(limited(digits, 0, 32_768)? as i32)),
+        [b'-', digits @ ..] => below_zero(digits),
         _ => Ok(limited(number, 0, 32_767)? as i32),
     }
+}
+
+/// The number of a position that stands behind a `-`.
+fn below_zero(digits: &[u8]) -> Result<i32, Kind>
+    requires { is_number digits.now ≡ true }
+    ensures { Yields (is_within 0 32768 digits.now) (pos 0 -ℤ pos (value digits.now)) Kind.Limit result }
+{
+    Ok(-(limited(digits, 0, 32_768)? as i32))
 }
 
 /// The bytes of HEX, whose digits are looked at once.
