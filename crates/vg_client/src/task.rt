@@ -17,14 +17,14 @@ use vg_wire::{Command2d, Queue};
 use vg_wire_ext::Command;
 
 /// A task of a call: what is done, which gives one entry, and what the answer changes.
-#[derive(Debug, Drop)]
+#[derive(Drop)]
 pub struct Task {
     pub deed: Deed,
     pub change: Change,
 }
 
 /// What is done for a task.
-#[derive(Debug, Drop)]
+#[derive(Drop)]
 pub enum Deed {
     Act {
         act: Act,

@@ -181,18 +181,13 @@ reserved-as : (count entries : ℕ) (old new next : Memory) (shared after : Shar
 reserved-as count entries old new next shared after is at was =
     subst (λ memory. Reserved count entries old memory shared) (sym at) (subst (Reserved count entries old next) (sym is) was)
 
--- a reserve was accepted, or found no memory
-pub fits-reserved : {E : Type 0} (count entries client : ℕ) (geometry : Geometry) (pages : List ℕ) (result : Result (Unit {0}) E) (old new : Memory) (share shared : ShareState)
-    → OnOk result (shared ≡ with_buffer client geometry pages share)
-    → OnOk result (new ≡ after_taking old pages)
-    → OnErr result ((shared ≡ share) × (new ≡ old))
-    → length share.leases ≡ count → share.reserved < entries → Reserved count entries old new shared
-fits-reserved count entries client geometry pages (Ok done) old new share shared buffer taken err leases reserved =
+-- a reserve was accepted
+pub fits-reserved : (count entries client : ℕ) (geometry : Geometry) (pages : List ℕ) (old new : Memory) (share shared : ShareState)
+    → shared ≡ with_buffer client geometry pages share → new ≡ after_taking old pages → length share.leases ≡ count → share.reserved < entries
+    → Reserved count entries old new shared
+fits-reserved count entries client geometry pages old new share shared buffer taken leases reserved =
     reserved-as count entries old new (after_taking old pages) shared (with_buffer client geometry pages share) buffer taken
     (record { large = large-taking old pages; leases = leases; reserved = omega (arith, reserved) })
-fits-reserved count entries client geometry pages (Err e) old new share shared buffer taken err leases reserved =
-    reserved-as count entries old new old shared share err.0 err.1
-    (record { large = large-itself old; leases = leases; reserved = omega (arith, reserved) })
 
 -- a refused act has changed nothing
 kept-replied : (refusal : Option ShareRefusal) (state next : State) (reply : ActReply) → KeepsIfRefused reply state next

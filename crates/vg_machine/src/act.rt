@@ -4,7 +4,7 @@ use crate::share::ShareRefusal;
 use vg_list::Seq;
 
 /// Something that a client named and that isn't allowed to it.
-#[derive(Clone, Copy, Debug, PartialEq, Eq)]
+#[derive(Clone, Copy)]
 pub enum What {
     /// A name that isn't current.
     Name,
@@ -19,7 +19,7 @@ pub enum What {
 }
 
 /// An act of a client. Keys are those of buffers, offsets and lengths are in bytes.
-#[derive(Debug, Drop, Clone, PartialEq)]
+#[derive(Drop)]
 pub enum Act {
     /// The client begins.
     Enter,
@@ -68,7 +68,7 @@ pub enum Act {
 }
 
 /// What an act is answered.
-#[derive(Debug, Drop, Clone, PartialEq)]
+#[derive(Debug, Drop)]
 pub enum ActReply {
     Ok,
     /// The new buffer's key, and its guest pages, rising.

@@ -1,19 +1,23 @@
 //! What the acts of clients do, one function each.
 
-ghost use Rattle.std.specs.Prelude.{◌≡◌, ◌^◌, ◌-◌, ◌<◌, IfOk, OnErr};
+ghost use Rattle.std.specs.Prelude.{◌≡◌, ◌^◌, ◌-◌, ◌+◌, ◌<◌, [], ◌∷◌, ◌++◌, length, IfOk, OnErr, OnOk};
+ghost use Rattle.vg_pages.specs.Memory.{AreTakeable, after_taking};
 ghost use Rattle.vg_machine.specs.declared.act.Act.TheVariants as acts;
 ghost use Rattle.vg_machine.specs.declared.act.ActReply.TheVariants as act_replies;
 ghost use Rattle.vg_machine.specs.ActStep.{HasNoList, drop_step, effect_of, free_step, is_shown_on, load_step, release_step, reserve_step, shown_at, store_step, take_step};
+ghost use Rattle.vg_machine.specs.Cells.{pages_of};
 ghost use Rattle.vg_machine.specs.Holds.{update};
+ghost use Rattle.vg_machine.specs.Share.{SharesPages, ended, entered, with_buffer};
 
 use crate::act::{Act, ActReply};
 use crate::cells::{load, pages_of, store_times};
 use crate::display::Display;
 use crate::holds::Holds;
 use crate::lists::remove_number;
-use crate::share::{Geometry, ShareRefusal};
+use crate::share::{Geometry, Share, ShareRefusal};
 use std::alloc::{AllocError, Global};
 use vg_list::Seq;
+use vg_pages::Pages;
 
 impl Display {
     /// Does an act, and gives its reply twice. What the client holds changes with it.
@@ -63,8 +67,7 @@ impl Display {
             Act::Take { scanout } => Ok(twice(self.take(client, holds, *scanout)?)),
             Act::Drop { scanout } => Ok(twice(self.end_lease(client, holds, *scanout))),
             Act::Leave => {
-                self.share.enter(client)?;
-                self.share.end(client);
+                self.leave(client)?;
                 Ok((ActReply::Ok, ActReply::Ok))
             }
         }
@@ -90,20 +93,17 @@ impl Display {
             }));
         };
         let key = self.share.next_key();
-        let own = list.as_slice().to_vec(alloc)?;
         let copy = list.as_slice().to_vec(alloc)?;
-        holds.buffers.push(key, Seq::from_vec(own))?;
-        let pages = &mut self.pages;
-        match self
-            .share
-            .reserve(alloc, pages, client, &geometry, list.as_slice())
-        {
-            Ok(()) => Ok((reserved(key, list), reserved(key, copy))),
-            Err(refused) => {
-                holds.buffers.pop();
-                Err(refused)
-            }
-        }
+        reserve_held(
+            alloc,
+            &mut self.share,
+            &mut self.pages,
+            client,
+            holds,
+            &geometry,
+            list.as_slice(),
+        )?;
+        Ok((reserved(key, list), reserved(key, copy)))
     }
 
     fn store(
@@ -231,6 +231,44 @@ impl Display {
             Err(refusal) => refused(refusal),
         }
     }
+
+    fn leave(&mut self, client: u32) -> Result<(), AllocError>
+        ensures ok { OnOk result (self.new ≡ record self.old { share = ended client (entered client self.old.share) }) }
+        ensures err { OnErr result (self.new ≡ self.old) }
+    {
+        self.share.enter(client)?;
+        self.share.end(client);
+        Ok(())
+    }
+}
+
+/// Takes these pages, the lowest free ones, for a new buffer that the client holds once, as its holds say then.
+fn reserve_held(
+    alloc: Global,
+    share: &mut Share,
+    pages: &mut Pages,
+    client: u32,
+    holds: &mut Holds,
+    geometry: &Geometry,
+    list: &[u32],
+) -> Result<(), AllocError>
+    requires share { SharesPages pages.old share.old }
+    requires number { share.old.reserved < 2 ^ 32 - 1 }
+    requires free { AreTakeable pages.old.taken list.now }
+    requires enough { length list.now ≡ pages_of geometry.now.bytes }
+    ensures buffer { OnOk result (share.new ≡ with_buffer client geometry.now list.now share.old) }
+    ensures taken { OnOk result (pages.new ≡ after_taking pages.old list.now) }
+    ensures share { SharesPages pages.new share.new }
+    ensures holds { OnOk result (holds.new ≡ record holds.old { buffers = holds.old.buffers ++ (share.old.reserved + 1, list.now) ∷ [] }) }
+    ensures err { OnErr result ((share.new ≡ share.old) × (pages.new ≡ pages.old) × (holds.new ≡ holds.old)) }
+{
+    let own = list.to_vec(alloc)?;
+    holds.buffers.push(share.next_key(), Seq::from_vec(own))?;
+    let done = share.reserve(alloc, pages, client, geometry, list);
+    if done.is_err() {
+        holds.buffers.pop();
+    }
+    done
 }
 
 fn refused(refusal: ShareRefusal) -> ActReply

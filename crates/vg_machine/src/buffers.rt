@@ -13,7 +13,7 @@ use std::marker::Model;
 use vg_list::Seq;
 
 /// Keys and guest pages of buffers. A clause sees it as the list of these pairs, in the order in which they came.
-#[derive(Debug, Drop, Clone)]
+#[derive(Drop)]
 pub struct Buffers {
     pairs: VecDeque<(u32, Seq<u32>)>,
 }

@@ -21,7 +21,7 @@ use vg_wire_ext::Response;
 const IMAGE_SIDE: u32 = 64;
 
 /// What a command does to a cursor: an image of rows of 64 pixels, four bytes each, a position, and the hot spot in the image.
-#[derive(Debug, Drop)]
+#[derive(Drop)]
 pub(crate) enum Change {
     Show {
         image: Seq<u8>,

@@ -31,7 +31,7 @@ use vg_wire::{Header, Queue, read_header};
 use vg_wire_ext::{Command, Response, read_request, write_response};
 
 /// A display device, and what its clients share beside it.
-#[derive(Debug, Drop)]
+#[derive(Drop)]
 pub struct Display {
     pub(crate) setup: Setup,
     pub(crate) entries: u64,
@@ -62,15 +62,15 @@ impl Display {
     {
         let count = setup.displays.len() as u32;
         Ok(Display {
-            setup: copy_of(setup)?,
-            entries: 0,
+            setup: copy_of(alloc, setup)?,
             pages: Pages::new(alloc, setup.pages)?,
-            resources: Resources::new(alloc),
-            backings: Backings::new(alloc),
-            uuids: Uuids::new(alloc),
             cursors: Cursors::new(alloc, count)?,
             scanouts: Scanouts::new(alloc, count)?,
             share: Share::new(alloc, count)?,
+            entries: 0,
+            resources: Resources::new(alloc),
+            backings: Backings::new(alloc),
+            uuids: Uuids::new(alloc),
         })
     }
 
@@ -259,10 +259,16 @@ impl Display {
 }
 
 /// A copy of the setup.
-fn copy_of(setup: &Setup) -> Result<Setup, AllocError>
+fn copy_of(alloc: Global, setup: &Setup) -> Result<Setup, AllocError>
     ensures { IfOk result (λ copy. copy ≡ setup.now) }
 {
-    setup.clone()
+    let displays = setup.displays.as_slice().to_vec(alloc)?;
+    Ok(Setup {
+        displays: Seq::from_vec(displays),
+        pages: setup.pages,
+        accepted: setup.accepted,
+        clients: setup.clients,
+    })
 }
 
 /// The header of a response to these bytes.

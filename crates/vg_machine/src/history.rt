@@ -5,7 +5,7 @@ use vg_list::Seq;
 use vg_wire::Queue;
 
 /// A command as it came to the device.
-#[derive(Debug, Drop)]
+#[derive(Drop)]
 pub struct Request {
     pub queue: Queue,
     /// The lane that it belongs to, 0 to 65.

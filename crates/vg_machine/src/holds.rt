@@ -17,7 +17,7 @@ use vg_wire::{Command2d, Header, Queue};
 use vg_wire_ext::{Command, read_request};
 
 /// What a client holds, by its own acts and their replies.
-#[derive(Debug, Drop, Clone)]
+#[derive(Drop)]
 pub struct Holds {
     /// The client's number.
     pub client: u32,

@@ -17,7 +17,7 @@ use vg_wire::kinds::{
 use vg_wire::{is_2d, u32_at};
 
 /// What a command names beside a context, and where its ranges of guest memory stand.
-#[derive(Clone, Copy, Debug)]
+#[derive(Clone, Copy)]
 pub(crate) struct Named {
     pub(crate) resource: Option<u32>,
     /// The command makes the resource.

@@ -3,7 +3,7 @@
 use vg_list::Seq;
 
 /// What no command and no act changes.
-#[derive(Debug, Drop, Clone)]
+#[derive(Drop)]
 pub struct Setup {
     /// Width and height of each scanout's display in pixels, from scanout 0: 1 to 16 displays, at most
     /// 640 by 480.

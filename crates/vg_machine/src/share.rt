@@ -3,7 +3,7 @@
 ghost use Rattle.std.specs.BTreeMap.{is_at};
 ghost use Rattle.std.specs.Map.{lookup};
 ghost use Rattle.std.specs.Ordering.{nat_cmp};
-ghost use Rattle.std.specs.Prelude.{◌≡◌, ◌==◌, ◌+◌, ◌^◌, ◌-◌, not, true, ◌<◌, [], Some, None, IfOk, IfErr, OnOk, OnErr, length, replicate};
+ghost use Rattle.std.specs.Prelude.{◌≡◌, ◌==◌, ◌+◌, ◌^◌, ◌-◌, not, true, ◌<◌, [], Some, None, IfOk, IfErr, OnOk, OnErr, length, replicate, slice_get};
 ghost use Rattle.vg_pages.specs.Memory.{AreTakeable, Memory, after_taking};
 ghost use Rattle.vg_machine.specs.Cells.{pages_of};
 ghost use Rattle.vg_machine.specs.Share.{SharesPages, drop_refusal, ended, entered, free_refusal, freed, given_back, has_entered, has_holder, holds_once, is_holder, is_leased, leased, new_buffer, pages_at, place_refusal, release_refusal, released, released_buffer, released_entries, some_holder, take_refusal, unleased, with_buffer};
@@ -16,7 +16,7 @@ use vg_list::Seq;
 use vg_pages::Pages;
 
 /// Why an act is refused.
-#[derive(Clone, Copy, Debug, PartialEq, Eq)]
+#[derive(Clone, Copy, Debug)]
 pub enum ShareRefusal {
     /// Fewer pages are free than the buffer needs; so many are.
     GuestFull { free: u32 },
@@ -36,7 +36,7 @@ pub enum ShareRefusal {
 
 /// What a buffer is for: width and height in pixels and the code of the pixels' format, as its client says them,
 /// and how many bytes it has.
-#[derive(Clone, Copy, Debug, PartialEq, Eq)]
+#[derive(Clone, Copy)]
 pub struct Geometry {
     pub width: u32,
     pub height: u32,
@@ -45,7 +45,7 @@ pub struct Geometry {
 }
 
 /// A buffer that is live.
-#[derive(Debug, Drop)]
+#[derive(Drop)]
 pub(crate) struct Buffer {
     pub(crate) geometry: Geometry,
     /// Its guest pages, rising.
@@ -57,7 +57,7 @@ pub(crate) struct Buffer {
 }
 
 /// What the clients share.
-#[derive(Debug, Drop)]
+#[derive(Drop)]
 pub(crate) struct Share {
     buffers: BTreeMap<u32, Buffer>,
     reserved: u32,
@@ -201,9 +201,9 @@ impl Share {
         ensures accepted { OnOk result (take_refusal scanout self.old ≡ None) }
         ensures after { OnOk result (self.new ≡ leased client scanout self.old) }
     {
-        match self.leases.get(scanout as usize) {
+        match self.lease(scanout) {
             None => return Err(ShareRefusal::UnknownKey),
-            Some(Some(by)) => return Err(ShareRefusal::ScanoutHeld { by: *by }),
+            Some(Some(by)) => return Err(ShareRefusal::ScanoutHeld { by }),
             Some(None) => {}
         }
         self.leases[scanout as usize] = Some(client);
@@ -236,10 +236,17 @@ impl Share {
     pub(crate) fn is_leased(&self, client: u32, scanout: u32) -> bool
         ensures { result ≡ is_leased client scanout self.now }
     {
-        match self.leases.get(scanout as usize) {
-            Some(Some(other)) => *other == client,
+        match self.lease(scanout) {
+            Some(Some(other)) => other == client,
             _ => false,
         }
+    }
+
+    /// The client to which a scanout is leased, or none. None of both where there is no such scanout.
+    fn lease(&self, scanout: u32) -> Option<Option<u32>>
+        ensures { result ≡ slice_get self.now.leases scanout }
+    {
+        self.leases.get(scanout as usize).copied()
     }
 
     /// Notes that the client has come. A second time changes nothing.

@@ -12,7 +12,7 @@ use uuid::Uuid;
 const FIRST: u128 = 0x7667_7055_0000_8000_8000_0000_0000_0000;
 
 /// The UUIDs that resources have: each has a number, from 1, among all that were given.
-#[derive(Debug, Drop)]
+#[derive(Drop)]
 pub(crate) struct Uuids {
     numbers: BTreeMap<u32, u64>,
     given: u64,

@@ -1,13 +1,13 @@
 use Rattle.std.proofs.Common.{ap, ◌∙◌}
 use Rattle.vg_machine.specs.Share.{ended}
 use Rattle.vg_machine.proofs.ActLemmas.{shares-left}
-use Rattle.vg_machine.proofs.display.Display.perform.Goals as goal
+use Rattle.vg_machine.proofs.display.Display.leave.Goals as goal
 
-pub invariant_of-self-in-Leave-1 : goal.invariant_of-self-in-Leave-1
-invariant_of-self-in-Leave-1 c =
+pub invariant_of-self-2 : goal.invariant_of-self-2
+invariant_of-self-2 c =
     let was = c.self.invariant in
     let s = c.self.inside in
-    let left = c.end.ensures ∙ ap (ended c.args.client) c.in_ok-enter-in-Leave.ensures.ok in
+    let left = c.end.ensures ∙ ap (ended c.args.client) c.in_ok-enter.ensures.ok in
     record {
       setup = was.setup;
       pages = was.pages;
