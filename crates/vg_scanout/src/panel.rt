@@ -11,7 +11,7 @@ use vg_places::zeros;
 use vg_strips::Strips;
 
 /// Where the pixels of a screen stand.
-#[derive(Debug, Drop)]
+#[derive(Drop)]
 pub(crate) enum Ground {
     /// All its bytes are 0.
     Blank,
@@ -22,7 +22,7 @@ pub(crate) enum Ground {
 }
 
 /// A scanout that is bound.
-#[derive(Debug, Drop)]
+#[derive(Drop)]
 pub(crate) struct Panel {
     pub(crate) binding: Binding,
     pub(crate) base: Ground,

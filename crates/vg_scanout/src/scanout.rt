@@ -36,7 +36,7 @@ pub struct Binding {
 }
 
 /// One picture of a scanout.
-#[derive(Debug, Drop)]
+#[derive(Drop)]
 pub struct Frame {
     pub scanout: u32,
     /// In pixels.
@@ -51,7 +51,7 @@ pub struct Frame {
 }
 
 /// The state of all scanouts.
-#[derive(Debug, Drop)]
+#[derive(Drop)]
 pub struct Scanouts {
     panels: Vec<Option<Panel>>,
     frames: Vec<Frame>,

@@ -14,7 +14,7 @@ use std::sync::ArcSlice;
 const STRIP: usize = 1024;
 
 /// Bytes, cut into strips.
-#[derive(Debug, Drop)]
+#[derive(Drop)]
 pub(crate) struct Cut {
     strips: Vec<Strip>,
     /// How many bytes there are.

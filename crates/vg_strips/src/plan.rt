@@ -9,7 +9,7 @@ use std::alloc::{AllocError, Global};
 use std::sync::ArcSlice;
 
 /// Where the bytes of a strip are to stand.
-#[derive(Debug, Drop)]
+#[derive(Drop)]
 pub(crate) enum Plan {
     /// Where those of another strip do.
     Shared(Strip),

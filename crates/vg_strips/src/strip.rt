@@ -8,7 +8,7 @@ use std::marker::Model;
 use std::sync::ArcSlice;
 
 /// So many bytes of a block, from a place on.
-#[derive(Debug, Drop)]
+#[derive(Drop)]
 pub(crate) struct Strip {
     block: ArcSlice<u8>,
     from: usize,

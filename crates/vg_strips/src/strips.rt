@@ -9,12 +9,12 @@ use std::marker::Model;
 use vg_list::Seq;
 
 /// Bytes in one piece, or in strips that other bytes may share. A clause sees only the bytes.
-#[derive(Debug, Drop)]
+#[derive(Drop)]
 pub struct Strips {
     form: Form,
 }
 
-#[derive(Debug, Drop)]
+#[derive(Drop)]
 enum Form {
     Whole(Seq<u8>),
     Cut(Cut),
