@@ -7,7 +7,7 @@ use vg_list::Seq;
 use vg_wire::Queue;
 
 /// A call of a client. Offsets and lengths are in bytes, rectangles in pixels.
-#[derive(Debug, Drop)]
+#[derive(Drop)]
 pub enum Call {
     /// Asks for the display information.
     Info,

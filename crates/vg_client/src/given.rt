@@ -12,7 +12,7 @@ use vg_wire::kinds::{OK_DISPLAY_INFO, OK_EDID, OK_NODATA, OK_RESOURCE_UUID};
 use vg_wire::{Queue, read_header};
 
 /// What a task was answered.
-#[derive(Debug, Drop)]
+#[derive(Drop)]
 pub(crate) enum Given {
     /// It was denied, by an act that was answered so.
     Denied { reply: ActReply },

@@ -10,14 +10,14 @@ use std::marker::Model;
 
 /// A name of a client's: the place where what it stands for is kept, and its generation, which is its number among all
 /// names that the client has made, from 1. One of generation 0 is never current.
-#[derive(Clone, Copy, Debug, PartialEq, Eq)]
+#[derive(Clone, Copy, PartialEq, Eq)]
 pub struct NameRef {
     pub index: u32,
     pub generation: u32,
 }
 
 /// What a current name stands for: the buffer's key, and its width and height in pixels.
-#[derive(Clone, Copy, Debug, PartialEq, Eq)]
+#[derive(Clone, Copy)]
 pub(crate) struct Held {
     pub(crate) generation: u32,
     pub(crate) key: u32,
@@ -26,7 +26,7 @@ pub(crate) struct Held {
 }
 
 /// The names of a client's buffers.
-#[derive(Debug, Drop)]
+#[derive(Drop)]
 pub(crate) struct Names {
     held: Slab<Held>,
     /// Where each name that was made is or was kept, in the order of making.

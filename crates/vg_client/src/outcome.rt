@@ -11,7 +11,7 @@ use vg_list::Seq;
 use vg_machine::ActReply;
 
 /// What the last entry of a call was answered.
-#[derive(Debug, Drop)]
+#[derive(Drop)]
 pub enum Last {
     /// It is an act.
     Act { reply: ActReply },
@@ -21,7 +21,7 @@ pub enum Last {
 
 /// What a call made: the numbers of its entries in the history, from 1 and rising, what the last of them was answered, and the
 /// name of the buffer that it made, if it made one.
-#[derive(Debug, Drop)]
+#[derive(Drop)]
 pub struct Outcome {
     pub entries: Seq<u64>,
     pub last: Last,

@@ -43,7 +43,7 @@ pub enum Deed {
 }
 
 /// What the answer to a task changes, for its client and for the rest of the call.
-#[derive(Clone, Copy, Debug, PartialEq, Eq)]
+#[derive(Clone, Copy)]
 pub enum Change {
     /// Nothing.
     Nothing,
