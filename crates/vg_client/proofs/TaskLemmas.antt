@@ -1,11 +1,11 @@
 -- The tasks of calls: how those of the longer ones grow, how few they are, that they fit, and that each call has one.
 use Rattle.std.proofs.Common.{◌≡◌, ◌+◌, ◌-◌, ◌*◌, ◌<◌, ◌≤◌, ◌∙◌, sym, ap, refl, arith, ℕ, zero, suc, Bool, true, false, cond, List, [], ◌∷◌, ◌++◌, length, map, drop, append_assoc, length-append, subst, Option, Some, None, Result, Ok, Err, ℤ}
 use Rattle.std.specs.List.{AllByRecursion}
-use Rattle.vg_machine.specs.declared.act.What.{What}
-use Rattle.vg_machine.specs.declared.act.What.TheVariants.{Scanout}
-use Rattle.vg_machine.specs.declared.holds.Holds.{Holds}
+use Rattle.vg_holds.specs.declared.act.What.{What}
+use Rattle.vg_holds.specs.declared.act.What.TheVariants.{Scanout}
+use Rattle.vg_holds.specs.declared.holds.Holds.{Holds}
 use Rattle.vg_machine.specs.Entries.{Entry}
-use Rattle.vg_machine.specs.Holds.{has_number}
+use Rattle.vg_holds.specs.Holds.{has_number}
 use Rattle.vg_client.specs.declared.call.Call.{Call}
 use Rattle.vg_client.specs.declared.call.Call.TheVariants as calls
 use Rattle.vg_client.specs.declared.names.NameRef.{NameRef}

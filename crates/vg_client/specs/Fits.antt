@@ -1,8 +1,8 @@
 -- Tasks whose numbers are within their limits.
 use Rattle.std.specs.Prelude.{◌≤◌, length}
 use Rattle.vg_chain.specs.Made.{IsCount}
-use Rattle.vg_machine.specs.declared.act.Act as the_act
-use Rattle.vg_machine.specs.declared.act.Act.TheVariants as acts
+use Rattle.vg_holds.specs.declared.act.Act as the_act
+use Rattle.vg_holds.specs.declared.act.Act.TheVariants as acts
 use Rattle.vg_driver.specs.Requests.{IsShort, MayGo}
 use Rattle.vg_client.specs.declared.task.Change.{Change}
 use Rattle.vg_client.specs.declared.task.Change.TheVariants.{NewBuffer}

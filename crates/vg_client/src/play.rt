@@ -4,10 +4,10 @@ ghost use Rattle.std.specs.Prelude.{◌≡◌, ◌<◌, ◌≤◌, ◌-◌, ◌+
 ghost use Rattle.std.specs.List.{AllByRecursion};
 ghost use Rattle.vg_chain.specs.Made.{IsCount};
 ghost use Rattle.vg_history.specs.declared.entry.Entry.TheVariants as entries;
-ghost use Rattle.vg_machine.specs.declared.act.ActReply.{ActReply as ActReplies};
+ghost use Rattle.vg_holds.specs.declared.act.ActReply.{ActReply as ActReplies};
 ghost use Rattle.vg_machine.specs.declared.history.Reply.{Reply as Replies};
 ghost use Rattle.vg_machine.specs.Entries.{Entry as Entries};
-ghost use Rattle.vg_machine.specs.Holds.{Deniable, denied_of};
+ghost use Rattle.vg_holds.specs.Holds.{Deniable, denied_of};
 ghost use Rattle.vg_driver.specs.Requests.{IsShort, MayGo};
 ghost use Rattle.vg_driver.specs.Requests as requests;
 ghost use Rattle.vg_client.specs.declared.given.Given.TheVariants as givens;

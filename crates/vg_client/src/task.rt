@@ -1,7 +1,7 @@
 //! The tasks that calls are made of. A task gives one entry: an act, or a command to the device.
 
 ghost use Rattle.std.specs.Prelude.{◌≡◌, ◌≤◌, ◌<◌, ◌^◌, map, length, IfOk};
-ghost use Rattle.vg_machine.specs.declared.act.Act.TheVariants as acts;
+ghost use Rattle.vg_holds.specs.declared.act.Act.TheVariants as acts;
 ghost use Rattle.vg_client.specs.Table as table;
 ghost use Rattle.vg_client.specs.Table.{no_rect, page_entry};
 

@@ -4,8 +4,8 @@ ghost use Rattle.std.specs.Prelude.{◌≡◌, ◌<◌, ◌≤◌, ◌+◌, ◌*
 ghost use Rattle.std.specs.List.{AllByRecursion};
 ghost use Rattle.vg_client.specs.Callers.{IsCallFit, Plans, weights};
 ghost use Rattle.vg_client.specs.Fits.{IsFit};
-ghost use Rattle.vg_machine.specs.Holds.{Deniable as MayDeny, has_number};
-ghost use Rattle.vg_machine.specs.declared.act.What.TheVariants as whats;
+ghost use Rattle.vg_holds.specs.Holds.{Deniable as MayDeny, has_number};
+ghost use Rattle.vg_holds.specs.declared.act.What.TheVariants as whats;
 ghost use Rattle.vg_client.specs.Table as table;
 ghost use Rattle.vg_client.specs.Tasks as plan;
 ghost use Rattle.vg_client.specs.Tasks.{clear_tasks, leases_back, with_held};

@@ -3,7 +3,7 @@
 ghost use Rattle.std.specs.Prelude.{◌≡◌, ℕ, ◌+◌, ◌≤◌, None, length, IfOk, OnErr};
 ghost use Rattle.vg_chain.specs.Made.{IsCount};
 ghost use Rattle.vg_history.specs.declared.entry.Entry.TheVariants as entries;
-ghost use Rattle.vg_machine.specs.Holds.{denied_of};
+ghost use Rattle.vg_holds.specs.Holds.{denied_of};
 ghost use Rattle.vg_driver.specs.Requests.{IsShort, MayGo, denied_by, raw_request, request_by};
 ghost use Rattle.vg_client.specs.Accounts.{IsActive, IsAdded, IsAddedAct, IsUnadded, MayAct};
 

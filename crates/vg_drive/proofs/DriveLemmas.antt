@@ -9,12 +9,12 @@ use Rattle.vg_book.specs.Opening.{first_lanes}
 use Rattle.vg_book.specs.Own.{IsInStep, own}
 use Rattle.vg_book.specs.Tokens.{IsClosed}
 use Rattle.vg_front.specs.Desks as desks
-use Rattle.vg_machine.specs.declared.act.Act.{Act}
-use Rattle.vg_machine.specs.declared.act.ActReply.{ActReply}
+use Rattle.vg_holds.specs.declared.act.Act.{Act}
+use Rattle.vg_holds.specs.declared.act.ActReply.{ActReply}
 use Rattle.vg_machine.specs.declared.history.Reply.{Reply}
 use Rattle.vg_machine.specs.declared.history.Request.{Request}
-use Rattle.vg_machine.specs.declared.holds.Holds.{Holds}
-use Rattle.vg_machine.specs.declared.setup.Setup.{Setup}
+use Rattle.vg_holds.specs.declared.holds.Holds.{Holds}
+use Rattle.vg_holds.specs.declared.setup.Setup.{Setup}
 use Rattle.vg_machine.specs.Entries.{Entry}
 use Rattle.vg_machine.specs.Order.{Sound, of_client}
 use Rattle.vg_machine.specs.Replay.{Agrees, display}

@@ -10,10 +10,10 @@ use Rattle.vg_history.specs.History.{Ordered, ordinals}
 use Rattle.vg_history.specs.Lists.{Has}
 use Rattle.vg_history.proofs.HistoryLemmas.{ordinals_append}
 use Rattle.vg_book.specs.Own.{own}
-use Rattle.vg_machine.specs.declared.holds.Holds.{Holds}
-use Rattle.vg_machine.specs.declared.setup.Setup.{Setup}
+use Rattle.vg_holds.specs.declared.holds.Holds.{Holds}
+use Rattle.vg_holds.specs.declared.setup.Setup.{Setup}
 use Rattle.vg_machine.specs.Entries.{Entry}
-use Rattle.vg_machine.specs.Holds.{first_holds}
+use Rattle.vg_holds.specs.Holds.{first_holds}
 use Rattle.vg_machine.specs.Order.{AreAllowed, AreInOrder, IsAllowed, IsInOrder, LaneOrder, Sound, by_call, call_of, client_of, holds_after, holds_of, is_of_lane, of_client, updated}
 use Rattle.vg_machine.specs.Replay.{Agrees, display}
 use Rattle.vg_script.specs.declared.types.Line.{Line}

@@ -1,18 +1,18 @@
 -- A script of at most one client has at most one legal history.
 use Rattle.std.proofs.Common.{◌≡◌, ◌+◌, ◌≤◌, ◌∙◌, sym, ap, refl, subst, arith, ℕ, zero, suc, Bool, true, false, List, [], ◌∷◌, ◌++◌, count_by, length, map, append_assoc, Option, Some, None, Result, Ok, Err}
 use Rattle.std.specs.List.{AllByRecursion, range_with_len}
-use Rattle.vg_machine.specs.declared.setup.Setup.{Setup}
-use Rattle.vg_machine.specs.declared.act.Act.{Act}
-use Rattle.vg_machine.specs.declared.act.Act.TheVariants.{Enter, Leave, Denied}
-use Rattle.vg_machine.specs.declared.act.ActReply.{ActReply}
-use Rattle.vg_machine.specs.declared.act.ActReply.TheVariants as act_replies
-use Rattle.vg_machine.specs.declared.act.What.{What}
+use Rattle.vg_holds.specs.declared.setup.Setup.{Setup}
+use Rattle.vg_holds.specs.declared.act.Act.{Act}
+use Rattle.vg_holds.specs.declared.act.Act.TheVariants.{Enter, Leave, Denied}
+use Rattle.vg_holds.specs.declared.act.ActReply.{ActReply}
+use Rattle.vg_holds.specs.declared.act.ActReply.TheVariants as act_replies
+use Rattle.vg_holds.specs.declared.act.What.{What}
 use Rattle.vg_machine.specs.Entries.{Entry}
 use Rattle.vg_history.specs.declared.entry.Entry.TheVariants as entries
 use Rattle.vg_machine.specs.declared.history.Reply.{Reply}
 use Rattle.vg_machine.specs.declared.history.Request.{Request}
-use Rattle.vg_machine.specs.declared.holds.Holds.{Holds}
-use Rattle.vg_machine.specs.Holds.{denied_of}
+use Rattle.vg_holds.specs.declared.holds.Holds.{Holds}
+use Rattle.vg_holds.specs.Holds.{denied_of}
 use Rattle.vg_machine.specs.State.{State, start}
 use Rattle.vg_machine.specs.Replay.{AgreesFrom, HasReply, after, request_step}
 use Rattle.vg_machine.specs.Order.{AreInOrder, LaneOrder, Sound, by_call, call_of, client_of, is_of_lane, of_client}

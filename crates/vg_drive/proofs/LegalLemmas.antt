@@ -3,7 +3,7 @@ use Rattle.std.proofs.Common.{◌≡◌, ◌<◌, ◌≤◌, ◌+◌, ◌∙◌,
 use Rattle.std.specs.List.{AllByRecursion}
 use Rattle.std.proofs.lemmas.List.{length-take}
 use Rattle.std.proofs.lemmas.List.Sums.{count_by-le-length, count_by_more_no, count_by_more_yes}
-use Rattle.vg_machine.specs.declared.setup.Setup.{Setup}
+use Rattle.vg_holds.specs.declared.setup.Setup.{Setup}
 use Rattle.vg_scanout.specs.declared.scanout.Frame.{Frame}
 use Rattle.vg_machine.specs.Entries.{Entry}
 use Rattle.vg_machine.specs.Order.{Sound}

@@ -1,7 +1,7 @@
 -- What each of several clients knows of one history.
 use Rattle.std.specs.Prelude.{◌≡◌, ◌+◌, ℕ, List, [], ◌∷◌}
 use mathlib.Core.List.{IsPrefix}
-use Rattle.vg_machine.specs.declared.setup.Setup.{Setup}
+use Rattle.vg_holds.specs.declared.setup.Setup.{Setup}
 use Rattle.vg_machine.specs.Entries.{Entry}
 use Rattle.vg_machine.specs.Order.{of_client}
 use Rattle.vg_script.specs.declared.types.Line.{Line}

@@ -10,7 +10,7 @@ use Rattle.vg_script.specs.declared.types.Line.{Line}
 use Rattle.vg_script.specs.declared.types.Script.{Script}
 use Rattle.vg_script.specs.declared.types.Step.{Step}
 use Rattle.vg_journal.specs.declared.journal.Journal.{Journal}
-use Rattle.vg_machine.specs.declared.setup.Setup.{Setup}
+use Rattle.vg_holds.specs.declared.setup.Setup.{Setup}
 use Rattle.vg_part.specs.Setup.{setup_of}
 use Rattle.vg_part.specs.Follows.{Follows}
 

@@ -1,7 +1,7 @@
 -- What the run of a script's clients gives.
 use Rattle.std.specs.Prelude.{◌≡◌, ◌≤◌, ℕ, List, length}
 use Rattle.std.specs.List.{AllByRecursion}
-use Rattle.vg_machine.specs.declared.setup.Setup.{Setup}
+use Rattle.vg_holds.specs.declared.setup.Setup.{Setup}
 use Rattle.vg_scanout.specs.declared.scanout.Frame.{Frame}
 use Rattle.vg_machine.specs.Entries.{Entry}
 use Rattle.vg_machine.specs.Order.{Sound, client_of}

@@ -5,7 +5,7 @@ ghost use Rattle.std.specs.List.{AllByRecursion};
 ghost use Rattle.vg_history.specs.History.{Ordered};
 ghost use Rattle.vg_script.specs.declared.types.Line.{Line as Lines};
 ghost use Rattle.vg_script.specs.declared.types.Script.{Script as Scripts};
-ghost use Rattle.vg_machine.specs.declared.setup.Setup.{Setup as Setups};
+ghost use Rattle.vg_holds.specs.declared.setup.Setup.{Setup as Setups};
 ghost use Rattle.vg_machine.specs.Entries.{Entry as Entries};
 ghost use Rattle.vg_machine.specs.Order.{Sound};
 ghost use Rattle.vg_machine.specs.Replay.{Agrees, display};

@@ -19,8 +19,8 @@ use Rattle.vg_ring.specs.Ends.{DriverLists, HasRoom}
 use Rattle.vg_ring.specs.Entries.{lane_count}
 use Rattle.vg_ring.proofs.KeptLemmas.{made_some}
 use Rattle.vg_machine.specs.declared.history.Request.{Request}
-use Rattle.vg_machine.specs.declared.holds.Holds.{Holds}
-use Rattle.vg_machine.specs.Holds.{denied_of, denied_request}
+use Rattle.vg_holds.specs.declared.holds.Holds.{Holds}
+use Rattle.vg_holds.specs.Holds.{denied_of, denied_request}
 use Rattle.vg_machine.specs.Lane.{lane_of, lane_of_header}
 use Rattle.vg_driver.proofs.ShortLemmas.{short-body}
 use Rattle.vg_driver.specs.declared.request.Way.{Way}

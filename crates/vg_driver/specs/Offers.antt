@@ -5,8 +5,8 @@ use Rattle.vg_ring.specs.Cargo.{IsLane, ParcelData}
 use Rattle.vg_ring.specs.Ends.{DriverLists, HasRoom}
 use Rattle.vg_ring.specs.Entries.{lane_count}
 use Rattle.vg_machine.specs.declared.history.Request.{Request}
-use Rattle.vg_machine.specs.declared.holds.Holds.{Holds}
-use Rattle.vg_machine.specs.Holds.{Allowed}
+use Rattle.vg_holds.specs.declared.holds.Holds.{Holds}
+use Rattle.vg_holds.specs.Holds.{Allowed}
 use Rattle.vg_machine.specs.Lane.{lane_of}
 use Rattle.vg_driver.specs.declared.ticket.Ticket.{Ticket}
 use Rattle.vg_driver.specs.Tickets.{Submitted, Token}

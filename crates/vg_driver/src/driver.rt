@@ -4,7 +4,7 @@ ghost use Rattle.std.specs.Prelude.{◌≡◌, ℕ, ◌≤◌, None, length, IfS
 ghost use Rattle.vg_chain.specs.Made.{IsCount};
 ghost use Rattle.vg_wire.specs.declared.request.Queue.TheVariants as queues;
 ghost use Rattle.vg_ring.specs.Making.{IsNewDriver};
-ghost use Rattle.vg_machine.specs.Holds.{denied_of};
+ghost use Rattle.vg_holds.specs.Holds.{denied_of};
 ghost use Rattle.vg_driver.specs.Requests as requests;
 ghost use Rattle.vg_driver.specs.Requests.{IsShort, MayGo};
 ghost use Rattle.vg_driver.specs.Halves.{IsOf};

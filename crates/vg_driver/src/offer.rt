@@ -3,7 +3,7 @@
 ghost use Rattle.std.specs.Prelude.{◌≡◌, ◌-◌, ◌^◌, ◌<◌, ◌≤◌, None, length, IfOk, MatchResult};
 ghost use Rattle.vg_chain.specs.Made.{IsCount, IsNeeded};
 ghost use Rattle.vg_ring.specs.Cargo.{IsLane};
-ghost use Rattle.vg_machine.specs.Holds.{denied_of};
+ghost use Rattle.vg_holds.specs.Holds.{denied_of};
 ghost use Rattle.vg_driver.specs.Requests as requests;
 ghost use Rattle.vg_driver.specs.Requests.{IsShort, MayGo};
 ghost use Rattle.vg_driver.specs.Tickets.{Submitted};

@@ -1,19 +1,19 @@
 use Rattle.std.specs.Prelude.{ℕ, ◌+◌, ◌==◌, if◌then◌else◌, List, [], ◌∷◌, ◌++◌, bit_and, length, codes, decimal}
 use Rattle.hex.specs.Hex.{encode_lower}
-use Rattle.vg_machine.specs.declared.setup.Setup.{Setup}
+use Rattle.vg_holds.specs.declared.setup.Setup.{Setup}
 use Rattle.vg_scanout.specs.declared.scanout.Frame.{Frame}
 use Rattle.vg_chain.specs.declared.chain.ChainFault.{ChainFault}
 use Rattle.vg_chain.specs.declared.chain.ChainFault.TheVariants.{Index, Loop, Nested, NextWithIndirect, TableLength, Order, Range}
 use Rattle.vg_chain.specs.declared.shape.Shape.{Shape}
 use Rattle.vg_chain.specs.declared.shape.Shape.TheVariants.{Plain, Pieces, Indirect, Mixed, Bad}
-use Rattle.vg_machine.specs.declared.act.Act.{Act}
-use Rattle.vg_machine.specs.declared.act.Act.TheVariants.{Enter, Reserve, Store, Load, Release, Free, Take, Drop, Denied, Leave}
-use Rattle.vg_machine.specs.declared.act.What.{What}
-use Rattle.vg_machine.specs.declared.act.What.TheVariants as whats
-use Rattle.vg_machine.specs.declared.share.ShareRefusal.{ShareRefusal}
-use Rattle.vg_machine.specs.declared.share.ShareRefusal.TheVariants.{GuestFull, UnknownKey, NotHeld, ScanoutHeld, OutOfRange, InUse, ResourceLive}
-use Rattle.vg_machine.specs.declared.act.ActReply.{ActReply}
-use Rattle.vg_machine.specs.declared.act.ActReply.TheVariants as act_replies
+use Rattle.vg_holds.specs.declared.act.Act.{Act}
+use Rattle.vg_holds.specs.declared.act.Act.TheVariants.{Enter, Reserve, Store, Load, Release, Free, Take, Drop, Denied, Leave}
+use Rattle.vg_holds.specs.declared.act.What.{What}
+use Rattle.vg_holds.specs.declared.act.What.TheVariants as whats
+use Rattle.vg_share.specs.declared.share.ShareRefusal.{ShareRefusal}
+use Rattle.vg_share.specs.declared.share.ShareRefusal.TheVariants.{GuestFull, UnknownKey, NotHeld, ScanoutHeld, OutOfRange, InUse, ResourceLive}
+use Rattle.vg_holds.specs.declared.act.ActReply.{ActReply}
+use Rattle.vg_holds.specs.declared.act.ActReply.TheVariants as act_replies
 use Rattle.vg_machine.specs.Entries.{Entry}
 use Rattle.vg_history.specs.declared.entry.Entry.TheVariants as entries
 use Rattle.vg_machine.specs.declared.history.Request.{Request}

@@ -4,15 +4,9 @@ pub mod ShowingLemmas
 pub mod KeepLemmas
 pub mod BoundLemmas
 pub mod ActLemmas
-pub mod CellLemmas
-pub mod ShareLemmas
 pub mod ShapeLemmas
 pub mod EdidLemmas
-pub mod RemoveLemmas
 pub mod ReceiveLemmas
 pub mod PixelLemmas
-pub mod DeniedLemmas
-pub mod ForeignLemmas
-pub mod NamedLemmas
 pub mod CursorLemmas
 pub mod FrameLemmas

@@ -1,19 +1,19 @@
 -- What the acts of clients do and answer. All of it is our own.
-use Rattle.std.specs.Prelude.{◌≡◌, ℕ, ◌+◌, ◌*◌, ◌==◌, ◌&&◌, ◌||◌, Bool, true, false, is_some, List, length, if◌then◌else◌, Option, Some, None}
+use Rattle.std.specs.Prelude.{◌≡◌, ℕ, ◌+◌, ◌*◌, ◌==◌, ◌&&◌, ◌||◌, Bool, false, is_some, List, length, if◌then◌else◌, Option, Some, None}
 use Rattle.std.specs.List.{find, range_with_len}
-use Rattle.vg_machine.specs.declared.act.Act.{Act}
-use Rattle.vg_machine.specs.declared.act.Act.TheVariants.{Enter, Reserve, Store, Load, Release, Free, Take, Drop, Denied, Leave}
-use Rattle.vg_machine.specs.declared.act.ActReply.{ActReply}
-use Rattle.vg_machine.specs.declared.act.ActReply.TheVariants as act_replies
-use Rattle.vg_machine.specs.declared.share.Geometry.{Geometry}
-use Rattle.vg_machine.specs.declared.share.ShareRefusal.{ShareRefusal}
+use Rattle.vg_holds.specs.declared.act.Act.{Act}
+use Rattle.vg_holds.specs.declared.act.Act.TheVariants.{Enter, Reserve, Store, Load, Release, Free, Take, Drop, Denied, Leave}
+use Rattle.vg_holds.specs.declared.act.ActReply.{ActReply}
+use Rattle.vg_holds.specs.declared.act.ActReply.TheVariants as act_replies
+use Rattle.vg_share.specs.declared.share.Geometry.{Geometry}
+use Rattle.vg_share.specs.declared.share.ShareRefusal.{ShareRefusal}
 use Rattle.vg_scanout.specs.declared.scanout.Binding.{Binding}
 use Rattle.vg_pages.specs.Memory.{after_taking}
-use Rattle.vg_machine.specs.Cells.{loaded, repeated, stored}
+use Rattle.vg_share.specs.Cells.{loaded, repeated, stored}
 use Rattle.vg_resource.specs.Resource.{resource_at}
 use Rattle.vg_cursor.specs.Cursor.{cursor_of}
 use Rattle.vg_scanout.specs.Scanout.{binding_at}
-use Rattle.vg_machine.specs.Share.{drop_refusal, ended, entered, free_refusal, freed, given_back, has_holder, is_leased, leased, new_pages, pages_at, place_refusal, release_refusal, released, reserve_refusal, take_refusal, unleased, with_buffer}
+use Rattle.vg_share.specs.Share.{drop_refusal, ended, entered, free_refusal, freed, given_back, has_holder, is_leased, leased, new_pages, pages_at, place_refusal, release_refusal, released, reserve_refusal, take_refusal, unleased, with_buffer}
 use Rattle.vg_machine.specs.State.{State, counted}
 
 -- An act whose refusal is this: the display stays as it was, or becomes `next`.
@@ -103,11 +103,3 @@ abbrev pub HasNoList : ActReply → Type 0
 HasNoList (act_replies.Reserved key pages) = ⊥
 HasNoList (act_replies.Bytes bytes) = ⊥
 HasNoList reply = Unit {0}
-
--- An act that gives up a hold: a release, a free, the end of a lease, and leave.
-abbrev pub gives_up : Act → Bool
-gives_up (Release key) = true
-gives_up (Free key) = true
-gives_up (Drop scanout) = true
-gives_up Leave = true
-gives_up _ = false

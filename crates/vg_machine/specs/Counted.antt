@@ -12,24 +12,23 @@ use Rattle.vg_wire_ext.specs.declared.response.Response.{Response}
 use Rattle.vg_chain.specs.declared.shape.Shape.{Shape}
 use Rattle.vg_chain.specs.declared.shape.Shape.TheVariants.{Plain, Pieces, Indirect, Mixed, Bad}
 use Rattle.vg_formats.specs.declared.rect.Rect.{Rect}
-use Rattle.vg_machine.specs.declared.act.Act.{Act}
-use Rattle.vg_machine.specs.declared.act.Act.TheVariants.{Enter, Reserve, Store, Load, Release, Free, Take, Drop, Denied, Leave}
-use Rattle.vg_machine.specs.declared.act.ActReply.{ActReply}
-use Rattle.vg_machine.specs.declared.act.What.{What}
-use Rattle.vg_machine.specs.declared.holds.Holds.{Holds}
-use Rattle.vg_machine.specs.declared.share.ShareRefusal.{ShareRefusal}
+use Rattle.vg_holds.specs.declared.act.Act.{Act}
+use Rattle.vg_holds.specs.declared.act.Act.TheVariants.{Enter, Reserve, Store, Load, Release, Free, Take, Drop, Denied, Leave}
+use Rattle.vg_holds.specs.declared.act.ActReply.{ActReply}
+use Rattle.vg_holds.specs.declared.act.What.{What}
+use Rattle.vg_holds.specs.declared.holds.Holds.{Holds}
+use Rattle.vg_share.specs.declared.share.ShareRefusal.{ShareRefusal}
 use Rattle.vg_resource.specs.declared.resource.Resource.{Resource}
 use Rattle.vg_machine.specs.ActStep.{act_step, effect_of, is_in_use, replied_by, shown_at}
 use Rattle.vg_resource.specs.Resource.{resource_at}
-use Rattle.vg_machine.specs.Share.{drop_refusal, free_refusal, place_refusal, release_refusal, reserve_refusal, take_refusal}
+use Rattle.vg_share.specs.Share.{drop_refusal, free_refusal, place_refusal, release_refusal, reserve_refusal, take_refusal}
 use Rattle.vg_machine.specs.declared.history.Request.{Request}
 use Rattle.vg_machine.specs.State.{State, counted}
 use Rattle.vg_refusals.specs.Refusals.{refusal_of}
 use Rattle.vg_machine.specs.Step.{answer_of, answered_with, command_step, ran, refused_or_ran, request_refusals, two_d_step, with_shown}
 use Rattle.vg_machine.specs.Replay.{request_step, shaped_step}
-use Rattle.vg_machine.specs.Holds.{denied_of, update}
-use Rattle.vg_machine.specs.ActStep.{gives_up}
-use Rattle.vg_machine.specs.Growing.{still_allowed}
+use Rattle.vg_holds.specs.Holds.{denied_of, gives_up, update}
+use Rattle.vg_holds.specs.Growing.{still_allowed}
 
 -- the same setup, and as many entries
 pub record IsLike (old new : State) : Type 0 where

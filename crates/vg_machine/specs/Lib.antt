@@ -1,15 +1,8 @@
-pub mod Setup
 pub mod Features
 pub mod Lane
-pub mod Lists
 pub mod Receive
 pub mod Uuids
 pub mod Fits
-pub mod Cells
-pub mod Share
-pub mod Holds
-pub mod Foreign
-pub mod Named
 pub mod State
 pub mod Entries
 pub mod Step
@@ -18,5 +11,4 @@ pub mod Pixels
 pub mod ActStep
 pub mod Replay
 pub mod Order
-pub mod Growing
 pub mod Counted

@@ -2,29 +2,27 @@
 
 ghost use Rattle.std.specs.Prelude.{◌≡◌, ◌==◌, ◌<◌, ◌-◌, ◌^◌, if◌then◌else◌, bit_and, IfOk, IfSome, OnOk, OnErr};
 ghost use Rattle.vg_wire_ext.specs.Commands.{FitsEntries};
-ghost use Rattle.vg_machine.specs.Setup.{IsSetup};
+ghost use Rattle.vg_holds.specs.Setup.{IsSetup};
 ghost use Rattle.vg_machine.specs.State.{counted, start};
 ghost use Rattle.vg_machine.specs.declared.history.Reply.TheVariants as replies;
 ghost use Rattle.vg_machine.specs.ActStep.{KeepsIfRefused, act_step};
-ghost use Rattle.vg_machine.specs.Holds.{update};
+ghost use Rattle.vg_holds.specs.Holds.{update};
 ghost use Rattle.vg_machine.specs.Replay.{request_step};
 ghost use Rattle.vg_machine.specs.Step.{Keeps, acceptance, answer_header, answer_of, answered, effect_and_bytes, ran, step};
 
-use crate::act::{Act, ActReply};
 use crate::features::is_usable;
 use crate::history::{Reply, Request};
-use crate::holds::Holds;
-use crate::setup::Setup;
-use crate::share::Share;
 use crate::uuids::Uuids;
 use std::alloc::{AllocError, Global};
 use std::marker::Model;
 use vg_chain::Shape;
 use vg_cursor::Cursors;
+use vg_holds::{Act, ActReply, Holds, Setup};
 use vg_list::Seq;
 use vg_pages::Pages;
 use vg_resource::Resources;
 use vg_scanout::{Frame, Scanouts};
+use vg_share::Share;
 use vg_transfer::Backings;
 use vg_wire::kinds::ERR_UNSPEC;
 use vg_wire::{Header, Queue, read_header};

@@ -1,12 +1,10 @@
 //! The display as a machine of which a history is kept.
 
-use crate::act::{Act, ActReply};
-use crate::allowance::allowed;
 use crate::display::Display;
 use crate::history::{Reply, Request};
-use crate::holds::Holds;
 use std::alloc::{AllocError, Global};
 use vg_history::Machine;
+use vg_holds::{Act, ActReply, Holds, allowed};
 
 /// An entry of a display's history.
 pub type Entry = vg_history::Entry<Display>;
@@ -26,9 +24,8 @@ impl Machine for Display {
 
     ghost use Rattle.std.specs.Prelude.{is_none};
     ghost use Rattle.vg_machine.specs.ActStep.{act_step};
-    ghost use Rattle.vg_machine.specs.Holds as holding;
-    ghost use Rattle.vg_machine.specs.Holds.{denied_of};
-    ghost use Rattle.vg_machine.specs.ActStep as acts;
+    ghost use Rattle.vg_holds.specs.Holds as holding;
+    ghost use Rattle.vg_holds.specs.Holds.{denied_of};
     ghost use Rattle.vg_machine.specs.Replay.{request_step};
     ghost use Rattle.vg_machine.specs.Counted.{act-counts, keeps-allowed, request-counts};
 
@@ -48,7 +45,7 @@ impl Machine for Display {
 
     ghost allows = { λ h q. is_none (denied_of h q.queue q.bytes) };
 
-    ghost ends_hold = { acts.gives_up };
+    ghost ends_hold = { holding.gives_up };
 
     ghost tagged = { λ q. (q.lane, q.ordinal) };
 

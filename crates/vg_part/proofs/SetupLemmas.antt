@@ -2,7 +2,7 @@
 use Rattle.std.proofs.Common.{refl, arith, ℕ, List, [], ◌∷◌}
 use Rattle.std.specs.List.{AllByRecursion, list_any}
 use Rattle.std.proofs.lemmas.List.Elements.{recursion_from_All}
-use Rattle.vg_machine.specs.Setup.{AreDisplays, IsSetup}
+use Rattle.vg_holds.specs.Setup.{AreDisplays, IsSetup}
 use Rattle.vg_script.specs.declared.types.Script.{Script}
 use Rattle.vg_script.specs.Limits.{DisplayInLimits, ScriptInLimits}
 use Rattle.vg_part.specs.Setup.{is_blob, is_context, is_edid, is_uuid, setup_of}

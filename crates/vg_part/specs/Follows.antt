@@ -7,11 +7,11 @@ use Rattle.vg_wire.specs.declared.request.Queue.TheVariants as queues
 use Rattle.vg_chain.specs.declared.shape.Shape.{Shape}
 use Rattle.vg_chain.specs.declared.shape.Shape.TheVariants as shapes
 use Rattle.vg_chain.specs.declared.chain.ChainFault.TheVariants as faults
-use Rattle.vg_machine.specs.declared.act.Act.TheVariants.{Enter, Leave}
-use Rattle.vg_machine.specs.declared.act.ActReply.TheVariants as act_replies
+use Rattle.vg_holds.specs.declared.act.Act.TheVariants.{Enter, Leave}
+use Rattle.vg_holds.specs.declared.act.ActReply.TheVariants as act_replies
 use Rattle.vg_machine.specs.Entries.{Entry}
 use Rattle.vg_history.specs.declared.entry.Entry.TheVariants as entries
-use Rattle.vg_machine.specs.declared.setup.Setup.{Setup}
+use Rattle.vg_holds.specs.declared.setup.Setup.{Setup}
 use Rattle.vg_machine.specs.Order.{by_call, call_of, of_client}
 use Rattle.vg_script.specs.declared.types.Area.{Area}
 use Rattle.vg_script.specs.declared.types.Line.{Line}

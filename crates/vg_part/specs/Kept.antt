@@ -1,6 +1,6 @@
 -- What a client knows of its own entries.
 use Rattle.std.specs.Prelude.{ℕ, List}
-use Rattle.vg_machine.specs.declared.setup.Setup.{Setup}
+use Rattle.vg_holds.specs.declared.setup.Setup.{Setup}
 use Rattle.vg_machine.specs.Entries.{Entry}
 use Rattle.vg_script.specs.declared.types.Line.{Line}
 use Rattle.vg_client.specs.Own.{IsOwn}

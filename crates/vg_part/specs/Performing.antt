@@ -2,9 +2,9 @@
 use Rattle.std.specs.Prelude.{◌≡◌, ◌⊎◌, ◌≤◌, ◌+◌, ◌-◌, ◌*◌, ℕ, true, false, List, [], ◌∷◌, ◌++◌, length, drop, get_or, Some}
 use Rattle.vg_book.specs.Own.{IsInStep}
 use Rattle.vg_driver.specs.Tickets.{Token}
-use Rattle.vg_machine.specs.declared.setup.Setup.{Setup}
-use Rattle.vg_machine.specs.declared.act.Act.TheVariants.{Enter}
-use Rattle.vg_machine.specs.declared.act.ActReply.TheVariants as act_replies
+use Rattle.vg_holds.specs.declared.setup.Setup.{Setup}
+use Rattle.vg_holds.specs.declared.act.Act.TheVariants.{Enter}
+use Rattle.vg_holds.specs.declared.act.ActReply.TheVariants as act_replies
 use Rattle.vg_machine.specs.Entries.{Entry}
 use Rattle.vg_history.specs.declared.entry.Entry.TheVariants as entries
 use Rattle.vg_machine.specs.State.{start}

@@ -1,7 +1,7 @@
 use Rattle.std.specs.Prelude.{ℕ, Bool, true, false, List, length}
 use Rattle.std.specs.List.{list_any}
-use Rattle.vg_machine.specs.declared.setup.Setup.{Setup}
-use Rattle.vg_machine.specs.Setup.{features_without}
+use Rattle.vg_holds.specs.declared.setup.Setup.{Setup}
+use Rattle.vg_holds.specs.Setup.{features_without}
 use Rattle.vg_script.specs.declared.types.Feature.{Feature}
 use Rattle.vg_script.specs.declared.types.Feature.TheVariants.{Edid, Uuid, Blob, Context}
 use Rattle.vg_script.specs.declared.types.Script.{Script}

@@ -18,10 +18,10 @@ use Rattle.vg_ring.specs.DeviceEnds.{DeviceLists}
 use Rattle.vg_ring.specs.Entries as ring_entries
 use Rattle.vg_front.specs.Desks.{HasRunAll}
 use Rattle.vg_front.specs.Fronts.{Closes, FrontData}
-use Rattle.vg_machine.specs.declared.holds.Holds.{Holds}
-use Rattle.vg_machine.specs.declared.setup.Setup.{Setup}
+use Rattle.vg_holds.specs.declared.holds.Holds.{Holds}
+use Rattle.vg_holds.specs.declared.setup.Setup.{Setup}
 use Rattle.vg_machine.specs.Entries.{Entry}
-use Rattle.vg_machine.specs.Holds.{first_holds}
+use Rattle.vg_holds.specs.Holds.{first_holds}
 use Rattle.vg_machine.specs.Replay.{display}
 use Rattle.vg_machine.specs.State.{State, start}
 use Rattle.vg_script.specs.declared.types.Script.{Script}

@@ -12,12 +12,12 @@ use Rattle.vg_ring.specs.Entries as ring_entries
 use Rattle.vg_front.specs.Desks.{is_busy}
 use Rattle.vg_front.specs.Fronts.{FrontData}
 use Rattle.vg_front.specs.Lanes.{of_lane}
-use Rattle.vg_machine.specs.declared.act.Act.{Act}
-use Rattle.vg_machine.specs.declared.act.ActReply.{ActReply}
+use Rattle.vg_holds.specs.declared.act.Act.{Act}
+use Rattle.vg_holds.specs.declared.act.ActReply.{ActReply}
 use Rattle.vg_machine.specs.declared.history.Reply.{Reply}
 use Rattle.vg_machine.specs.declared.history.Request.{Request}
-use Rattle.vg_machine.specs.declared.holds.Holds.{Holds}
-use Rattle.vg_machine.specs.declared.setup.Setup.{Setup}
+use Rattle.vg_holds.specs.declared.holds.Holds.{Holds}
+use Rattle.vg_holds.specs.declared.setup.Setup.{Setup}
 use Rattle.vg_machine.specs.Entries.{Entry}
 use Rattle.vg_machine.specs.Replay.{display}
 use Rattle.vg_machine.specs.State.{State, start}

@@ -28,11 +28,11 @@ use Rattle.vg_machine.specs.contracts.machine.DisplayMachine.TheImpl as machine
 use Rattle.vg_worker.specs.contracts.worker.Worker as worker
 use Rattle.vg_machine.specs.contracts.display.Display as display
 use Rattle.vg_machine.specs.contracts.display.Display.TheInside as display_in
-use Rattle.vg_machine.specs.contracts.act.Act as act
-use Rattle.vg_machine.specs.contracts.act.ActReply as act_reply
+use Rattle.vg_holds.specs.contracts.act.Act as act
+use Rattle.vg_holds.specs.contracts.act.ActReply as act_reply
 use Rattle.vg_machine.specs.contracts.history.Request as request
 use Rattle.vg_machine.specs.contracts.history.Reply as reply
-use Rattle.vg_machine.specs.contracts.holds.Holds as holds
+use Rattle.vg_holds.specs.contracts.holds.Holds as holds
 
 seq_send : (X : RattleType) → IsSend X → IsSend (seq.the_row X)
 seq_send X x = search (sendable, crosses) depth 20

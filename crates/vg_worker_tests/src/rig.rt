@@ -2,7 +2,7 @@
 
 ghost use Rattle.std.specs.Prelude.{◌≡◌, [], ◌∷◌, IfOk};
 ghost use Rattle.vg_wire.specs.declared.request.Queue.TheVariants as queues;
-ghost use Rattle.vg_machine.specs.Setup.{IsSetup};
+ghost use Rattle.vg_holds.specs.Setup.{IsSetup};
 ghost use Rattle.vg_worker_tests.specs.Joined.{Follows, HasLanes, IsAsBefore};
 
 use crate::guest::{Back, Guest, Way};

@@ -1,5 +1,5 @@
 use Rattle.std.proofs.Common.{◌≡◌, ◌∙◌, List, Option, ap, arith, subst, ℕ}
-use Rattle.vg_machine.specs.declared.holds.Holds.{Holds}
+use Rattle.vg_holds.specs.declared.holds.Holds.{Holds}
 use Rattle.vg_client.specs.Callers.{IsPlanOf, known}
 use Rattle.vg_client.specs.Known.{Known}
 use Rattle.vg_client.specs.Tasks.{tasks_of}

@@ -1,5 +1,5 @@
 use Rattle.std.proofs.Common.{subst, sym}
-use Rattle.vg_machine.specs.Setup.{IsSetup}
+use Rattle.vg_holds.specs.Setup.{IsSetup}
 use Rattle.vg_part.proofs.SetupLemmas.{displays-in}
 use Rattle.vg_drive.proofs.driving.drive.Goals as goal
 

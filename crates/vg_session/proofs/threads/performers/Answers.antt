@@ -1,5 +1,5 @@
 use Rattle.std.proofs.Common.{refl, subst, sym}
-use Rattle.vg_machine.specs.Setup.{IsSetup}
+use Rattle.vg_holds.specs.Setup.{IsSetup}
 use Rattle.vg_session.proofs.SessionLemmas.{made-more, made-none}
 use Rattle.vg_part.proofs.SetupLemmas.{displays-in}
 use Rattle.vg_session.proofs.threads.performers.Goals as goal

@@ -1,5 +1,5 @@
 use Rattle.std.proofs.Common.{ap, ◌∙◌}
-use Rattle.vg_machine.specs.Share.{ended}
+use Rattle.vg_share.specs.Share.{ended}
 use Rattle.vg_machine.proofs.ActLemmas.{shares-left}
 use Rattle.vg_machine.proofs.display.Display.leave.Goals as goal
 

@@ -1,7 +1,6 @@
 use Rattle.std.proofs.Common.{arith}
 use Rattle.std.proofs.lemmas.List.{length-replicate}
 use Rattle.vg_cursor.specs.Cursor.{unset}
-use Rattle.vg_machine.proofs.ShareLemmas.{shares-fresh}
 use Rattle.vg_machine.proofs.BoundLemmas.{none-showing}
 use Rattle.vg_machine.proofs.display.Display.new.Goals as goal
 
@@ -15,9 +14,9 @@ invariant_of-result c =
       backings = rw c.new-6.ensures (λ k d within. absurd (omega (arith, within)));
       screens = rw (c.in_ok-new-3.ensures, same, ← count) (length-replicate _ _);
       showing = rw (c.in_ok-new-3.ensures) (none-showing c.new-5.result c.len-count.result);
-      leases = rw (c.in_ok-new-4.ensures, same, ← count) (length-replicate _ _);
-      share = rw (c.in_ok-new.ensures.fresh, c.in_ok-new-4.ensures) (shares-fresh c.args.setup.now.pages _ _);
-      reserved = rw c.in_ok-new-4.ensures (omega arith);
+      leases = rw (c.in_ok-new-4.ensures.none, same, ← count) (length-replicate _ _);
+      share = rw c.in_ok-new.ensures.fresh (c.in_ok-new-4.ensures.share c.args.setup.now.pages);
+      reserved = rw c.in_ok-new-4.ensures.none (omega arith);
       given = rw c.new-7.ensures (omega arith);
       cursors = rw (c.in_ok-new-2.ensures, same, ← count) (length-replicate c.len-count.result unset);
     }

@@ -1,5 +1,5 @@
 use Rattle.std.proofs.Common.{◌≡◌, ◌*◌, ap, arith, length}
-use Rattle.vg_machine.specs.Cells.{repeated}
+use Rattle.vg_share.specs.Cells.{repeated}
 use Rattle.vg_machine.proofs.ActLemmas.{held-kept, large-stored, placed, shares-bytes}
 use Rattle.vg_machine.proofs.display.Display.store.Goals as goal
 

@@ -1,0 +1,3 @@
+pub mod DeniedLemmas
+pub mod ForeignLemmas
+pub mod NamedLemmas

@@ -1,0 +1,5 @@
+pub mod Setup
+pub mod Holds
+pub mod Foreign
+pub mod Named
+pub mod Growing

@@ -1,6 +1,0 @@
-use Rattle.std.proofs.Common.{◌≡◌}
-use Rattle.vg_machine.specs.Cells.{repeated}
-use Rattle.vg_machine.proofs.cells.repeated.Given as goal
-
-abbrev pub invariant-loop-turn : goal.invariant-loop-turn
-invariant-loop-turn l = l.block.items ≡ repeated l.bytes l._turn

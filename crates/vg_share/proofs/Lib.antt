@@ -1,0 +1,3 @@
+pub mod RemoveLemmas
+pub mod CellLemmas
+pub mod ShareLemmas

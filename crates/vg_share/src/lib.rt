@@ -1,0 +1,11 @@
+//! The guest memory that clients share: buffers of whole pages, and the leases of scanouts. All of it is our own: the standard
+//! has neither.
+#![tactic(auto)]
+
+mod cells;
+mod lists;
+mod share;
+
+pub use cells::{load, pages_of, store_times};
+pub use lists::remove_number;
+pub use share::{Buffer, Geometry, Share, ShareRefusal};

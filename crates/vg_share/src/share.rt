@@ -1,0 +1,365 @@
+//! What the clients share beside the device: buffers of guest pages, and the leases of scanouts.
+
+ghost use Rattle.std.specs.BTreeMap.{is_at};
+ghost use Rattle.std.specs.Map.{lookup};
+ghost use Rattle.std.specs.Ordering.{nat_cmp};
+ghost use Rattle.std.specs.Prelude.{◌≡◌, ◌==◌, ◌+◌, ◌^◌, ◌-◌, ℕ, not, true, ◌<◌, [], Some, None, IfOk, IfErr, OnOk, OnErr, length, replicate, slice_get};
+ghost use Rattle.vg_pages.specs.Memory.{AreTakeable, Memory, after_taking, fresh_memory};
+ghost use Rattle.vg_share.specs.Cells.{pages_of};
+ghost use Rattle.vg_share.specs.Share.{SharesPages, drop_refusal, ended, entered, free_refusal, freed, given_back, has_entered, has_holder, holds_once, is_holder, is_leased, leased, new_buffer, pages_at, place_refusal, release_refusal, released, released_buffer, released_entries, some_holder, take_refusal, unleased, with_buffer};
+
+use crate::lists::remove_number;
+use std::alloc::{AllocError, Global};
+use std::collections::BTreeMap;
+use std::marker::Model;
+use vg_list::Seq;
+use vg_pages::Pages;
+
+/// Why an act is refused.
+#[derive(Clone, Copy, Debug)]
+pub enum ShareRefusal {
+    /// Fewer pages are free than the buffer needs; so many are.
+    GuestFull { free: u32 },
+    /// No live buffer has the key, or there is no such scanout.
+    UnknownKey,
+    /// The client doesn't hold the buffer, doesn't take it down, or the scanout isn't leased to it.
+    NotHeld,
+    /// The scanout is leased to this client.
+    ScanoutHeld { by: u32 },
+    /// The bytes pass the end of the buffer, which has so many.
+    OutOfRange { bytes: u32 },
+    /// The buffer is shown on this scanout, or the scanout shows something.
+    InUse { scanout: u32 },
+    /// The device has a resource with the buffer's key.
+    ResourceLive,
+}
+
+/// What a buffer is for: width and height in pixels and the code of the pixels' format, as its client says them,
+/// and how many bytes it has.
+#[derive(Clone, Copy)]
+pub struct Geometry {
+    pub width: u32,
+    pub height: u32,
+    pub format: u32,
+    pub bytes: u32,
+}
+
+/// A buffer that is live.
+#[derive(Drop)]
+pub struct Buffer {
+    pub geometry: Geometry,
+    /// Its guest pages, rising.
+    pub pages: Seq<u32>,
+    /// The clients that hold it; one may stand several times.
+    pub holders: Seq<u32>,
+    /// The client that takes it down.
+    pub taker: Option<u32>,
+}
+
+/// What the clients share.
+#[derive(Drop)]
+pub struct Share {
+    buffers: BTreeMap<u32, Buffer>,
+    reserved: u32,
+    leases: Vec<Option<u32>>,
+    /// The clients that have come, and whether each has left.
+    clients: BTreeMap<u32, bool>,
+}
+
+impl Model for Share {
+    ghost use Rattle.vg_share.specs.Share.{ShareState};
+
+    ghost Value = { ShareState };
+
+    ghost view = { λ s. record { buffers = s.buffers.entries; reserved = s.reserved; leases = s.leases.items; clients = s.clients.entries } };
+}
+
+impl Share {
+    /// No buffers, and so many scanouts, none of them leased.
+    pub fn new(alloc: Global, scanouts: u32) -> Result<Share, AllocError>
+        ensures none { IfOk result (λ share. share ≡ record { buffers = []; reserved = 0; leases = replicate scanouts None; clients = [] }) }
+        // Memory of which no page is taken fits.
+        ensures share { IfOk result (λ share. (pages : ℕ) → SharesPages (fresh_memory pages) share) }
+    {
+        let leases = vec![in alloc; None; scanouts as usize]?;
+        Ok(Share {
+            buffers: BTreeMap::new(alloc),
+            reserved: 0,
+            leases,
+            clients: BTreeMap::new(alloc),
+        })
+    }
+
+    /// The key of the next buffer.
+    pub fn next_key(&self) -> u32
+        requires { self.now.reserved < 2 ^ 32 - 1 }
+        ensures { result ≡ self.now.reserved + 1 }
+    {
+        self.reserved + 1
+    }
+
+    /// Takes the lowest free pages, which the list has, for a new buffer that the client holds once. Its key is the next.
+    pub fn reserve(
+        &mut self,
+        alloc: Global,
+        pages: &mut Pages,
+        client: u32,
+        geometry: &Geometry,
+        list: &[u32],
+    ) -> Result<(), AllocError>
+        requires share { SharesPages pages.old self.old }
+        requires number { self.old.reserved < 2 ^ 32 - 1 }
+        requires free { AreTakeable pages.old.taken list.now }
+        requires enough { length list.now ≡ pages_of geometry.now.bytes }
+        ensures buffer { OnOk result (self.new ≡ with_buffer client geometry.now list.now self.old) }
+        ensures taken { OnOk result (pages.new ≡ after_taking pages.old list.now) }
+        ensures share { SharesPages pages.new self.new }
+        ensures err { OnErr result ((self.new ≡ self.old) × (pages.new ≡ pages.old)) }
+    {
+        let key = self.next_key();
+        let buffer = new_buffer(alloc, client, geometry, list)?;
+        self.buffers.insert(key, buffer)?;
+        self.reserved = key;
+        pages.take_these(list);
+        Ok(())
+    }
+
+    /// The pages of a buffer that the client holds, where so many bytes from an offset on lie in it.
+    pub fn place(
+        &self,
+        client: u32,
+        key: u32,
+        offset: u32,
+        length: u128,
+    ) -> Result<&[u32], ShareRefusal>
+        ensures refused { IfErr result (λ refusal. place_refusal client key offset length self.now ≡ Some refusal) }
+        ensures accepted { OnOk result (place_refusal client key offset length self.now ≡ None) }
+        ensures pages { IfOk result (λ pages. pages.now ≡ pages_at key self.now) }
+        ensures limit { OnOk result (offset + length < 2 ^ 32) }
+    {
+        let Some(buffer) = self.buffers.get(&key) else {
+            return Err(ShareRefusal::UnknownKey);
+        };
+        if !buffer.is_held_by(client) {
+            return Err(ShareRefusal::NotHeld);
+        }
+        let bytes = buffer.geometry.bytes;
+        if u128::from(bytes) < length.saturating_add(u128::from(offset)) {
+            return Err(ShareRefusal::OutOfRange { bytes });
+        }
+        Ok(buffer.pages.as_slice())
+    }
+
+    /// Takes one hold of the client away, and tells whether it was the last of all: the client takes the buffer down then.
+    /// `shown` is the least scanout leased to the client on which the buffer is shown.
+    pub fn release(
+        &mut self,
+        client: u32,
+        key: u32,
+        shown: Option<u32>,
+    ) -> Result<bool, ShareRefusal>
+        ensures refused { IfErr result (λ refusal. release_refusal client key shown self.old ≡ Some refusal) }
+        ensures kept { OnErr result (self.new ≡ self.old) }
+        ensures accepted { OnOk result (release_refusal client key shown self.old ≡ None) }
+        ensures after { OnOk result (self.new ≡ released client key self.old) }
+        ensures last { IfOk result (λ last. last ≡ not (has_holder key self.new)) }
+        ensures share { (memory : Memory) → SharesPages memory self.old → SharesPages memory self.new }
+    {
+        if let Some(refusal) = self.release_refusal(client, key, shown) {
+            return Err(refusal);
+        }
+        Ok(release_in(&mut self.buffers, client, key))
+    }
+
+    /// Gives back the pages of a buffer that the client takes down. `live` says whether the device has a resource with
+    /// its key.
+    pub fn free(
+        &mut self,
+        pages: &mut Pages,
+        client: u32,
+        key: u32,
+        live: bool,
+    ) -> Result<(), ShareRefusal>
+        requires { SharesPages pages.old self.old }
+        ensures refused { IfErr result (λ refusal. free_refusal client key live self.old ≡ Some refusal) }
+        ensures kept { OnErr result ((self.new ≡ self.old) × (pages.new ≡ pages.old)) }
+        ensures accepted { OnOk result (free_refusal client key live self.old ≡ None) }
+        ensures after { OnOk result ((self.new ≡ freed key self.old) × (pages.new ≡ given_back (pages_at key self.old) pages.old)) }
+        ensures share { SharesPages pages.new self.new }
+    {
+        if let Some(refusal) = self.free_refusal(client, key, live) {
+            return Err(refusal);
+        }
+        if let Some(buffer) = self.buffers.remove(&key) {
+            pages.give(buffer.pages.as_slice());
+        }
+        Ok(())
+    }
+
+    /// Leases a scanout to the client.
+    pub fn take_scanout(&mut self, client: u32, scanout: u32) -> Result<(), ShareRefusal>
+        ensures refused { IfErr result (λ refusal. take_refusal scanout self.old ≡ Some refusal) }
+        ensures kept { OnErr result (self.new ≡ self.old) }
+        ensures accepted { OnOk result (take_refusal scanout self.old ≡ None) }
+        ensures after { OnOk result (self.new ≡ leased client scanout self.old) }
+    {
+        match self.lease(scanout) {
+            None => return Err(ShareRefusal::UnknownKey),
+            Some(Some(by)) => return Err(ShareRefusal::ScanoutHeld { by }),
+            Some(None) => {}
+        }
+        self.leases[scanout as usize] = Some(client);
+        Ok(())
+    }
+
+    /// Ends the lease of a scanout. `shown` says whether it is bound.
+    pub fn drop_scanout(
+        &mut self,
+        client: u32,
+        scanout: u32,
+        shown: bool,
+    ) -> Result<(), ShareRefusal>
+        ensures refused { IfErr result (λ refusal. drop_refusal client scanout shown self.old ≡ Some refusal) }
+        ensures kept { OnErr result (self.new ≡ self.old) }
+        ensures accepted { OnOk result (drop_refusal client scanout shown self.old ≡ None) }
+        ensures after { OnOk result (self.new ≡ unleased scanout self.old) }
+    {
+        if !self.is_leased(client, scanout) {
+            return Err(ShareRefusal::NotHeld);
+        }
+        if shown {
+            return Err(ShareRefusal::InUse { scanout });
+        }
+        self.leases[scanout as usize] = None;
+        Ok(())
+    }
+
+    /// Whether a scanout is leased to the client.
+    pub fn is_leased(&self, client: u32, scanout: u32) -> bool
+        ensures { result ≡ is_leased client scanout self.now }
+    {
+        match self.lease(scanout) {
+            Some(Some(other)) => other == client,
+            _ => false,
+        }
+    }
+
+    /// The client to which a scanout is leased, or none. None of both where there is no such scanout.
+    fn lease(&self, scanout: u32) -> Option<Option<u32>>
+        ensures { result ≡ slice_get self.now.leases scanout }
+    {
+        self.leases.get(scanout as usize).copied()
+    }
+
+    /// Notes that the client has come. A second time changes nothing.
+    pub fn enter(&mut self, client: u32) -> Result<(), AllocError>
+        ensures ok { OnOk result (self.new ≡ entered client self.old) }
+        ensures there { OnOk result (has_entered client self.new ≡ true) }
+        ensures err { OnErr result (self.new ≡ self.old) }
+    {
+        if !self.clients.contains_key(&client) {
+            self.clients.insert(client, false)?;
+        }
+        Ok(())
+    }
+
+    /// Notes that the client, which has come, has left. It takes no memory.
+    pub fn end(&mut self, client: u32)
+        requires { has_entered client self.old ≡ true }
+        ensures { self.new ≡ ended client self.old }
+    {
+        let _ = self.clients.insert(client, true);
+    }
+
+    /// Why the client can't give up a hold of the buffer, if it can't.
+    fn release_refusal(&self, client: u32, key: u32, shown: Option<u32>) -> Option<ShareRefusal>
+        ensures { result ≡ release_refusal client key shown self.now }
+    {
+        let Some(buffer) = self.buffers.get(&key) else {
+            return Some(ShareRefusal::UnknownKey);
+        };
+        if !buffer.is_held_by(client) {
+            return Some(ShareRefusal::NotHeld);
+        }
+        if buffer.is_held_once_by(client) {
+            return shown.map(|scanout| ShareRefusal::InUse { scanout });
+        }
+        None
+    }
+
+    /// Why the client can't give back the buffer's pages, if it can't.
+    fn free_refusal(&self, client: u32, key: u32, live: bool) -> Option<ShareRefusal>
+        ensures { result ≡ free_refusal client key live self.now }
+    {
+        let Some(buffer) = self.buffers.get(&key) else {
+            return Some(ShareRefusal::UnknownKey);
+        };
+        if buffer.taker != Some(client) {
+            return Some(ShareRefusal::NotHeld);
+        }
+        if live {
+            return Some(ShareRefusal::ResourceLive);
+        }
+        None
+    }
+}
+
+impl Buffer {
+    /// Whether the client holds the buffer.
+    fn is_held_by(&self, client: u32) -> bool
+        ensures { result ≡ is_holder client self.now }
+    {
+        self.holders.as_slice().iter().any(|other| *other == client)
+    }
+
+    /// Whether the client holds the buffer exactly once.
+    fn is_held_once_by(&self, client: u32) -> bool
+        ensures { result ≡ holds_once client self.now }
+    {
+        let holds = self.holders.as_slice().iter();
+        holds.filter(|other| **other == client).count() == 1
+    }
+
+    /// Takes one hold of the client away, and tells whether no hold is left: the client takes the buffer down then.
+    fn release(&mut self, client: u32) -> bool
+        ensures after { self.new ≡ released_buffer client self.old }
+        ensures last { result ≡ (length self.new.holders == 0) }
+    {
+        remove_number(&mut self.holders, client);
+        let last = self.holders.is_empty();
+        if last {
+            self.taker = Some(client);
+        }
+        last
+    }
+}
+
+/// A buffer with these pages that the client holds once.
+fn new_buffer(
+    alloc: Global,
+    client: u32,
+    geometry: &Geometry,
+    pages: &[u32],
+) -> Result<Buffer, AllocError>
+    ensures { IfOk result (λ buffer. buffer ≡ new_buffer client geometry.now pages.now) }
+{
+    let pages = Seq::from_vec(pages.to_vec(alloc)?);
+    let holders = Seq::from_vec(vec![in alloc; client]?);
+    Ok(Buffer {
+        geometry: *geometry,
+        pages,
+        holders,
+        taker: None,
+    })
+}
+
+/// Takes one hold of the client away where a buffer has the key, and tells whether no hold is left.
+fn release_in(buffers: &mut BTreeMap<u32, Buffer>, client: u32, key: u32) -> bool
+    ensures entries { buffers.new.entries ≡ released_entries client key (lookup (is_at (nat_cmp key)) buffers.old.entries) buffers.old.entries }
+    ensures last { result ≡ not (some_holder (lookup (is_at (nat_cmp key)) buffers.new.entries)) }
+{
+    if let Some(buffer) = buffers.get_mut(&key) {
+        return buffer.release(client);
+    }
+    true
+}
