@@ -1,9 +1,8 @@
 pub mod ReplayLemmas
 pub mod HoldsLemmas
 pub mod OwnLemmas
-pub mod TaskLemmas
+pub mod GivesLemmas
 pub mod OutcomeLemmas
 pub mod AccountLemmas
 pub mod ReplyLemmas
 pub mod PlayLemmas
-pub mod NamesLemmas

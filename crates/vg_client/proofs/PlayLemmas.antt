@@ -16,31 +16,32 @@ use Rattle.vg_machine.specs.Entries.{Entry}
 use Rattle.vg_holds.specs.declared.holds.Holds.{Holds}
 use Rattle.vg_holds.specs.Holds.{Deniable}
 use Rattle.vg_machine.specs.Order.{is_leave, updated}
-use Rattle.vg_client.specs.declared.call.Call.{Call}
+use Rattle.vg_tasks.specs.declared.call.Call.{Call}
 use Rattle.vg_client.specs.declared.caller.Caller.{Caller}
 use Rattle.vg_client.specs.declared.given.Added.{Added}
 use Rattle.vg_client.specs.declared.given.Given.{Given}
 use Rattle.vg_client.specs.declared.given.Given.TheVariants as givens
-use Rattle.vg_client.specs.declared.names.Held.{Held}
+use Rattle.vg_names.specs.declared.names.Held.{Held}
 use Rattle.vg_client.specs.declared.outcome.Played.{Played}
-use Rattle.vg_client.specs.declared.task.Change.{Change}
-use Rattle.vg_client.specs.declared.task.Change.TheVariants.{NewBuffer, EndOfName, Shows}
-use Rattle.vg_client.specs.declared.task.Task.{Task}
+use Rattle.vg_tasks.specs.declared.task.Change.{Change}
+use Rattle.vg_tasks.specs.declared.task.Change.TheVariants.{NewBuffer, EndOfName, Shows}
+use Rattle.vg_tasks.specs.declared.task.Task.{Task}
 use Rattle.vg_client.specs.Calls.{Begins, BeginsTasks, Gives, GivesTasks, IsAsked, IsDenial, IsDone, IsEntryOf, IsFrontOf, Plays, learned, names_after, names_reserved, shows_after}
-use Rattle.vg_client.specs.Tasks.{end_tasks, tasks_of}
-use Rattle.vg_client.specs.Callers.{HasAdded, HasDone, HasEnded, HasGoneOn, HasLeftBy, IsFewPages, IsFitPlan, IsPlanOf, IsReady, IsSmall, known, planned, weight_of, weights}
+use Rattle.vg_tasks.specs.Tasks.{end_tasks, tasks_of}
+use Rattle.vg_client.specs.Callers.{HasAdded, HasDone, HasEnded, HasGoneOn, HasLeftBy, IsFewPages, IsReady, IsSmall, known}
+use Rattle.vg_tasks.specs.Plans.{IsFitPlan, IsPlanOf, planned, weight_of, weights}
 use Rattle.vg_client.specs.Given.{follow_ups, given_of, goes_on, is_accepted, left_after, tells_denial}
-use Rattle.vg_client.specs.Known.{Known}
-use Rattle.vg_client.specs.Names.{NamesState, is_generation, without_name}
-use Rattle.vg_client.specs.Fits.{IsFit}
+use Rattle.vg_tasks.specs.Known.{Known}
+use Rattle.vg_names.specs.Names.{NamesState, is_generation, without_name}
+use Rattle.vg_tasks.specs.Fits.{IsFit}
 use Rattle.vg_client.specs.Outcomes.{HasPlayed, IsNumbered, last_given}
-use Rattle.vg_client.specs.Table.{page_entry}
+use Rattle.vg_tasks.specs.Table.{page_entry}
 use Rattle.vg_driver.specs.Tickets.{Token}
 use Rattle.vg_client.specs.Accounts.{IsAccount, IsActive, IsAdded, IsAddedAct, IsPresent, IsUnadded, leaves, mine_of}
 use Rattle.vg_client.proofs.HoldsLemmas.{updated-kept}
 use Rattle.vg_client.proofs.OutcomeLemmas.{played-more}
 use Rattle.vg_client.proofs.OwnLemmas.{all-more}
-use Rattle.vg_client.proofs.TaskLemmas.{fit-append, weights-append}
+use Rattle.vg_tasks.proofs.TaskLemmas.{fit-append, weights-append}
 use Rattle.vg_history.proofs.ListLemmas.{prefix_self, prefix_trans}
 
 -- one entry more, of the first task that was left

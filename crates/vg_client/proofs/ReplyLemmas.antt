@@ -14,7 +14,7 @@ use Rattle.vg_pages.specs.Memory.{free_pages}
 use Rattle.vg_client.specs.declared.given.Given.{Given}
 use Rattle.vg_client.specs.declared.given.Given.TheVariants as givens
 use Rattle.vg_client.specs.Callers.{HasFewPages, IsFewPages}
-use Rattle.vg_client.specs.Fits.{HasFewBytes}
+use Rattle.vg_tasks.specs.Fits.{HasFewBytes}
 
 few-replied : (refusal : Option ShareRefusal) (state next : State) (reply : ActReply) → HasFewPages reply → HasFewPages (replied_by refusal state next reply).1
 few-replied None state next reply few = few

@@ -15,23 +15,23 @@ use Rattle.vg_holds.specs.declared.holds.Holds.{Holds}
 use Rattle.vg_holds.specs.Holds.{Deniable}
 use Rattle.vg_machine.specs.Order.{updated}
 use Rattle.vg_chain.specs.Made.{IsCount}
-use Rattle.vg_client.specs.declared.call.Call.{Call}
-use Rattle.vg_client.specs.declared.call.Call.TheVariants as calls
+use Rattle.vg_tasks.specs.declared.call.Call.{Call}
+use Rattle.vg_tasks.specs.declared.call.Call.TheVariants as calls
 use Rattle.vg_client.specs.declared.caller.Caller.{Caller}
 use Rattle.vg_client.specs.declared.given.Added.{Added}
 use Rattle.vg_client.specs.declared.given.Given.{Given}
 use Rattle.vg_client.specs.declared.given.Given.TheVariants as givens
-use Rattle.vg_client.specs.declared.task.Change.{Change}
-use Rattle.vg_client.specs.declared.task.Change.TheVariants.{NewBuffer, EndOfName}
-use Rattle.vg_client.specs.declared.task.Task.{Task}
+use Rattle.vg_tasks.specs.declared.task.Change.{Change}
+use Rattle.vg_tasks.specs.declared.task.Change.TheVariants.{NewBuffer, EndOfName}
+use Rattle.vg_tasks.specs.declared.task.Task.{Task}
 use Rattle.vg_client.specs.Given.{given_of}
-use Rattle.vg_client.specs.declared.names.NameRef.{NameRef}
-use Rattle.vg_client.specs.Known.{Known, first_known}
-use Rattle.vg_client.specs.Fits.{IsFit}
+use Rattle.vg_names.specs.declared.names.NameRef.{NameRef}
+use Rattle.vg_tasks.specs.Known.{Known, first_known}
+use Rattle.vg_tasks.specs.Fits.{IsFit}
 use Rattle.vg_client.specs.Accounts.{IsAccount, IsActive, IsNew, mine_of}
 use Rattle.vg_client.specs.Calls.{Plays}
 use Rattle.vg_client.specs.Outcomes.{IsNumbered}
-use Rattle.vg_client.specs.Tasks.{end_tasks}
+use Rattle.vg_tasks.specs.Tasks.{end_tasks}
 
 -- A client, and whether it has stopped for want of memory.
 pub record ClientState (B : Type 0) : Type 0 where
@@ -82,16 +82,6 @@ pub record HasDone {B : Type 0} (client : Caller B) (entry : Entry) (done : Adde
   pub numbered : IsNumbered client'.token.seen done.number entry
   pub behind : length client.token.seen < done.number
 
--- How many entries a task can give, with those that follow from it.
-abbrev pub weight_of : Change → ℕ
-weight_of (NewBuffer width height format) = 3
-weight_of (EndOfName generation key) = 3
-weight_of change = 1
-
-abbrev pub weights : List Task → ℕ
-weights [] = 0
-weights (task ∷ more) = weight_of task.change + weights more
-
 -- The pages of a reply are few enough to be told in one request: those of the largest buffer are 300.
 abbrev pub HasFewPages : ActReply → Type 0
 HasFewPages (Reserved key pages) = length pages ≤ 300
@@ -100,33 +90,6 @@ HasFewPages reply = Unit {0}
 abbrev pub IsFewPages : Given → Type 0
 IsFewPages (givens.Act reply) = HasFewPages reply
 IsFewPages given = Unit {0}
-
--- A call whose numbers are within its limits, with so many displays.
-abbrev pub IsCallFit : ℕ → Call → Type 0
-IsCallFit displays (calls.Buffer width height format) = (width ≤ 640) × (height ≤ 480)
-IsCallFit displays (calls.Drop scanout) = scanout < displays
-IsCallFit displays (calls.Raw queue room shape bytes) = (length bytes ≤ 49152) × (room ≤ 8192) × IsCount shape
-IsCallFit displays call = Unit {0}
-
--- What was made of a plan: its tasks, which are few and fit, or what is denied.
-abbrev pub IsPlanOf : {A : Type 0} → Result (List Task) What → Result (Vec Task A) What → Type 0
-IsPlanOf plan (Ok tasks) = (plan ≡ Ok tasks.items) × AllByRecursion IsFit tasks.items × (weights tasks.items ≤ 19)
-IsPlanOf plan (Err what) = plan ≡ Err what
-
--- The same, where memory may lack.
-abbrev pub Plans : {A E : Type 0} → Result (List Task) What → Result (Result (Vec Task A) What) E → Type 0
-Plans plan (Ok made) = IsPlanOf plan made
-Plans plan (Err none) = Unit {0}
-
--- What is planned, as lists.
-abbrev pub planned : {A : Type 0} → Result (Vec Task A) What → Result (List Task) What
-planned (Ok tasks) = Ok tasks.items
-planned (Err what) = Err what
-
--- The tasks are few and fit; what is denied may be.
-abbrev pub IsFitPlan : {A : Type 0} → Holds → Result (Vec Task A) What → Type 0
-IsFitPlan holds (Ok tasks) = AllByRecursion IsFit tasks.items × (weights tasks.items ≤ 19)
-IsFitPlan holds (Err what) = Deniable holds what
 
 -- The generation of the name that a call gave; 0 where it gave none.
 abbrev pub generation_of : Option NameRef → ℕ

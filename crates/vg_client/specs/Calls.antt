@@ -11,19 +11,19 @@ use Rattle.vg_machine.specs.declared.history.Request.{Request}
 use Rattle.vg_holds.specs.declared.holds.Holds.{Holds}
 use Rattle.vg_holds.specs.Holds.{denied_of}
 use Rattle.vg_machine.specs.Order.{updated}
-use Rattle.vg_client.specs.declared.call.Call.{Call}
+use Rattle.vg_tasks.specs.declared.call.Call.{Call}
 use Rattle.vg_client.specs.declared.given.Given.{Given}
 use Rattle.vg_client.specs.declared.given.Given.TheVariants as givens
-use Rattle.vg_client.specs.declared.task.Change.{Change}
-use Rattle.vg_client.specs.declared.task.Change.TheVariants.{NewBuffer, EndOfName, Shows}
-use Rattle.vg_client.specs.declared.task.Deed.{Deed}
-use Rattle.vg_client.specs.declared.task.Deed.TheVariants as deeds
-use Rattle.vg_client.specs.declared.task.Task.{Task}
+use Rattle.vg_tasks.specs.declared.task.Change.{Change}
+use Rattle.vg_tasks.specs.declared.task.Change.TheVariants.{NewBuffer, EndOfName, Shows}
+use Rattle.vg_tasks.specs.declared.task.Deed.{Deed}
+use Rattle.vg_tasks.specs.declared.task.Deed.TheVariants as deeds
+use Rattle.vg_tasks.specs.declared.task.Task.{Task}
 use Rattle.vg_client.specs.Given.{given_of, is_accepted, left_after}
-use Rattle.vg_client.specs.Known.{Known}
-use Rattle.vg_client.specs.Names.{NamesState, with_name, without_name}
+use Rattle.vg_tasks.specs.Known.{Known}
+use Rattle.vg_names.specs.Names.{NamesState, with_name, without_name}
 use Rattle.vg_driver.specs.Requests.{denied_by, raw_request, request_by}
-use Rattle.vg_client.specs.Tasks.{tasks_of}
+use Rattle.vg_tasks.specs.Tasks.{tasks_of}
 
 -- A request is asked of the device, with some ordinal, or denied to its client for the first thing that it names and that isn't
 -- allowed.

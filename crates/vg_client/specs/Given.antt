@@ -14,10 +14,10 @@ use Rattle.vg_machine.specs.declared.history.Reply.{Reply}
 use Rattle.vg_machine.specs.declared.history.Reply.TheVariants.{Fault, Response}
 use Rattle.vg_client.specs.declared.given.Given.{Given}
 use Rattle.vg_client.specs.declared.given.Given.TheVariants as givens
-use Rattle.vg_client.specs.declared.task.Change.{Change}
-use Rattle.vg_client.specs.declared.task.Change.TheVariants.{NewBuffer, EndOfName, GoesOn}
-use Rattle.vg_client.specs.declared.task.Task.{Task}
-use Rattle.vg_client.specs.Table.{attach_task, create_task, free_task, unref_task}
+use Rattle.vg_tasks.specs.declared.task.Change.{Change}
+use Rattle.vg_tasks.specs.declared.task.Change.TheVariants.{NewBuffer, EndOfName, GoesOn}
+use Rattle.vg_tasks.specs.declared.task.Task.{Task}
+use Rattle.vg_tasks.specs.Table.{attach_task, create_task, free_task, unref_task}
 
 abbrev pub tells_denial : Act → Bool
 tells_denial (acts.Denied what) = true

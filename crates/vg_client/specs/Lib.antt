@@ -1,11 +1,6 @@
-pub mod Names
-pub mod Known
 pub mod Own
 pub mod Accounts
-pub mod Table
 pub mod Given
 pub mod Outcomes
-pub mod Fits
-pub mod Tasks
 pub mod Calls
 pub mod Callers

@@ -7,17 +7,13 @@ ghost use Rattle.vg_holds.specs.declared.act.ActReply.TheVariants as act_replies
 ghost use Rattle.vg_holds.specs.declared.setup.Setup.{Setup as Setups};
 ghost use Rattle.vg_machine.specs.Entries.{Entry as Entries};
 ghost use Rattle.vg_client.specs.Accounts.{IsAccount, IsActive, IsNew, IsUnadded, mine_of};
-ghost use Rattle.vg_client.specs.Callers.{HasAdded, HasGoneOn, HasEnded, HasEntered, HasLeftBy, IsCallFit, IsFitPlan, IsReady, generation_of, known, planned};
+ghost use Rattle.vg_client.specs.Callers.{HasAdded, HasGoneOn, HasEnded, HasEntered, HasLeftBy, IsReady, generation_of, known};
+ghost use Rattle.vg_tasks.specs.Plans.{IsCallFit, IsFitPlan, planned};
 ghost use Rattle.vg_client.specs.Calls.{Begins, BeginsTasks, Gives, GivesTasks, newest};
 ghost use Rattle.vg_client.specs.Outcomes.{HasPlayed, IsOutcome};
 
-use crate::call::Call;
-use crate::names::{NameRef, Names};
 use crate::outcome::{Outcome, Played};
 use crate::play::{deny, play};
-use crate::task::Task;
-use crate::tasks;
-use crate::tasks::tasks_of;
 use crate::tokens::{Token, act};
 use std::alloc::{AllocError, Global};
 use std::collections::VecDeque;
@@ -25,7 +21,9 @@ use std::sync::Wait;
 use vg_book::{Book, Naming};
 use vg_driver::Driver;
 use vg_machine::{Act, Display, What};
+use vg_names::{NameRef, Names};
 use vg_ring::Rings;
+use vg_tasks::{Call, Task, end_tasks, tasks_of};
 
 /// A client, which draws its own call numbers from 1.
 #[derive(Drop)]
@@ -158,7 +156,7 @@ pub(crate) fn end<B: Naming, N: Rings, R: Wait>(
     ensures ended { OnOk result (HasEnded client.old client.new.token) }
     ensures entry { IfOk result (HasLeftBy client.new.token) }
 {
-    let tasks = tasks::end_tasks(alloc, client.token.holds(), &client.names)?;
+    let tasks = end_tasks(alloc, client.token.holds(), &client.names)?;
     play(
         rt,
         alloc,

@@ -5,11 +5,11 @@ ghost use mathlib.Core.List.{IsPrefix};
 ghost use Rattle.vg_holds.specs.declared.setup.Setup.{Setup as Setups};
 ghost use Rattle.vg_machine.specs.Entries.{Entry as Entries};
 ghost use Rattle.vg_client.specs.Accounts.{IsNew, IsUnadded, mine_of};
-ghost use Rattle.vg_client.specs.Callers.{HasAdded, HasEnded, HasEntered, HasGoneOn, HasLeftBy, IsCallFit, generation_of, known};
+ghost use Rattle.vg_client.specs.Callers.{HasAdded, HasEnded, HasEntered, HasGoneOn, HasLeftBy, generation_of, known};
+ghost use Rattle.vg_tasks.specs.Plans.{IsCallFit};
 ghost use Rattle.vg_client.specs.Calls.{Begins, Gives, newest};
 ghost use Rattle.vg_client.specs.Outcomes.{IsOutcome};
 
-use crate::call::Call;
 use crate::caller::{Caller, end, enter, make_call};
 use crate::outcome::Outcome;
 use std::alloc::Global;
@@ -19,6 +19,7 @@ use vg_book::{Book, ClientToken, Naming, NoMemory, Note, entries_in_step};
 use vg_driver::Driver;
 use vg_machine::Display;
 use vg_ring::Rings;
+use vg_tasks::Call;
 
 /// A client of a display, which submits its commands by a driver and makes one call at a time.
 ///

@@ -1,13 +1,13 @@
 //! What the answer to a task says: whether it was accepted, and what follows.
 
 ghost use Rattle.std.specs.Prelude.{◌≡◌, ◌∷◌, ◌++◌, OnOk};
-ghost use Rattle.vg_client.specs.Table.{attach_task, create_task, free_task, unref_task};
+ghost use Rattle.vg_tasks.specs.Table.{attach_task, create_task, free_task, unref_task};
 ghost use Rattle.vg_client.specs.Given as answers;
 
-use crate::task::{Change, Task, act_task, attach_task, create_task, unref_task};
 use std::alloc::{AllocError, Global};
 use std::collections::VecDeque;
 use vg_machine::{Act, ActReply, Reply};
+use vg_tasks::{Change, Task, act_task, attach_task, create_task, unref_task};
 use vg_wire::kinds::{OK_DISPLAY_INFO, OK_EDID, OK_NODATA, OK_RESOURCE_UUID};
 use vg_wire::{Queue, read_header};
 

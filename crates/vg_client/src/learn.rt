@@ -2,16 +2,16 @@
 
 ghost use Rattle.std.specs.Prelude.{◌≡◌, ◌≤◌, ◌<◌, ◌^◌, OnOk};
 ghost use Rattle.vg_client.specs.Calls.{names_after, names_reserved, shows_after};
-ghost use Rattle.vg_client.specs.Fits.{IsFitChange};
-ghost use Rattle.vg_client.specs.declared.task.Change.TheVariants as changes;
+ghost use Rattle.vg_tasks.specs.Fits.{IsFitChange};
+ghost use Rattle.vg_tasks.specs.declared.task.Change.TheVariants as changes;
 
 use crate::caller::Caller;
 use crate::given::{Given, is_accepted};
-use crate::names::Names;
-use crate::task::Change;
 use std::alloc::AllocError;
 use vg_book::Naming;
 use vg_machine::ActReply;
+use vg_names::Names;
+use vg_tasks::Change;
 
 /// What the client knows after a task was answered.
 pub(crate) fn learn<B: Naming>(

@@ -2,20 +2,15 @@
 //! share, and commands that go to the device by a driver.
 #![tactic(auto)]
 
-mod call;
 mod caller;
 mod client;
 mod given;
 mod learn;
-mod names;
 mod outcome;
 mod play;
-mod task;
-mod tasks;
 mod tokens;
 
-pub use call::Call;
 pub use client::Client;
-pub use names::NameRef;
 pub use outcome::{Last, Outcome};
-pub use task::{Change, Deed, Task};
+pub use vg_names::NameRef;
+pub use vg_tasks::{Call, Change, Deed, Task};

@@ -4,11 +4,11 @@ ghost use Rattle.std.specs.Prelude.{◌≡◌, ◌++◌, ◌∷◌, [], IfOk, Is
 ghost use Rattle.vg_client.specs.Outcomes as outcomes;
 
 use crate::given::{Added, Given};
-use crate::names::NameRef;
 use std::alloc::{AllocError, Global};
 use vg_driver::Answer;
 use vg_list::Seq;
 use vg_machine::ActReply;
+use vg_names::NameRef;
 
 /// What the last entry of a call was answered.
 #[derive(Drop)]

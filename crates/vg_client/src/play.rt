@@ -12,9 +12,10 @@ ghost use Rattle.vg_driver.specs.Requests.{IsShort, MayGo};
 ghost use Rattle.vg_driver.specs.Requests as requests;
 ghost use Rattle.vg_client.specs.declared.given.Given.TheVariants as givens;
 ghost use Rattle.vg_client.specs.Accounts.{IsActive, MayAct, leaves, mine_of};
-ghost use Rattle.vg_client.specs.Callers.{HasAdded, HasDone, HasGoneOn, IsFewPages, IsReady, known, weights};
+ghost use Rattle.vg_client.specs.Callers.{HasAdded, HasDone, HasGoneOn, IsFewPages, IsReady, known};
+ghost use Rattle.vg_tasks.specs.Plans.{weights};
 ghost use Rattle.vg_client.specs.Calls.{IsAsked, IsDenial, IsDone, IsFrontOf, Plays};
-ghost use Rattle.vg_client.specs.Fits.{HasFewBytes, IsFit, IsFitDeed};
+ghost use Rattle.vg_tasks.specs.Fits.{HasFewBytes, IsFit, IsFitDeed};
 ghost use Rattle.vg_client.specs.Given.{tells_denial};
 ghost use Rattle.vg_client.specs.Outcomes.{HasPlayed};
 
@@ -22,7 +23,6 @@ use crate::caller::Caller;
 use crate::given::{Added, Given, leave_tasks};
 use crate::learn::learn;
 use crate::outcome::Played;
-use crate::task::{Deed, Task};
 use crate::tokens::{act as add_act, command as ask, raw_command};
 use std::alloc::{AllocError, Global};
 use std::collections::VecDeque;
@@ -32,6 +32,7 @@ use vg_chain::Shape;
 use vg_driver::{Driver, Way, denied_by, queue_by};
 use vg_machine::{Act, ActReply, Display, What, denied};
 use vg_ring::Rings;
+use vg_tasks::{Deed, Task};
 use vg_wire::Queue;
 use vg_wire_ext::Command;
 

@@ -17,16 +17,16 @@ use Rattle.vg_machine.specs.State.{State, start}
 use Rattle.vg_machine.specs.Replay.{AgreesFrom, HasReply, after, request_step}
 use Rattle.vg_machine.specs.Order.{AreInOrder, LaneOrder, Sound, by_call, call_of, client_of, is_of_lane, of_client}
 use Rattle.vg_script.specs.declared.types.Line.{Line}
-use Rattle.vg_client.specs.declared.task.Deed.{Deed}
-use Rattle.vg_client.specs.declared.task.Deed.TheVariants as deeds
-use Rattle.vg_client.specs.declared.task.Task.{Task}
+use Rattle.vg_tasks.specs.declared.task.Deed.{Deed}
+use Rattle.vg_tasks.specs.declared.task.Deed.TheVariants as deeds
+use Rattle.vg_tasks.specs.declared.task.Task.{Task}
 use Rattle.vg_part.specs.Follows.{AreInPlace, Follows, GivesAll, GivesCalls, call_of_step, no_refs, refs_after}
 use Rattle.vg_client.specs.Calls.{GivesTasks, IsAsked, IsDone, Plays, learned, newest}
-use Rattle.vg_client.specs.Known.{Known, first_known}
+use Rattle.vg_tasks.specs.Known.{Known, first_known}
 use Rattle.vg_drive.specs.Legal.{FollowAll}
 use Rattle.vg_client.specs.Given.{given_of, left_after}
 use Rattle.vg_driver.specs.Requests.{denied_by, raw_request, request_by}
-use Rattle.vg_client.specs.Tasks.{end_tasks, tasks_of}
+use Rattle.vg_tasks.specs.Tasks.{end_tasks, tasks_of}
 use Rattle.vg_drive.proofs.OrderLemmas.{by_call-in_place, of_client-all}
 
 -- what is left of a client's history from its k-th number on

@@ -13,7 +13,7 @@ use Rattle.vg_driver.specs.Tickets.{Token}
 use Rattle.vg_client.specs.Accounts.{IsAccount, IsNew, mine_of}
 use Rattle.vg_client.specs.Callers.{ClientState, HasAdded, HasEnded, HasEntered, HasGoneOn, known}
 use Rattle.vg_client.specs.Calls.{Gives, newest}
-use Rattle.vg_client.specs.Known.{Known, first_known}
+use Rattle.vg_tasks.specs.Known.{Known, first_known}
 use Rattle.vg_client.specs.Own.{IsOwn}
 use Rattle.vg_part.specs.Follows.{GivesAll, GivesCalls, call_of_step, no_refs, refs_after}
 use Rattle.vg_part.specs.Performing.{GivesRest, HasKept, HasPerformed, IsFollowing}

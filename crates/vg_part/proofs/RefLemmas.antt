@@ -5,14 +5,14 @@ use Rattle.std.proofs.lemmas.Map.Text.{is_eq-slice_cmp}
 use Rattle.std.specs.BTreeMap.{BTreeMap, UpdatesBy, get_by}
 use Rattle.std.specs.Cmp.Lexicographic.{slice_cmp}
 use Rattle.std.specs.Ordering.{nat_cmp}
-use Rattle.vg_client.specs.declared.names.NameRef.{NameRef}
+use Rattle.vg_names.specs.declared.names.NameRef.{NameRef}
 use Rattle.vg_machine.specs.Entries.{Entry}
-use Rattle.vg_client.specs.declared.call.Call.{Call}
-use Rattle.vg_client.specs.declared.call.Call.TheVariants as calls
+use Rattle.vg_tasks.specs.declared.call.Call.{Call}
+use Rattle.vg_tasks.specs.declared.call.Call.TheVariants as calls
 use Rattle.vg_part.specs.Follows.{with_ref}
 use Rattle.vg_client.specs.Calls.{Gives}
 use Rattle.vg_client.specs.Callers.{generation_of}
-use Rattle.vg_client.specs.Known.{Known}
+use Rattle.vg_tasks.specs.Known.{Known}
 use Rattle.vg_part.specs.Refs.{refs_of, unplaced}
 
 chosen : (b : Bool) (one other : Option NameRef) → generation_of (cond b one other) ≡ cond b (generation_of one) (generation_of other)

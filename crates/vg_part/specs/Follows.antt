@@ -19,12 +19,12 @@ use Rattle.vg_script.specs.declared.types.Step.{Step}
 use Rattle.vg_script.specs.declared.types.Step.TheVariants as steps
 use Rattle.vg_script.specs.declared.types.RawShape.{RawShape}
 use Rattle.vg_script.specs.declared.types.RawShape.TheVariants as raw
-use Rattle.vg_client.specs.declared.call.Call.{Call}
-use Rattle.vg_client.specs.declared.call.Call.TheVariants as calls
-use Rattle.vg_client.specs.declared.names.NameRef.{NameRef}
+use Rattle.vg_tasks.specs.declared.call.Call.{Call}
+use Rattle.vg_tasks.specs.declared.call.Call.TheVariants as calls
+use Rattle.vg_names.specs.declared.names.NameRef.{NameRef}
 use Rattle.vg_client.specs.Calls.{Gives, Plays, newest}
-use Rattle.vg_client.specs.Known.{Known, first_known}
-use Rattle.vg_client.specs.Tasks.{end_tasks}
+use Rattle.vg_tasks.specs.Known.{Known, first_known}
+use Rattle.vg_tasks.specs.Tasks.{end_tasks}
 
 -- Of each name of a script the generation of the buffer that it was last given to; 0 where there is none.
 abbrev pub no_refs : List ℕ → ℕ

@@ -12,7 +12,7 @@ use Rattle.vg_script.specs.declared.types.Line.{Line}
 use Rattle.vg_script.specs.declared.types.Script.{Script}
 use Rattle.vg_client.specs.Accounts.{mine_of}
 use Rattle.vg_client.specs.Callers.{ClientState, IsReady, known}
-use Rattle.vg_client.specs.Known.{Known, first_known}
+use Rattle.vg_tasks.specs.Known.{Known, first_known}
 use Rattle.vg_part.specs.Follows.{GivesAll, no_refs}
 use Rattle.vg_part.specs.Kept.{Kept}
 

@@ -5,10 +5,11 @@ use Rattle.std.specs.Ordering.{nat_cmp}
 use denote.Ref.{Bor}
 use Rattle.vg_script.specs.declared.types.Step.{Step}
 use Rattle.vg_script.specs.Limits.{StepInLimits}
-use Rattle.vg_client.specs.declared.call.Call.{Call}
-use Rattle.vg_client.specs.declared.call.Call.TheVariants as calls
-use Rattle.vg_client.specs.declared.names.NameRef.{NameRef}
-use Rattle.vg_client.specs.Callers.{IsCallFit, generation_of}
+use Rattle.vg_tasks.specs.declared.call.Call.{Call}
+use Rattle.vg_tasks.specs.declared.call.Call.TheVariants as calls
+use Rattle.vg_names.specs.declared.names.NameRef.{NameRef}
+use Rattle.vg_client.specs.Callers.{generation_of}
+use Rattle.vg_tasks.specs.Plans.{IsCallFit}
 
 -- The generation of the name that each word was last given to.
 abbrev pub refs_of : BTreeMap (Bor (List ℕ)) NameRef → (List ℕ → ℕ)

@@ -1,7 +1,7 @@
 use Rattle.std.proofs.Common.{◌∙◌, ◌++◌, ap, map}
 use Rattle.vg_holds.specs.declared.holds.Holds.{Holds}
-use Rattle.vg_client.specs.Table.{release_task}
-use Rattle.vg_client.specs.Tasks.{leases_back}
+use Rattle.vg_tasks.specs.Table.{release_task}
+use Rattle.vg_tasks.specs.Tasks.{leases_back}
 use Rattle.vg_client.proofs.PlayLemmas.{both-ok, ended-by}
 use Rattle.vg_client.proofs.caller.end.Goals as goal
 

@@ -1,11 +1,12 @@
 use Rattle.std.proofs.Common.{◌≡◌, ◌∙◌, List, Option, ap, arith, subst, ℕ}
 use Rattle.vg_holds.specs.declared.holds.Holds.{Holds}
-use Rattle.vg_client.specs.Callers.{IsPlanOf, known}
-use Rattle.vg_client.specs.Known.{Known}
-use Rattle.vg_client.specs.Tasks.{tasks_of}
+use Rattle.vg_client.specs.Callers.{known}
+use Rattle.vg_tasks.specs.Plans.{IsPlanOf}
+use Rattle.vg_tasks.specs.Known.{Known}
+use Rattle.vg_tasks.specs.Tasks.{tasks_of}
 use Rattle.vg_client.proofs.OutcomeLemmas.{ends-some, outcome-is}
 use Rattle.vg_client.proofs.PlayLemmas.{added-length, gives-planned, on_err, unbegun}
-use Rattle.vg_client.proofs.TaskLemmas.{gives-some}
+use Rattle.vg_client.proofs.GivesLemmas.{gives-some}
 use Rattle.vg_client.proofs.caller.make_call.Goals as goal
 
 pub returns-in_err-plan-clause-begun : goal.returns-in_err-plan-clause-begun

@@ -1,5 +1,5 @@
 use Rattle.std.proofs.Common.{◌≡◌, ◌∙◌, ap, arith, []}
-use Rattle.vg_client.specs.Names.{NamesState}
+use Rattle.vg_names.specs.Names.{NamesState}
 use Rattle.vg_client.proofs.OutcomeLemmas.{played-none}
 use Rattle.vg_client.proofs.PlayLemmas.{added-length, left-smaller, none-left, on_err, played-all, playing-first, playing-more, stood-done, stood-make, stood-none}
 use Rattle.vg_client.proofs.play.play.Goals as goal

@@ -1,4 +1,4 @@
-use Rattle.vg_client.specs.Callers.{weights}
+use Rattle.vg_tasks.specs.Plans.{weights}
 use Rattle.vg_client.proofs.PlayLemmas.{IsPlaying}
 use Rattle.vg_client.proofs.play.play.Given as goal
 

@@ -1,6 +1,6 @@
 use Rattle.std.proofs.Common.{◌≡◌, [], subst}
 use Rattle.vg_client.specs.Callers.{ClientState, known}
-use Rattle.vg_client.specs.Tasks.{tasks_of}
+use Rattle.vg_tasks.specs.Tasks.{tasks_of}
 use Rattle.vg_client.proofs.PlayLemmas.{added-none, begins-none}
 use Rattle.vg_client.proofs.client.Client.call.Goals as goal
 

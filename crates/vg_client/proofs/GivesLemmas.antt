@@ -1,0 +1,74 @@
+-- What a call gives at the least: an entry.
+use Rattle.std.proofs.Common.{◌≡◌, ◌+◌, ◌-◌, ◌*◌, ◌<◌, ◌≤◌, ◌∙◌, sym, ap, refl, arith, ℕ, zero, suc, Bool, true, false, cond, List, [], ◌∷◌, ◌++◌, length, map, drop, append_assoc, length-append, subst, Option, Some, None, Result, Ok, Err, ℤ}
+use Rattle.std.specs.List.{AllByRecursion}
+use Rattle.vg_holds.specs.declared.act.What.{What}
+use Rattle.vg_holds.specs.declared.act.What.TheVariants.{Scanout}
+use Rattle.vg_holds.specs.declared.holds.Holds.{Holds}
+use Rattle.vg_machine.specs.Entries.{Entry}
+use Rattle.vg_holds.specs.Holds.{has_number}
+use Rattle.vg_tasks.specs.declared.call.Call.{Call}
+use Rattle.vg_tasks.specs.declared.call.Call.TheVariants as calls
+use Rattle.vg_names.specs.declared.names.NameRef.{NameRef}
+use Rattle.vg_client.specs.Calls.{Gives, GivesTasks}
+use Rattle.vg_tasks.specs.Known.{Known}
+use Rattle.vg_names.specs.Names.{NamesState, found}
+use Rattle.vg_names.specs.declared.names.Held.{Held}
+use Rattle.vg_tasks.specs.declared.task.Task.{Task}
+use Rattle.vg_tasks.specs.Plans.{weight_of, weights}
+use Rattle.vg_tasks.specs.Fits.{IsFit}
+use Rattle.vg_tasks.specs.Table.{clear_task, release_task}
+use Rattle.vg_tasks.specs.Tasks.{clear_tasks, close_tasks, cursor_tasks, drop_tasks, give_back, if_current, is_shown, leases_back, tasks_of}
+
+-- a call that isn't denied before there is any task has one
+abbrev HasTasks : Result (List Task) What → Type 0
+HasTasks (Ok tasks) = 1 ≤ length tasks
+HasTasks (Err what) = Unit {0}
+
+held-tasks : (held : Option Held) (tasks : Held → List Task) → ((one : Held) → 1 ≤ length (tasks one)) → HasTasks (if_current held tasks)
+held-tasks None tasks each = tt
+held-tasks (Some one) tasks each = each one
+
+has-cursor_tasks : (names : NamesState) (scanout : ℕ) (name : Option NameRef) (x y : ℤ) (hot_x hot_y : ℕ) → HasTasks (cursor_tasks names scanout name x y hot_x hot_y)
+has-cursor_tasks names scanout None x y hot_x hot_y = omega arith
+has-cursor_tasks names scanout (Some name) x y hot_x hot_y = held-tasks (found name.generation names) _ (λ one. omega arith)
+
+has-drop_tasks : (holds : Holds) (scanout : ℕ) → HasTasks (drop_tasks holds scanout)
+has-drop_tasks holds scanout = by_test (has_number scanout holds.scanouts)
+  where
+    by_test : (b : Bool) → HasTasks (cond b (Ok (give_back scanout)) (Err (Scanout scanout)))
+    by_test true = omega arith
+    by_test false = tt
+
+has-tasks : (known : Known) (call : Call) → HasTasks (tasks_of known call)
+has-tasks known calls.Info = omega arith
+has-tasks known (calls.Edid scanout) = omega arith
+has-tasks known (calls.Buffer width height format) = omega arith
+has-tasks known (calls.Store name offset bytes times) = held-tasks (found name.generation known.names) _ (λ one. omega arith)
+has-tasks known (calls.Load name offset n) = held-tasks (found name.generation known.names) _ (λ one. omega arith)
+has-tasks known (calls.Send name rect) = held-tasks (found name.generation known.names) _ (λ one. omega arith)
+has-tasks known (calls.Flush name rect) = held-tasks (found name.generation known.names) _ (λ one. omega arith)
+has-tasks known (calls.Take scanout) = omega arith
+has-tasks known (calls.Drop scanout) = has-drop_tasks known.holds scanout
+has-tasks known (calls.Hide scanout) = omega arith
+has-tasks known (calls.Show scanout name rect) = held-tasks (found name.generation known.names) _ (λ one. omega arith)
+has-tasks known (calls.Flip scanout name) = held-tasks (found name.generation known.names) _ (λ one. omega arith)
+has-tasks known (calls.Cursor scanout name x y hot_x hot_y) = has-cursor_tasks known.names scanout name x y hot_x hot_y
+has-tasks known (calls.Move scanout x y) = omega arith
+has-tasks known (calls.Uuid name) = held-tasks (found name.generation known.names) _ (λ one. omega arith)
+has-tasks known (calls.Raw queue room shape bytes) = omega arith
+has-tasks known (calls.Close name) =
+    held-tasks (found name.generation known.names) (close_tasks known.shows) (λ one. let longer = length-append (clear_tasks one.key 0 known.shows) (release_task one ∷ []) in omega (arith, longer))
+
+-- so it gives an entry
+gives-tasks : (client : ℕ) (known known' : Known) (plan : Result (List Task) What) → HasTasks plan → GivesTasks client known plan [] known' → ⊥
+gives-tasks client known known' (Ok []) has gives = omega (arith, has)
+gives-tasks client known known' (Ok (task ∷ tasks)) has gives = let none : [] ≡ task ∷ tasks = gives.1 in cc none
+gives-tasks client known known' (Err what) has gives = nothing _ _ gives.0.2
+  where
+    nothing : (entry : Entry) (more : List Entry) → [] ≡ entry ∷ more → ⊥
+    nothing entry more none = cc none
+
+pub gives-some : (client : ℕ) (known known' : Known) (call : Call) (mine : List Entry) → Gives client known call mine known' → mine ≡ [] → ⊥
+gives-some client known known' call mine gives none =
+    let Given : List Entry → Type 0 = λ xs. GivesTasks client known (tasks_of known call) xs known' in
+    gives-tasks client known known' (tasks_of known call) (has-tasks known call) (subst Given none gives)

@@ -1,6 +1,0 @@
-use Rattle.std.proofs.Common.{◌≡◌, ◌++◌, drop}
-use Rattle.vg_client.specs.Tasks.{clear_tasks}
-use Rattle.vg_client.proofs.tasks.clear_each.Given as goal
-
-abbrev pub invariant-loop-scanout : goal.invariant-loop-scanout
-invariant-loop-scanout l = l.tasks.items ++ clear_tasks l.key l.scanout (drop l.scanout l.shows) ≡ clear_tasks l.key 0 l.shows

@@ -1,6 +1,0 @@
-use Rattle.std.proofs.Common.{◌≡◌, ◌++◌, map, take}
-use Rattle.vg_client.specs.Table.{release_task}
-use Rattle.vg_client.proofs.tasks.release_each.Given as goal
-
-abbrev pub invariant-loop-held : goal.invariant-loop-held
-invariant-loop-held l = l.tasks.items ≡ l.fn.tasks.items ++ map release_task (take l.held-index l.current)

@@ -1,0 +1,6 @@
+use Rattle.std.proofs.Common.{◌≡◌, ◌++◌, map, take}
+use Rattle.vg_tasks.specs.Table.{release_task}
+use Rattle.vg_tasks.proofs.tasks.release_each.Given as goal
+
+abbrev pub invariant-loop-held : goal.invariant-loop-held
+invariant-loop-held l = l.tasks.items ≡ l.fn.tasks.items ++ map release_task (take l.held-index l.current)

@@ -1,0 +1,34 @@
+-- Tasks whose numbers are within their limits.
+use Rattle.std.specs.Prelude.{◌≤◌, length}
+use Rattle.vg_chain.specs.Made.{IsCount}
+use Rattle.vg_holds.specs.declared.act.Act as the_act
+use Rattle.vg_holds.specs.declared.act.Act.TheVariants as acts
+use Rattle.vg_driver.specs.Requests.{IsShort, MayGo}
+use Rattle.vg_tasks.specs.declared.task.Change.{Change}
+use Rattle.vg_tasks.specs.declared.task.Change.TheVariants.{NewBuffer}
+use Rattle.vg_tasks.specs.declared.task.Deed.{Deed}
+use Rattle.vg_tasks.specs.declared.task.Deed.TheVariants as deeds
+use Rattle.vg_tasks.specs.declared.task.Task.{Task}
+
+-- The bytes of a buffer that is reserved are those of a screen at the most.
+abbrev pub HasFewBytes : the_act.Act → Type 0
+HasFewBytes (acts.Reserve width height format bytes) = bytes ≤ 1228800
+HasFewBytes act = Unit {0}
+
+-- What is done for a task is no client's first act, nor its last, nor the telling of a denial; and a request of it is no longer than may be sent.
+abbrev pub IsFitDeed : Deed → Type 0
+IsFitDeed (deeds.Act acts.Enter) = ⊥
+IsFitDeed (deeds.Act acts.Leave) = ⊥
+IsFitDeed (deeds.Act (acts.Denied what)) = ⊥
+IsFitDeed (deeds.Act act) = HasFewBytes act
+IsFitDeed (deeds.Command way command) = MayGo way command × IsShort command
+IsFitDeed (deeds.Raw queue room shape bytes) = (length bytes ≤ 49152) × (room ≤ 8192) × IsCount shape
+
+-- A buffer is no larger than a display.
+abbrev pub IsFitChange : Change → Type 0
+IsFitChange (NewBuffer width height format) = (width ≤ 640) × (height ≤ 480)
+IsFitChange change = Unit {0}
+
+-- A task whose numbers are within its limits.
+abbrev pub IsFit : Task → Type 0
+IsFit task = IsFitDeed task.deed × IsFitChange task.change

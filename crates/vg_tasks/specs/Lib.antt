@@ -1,0 +1,5 @@
+pub mod Known
+pub mod Table
+pub mod Fits
+pub mod Tasks
+pub mod Plans

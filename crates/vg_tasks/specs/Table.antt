@@ -1,0 +1,114 @@
+-- The tasks that calls are made of: for each what is done, and what the answer changes.
+use Rattle.std.specs.Prelude.{ℕ, ℤ, pos, ◌+◌, ◌*◌, List, map, Some, None}
+use Rattle.vg_formats.specs.declared.rect.Rect.{Rect}
+use Rattle.vg_formats.specs.declared.entry.MemEntry.{MemEntry}
+use Rattle.vg_pages.specs.Memory.{page_address}
+use Rattle.vg_wire.specs.declared.two_d.Command2d.{Command2d}
+use Rattle.vg_wire.specs.declared.two_d.Command2d.TheVariants as commands
+use Rattle.vg_wire.specs.declared.request.Queue.{Queue}
+use Rattle.vg_wire_ext.specs.declared.command.Command as the_command
+use Rattle.vg_wire_ext.specs.declared.command.Command.TheVariants.{TwoD, Edid, AssignUuid, UpdateCursor, MoveCursor}
+use Rattle.vg_chain.specs.declared.shape.Shape.{Shape}
+use Rattle.vg_holds.specs.declared.act.Act as the_act
+use Rattle.vg_holds.specs.declared.act.Act.TheVariants as acts
+use Rattle.vg_names.specs.declared.names.Held.{Held}
+use Rattle.vg_tasks.specs.declared.task.Change.{Change}
+use Rattle.vg_tasks.specs.declared.task.Change.TheVariants.{Nothing, NewBuffer, EndOfName, Shows, GoesOn}
+use Rattle.vg_tasks.specs.declared.task.Deed.TheVariants.{Act, Command, Raw}
+use Rattle.vg_tasks.specs.declared.task.Task.{Task}
+use Rattle.vg_driver.specs.declared.request.Way.TheVariants.{Control, Cursor}
+
+-- A task that changes nothing but by its act; a command for no context, and a 2D one.
+abbrev pub act_task : the_act.Act → Task
+act_task act = record { deed = Act act; change = Nothing }
+
+abbrev pub control_task : the_command.Command → Change → Task
+control_task command change = record { deed = Command (Control 0) command; change = change }
+
+abbrev pub two_d_task : Command2d → Change → Task
+two_d_task command change = control_task (TwoD command) change
+
+-- A rectangle without pixels.
+abbrev pub no_rect : Rect
+no_rect = record { x = 0; y = 0; width = 0; height = 0 }
+
+-- A page of guest memory as a range of it.
+abbrev pub page_entry : ℕ → MemEntry
+page_entry page = record { addr = page_address page; length = 4096 }
+
+abbrev pub info_task : Task
+info_task = two_d_task commands.DisplayInfo Nothing
+
+abbrev pub edid_task : ℕ → Task
+edid_task scanout = control_task (Edid scanout) Nothing
+
+abbrev pub uuid_task : ℕ → Task
+uuid_task key = control_task (AssignUuid key) Nothing
+
+-- Bytes as they are.
+abbrev pub raw_task : Queue → ℕ → Shape → List ℕ → Task
+raw_task queue room shape bytes = record { deed = Raw queue room shape bytes; change = Nothing }
+
+-- A buffer has pixels of four bytes.
+abbrev pub reserve_task : ℕ → ℕ → ℕ → Task
+reserve_task width height format = record { deed = Act (acts.Reserve width height format (4 * width * height)); change = NewBuffer width height format }
+
+abbrev pub create_task : ℕ → ℕ → ℕ → ℕ → Task
+create_task key width height format = two_d_task (commands.Create2d key format width height) Nothing
+
+abbrev pub attach_task : ℕ → List ℕ → Task
+attach_task key pages = two_d_task (commands.Attach key (map page_entry pages)) Nothing
+
+abbrev pub store_task : ℕ → ℕ → List ℕ → ℕ → Task
+store_task key offset bytes times = act_task (acts.Store key offset bytes times)
+
+abbrev pub load_task : ℕ → ℕ → ℕ → Task
+load_task key offset n = act_task (acts.Load key offset n)
+
+-- A transfer takes each pixel from its own place in the buffer.
+abbrev pub send_task : Held → Rect → Task
+send_task held rect = two_d_task (commands.Transfer rect (4 * (held.width * rect.y + rect.x)) held.key) Nothing
+
+abbrev pub flush_task : ℕ → Rect → Task
+flush_task key rect = two_d_task (commands.Flush rect key) Nothing
+
+abbrev pub take_task : ℕ → Task
+take_task scanout = act_task (acts.Take scanout)
+
+-- A client shows a buffer on a scanout from a SET_SCANOUT of a show or a flip until a hide or the end of the lease.
+abbrev pub show_task : ℕ → ℕ → Rect → Task
+show_task scanout key rect = two_d_task (commands.SetScanout rect scanout key) (Shows scanout (Some key))
+
+abbrev pub disable : ℕ → Change → Task
+disable scanout change = two_d_task (commands.SetScanout no_rect scanout 0) change
+
+abbrev pub hide_task : ℕ → Task
+hide_task scanout = disable scanout (Shows scanout None)
+
+-- A scanout is disabled before it, or what it shows, is given up: that changes nothing of what the client shows for good.
+abbrev pub clear_task : ℕ → Task
+clear_task scanout = disable scanout Nothing
+
+-- A cursor shows a resource with its hot spot at a position; with resource 0 it is hidden.
+abbrev pub cursor_task : ℕ → ℕ → ℤ → ℤ → ℕ → ℕ → Task
+cursor_task scanout key x y hot_x hot_y = record { deed = Command Cursor (UpdateCursor scanout x y key hot_x hot_y); change = Nothing }
+
+abbrev pub move_task : ℕ → ℤ → ℤ → Task
+move_task scanout x y = record { deed = Command Cursor (MoveCursor scanout x y); change = Nothing }
+
+-- A cursor is hidden before its scanout is given up, at the corner of the screen.
+abbrev pub hide_cursor_task : ℕ → Task
+hide_cursor_task scanout = cursor_task scanout 0 (pos 0) (pos 0) 0 0
+
+abbrev pub drop_task : ℕ → Task
+drop_task scanout = record { deed = Act (acts.Drop scanout); change = Shows scanout None }
+
+-- Gives up the hold of the buffer that a name stands for.
+abbrev pub release_task : Held → Task
+release_task held = record { deed = Act (acts.Release held.key); change = EndOfName held.generation held.key }
+
+abbrev pub unref_task : ℕ → Task
+unref_task key = two_d_task (commands.Unref key) GoesOn
+
+abbrev pub free_task : ℕ → Task
+free_task key = act_task (acts.Free key)

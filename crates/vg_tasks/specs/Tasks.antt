@@ -1,0 +1,84 @@
+-- The tasks of each call of a client, one after another. A task gives one entry.
+use Rattle.std.specs.Prelude.{ℕ, ℤ, zero, suc, ◌+◌, ◌==◌, Bool, false, if◌then◌else◌, List, [], ◌∷◌, ◌++◌, map, Option, Some, None, Result, Ok, Err}
+use Rattle.vg_formats.specs.declared.rect.Rect.{Rect}
+use Rattle.vg_holds.specs.declared.act.What.{What}
+use Rattle.vg_holds.specs.declared.act.What.TheVariants.{Name, Scanout}
+use Rattle.vg_holds.specs.declared.holds.Holds.{Holds}
+use Rattle.vg_holds.specs.Holds.{has_number}
+use Rattle.vg_tasks.specs.declared.call.Call.{Call}
+use Rattle.vg_tasks.specs.declared.call.Call.TheVariants as calls
+use Rattle.vg_names.specs.declared.names.Held.{Held}
+use Rattle.vg_names.specs.declared.names.NameRef.{NameRef}
+use Rattle.vg_tasks.specs.declared.task.Task.{Task}
+use Rattle.vg_tasks.specs.Known.{Known}
+use Rattle.vg_names.specs.Names.{NamesState, found}
+use Rattle.vg_tasks.specs.Table.{clear_task, cursor_task, drop_task, edid_task, flush_task, hide_cursor_task, hide_task, info_task, load_task, move_task, raw_task, release_task, reserve_task, send_task, show_task, store_task, take_task, uuid_task}
+
+-- The tasks of a call on a name: where the name isn't current the call is denied for it.
+abbrev pub if_current : Option Held → (Held → List Task) → Result (List Task) What
+if_current None tasks = Err Name
+if_current (Some held) tasks = Ok (tasks held)
+
+abbrev pub with_held : NamesState → NameRef → (Held → List Task) → Result (List Task) What
+with_held names name tasks = if_current (found name.generation names) tasks
+
+-- The whole of a buffer.
+abbrev pub whole_of : Held → Rect
+whole_of held = record { x = 0; y = 0; width = held.width; height = held.height }
+
+abbrev pub flip_tasks : ℕ → Held → List Task
+flip_tasks scanout held = send_task held (whole_of held) ∷ show_task scanout held.key (whole_of held) ∷ flush_task held.key (whole_of held) ∷ []
+
+-- A cursor shows the buffer of a name; where there is no name it is hidden.
+abbrev pub cursor_tasks : NamesState → ℕ → Option NameRef → ℤ → ℤ → ℕ → ℕ → Result (List Task) What
+cursor_tasks names scanout None x y hot_x hot_y = Ok (cursor_task scanout 0 x y hot_x hot_y ∷ [])
+cursor_tasks names scanout (Some name) x y hot_x hot_y = with_held names name (λ held. cursor_task scanout held.key x y hot_x hot_y ∷ [])
+
+-- A scanout is disabled, and its cursor hidden, before its lease ends.
+abbrev pub give_back : ℕ → List Task
+give_back scanout = clear_task scanout ∷ hide_cursor_task scanout ∷ drop_task scanout ∷ []
+
+abbrev pub drop_tasks : Holds → ℕ → Result (List Task) What
+drop_tasks holds scanout = if has_number scanout holds.scanouts then Ok (give_back scanout) else Err (Scanout scanout)
+
+abbrev pub is_shown : ℕ → Option ℕ → Bool
+is_shown key (Some shown) = shown == key
+is_shown key None = false
+
+-- Each scanout on which the client shows the key is disabled, rising, the first of these being scanout n.
+abbrev pub clear_tasks : ℕ → ℕ → List (Option ℕ) → List Task
+clear_tasks key n [] = []
+clear_tasks key n (shown ∷ more) = (if is_shown key shown then clear_task n ∷ [] else []) ++ clear_tasks key (n + 1) more
+
+abbrev pub close_tasks : List (Option ℕ) → Held → List Task
+close_tasks shows held = clear_tasks held.key 0 shows ++ release_task held ∷ []
+
+-- The tasks of a call, by what its client knows; or what is denied before there is any: a name that isn't current, and the end
+-- of a lease that there isn't.
+abbrev pub tasks_of : Known → Call → Result (List Task) What
+tasks_of known calls.Info = Ok (info_task ∷ [])
+tasks_of known (calls.Edid scanout) = Ok (edid_task scanout ∷ [])
+tasks_of known (calls.Buffer width height format) = Ok (reserve_task width height format ∷ [])
+tasks_of known (calls.Store name offset bytes times) = with_held known.names name (λ held. store_task held.key offset bytes times ∷ [])
+tasks_of known (calls.Load name offset n) = with_held known.names name (λ held. load_task held.key offset n ∷ [])
+tasks_of known (calls.Send name rect) = with_held known.names name (λ held. send_task held rect ∷ [])
+tasks_of known (calls.Flush name rect) = with_held known.names name (λ held. flush_task held.key rect ∷ [])
+tasks_of known (calls.Take scanout) = Ok (take_task scanout ∷ [])
+tasks_of known (calls.Drop scanout) = drop_tasks known.holds scanout
+tasks_of known (calls.Hide scanout) = Ok (hide_task scanout ∷ [])
+tasks_of known (calls.Show scanout name rect) = with_held known.names name (λ held. show_task scanout held.key rect ∷ [])
+tasks_of known (calls.Flip scanout name) = with_held known.names name (flip_tasks scanout)
+tasks_of known (calls.Cursor scanout name x y hot_x hot_y) = cursor_tasks known.names scanout name x y hot_x hot_y
+tasks_of known (calls.Move scanout x y) = Ok (move_task scanout x y ∷ [])
+tasks_of known (calls.Uuid name) = with_held known.names name (λ held. uuid_task held.key ∷ [])
+tasks_of known (calls.Raw queue room shape bytes) = Ok (raw_task queue room shape bytes ∷ [])
+tasks_of known (calls.Close name) = with_held known.names name (close_tasks known.shows)
+
+-- The leased ones of so many scanouts from this one on are given back, rising.
+abbrev pub leases_back : List ℕ → ℕ → ℕ → List Task
+leases_back leased scanout zero = []
+leases_back leased scanout (suc more) = (if has_number scanout leased then give_back scanout else []) ++ leases_back leased (scanout + 1) more
+
+-- What a client gives up at its end: its leases, and then its buffers in the order in which they were made.
+abbrev pub end_tasks : Known → List Task
+end_tasks known = leases_back known.holds.scanouts 0 known.holds.displays ++ map release_task known.names.current

@@ -1,0 +1,369 @@
+//! The tasks that calls are made of. A task gives one entry: an act, or a command to the device.
+
+ghost use Rattle.std.specs.Prelude.{◌≡◌, ◌≤◌, ◌<◌, ◌^◌, map, length, IfOk};
+ghost use Rattle.vg_holds.specs.declared.act.Act.TheVariants as acts;
+ghost use Rattle.vg_tasks.specs.Table as table;
+ghost use Rattle.vg_tasks.specs.Table.{no_rect, page_entry};
+
+use std::alloc::{AllocError, Global};
+use vg_chain::Shape;
+use vg_driver::Way;
+use vg_formats::{MemEntry, Rect};
+use vg_holds::Act;
+use vg_list::Seq;
+use vg_names::Held;
+use vg_pages::{PAGE_BYTES, page_address};
+use vg_wire::{Command2d, Queue};
+use vg_wire_ext::Command;
+
+/// A task of a call: what is done, which gives one entry, and what the answer changes.
+#[derive(Drop)]
+pub struct Task {
+    pub deed: Deed,
+    pub change: Change,
+}
+
+/// What is done for a task.
+#[derive(Drop)]
+pub enum Deed {
+    Act {
+        act: Act,
+    },
+    Command {
+        way: Way,
+        command: Command,
+    },
+    /// Bytes for a queue, as they are, with so many bytes for the response.
+    Raw {
+        queue: Queue,
+        room: u32,
+        shape: Shape,
+        bytes: Seq<u8>,
+    },
+}
+
+/// What the answer to a task changes, for its client and for the rest of the call.
+#[derive(Clone, Copy)]
+pub enum Change {
+    /// Nothing.
+    Nothing,
+    /// A buffer that was reserved gets a name, and then a resource with its pages as its backing.
+    NewBuffer {
+        width: u32,
+        height: u32,
+        format: u32,
+    },
+    /// The name of a buffer that was released ends. What no one holds any more is taken down.
+    EndOfName {
+        generation: u32,
+        key: u32,
+    },
+    /// The scanout shows a buffer of the client's, or none.
+    Shows {
+        scanout: u32,
+        key: Option<u32>,
+    },
+    /// Nothing, and whatever the response is, the call goes on.
+    GoesOn,
+}
+
+/// A task that changes nothing but by its act.
+pub fn act_task(act: Act) -> Task
+    ensures { result ≡ table.act_task act }
+{
+    Task {
+        deed: Deed::Act { act },
+        change: Change::Nothing,
+    }
+}
+
+/// A command for no context, with what its response changes.
+fn control_task(command: Command, change: Change) -> Task
+    ensures { result ≡ table.control_task command change }
+{
+    Task {
+        deed: Deed::Command {
+            way: Way::Control { context: 0 },
+            command,
+        },
+        change,
+    }
+}
+
+/// A 2D command for no context, with what its response changes.
+fn two_d_task(command: Command2d, change: Change) -> Task
+    ensures { result ≡ table.two_d_task command change }
+{
+    control_task(Command::TwoD(command), change)
+}
+
+/// GET_DISPLAY_INFO
+pub(crate) fn info_task() -> Task
+    ensures { result ≡ table.info_task }
+{
+    two_d_task(Command2d::DisplayInfo, Change::Nothing)
+}
+
+/// GET_EDID
+pub(crate) fn edid_task(scanout: u32) -> Task
+    ensures { result ≡ table.edid_task scanout }
+{
+    control_task(Command::Edid { scanout }, Change::Nothing)
+}
+
+/// RESOURCE_ASSIGN_UUID
+pub(crate) fn uuid_task(key: u32) -> Task
+    ensures { result ≡ table.uuid_task key }
+{
+    control_task(Command::AssignUuid { resource: key }, Change::Nothing)
+}
+
+/// Bytes as they are.
+pub(crate) fn raw_task(
+    alloc: Global,
+    queue: Queue,
+    room: u32,
+    shape: Shape,
+    bytes: &[u8],
+) -> Result<Task, AllocError>
+    ensures { IfOk result (λ task. task ≡ table.raw_task queue room shape bytes.now) }
+{
+    let bytes = Seq::from_vec(bytes.to_vec(alloc)?);
+    Ok(Task {
+        deed: Deed::Raw {
+            queue,
+            room,
+            shape,
+            bytes,
+        },
+        change: Change::Nothing,
+    })
+}
+
+/// Takes guest pages for a buffer of pixels of four bytes.
+pub(crate) fn reserve_task(width: u32, height: u32, format: u32) -> Task
+    requires width { width ≤ 640 }
+    requires height { height ≤ 480 }
+    ensures { result ≡ table.reserve_task width height format }
+{
+    Task {
+        deed: Deed::Act {
+            act: Act::Reserve {
+                width,
+                height,
+                format,
+                bytes: 4 * width * height,
+            },
+        },
+        change: Change::NewBuffer {
+            width,
+            height,
+            format,
+        },
+    }
+}
+
+/// RESOURCE_CREATE_2D
+pub fn create_task(key: u32, width: u32, height: u32, format: u32) -> Task
+    ensures { result ≡ table.create_task key width height format }
+{
+    let command = Command2d::Create2d {
+        resource: key,
+        format,
+        width,
+        height,
+    };
+    two_d_task(command, Change::Nothing)
+}
+
+/// RESOURCE_ATTACH_BACKING with an entry for each page.
+pub fn attach_task(alloc: Global, key: u32, pages: &[u32]) -> Result<Task, AllocError>
+    ensures { IfOk result (λ task. task ≡ table.attach_task key pages.now) }
+{
+    let entries = entries_of(alloc, pages)?;
+    let command = Command2d::Attach {
+        resource: key,
+        entries: Seq::from_vec(entries),
+    };
+    Ok(two_d_task(command, Change::Nothing))
+}
+
+/// An entry for each page.
+fn entries_of(alloc: Global, pages: &[u32]) -> Result<Vec<MemEntry>, AllocError>
+    ensures { IfOk result (λ entries. entries.items ≡ map page_entry pages.now) }
+{
+    pages.iter().map(|page| page_entry(*page)).collect(alloc)
+}
+
+fn page_entry(page: u32) -> MemEntry
+    ensures { result ≡ table.page_entry page }
+{
+    MemEntry {
+        addr: page_address(page),
+        length: PAGE_BYTES as u32,
+    }
+}
+
+/// Writes bytes into a buffer, so many times one after another.
+pub(crate) fn store_task(
+    alloc: Global,
+    key: u32,
+    offset: u32,
+    bytes: &[u8],
+    times: u32,
+) -> Result<Task, AllocError>
+    ensures { IfOk result (λ task. task ≡ table.store_task key offset bytes.now times) }
+{
+    let bytes = Seq::from_vec(bytes.to_vec(alloc)?);
+    Ok(act_task(Act::Store {
+        key,
+        offset,
+        bytes,
+        times,
+    }))
+}
+
+/// TRANSFER_TO_HOST_2D of a rectangle of a buffer, each pixel from its own place.
+pub(crate) fn send_task(held: Held, rect: Rect) -> Task
+    requires { held.width ≤ 640 }
+    ensures { result ≡ table.send_task held rect }
+{
+    let pixel = u64::from(held.width) * u64::from(rect.y) + u64::from(rect.x);
+    let command = Command2d::Transfer {
+        rect,
+        offset: 4 * pixel,
+        resource: held.key,
+    };
+    two_d_task(command, Change::Nothing)
+}
+
+/// RESOURCE_FLUSH
+pub(crate) fn flush_task(key: u32, rect: Rect) -> Task
+    ensures { result ≡ table.flush_task key rect }
+{
+    let command = Command2d::Flush {
+        rect,
+        resource: key,
+    };
+    two_d_task(command, Change::Nothing)
+}
+
+/// SET_SCANOUT of a part of a buffer.
+pub(crate) fn show_task(scanout: u32, key: u32, rect: Rect) -> Task
+    ensures { result ≡ table.show_task scanout key rect }
+{
+    let command = Command2d::SetScanout {
+        rect,
+        scanout,
+        resource: key,
+    };
+    let key = Some(key);
+    two_d_task(command, Change::Shows { scanout, key })
+}
+
+/// SET_SCANOUT that disables a scanout, with what it changes.
+fn disable(scanout: u32, change: Change) -> Task
+    ensures { result ≡ table.disable scanout change }
+{
+    let rect = Rect {
+        x: 0,
+        y: 0,
+        width: 0,
+        height: 0,
+    };
+    let command = Command2d::SetScanout {
+        rect,
+        scanout,
+        resource: 0,
+    };
+    two_d_task(command, change)
+}
+
+/// Disables a scanout, for good.
+pub(crate) fn hide_task(scanout: u32) -> Task
+    ensures { result ≡ table.hide_task scanout }
+{
+    disable(scanout, Change::Shows { scanout, key: None })
+}
+
+/// Disables a scanout, before it or what it shows is given up.
+pub(crate) fn clear_task(scanout: u32) -> Task
+    ensures { result ≡ table.clear_task scanout }
+{
+    disable(scanout, Change::Nothing)
+}
+
+/// UPDATE_CURSOR, which hides the cursor where the key is 0.
+pub(crate) fn cursor_task(scanout: u32, key: u32, x: i32, y: i32, hot_x: u32, hot_y: u32) -> Task
+    ensures { result ≡ table.cursor_task scanout key x y hot_x hot_y }
+{
+    let command = Command::UpdateCursor {
+        scanout,
+        x,
+        y,
+        resource: key,
+        hot_x,
+        hot_y,
+    };
+    Task {
+        deed: Deed::Command {
+            way: Way::Cursor,
+            command,
+        },
+        change: Change::Nothing,
+    }
+}
+
+/// MOVE_CURSOR
+pub(crate) fn move_task(scanout: u32, x: i32, y: i32) -> Task
+    ensures { result ≡ table.move_task scanout x y }
+{
+    Task {
+        deed: Deed::Command {
+            way: Way::Cursor,
+            command: Command::MoveCursor { scanout, x, y },
+        },
+        change: Change::Nothing,
+    }
+}
+
+/// UPDATE_CURSOR that hides a scanout's cursor, before the scanout is given up.
+pub(crate) fn hide_cursor_task(scanout: u32) -> Task
+    ensures { result ≡ table.hide_cursor_task scanout }
+{
+    cursor_task(scanout, 0, 0, 0, 0, 0)
+}
+
+/// Ends a lease.
+pub(crate) fn drop_task(scanout: u32) -> Task
+    ensures { result ≡ table.drop_task scanout }
+{
+    Task {
+        deed: Deed::Act {
+            act: Act::Drop { scanout },
+        },
+        change: Change::Shows { scanout, key: None },
+    }
+}
+
+/// Gives up the hold of the buffer that a name stands for.
+pub(crate) fn release_task(held: Held) -> Task
+    ensures { result ≡ table.release_task held }
+{
+    Task {
+        deed: Deed::Act {
+            act: Act::Release { key: held.key },
+        },
+        change: Change::EndOfName {
+            generation: held.generation,
+            key: held.key,
+        },
+    }
+}
+
+/// RESOURCE_UNREF
+pub fn unref_task(key: u32) -> Task
+    ensures { result ≡ table.unref_task key }
+{
+    two_d_task(Command2d::Unref { resource: key }, Change::GoesOn)
+}
