@@ -1,3 +1,2 @@
-pub mod RangeLemmas
 pub mod SessionLemmas
 pub mod Sent

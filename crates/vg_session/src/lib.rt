@@ -2,8 +2,6 @@
 //! at which the book is closed.
 #![tactic(auto)]
 
-mod closing;
 mod threads;
 
-pub use closing::{Closed, close};
 pub use threads::run_threads;

@@ -1,23 +1,13 @@
 -- The tasks of calls: how those of the longer ones grow, how few they are, that they fit, and that each call has one.
-use Rattle.std.proofs.Common.{◌≡◌, ◌+◌, ◌-◌, ◌*◌, ◌<◌, ◌≤◌, ◌∙◌, sym, ap, refl, arith, ℕ, zero, suc, Bool, true, false, cond, List, [], ◌∷◌, ◌++◌, length, map, drop, append_assoc, length-append, subst, Option, Some, None, Result, Ok, Err, ℤ}
+use Rattle.std.proofs.Common.{◌≡◌, ◌+◌, ◌-◌, ◌*◌, ◌<◌, ◌≤◌, ◌∙◌, sym, ap, refl, arith, ℕ, zero, suc, Bool, true, false, cond, List, [], ◌∷◌, ◌++◌, length, map, drop, append_assoc, Option}
 use Rattle.std.specs.List.{AllByRecursion}
-use Rattle.vg_holds.specs.declared.act.What.{What}
-use Rattle.vg_holds.specs.declared.act.What.TheVariants.{Scanout}
-use Rattle.vg_holds.specs.declared.holds.Holds.{Holds}
-use Rattle.vg_machine.specs.Entries.{Entry}
 use Rattle.vg_holds.specs.Holds.{has_number}
-use Rattle.vg_tasks.specs.declared.call.Call.{Call}
-use Rattle.vg_tasks.specs.declared.call.Call.TheVariants as calls
-use Rattle.vg_names.specs.declared.names.NameRef.{NameRef}
-use Rattle.vg_client.specs.Calls.{Gives, GivesTasks}
-use Rattle.vg_tasks.specs.Known.{Known}
-use Rattle.vg_names.specs.Names.{NamesState, found}
 use Rattle.vg_names.specs.declared.names.Held.{Held}
 use Rattle.vg_tasks.specs.declared.task.Task.{Task}
 use Rattle.vg_tasks.specs.Plans.{weight_of, weights}
 use Rattle.vg_tasks.specs.Fits.{IsFit}
 use Rattle.vg_tasks.specs.Table.{clear_task, release_task}
-use Rattle.vg_tasks.specs.Tasks.{clear_tasks, close_tasks, cursor_tasks, drop_tasks, give_back, if_current, is_shown, leases_back, tasks_of}
+use Rattle.vg_tasks.specs.Tasks.{clear_tasks, give_back, is_shown, leases_back}
 
 pub clear-more : (key i : ℕ) (shows : List (Option ℕ)) (items more whole : List Task) (shown : Option ℕ) → drop i shows ≡ shown ∷ drop (i + 1) shows
     → more ≡ items ++ cond (is_shown key shown) (clear_task i ∷ []) [] → items ++ clear_tasks key i (drop i shows) ≡ whole → more ++ clear_tasks key (i + 1) (drop (i + 1) shows) ≡ whole
