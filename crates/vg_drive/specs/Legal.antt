@@ -8,7 +8,7 @@ use Rattle.vg_machine.specs.Replay.{replay}
 use Rattle.vg_machine.specs.Order.{Sound, client_of}
 use Rattle.vg_script.specs.declared.types.Line.{Line}
 use Rattle.vg_script.specs.declared.types.Script.{Script}
-use Rattle.vg_script.specs.declared.types.Step.{Step}
+use Rattle.vg_steps.specs.declared.types.Step.{Step}
 use Rattle.vg_journal.specs.declared.journal.Journal.{Journal}
 use Rattle.vg_holds.specs.declared.setup.Setup.{Setup}
 use Rattle.vg_part.specs.Setup.{setup_of}

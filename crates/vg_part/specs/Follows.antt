@@ -13,12 +13,12 @@ use Rattle.vg_machine.specs.Entries.{Entry}
 use Rattle.vg_history.specs.declared.entry.Entry.TheVariants as entries
 use Rattle.vg_holds.specs.declared.setup.Setup.{Setup}
 use Rattle.vg_machine.specs.Order.{by_call, call_of, of_client}
-use Rattle.vg_script.specs.declared.types.Area.{Area}
+use Rattle.vg_steps.specs.declared.types.Area.{Area}
 use Rattle.vg_script.specs.declared.types.Line.{Line}
-use Rattle.vg_script.specs.declared.types.Step.{Step}
-use Rattle.vg_script.specs.declared.types.Step.TheVariants as steps
-use Rattle.vg_script.specs.declared.types.RawShape.{RawShape}
-use Rattle.vg_script.specs.declared.types.RawShape.TheVariants as raw
+use Rattle.vg_steps.specs.declared.types.Step.{Step}
+use Rattle.vg_steps.specs.declared.types.Step.TheVariants as steps
+use Rattle.vg_steps.specs.declared.types.RawShape.{RawShape}
+use Rattle.vg_steps.specs.declared.types.RawShape.TheVariants as raw
 use Rattle.vg_tasks.specs.declared.call.Call.{Call}
 use Rattle.vg_tasks.specs.declared.call.Call.TheVariants as calls
 use Rattle.vg_names.specs.declared.names.NameRef.{NameRef}

@@ -3,7 +3,7 @@ use Rattle.std.specs.BTreeMap.{BTreeMap, get_by}
 use Rattle.std.specs.Cmp.Lexicographic.{slice_cmp}
 use Rattle.std.specs.Ordering.{nat_cmp}
 use denote.Ref.{Bor}
-use Rattle.vg_script.specs.declared.types.Step.{Step}
+use Rattle.vg_steps.specs.declared.types.Step.{Step}
 use Rattle.vg_script.specs.Limits.{StepInLimits}
 use Rattle.vg_tasks.specs.declared.call.Call.{Call}
 use Rattle.vg_tasks.specs.declared.call.Call.TheVariants as calls

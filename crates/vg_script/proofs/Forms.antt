@@ -1,11 +1,12 @@
 -- A line of a client, from the row that its words are.
 use Rattle.std.proofs.Common.{◌≡◌, ◌==◌, nat_lt, true, false, length, Option, Some, None, Ok, Err, arith, refl}
 use Rattle.std.specs.Prelude.{sum_by, option_map}
-use Rattle.vg_script.specs.declared.kind.Kind.{Kind}
-use Rattle.vg_script.specs.declared.kind.Kind.TheVariants.{Word, Limit}
-use Rattle.vg_script.specs.declared.types.Step.{Step}
-use Rattle.vg_script.specs.Seen.{Seen, NameTable, add_line}
-use Rattle.vg_script.specs.Rows.{Row, judged_row}
+use Rattle.vg_words.specs.declared.kind.Kind.{Kind}
+use Rattle.vg_words.specs.declared.kind.Kind.TheVariants.{Word, Limit}
+use Rattle.vg_steps.specs.declared.types.Step.{Step}
+use Rattle.vg_script.specs.Seen.{Seen, add_line}
+use Rattle.vg_steps.specs.Tables.{NameTable}
+use Rattle.vg_steps.specs.Rows.{Row, judged_row}
 use Rattle.vg_script.specs.Grammar.{step_form, settled_form}
 use Rattle.vg_script.specs.Reading.{past_kind}
 

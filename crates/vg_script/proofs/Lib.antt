@@ -1,8 +1,4 @@
-pub mod Counts
-pub mod Digits
-pub mod Cuts
-pub mod NameSets
-pub mod HexDigits
+pub mod Lines
 pub mod Forms
 pub mod ClientLists
 pub mod CallForms

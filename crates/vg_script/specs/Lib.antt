@@ -1,8 +1,6 @@
-pub mod Words
+pub mod Lines
 pub mod Features
 pub mod Seen
-pub mod Rows
-pub mod Code
 pub mod Grammar
 pub mod Reading
 pub mod Faults

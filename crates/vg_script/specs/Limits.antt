@@ -4,12 +4,12 @@ use Rattle.std.specs.Bool.{⊤}
 use Rattle.std.specs.List.{list_any}
 use Rattle.vg_script.specs.declared.types.Feature.{Feature}
 use Rattle.vg_script.specs.declared.types.Line.{Line}
-use Rattle.vg_script.specs.declared.types.RawShape.{RawShape}
-use Rattle.vg_script.specs.declared.types.RawShape.TheVariants.{Pieces}
+use Rattle.vg_steps.specs.declared.types.RawShape.{RawShape}
+use Rattle.vg_steps.specs.declared.types.RawShape.TheVariants.{Pieces}
 use Rattle.vg_script.specs.declared.types.Script.{Script}
-use Rattle.vg_script.specs.declared.types.Step.{Step}
+use Rattle.vg_steps.specs.declared.types.Step.{Step}
 use Rattle.vg_script.specs.Features.{is_same}
-use Rattle.vg_script.specs.declared.types.Step.TheVariants.{Info, Edid, Buffer, Store, Load, Send, Flush, Take, Drop, Hide, Show, Flip, Cursor, Move, Uuid, Close, Raw}
+use Rattle.vg_steps.specs.declared.types.Step.TheVariants.{Info, Edid, Buffer, Store, Load, Send, Flush, Take, Drop, Hide, Show, Flip, Cursor, Move, Uuid, Close, Raw}
 
 abbrev pub IsBetween : ℕ → ℕ → ℕ → Type 0
 IsBetween low high n = (low ≤ n) × (n ≤ high)

@@ -1,6 +1,6 @@
 -- Which names are defined, in other words than line by line.
 use Rattle.std.specs.Prelude.{◌≡◌, ℕ, ◌&&◌, ◌||◌, Bool, true, false, List, [], ◌∷◌, ◌++◌, All, codes, bytes_eq}
-use Rattle.vg_script.specs.Words.{words_of}
+use Rattle.vg_words.specs.Words.{words_of}
 
 -- The words begin with this word and this name.
 abbrev pub begins : List ℕ → List ℕ → List (List ℕ) → Bool

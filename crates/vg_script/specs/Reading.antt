@@ -1,14 +1,14 @@
 -- How the reader's fields stand for what has been seen.
 use Rattle.std.specs.Prelude.{◌≡◌, Result, Ok, Err}
 use Rattle.std.specs.Bool.{⊤}
-use Rattle.vg_script.specs.declared.kind.Kind.{Kind}
-use Rattle.vg_script.specs.declared.kind.Kind.TheVariants.{Text, Word, Number, Limit, Name}
-use Rattle.vg_script.specs.declared.kind.Stop.{Stop}
-use Rattle.vg_script.specs.declared.kind.Stop.TheVariants.{Memory, Fault}
+use Rattle.vg_words.specs.declared.kind.Kind.{Kind}
+use Rattle.vg_words.specs.declared.kind.Kind.TheVariants.{Text, Word, Number, Limit, Name}
+use Rattle.vg_words.specs.declared.kind.Stop.{Stop}
+use Rattle.vg_words.specs.declared.kind.Stop.TheVariants.{Memory, Fault}
 use Rattle.vg_script.specs.declared.reader.Reader.{Reader}
-use Rattle.vg_script.specs.declared.types.Step.{Step}
+use Rattle.vg_steps.specs.declared.types.Step.{Step}
 use Rattle.vg_script.specs.Seen.{Seen}
-use Rattle.vg_script.specs.Code.{table_of}
+use Rattle.vg_steps.specs.Code.{table_of}
 
 abbrev pub seen : Reader → Seen
 seen reader = record { lines = reader.lines; displays = reader.displays.items; pages = reader.pages; without = reader.without.items; clients = reader.clients.items; table = table_of reader.names }

@@ -1,13 +1,8 @@
 -- What the lines before a line have given.
-use Rattle.std.specs.Prelude.{ℕ, Bool, true, false, List, [], ◌∷◌, ◌++◌, Option, Some, None, if◌then◌else◌, bytes_eq}
-use Rattle.vg_script.specs.declared.names.NameKind.{NameKind}
-use Rattle.vg_script.specs.declared.names.NameKind.TheVariants.{Buffer}
+use Rattle.std.specs.Prelude.{ℕ, List, [], ◌∷◌, ◌++◌, Option, None}
 use Rattle.vg_script.specs.declared.types.Feature.{Feature}
 use Rattle.vg_script.specs.declared.types.Line.{Line}
-
--- Which names are defined, and of what each is the name.
-abbrev pub NameTable : Type 0
-NameTable = List ℕ → Option NameKind
+use Rattle.vg_steps.specs.Tables.{NameTable, no_names}
 
 pub record Seen : Type 0 where
   -- how many lines there were
@@ -22,21 +17,6 @@ pub record Seen : Type 0 where
   pub clients : List (List Line)
   -- the names that are defined in the last client
   pub table : NameTable
-
-abbrev pub no_names : NameTable
-no_names q = None
-
--- A table with one name more, and without one.
-abbrev pub with_name : List ℕ → NameKind → NameTable → NameTable
-with_name name kind table q = if bytes_eq name q then Some kind else table q
-
-abbrev pub without_name : List ℕ → NameTable → NameTable
-without_name name table q = if bytes_eq name q then None else table q
-
--- Whether this is a name of that kind.
-abbrev pub is_kind : NameKind → Option NameKind → Bool
-is_kind Buffer (Some Buffer) = true
-is_kind kind None = false
 
 -- The clients with one more line of the last.
 abbrev pub add_line : List (List Line) → Line → List (List Line)

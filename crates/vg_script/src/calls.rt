@@ -4,10 +4,11 @@ ghost use Rattle.std.specs.Prelude.{◌≡◌, OnOk, OnErr};
 ghost use Rattle.vg_script.specs.Seen.{add_line};
 ghost use Rattle.vg_script.specs.Reading.{past_limit};
 
-use crate::kind::{Kind, Stop};
-use crate::types::{Line, Step};
+use crate::types::Line;
 use std::alloc::AllocError;
 use vg_list::Seq;
+use vg_steps::Step;
+use vg_words::{Kind, Stop};
 
 /// Adds a line to the last client, if there is one.
 pub(crate) fn add_line(clients: &mut Vec<Seq<Line>>, line: Line) -> Result<(), AllocError>

@@ -3,11 +3,10 @@
 ghost use Rattle.std.specs.Prelude.{◌≡◌};
 ghost use Rattle.std.specs.List.{list_any};
 ghost use Rattle.vg_script.specs.Features.{feature_of, is_same};
-ghost use Rattle.vg_script.specs.Code.{Finds};
+ghost use Rattle.vg_steps.specs.Code.{Finds};
 
-use crate::kind::Kind;
 use crate::types::Feature;
-use crate::words::is;
+use vg_words::{Kind, is};
 
 /// The feature that a word spells.
 #[tactic(auto, unfolding(crate::specs::Features::feature_of))]

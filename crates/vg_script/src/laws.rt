@@ -1,9 +1,9 @@
 //! What holds of the grammar itself: each function here does nothing, and its contract is a law.
 
 ghost use Rattle.std.specs.Prelude.{◌≡◌, ◌⊎◌, ◌↔◌, ℕ, List, Some};
-ghost use Rattle.vg_script.specs.declared.names.NameKind.TheVariants as kinds;
+ghost use Rattle.vg_steps.specs.declared.names.NameKind.TheVariants as kinds;
 ghost use Rattle.vg_script.specs.declared.types.Script.{Script};
-ghost use Rattle.vg_script.specs.Words.{lines_of};
+ghost use Rattle.vg_script.specs.Lines.{lines_of};
 ghost use Rattle.vg_script.specs.Grammar.{Parses, Faulty};
 ghost use Rattle.vg_script.specs.Faults.{HasFirstFault, IsScriptOf, AreFaultless, seen_after};
 ghost use Rattle.vg_script.specs.Names.{IsDefinedBy};

@@ -2,18 +2,14 @@
 
 ghost use Rattle.std.specs.Prelude.{◌≡◌, ◌≤◌, length, sum_by};
 
-use crate::args::with_args;
 use crate::calls::{add_line, past_limit};
 use crate::features::{feature_of, is_among};
-use crate::kind::{Kind, Stop};
-use crate::names::{Names, forget};
-use crate::rows::{both_spelled, size, spelled};
-use crate::steps::step_of;
 use crate::types::{Feature, Line, Script, ScriptFault};
-use crate::words::{is, is_text, limited, put_words};
 use std::alloc::{AllocError, Global};
 use std::collections::BTreeMap;
 use vg_list::Seq;
+use vg_steps::{Names, forget, step_of};
+use vg_words::{Kind, Stop, both_spelled, is, is_text, limited, put_words, size, spelled};
 
 /// How many lines all clients may have.
 const MOST_LINES: usize = 100_000;
@@ -100,16 +96,28 @@ impl<'a> Reader<'a> {
             (settled_form (worded_form (seen self.old) word.now (map (λ arg. arg.now) args.now))) }
     {
         if is(word, b"display") {
-            return with_args!(args, [width, height] => self.display(width, height));
+            return match args {
+                &[width, height] => self.display(width, height),
+                _ => Err(Stop::Fault(Kind::Word)),
+            };
         }
         if is(word, b"memory") {
-            return with_args!(args, [pages] => self.memory(pages));
+            return match args {
+                &[pages] => self.memory(pages),
+                _ => Err(Stop::Fault(Kind::Word)),
+            };
         }
         if is(word, b"without") {
-            return with_args!(args, [feature] => self.without(feature));
+            return match args {
+                &[feature] => self.without(feature),
+                _ => Err(Stop::Fault(Kind::Word)),
+            };
         }
         if is(word, b"client") {
-            return with_args!(args, [] => self.client(alloc));
+            return match args {
+                &[] => self.client(alloc),
+                _ => Err(Stop::Fault(Kind::Word)),
+            };
         }
         self.step(alloc, word, args)
     }

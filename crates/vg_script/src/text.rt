@@ -2,16 +2,15 @@
 
 ghost use Rattle.std.specs.Prelude.{◌≡◌, ◌<◌, ◌-◌, ◌^◌, length, IfOk, IfErr, [], ℕ};
 ghost use Rattle.vg_script.specs.Seen.{nothing_seen};
-ghost use Rattle.vg_script.specs.Words.{lines_of};
+ghost use Rattle.vg_script.specs.Lines.{lines_of};
 ghost use Rattle.vg_script.specs.Grammar.{Parses, Faulty, read_script, scan};
 ghost use Rattle.vg_script.specs.Limits.{ScriptInLimits};
 ghost use Rattle.vg_script.specs.Reading.{seen};
 
-use crate::kind::Stop;
 use crate::reader::Reader;
 use crate::types::{Script, ScriptFault};
-use crate::words::cut;
 use std::alloc::{AllocError, Global};
+use vg_words::{Stop, cut};
 
 /// The script that these bytes are, or the first fault of bytes that are none. It fails only for want of memory.
 ///

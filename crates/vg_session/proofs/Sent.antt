@@ -8,7 +8,7 @@ use Rattle.std.proofs.Crossing.{crosses}
 use Rattle.vg_list.specs.contracts.seq.Seq as seq
 use Rattle.vg_script.specs.contracts.types.Line as line
 use Rattle.vg_script.specs.contracts.types.Script as script
-use Rattle.vg_script.specs.contracts.types.Step as step
+use Rattle.vg_steps.specs.contracts.types.Step as step
 use Rattle.vg_book.specs.declared.board.Naming as Naming
 use Rattle.vg_ring.specs.declared.rings.Rings as Rings
 use Rattle.vg_driver.specs.contracts.driver.Driver as driver

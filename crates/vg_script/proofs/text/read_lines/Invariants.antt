@@ -1,5 +1,5 @@
 use Rattle.std.proofs.Common.{◌≡◌, ◌+◌, ◌≤◌, length}
-use Rattle.vg_script.specs.Words.{lines_of}
+use Rattle.vg_script.specs.Lines.{lines_of}
 use Rattle.vg_script.specs.Seen.{nothing_seen}
 use Rattle.vg_script.specs.Grammar.{scan}
 use Rattle.vg_script.specs.Reading.{seen}

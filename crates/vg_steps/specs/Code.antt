@@ -1,0 +1,36 @@
+-- How the code's values stand for those of the other modules here.
+use Rattle.std.specs.Prelude.{◌≡◌, ℕ, Bool, true, false, List, Option, Some, None, Result, Ok, Err}
+use Rattle.std.specs.Bool.{⊤}
+use Rattle.std.specs.BTreeMap.{BTreeMap, get_by}
+use Rattle.std.specs.Cmp.Lexicographic.{slice_cmp}
+use Rattle.std.specs.Ordering.{nat_cmp}
+use denote.Ref.{Bor}
+use Rattle.vg_words.specs.declared.kind.Kind.{Kind}
+use Rattle.vg_words.specs.declared.kind.Kind.TheVariants.{Name}
+use Rattle.vg_words.specs.declared.kind.Stop.{Stop}
+use Rattle.vg_words.specs.declared.kind.Stop.TheVariants.{Memory, Fault}
+use Rattle.vg_steps.specs.declared.names.NameKind.{NameKind}
+use Rattle.vg_steps.specs.declared.types.Step.{Step}
+use Rattle.vg_steps.specs.Tables.{NameTable}
+
+-- The table of the names that a map has.
+abbrev pub table_of : BTreeMap (Bor (List ℕ)) NameKind → NameTable
+table_of names q = get_by (λ k. slice_cmp nat_cmp q k.now) names
+
+-- There is such a value and the answer is it, or there is none and the answer is a fault of this kind.
+abbrev pub Finds : {X : Type 0} → Option X → Kind → Result X Kind → Type 0
+Finds option kind (Ok x) = option ≡ Some x
+Finds option kind (Err k) = (k ≡ kind) × (option ≡ None)
+
+-- A name was defined as it has to be and this is it, or the answer is a fault of a name, where memory may be wanting.
+abbrev pub Knows : {X : Type 0} → Bool → X → Result X Stop → Type 0
+Knows test name (Ok read) = (test ≡ true) × (read ≡ name)
+Knows test name (Err Memory) = ⊤
+Knows test name (Err (Fault kind)) = (kind ≡ Name) × (test ≡ false)
+
+-- What the reading of a line gave, where memory may be wanting: the call and the names after it, or the
+-- kind of the fault.
+abbrev pub Judges : NameTable → Result Step Stop → Result (Step × NameTable) Kind → Type 0
+Judges after (Ok step) judged = judged ≡ Ok (step, after)
+Judges after (Err Memory) judged = ⊤
+Judges after (Err (Fault kind)) judged = judged ≡ Err kind

@@ -1,0 +1,4 @@
+pub mod Args
+pub mod Tables
+pub mod Rows
+pub mod Code
