@@ -22,7 +22,7 @@ use Rattle.vg_steps.proofs.Counts.{no_args_give, one_arg_gives, two_args_give, t
 use Rattle.vg_script.specs.Features.{feature_of, is_same}
 use Rattle.vg_script.specs.Seen.{Seen, nothing_seen, add_line}
 use Rattle.vg_steps.specs.Tables.{NameTable}
-use Rattle.vg_steps.specs.Rows.{Row, info_row, edid_row, buffer_row, store_row, load_row, send_row, flush_row, take_row, drop_row, hide_row, show_row, flip_row, cursor_row, move_row, uuid_row, close_row, raw_row, request_row, queue_of, shape_of, row_of, row_of_buffers, row_of_scanouts, row_of_others}
+use Rattle.vg_steps.specs.Rows.{Row, info_row, edid_row, buffer_row, store_row, load_row, send_row, flush_row, take_row, drop_row, hide_row, show_row, flip_row, cursor_row, move_row, uuid_row, close_row, raw_row, request_row, queue_of, shape_of, bad_shape_of, row_of, row_of_buffers, row_of_scanouts, row_of_others}
 use Rattle.vg_script.specs.Grammar.{Form, display_form, memory_form, feature_form, without_form, client_form, step_form, skipped_form, called_form, worded_form, form_of, line_form, one_more, script_of, scan, read_script, Parses}
 use Rattle.vg_script.specs.Faults.{fails, given, form_gives, seen_after, AreFaultless, has_fault}
 use Rattle.vg_script.specs.Limits.{IsBetween, IsPosition, ShapeInLimits, StepInLimits, ClientInLimits, DisplayInLimits, ScriptInLimits}
@@ -145,7 +145,7 @@ either_shape true x y p q = p
 either_shape false x y p q = q
 
 shape_fits : (word : List ℕ) → ShapeFits (shape_of word)
-unfolding shape_of
+unfolding shape_of bad_shape_of
 shape_fits word =
     either_shape (bytes_eq word (codes "plain")) _ _ tt
     (either_shape (bytes_eq word (codes "pieces2")) _ _ (lit≤ tt, lit≤ tt)

@@ -39,7 +39,7 @@ pub struct Line {
 }
 
 /// The first fault of a text that is no script.
-#[derive(Clone, Copy, Debug)]
+#[derive(Clone, Copy)]
 pub struct ScriptFault {
     /// The number of the faulty line, from 1 on.
     pub line: u32,

@@ -221,6 +221,18 @@ queue_of word =
     else if bytes_eq word (codes "cursor") then Some true
     else None
 
+-- The shape that a word spells, where it has a fault.
+unfoldable pub bad_shape_of : List ℕ → Option RawShape
+bad_shape_of word =
+    if bytes_eq word (codes "index") then Some Index
+    else if bytes_eq word (codes "loop") then Some Loop
+    else if bytes_eq word (codes "nested") then Some Nested
+    else if bytes_eq word (codes "nextindirect") then Some NextIndirect
+    else if bytes_eq word (codes "tablelength") then Some TableLength
+    else if bytes_eq word (codes "order") then Some Order
+    else if bytes_eq word (codes "range") then Some Range
+    else None
+
 -- The shape that a word spells.
 unfoldable pub shape_of : List ℕ → Option RawShape
 shape_of word =
@@ -234,14 +246,7 @@ shape_of word =
     else if bytes_eq word (codes "pieces8") then Some (Pieces 8)
     else if bytes_eq word (codes "indirect") then Some Indirect
     else if bytes_eq word (codes "mixed") then Some Mixed
-    else if bytes_eq word (codes "index") then Some Index
-    else if bytes_eq word (codes "loop") then Some Loop
-    else if bytes_eq word (codes "nested") then Some Nested
-    else if bytes_eq word (codes "nextindirect") then Some NextIndirect
-    else if bytes_eq word (codes "tablelength") then Some TableLength
-    else if bytes_eq word (codes "order") then Some Order
-    else if bytes_eq word (codes "range") then Some Range
-    else None
+    else bad_shape_of word
 
 -- A request on that queue in that shape, if there are such.
 unfoldable pub request_row : NameTable → Option Bool → Option RawShape → (room hex : List ℕ) → Option Row

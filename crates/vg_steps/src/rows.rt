@@ -4,7 +4,7 @@ ghost use Rattle.std.specs.Prelude.{◌≡◌, ◌≤◌, ◌&&◌, ◌||◌, tr
 ghost use Rattle.vg_steps.specs.declared.names.NameKind.TheVariants as kinds;
 ghost use Rattle.vg_words.specs.Words.{is_number, value, is_within, is_signed, signed_value, is_position, is_no_name, name_or_none};
 ghost use Rattle.vg_steps.specs.Tables.{is_kind};
-ghost use Rattle.vg_steps.specs.Rows.{judged_row, is_format, is_any, are_times, is_scanout, are_numbers, are_any, area_of, queue_of, shape_of, info_row, edid_row, buffer_row, store_row, load_row, send_row, flush_row, take_row, drop_row, hide_row, show_row, flip_row, cursor_row, move_row, uuid_row, close_row, raw_row};
+ghost use Rattle.vg_steps.specs.Rows.{judged_row, is_format, is_any, are_times, is_scanout, are_numbers, are_any, area_of, queue_of, shape_of, bad_shape_of, info_row, edid_row, buffer_row, store_row, load_row, send_row, flush_row, take_row, drop_row, hide_row, show_row, flip_row, cursor_row, move_row, uuid_row, close_row, raw_row};
 ghost use Rattle.vg_words.specs.Code.{Passes, Yields};
 ghost use Rattle.vg_steps.specs.Code.{table_of, Judges, Finds, Knows};
 
@@ -408,6 +408,14 @@ fn shape_of(word: &[u8]) -> Result<RawShape, Kind>
     if is(word, b"mixed") {
         return Ok(RawShape::Mixed);
     }
+    bad_shape_of(word)
+}
+
+/// The shape that a word spells, where it has a fault.
+#[tactic(auto, unfolding(crate::specs::Rows::bad_shape_of))]
+fn bad_shape_of(word: &[u8]) -> Result<RawShape, Kind>
+    ensures { Finds (bad_shape_of word.now) Kind.Word result }
+{
     if is(word, b"index") {
         return Ok(RawShape::Index);
     }
