@@ -23,7 +23,7 @@ use vg_formats::Rect;
 use vg_list::Seq;
 use vg_machine::Display;
 use vg_ring::Rings;
-use vg_script::{Area, RawShape, Step};
+use vg_script::{Area, Name, RawShape, Step};
 use vg_wire::Queue;
 
 /// Makes the call of a line, and gives the name of a buffer to what the call made.
@@ -124,7 +124,7 @@ fn bad(fault: ChainFault) -> Shape
 }
 
 /// The name that a word was last given to, where there is a word.
-fn ref_or_none(refs: &Refs, word: &Option<Seq<u8>>) -> Option<NameRef>
+fn ref_or_none(refs: &Refs, word: &Option<Name>) -> Option<NameRef>
     ensures { option_map without_place result ≡ option_map (calls.ref_of (refs_of refs.now)) word.now }
 {
     match word {

@@ -12,4 +12,4 @@ pub use laws::{defined_names, first_fault, script_limits, script_or_fault};
 pub use text::parse;
 pub use types::{Feature, Line, Script, ScriptFault};
 pub use vg_steps::{Area, NameKind, RawShape, Step};
-pub use vg_words::Kind;
+pub use vg_words::{Kind, Name};

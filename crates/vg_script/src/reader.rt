@@ -6,9 +6,8 @@ use crate::calls::{add_line, past_limit};
 use crate::features::{feature_of, is_among};
 use crate::types::{Feature, Line, Script, ScriptFault};
 use std::alloc::{AllocError, Global};
-use std::collections::BTreeMap;
 use vg_list::Seq;
-use vg_steps::{Names, forget, step_of};
+use vg_steps::{Names, step_of};
 use vg_words::{Kind, Stop, both_spelled, is, is_text, limited, put_words, size, spelled};
 
 /// How many lines all clients may have.
@@ -46,7 +45,7 @@ impl<'a> Reader<'a> {
             without: Vec::new(alloc),
             clients: Vec::new(alloc),
             count: 0,
-            names: BTreeMap::new(alloc),
+            names: Names::new(alloc),
         }
     }
 
@@ -196,7 +195,7 @@ impl<'a> Reader<'a> {
         self.clients
             .push(Seq::from_vec(Vec::new(alloc)))
             .map_err(AllocError::from)?;
-        forget(&mut self.names);
+        self.names.clear();
         Ok(())
     }
 

@@ -9,6 +9,7 @@ use Rattle.vg_list.specs.contracts.seq.Seq as seq
 use Rattle.vg_script.specs.contracts.types.Line as line
 use Rattle.vg_script.specs.contracts.types.Script as script
 use Rattle.vg_steps.specs.contracts.types.Step as step
+use Rattle.vg_words.specs.contracts.name.Name as name
 use Rattle.vg_book.specs.declared.board.Naming as Naming
 use Rattle.vg_ring.specs.declared.rings.Rings as Rings
 use Rattle.vg_driver.specs.contracts.driver.Driver as driver
@@ -20,9 +21,12 @@ use Rattle.vg_part.specs.contracts.performing.Performed as performed
 seq_sync : (X : RattleType) → IsSync X → IsSync (seq.the_row X)
 seq_sync X x = search (sendable, crosses) depth 20
 
+name_sync : IsSync name.the_row
+name_sync = search (sendable, crosses) depth 20
+
 -- a step, as a line has it
 step_sync : IsSync (enum.field step.the_type).row
-step_sync = enum_sync (enum.shape step.the_type) (tt, (search (sendable, crosses, seq_sync) depth 20, (search (sendable, crosses, seq_sync) depth 20, (search (sendable, crosses, seq_sync) depth 20, (search (sendable, crosses, seq_sync) depth 20, (search (sendable, crosses, seq_sync) depth 20, (search (sendable, crosses, seq_sync) depth 20, (search (sendable, crosses, seq_sync) depth 20, (search (sendable, crosses, seq_sync) depth 20, (search (sendable, crosses, seq_sync) depth 20, (search (sendable, crosses, seq_sync) depth 20, (search (sendable, crosses, seq_sync) depth 20, (search (sendable, crosses, seq_sync) depth 20, (search (sendable, crosses, seq_sync) depth 20, (search (sendable, crosses, seq_sync) depth 20, (search (sendable, crosses, seq_sync) depth 20, (search (sendable, crosses, seq_sync) depth 20, tt)))))))))))))))))
+step_sync = enum_sync (enum.shape step.the_type) (tt, (search (sendable, crosses, name_sync, seq_sync) depth 20, (search (sendable, crosses, name_sync, seq_sync) depth 20, (search (sendable, crosses, name_sync, seq_sync) depth 20, (search (sendable, crosses, name_sync, seq_sync) depth 20, (search (sendable, crosses, name_sync, seq_sync) depth 20, (search (sendable, crosses, name_sync, seq_sync) depth 20, (search (sendable, crosses, name_sync, seq_sync) depth 20, (search (sendable, crosses, name_sync, seq_sync) depth 20, (search (sendable, crosses, name_sync, seq_sync) depth 20, (search (sendable, crosses, name_sync, seq_sync) depth 20, (search (sendable, crosses, name_sync, seq_sync) depth 20, (search (sendable, crosses, name_sync, seq_sync) depth 20, (search (sendable, crosses, name_sync, seq_sync) depth 20, (search (sendable, crosses, name_sync, seq_sync) depth 20, (search (sendable, crosses, name_sync, seq_sync) depth 20, (search (sendable, crosses, name_sync, seq_sync) depth 20, tt)))))))))))))))))
 
 line_sync : IsSync line.the_row
 line_sync = let T = line.the_type in recorded_sync _ _ _ T.to_one (struct_sync (shape T) (search sendable, (step_sync, tt)))

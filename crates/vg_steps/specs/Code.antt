@@ -1,21 +1,18 @@
 -- How the code's values stand for those of the other modules here.
 use Rattle.std.specs.Prelude.{◌≡◌, ℕ, Bool, true, false, List, Option, Some, None, Result, Ok, Err}
 use Rattle.std.specs.Bool.{⊤}
-use Rattle.std.specs.BTreeMap.{BTreeMap, get_by}
-use Rattle.std.specs.Cmp.Lexicographic.{slice_cmp}
-use Rattle.std.specs.Ordering.{nat_cmp}
-use denote.Ref.{Bor}
 use Rattle.vg_words.specs.declared.kind.Kind.{Kind}
 use Rattle.vg_words.specs.declared.kind.Kind.TheVariants.{Name}
 use Rattle.vg_words.specs.declared.kind.Stop.{Stop}
 use Rattle.vg_words.specs.declared.kind.Stop.TheVariants.{Memory, Fault}
 use Rattle.vg_steps.specs.declared.names.NameKind.{NameKind}
+use Rattle.vg_steps.specs.declared.names.Names.{Names}
 use Rattle.vg_steps.specs.declared.types.Step.{Step}
-use Rattle.vg_steps.specs.Tables.{NameTable}
+use Rattle.vg_steps.specs.Tables.{NameTable, kinds_of}
 
--- The table of the names that a map has.
-abbrev pub table_of : BTreeMap (Bor (List ℕ)) NameKind → NameTable
-table_of names q = get_by (λ k. slice_cmp nat_cmp q k.now) names
+-- The table of the names that are defined.
+abbrev pub table_of : Names → NameTable
+table_of names = kinds_of names.kinds
 
 -- There is such a value and the answer is it, or there is none and the answer is a fault of this kind.
 abbrev pub Finds : {X : Type 0} → Option X → Kind → Result X Kind → Type 0

@@ -7,6 +7,6 @@ mod rows;
 mod steps;
 mod types;
 
-pub use names::{NameKind, Names, forget};
+pub use names::{NameKind, Names};
 pub use steps::step_of;
 pub use types::{Area, RawShape, Step};

@@ -8,13 +8,12 @@ ghost use Rattle.vg_steps.specs.Rows.{judged_row, is_format, is_any, are_times, 
 ghost use Rattle.vg_words.specs.Code.{Passes, Yields};
 ghost use Rattle.vg_steps.specs.Code.{table_of, Judges, Finds, Knows};
 
-use crate::names::{NameKind, Names, define, end, is_defined, is_kind};
+use crate::names::{NameKind, Names};
 use crate::types::{Area, RawShape, Step};
-use std::alloc::{AllocError, Global};
-use vg_list::Seq;
+use std::alloc::Global;
 use vg_words::{
-    Kind, Stop, both_spelled, bytes_or_none, hex_bytes, is, is_name, is_number, is_signed, limited,
-    position, size, spelled, value,
+    Kind, Name, Stop, both_spelled, bytes_or_none, hex_bytes, is, is_name, is_number, is_signed,
+    limited, position, size, spelled, value,
 };
 
 /// `info`
@@ -40,7 +39,6 @@ pub(crate) fn edid(names: &Names, scanout: &[u8]) -> Result<Step, Stop>
 /// `buffer A W H F`
 #[tactic(auto, unfolding(crate::specs::Rows::buffer_row))]
 pub(crate) fn buffer<'a>(
-    alloc: Global,
     names: &mut Names<'a>,
     name: &'a [u8],
     width: &[u8],
@@ -54,11 +52,11 @@ pub(crate) fn buffer<'a>(
     spelled(format)?;
     let (width, height) = size(width, height)?;
     let format = format_code(format)?;
-    if !is_name(name) || is_defined(names, name) {
+    if !is_name(name) || names.has(name) {
         return Err(Stop::Fault(Kind::Name));
     }
-    define(names, name, NameKind::Buffer)?;
-    let name = owned(alloc, name)?;
+    names.define(name, NameKind::Buffer)?;
+    let name = Name::of(name);
     Ok(Step::Buffer {
         name,
         width,
@@ -84,7 +82,7 @@ pub(crate) fn store(
     let bytes = hex_bytes(alloc, hex)?;
     let offset = limited(offset, 0, 1_228_799)?;
     let times = times_of(hex.len() / 2, times)?;
-    let name = known(alloc, names, name)?;
+    let name = known(names, name)?;
     Ok(Step::Store {
         name,
         offset,
@@ -110,20 +108,14 @@ fn times_of(count: usize, number: &[u8]) -> Result<u32, Kind>
 
 /// `load A OFFSET LEN`
 #[tactic(auto, unfolding(crate::specs::Rows::load_row))]
-pub(crate) fn load(
-    alloc: Global,
-    names: &Names,
-    name: &[u8],
-    offset: &[u8],
-    size: &[u8],
-) -> Result<Step, Stop>
+pub(crate) fn load(names: &Names, name: &[u8], offset: &[u8], size: &[u8]) -> Result<Step, Stop>
     ensures { Judges (table_of names.now) result
         (judged_row (load_row (table_of names.now) name.now offset.now size.now)) }
 {
     both_spelled(offset, size)?;
     let offset = limited(offset, 0, 1_228_799)?;
     let length = limited(size, 1, 1_024)?;
-    let name = known(alloc, names, name)?;
+    let name = known(names, name)?;
     Ok(Step::Load {
         name,
         offset,
@@ -134,7 +126,6 @@ pub(crate) fn load(
 /// `send A X Y W H`
 #[tactic(auto, unfolding(crate::specs::Rows::send_row))]
 pub(crate) fn send(
-    alloc: Global,
     names: &Names,
     name: &[u8],
     x: &[u8],
@@ -147,14 +138,13 @@ pub(crate) fn send(
 {
     all_spelled(x, y, width, height)?;
     let area = area(x, y, width, height)?;
-    let name = known(alloc, names, name)?;
+    let name = known(names, name)?;
     Ok(Step::Send { name, area })
 }
 
 /// `flush A X Y W H`
 #[tactic(auto, unfolding(crate::specs::Rows::flush_row))]
 pub(crate) fn flush(
-    alloc: Global,
     names: &Names,
     name: &[u8],
     x: &[u8],
@@ -167,7 +157,7 @@ pub(crate) fn flush(
 {
     all_spelled(x, y, width, height)?;
     let area = area(x, y, width, height)?;
-    let name = known(alloc, names, name)?;
+    let name = known(names, name)?;
     Ok(Step::Flush { name, area })
 }
 
@@ -210,7 +200,6 @@ pub(crate) fn hide(names: &Names, displays: usize, scanout: &[u8]) -> Result<Ste
 /// `show S A X Y W H`
 #[tactic(auto, unfolding(crate::specs::Rows::show_row))]
 pub(crate) fn show(
-    alloc: Global,
     names: &Names,
     displays: usize,
     scanout: &[u8],
@@ -228,7 +217,7 @@ pub(crate) fn show(
     all_spelled(x, y, width, height)?;
     let area = area(x, y, width, height)?;
     let scanout = display(scanout, displays)?;
-    let name = known(alloc, names, name)?;
+    let name = known(names, name)?;
     Ok(Step::Show {
         scanout,
         name,
@@ -239,7 +228,6 @@ pub(crate) fn show(
 /// `flip S A`
 #[tactic(auto, unfolding(crate::specs::Rows::flip_row))]
 pub(crate) fn flip(
-    alloc: Global,
     names: &Names,
     displays: usize,
     scanout: &[u8],
@@ -251,14 +239,13 @@ pub(crate) fn flip(
 {
     spelled(scanout)?;
     let scanout = display(scanout, displays)?;
-    let name = known(alloc, names, name)?;
+    let name = known(names, name)?;
     Ok(Step::Flip { scanout, name })
 }
 
 /// `cursor S A X Y HX HY`
 #[tactic(auto, unfolding(crate::specs::Rows::cursor_row))]
 pub(crate) fn cursor(
-    alloc: Global,
     names: &Names,
     displays: usize,
     scanout: &[u8],
@@ -278,7 +265,7 @@ pub(crate) fn cursor(
     let scanout = display(scanout, displays)?;
     let (x, y) = positions(x, y)?;
     let (hot_x, hot_y) = pair(hot_x, hot_y)?;
-    let name = known_or_none(alloc, names, name)?;
+    let name = known_or_none(names, name)?;
     Ok(Step::Cursor {
         scanout,
         name,
@@ -311,22 +298,22 @@ pub(crate) fn move_cursor(
 
 /// `uuid A`
 #[tactic(auto, unfolding(crate::specs::Rows::uuid_row))]
-pub(crate) fn uuid(alloc: Global, names: &Names, name: &[u8]) -> Result<Step, Stop>
+pub(crate) fn uuid(names: &Names, name: &[u8]) -> Result<Step, Stop>
     ensures { Judges (table_of names.now) result
         (judged_row (uuid_row (table_of names.now) name.now)) }
 {
-    let name = known(alloc, names, name)?;
+    let name = known(names, name)?;
     Ok(Step::Uuid { name })
 }
 
 /// `close A`
 #[tactic(auto, unfolding(crate::specs::Rows::close_row))]
-pub(crate) fn close(alloc: Global, names: &mut Names, name: &[u8]) -> Result<Step, Stop>
+pub(crate) fn close(names: &mut Names, name: &[u8]) -> Result<Step, Stop>
     ensures { Judges (table_of names.new) result
         (judged_row (close_row (table_of names.old) name.now)) }
 {
-    let buffer = known(alloc, names, name)?;
-    end(names, name);
+    let buffer = known(names, name)?;
+    names.end(name);
     Ok(Step::Close { name: buffer })
 }
 
@@ -527,27 +514,21 @@ fn area(x: &[u8], y: &[u8], width: &[u8], height: &[u8]) -> Result<Area, Kind>
 }
 
 /// A name, where it is that of a buffer.
-fn known(alloc: Global, names: &Names, name: &[u8]) -> Result<Seq<u8>, Stop>
+fn known(names: &Names, name: &[u8]) -> Result<Name, Stop>
     ensures { Knows (is_kind kinds.Buffer (table_of names.now name.now)) name.now result }
 {
-    if !is_kind(names, name, NameKind::Buffer) {
+    if !names.is_kind(name, NameKind::Buffer) {
         return Err(Stop::Fault(Kind::Name));
     }
-    Ok(owned(alloc, name)?)
+    Ok(Name::of(name))
 }
 
 /// A name, where it is that of a buffer, or none where it is `-`.
-fn known_or_none(alloc: Global, names: &Names, name: &[u8]) -> Result<Option<Seq<u8>>, Stop>
+fn known_or_none(names: &Names, name: &[u8]) -> Result<Option<Name>, Stop>
     ensures { Knows (is_no_name name.now || is_kind kinds.Buffer (table_of names.now name.now)) (name_or_none name.now) result }
 {
     if is(name, b"-") {
         return Ok(None);
     }
-    Ok(Some(known(alloc, names, name)?))
-}
-
-fn owned(alloc: Global, bytes: &[u8]) -> Result<Seq<u8>, AllocError>
-    ensures { IfOk result (λ s. s ≡ bytes.now) }
-{
-    Ok(Seq::from_vec(bytes.to_vec(alloc)?))
+    Ok(Some(known(names, name)?))
 }

@@ -50,19 +50,19 @@ fn step_of_buffers<'a>(
         (judged_row (row_of_buffers word.now displays (table_of names.old) (map (λ arg. arg.now) args.now))) }
 {
     if is(word, b"buffer") {
-        return buffer(alloc, names, args);
+        return buffer(names, args);
     }
     if is(word, b"store") {
         return store(alloc, names, args);
     }
     if is(word, b"load") {
-        return load(alloc, names, args);
+        return load(names, args);
     }
     if is(word, b"send") {
-        return send(alloc, names, args);
+        return send(names, args);
     }
     if is(word, b"flush") {
-        return flush(alloc, names, args);
+        return flush(names, args);
     }
     step_of_scanouts(alloc, names, displays, word, args)
 }
@@ -90,10 +90,10 @@ fn step_of_scanouts(
         return with_args!(args, [scanout] => rows::hide(names, displays, scanout));
     }
     if is(word, b"show") {
-        return show(alloc, names, displays, args);
+        return show(names, displays, args);
     }
     if is(word, b"flip") {
-        return flip(alloc, names, displays, args);
+        return flip(names, displays, args);
     }
     step_of_others(alloc, names, displays, word, args)
 }
@@ -112,16 +112,16 @@ fn step_of_others(
         (judged_row (row_of_others word.now displays (table_of names.old) (map (λ arg. arg.now) args.now))) }
 {
     if is(word, b"cursor") {
-        return cursor(alloc, names, displays, args);
+        return cursor(names, displays, args);
     }
     if is(word, b"move") {
         return move_cursor(names, displays, args);
     }
     if is(word, b"uuid") {
-        return with_args!(args, [name] => rows::uuid(alloc, names, name));
+        return with_args!(args, [name] => rows::uuid(names, name));
     }
     if is(word, b"close") {
-        return with_args!(args, [name] => rows::close(alloc, names, name));
+        return with_args!(args, [name] => rows::close(names, name));
     }
     if is(word, b"raw") {
         return raw(alloc, names, args);
@@ -129,11 +129,11 @@ fn step_of_others(
     Err(Stop::Fault(Kind::Word))
 }
 
-fn buffer<'a>(alloc: Global, names: &mut Names<'a>, args: &[&'a [u8]]) -> Result<Step, Stop>
+fn buffer<'a>(names: &mut Names<'a>, args: &[&'a [u8]]) -> Result<Step, Stop>
     ensures { Judges (table_of names.new) result
         (judged_row (four_args (buffer_row (table_of names.old)) (map (λ arg. arg.now) args.now))) }
 {
-    with_args!(args, [name, width, height, format] => rows::buffer(alloc, names, name, width, height, format))
+    with_args!(args, [name, width, height, format] => rows::buffer(names, name, width, height, format))
 }
 
 fn store(alloc: Global, names: &Names, args: &[&[u8]]) -> Result<Step, Stop>
@@ -143,49 +143,49 @@ fn store(alloc: Global, names: &Names, args: &[&[u8]]) -> Result<Step, Stop>
     with_args!(args, [name, offset, hex, times] => rows::store(alloc, names, name, offset, hex, times))
 }
 
-fn load(alloc: Global, names: &Names, args: &[&[u8]]) -> Result<Step, Stop>
+fn load(names: &Names, args: &[&[u8]]) -> Result<Step, Stop>
     ensures { Judges (table_of names.now) result
         (judged_row (three_args (load_row (table_of names.now)) (map (λ arg. arg.now) args.now))) }
 {
-    with_args!(args, [name, offset, size] => rows::load(alloc, names, name, offset, size))
+    with_args!(args, [name, offset, size] => rows::load(names, name, offset, size))
 }
 
-fn send(alloc: Global, names: &Names, args: &[&[u8]]) -> Result<Step, Stop>
+fn send(names: &Names, args: &[&[u8]]) -> Result<Step, Stop>
     ensures { Judges (table_of names.now) result
         (judged_row (five_args (send_row (table_of names.now)) (map (λ arg. arg.now) args.now))) }
 {
-    with_args!(args, [name, x, y, width, height] => rows::send(alloc, names, name, x, y, width, height))
+    with_args!(args, [name, x, y, width, height] => rows::send(names, name, x, y, width, height))
 }
 
-fn flush(alloc: Global, names: &Names, args: &[&[u8]]) -> Result<Step, Stop>
+fn flush(names: &Names, args: &[&[u8]]) -> Result<Step, Stop>
     ensures { Judges (table_of names.now) result
         (judged_row (five_args (flush_row (table_of names.now)) (map (λ arg. arg.now) args.now))) }
 {
-    with_args!(args, [name, x, y, width, height] => rows::flush(alloc, names, name, x, y, width, height))
+    with_args!(args, [name, x, y, width, height] => rows::flush(names, name, x, y, width, height))
 }
 
-fn show(alloc: Global, names: &Names, displays: usize, args: &[&[u8]]) -> Result<Step, Stop>
+fn show(names: &Names, displays: usize, args: &[&[u8]]) -> Result<Step, Stop>
     requires { displays ≤ 16 }
     ensures { Judges (table_of names.now) result
         (judged_row (six_args (show_row displays (table_of names.now)) (map (λ arg. arg.now) args.now))) }
 {
-    with_args!(args, [scanout, name, x, y, width, height] => rows::show(alloc, names, displays, scanout, name, x, y, width, height))
+    with_args!(args, [scanout, name, x, y, width, height] => rows::show(names, displays, scanout, name, x, y, width, height))
 }
 
-fn flip(alloc: Global, names: &Names, displays: usize, args: &[&[u8]]) -> Result<Step, Stop>
+fn flip(names: &Names, displays: usize, args: &[&[u8]]) -> Result<Step, Stop>
     requires { displays ≤ 16 }
     ensures { Judges (table_of names.now) result
         (judged_row (two_args (flip_row displays (table_of names.now)) (map (λ arg. arg.now) args.now))) }
 {
-    with_args!(args, [scanout, name] => rows::flip(alloc, names, displays, scanout, name))
+    with_args!(args, [scanout, name] => rows::flip(names, displays, scanout, name))
 }
 
-fn cursor(alloc: Global, names: &Names, displays: usize, args: &[&[u8]]) -> Result<Step, Stop>
+fn cursor(names: &Names, displays: usize, args: &[&[u8]]) -> Result<Step, Stop>
     requires { displays ≤ 16 }
     ensures { Judges (table_of names.now) result
         (judged_row (six_args (cursor_row displays (table_of names.now)) (map (λ arg. arg.now) args.now))) }
 {
-    with_args!(args, [scanout, name, x, y, hot_x, hot_y] => rows::cursor(alloc, names, displays, scanout, name, x, y, hot_x, hot_y))
+    with_args!(args, [scanout, name, x, y, hot_x, hot_y] => rows::cursor(names, displays, scanout, name, x, y, hot_x, hot_y))
 }
 
 fn move_cursor(names: &Names, displays: usize, args: &[&[u8]]) -> Result<Step, Stop>

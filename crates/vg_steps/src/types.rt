@@ -1,6 +1,7 @@
 //! The calls of a client.
 
 use vg_list::Seq;
+use vg_words::Name;
 
 /// A rectangle in pixels.
 #[derive(Clone, Copy)]
@@ -49,32 +50,32 @@ pub enum Step {
     },
     /// Makes a buffer of `width` by `height` pixels. `format` is a code of VIRTIO 1.2, 5.7.6.8.
     Buffer {
-        name: Seq<u8>,
+        name: Name,
         width: u32,
         height: u32,
         format: u32,
     },
     /// Writes `bytes` into a buffer's memory from byte `offset` on, `times` times in a row.
     Store {
-        name: Seq<u8>,
+        name: Name,
         offset: u32,
         bytes: Seq<u8>,
         times: u32,
     },
     /// Reads `length` bytes of a buffer's memory from byte `offset` on.
     Load {
-        name: Seq<u8>,
+        name: Name,
         offset: u32,
         length: u32,
     },
     /// Transfers an area of a buffer to the device.
     Send {
-        name: Seq<u8>,
+        name: Name,
         area: Area,
     },
     /// Flushes an area of a buffer to the scanouts that show it.
     Flush {
-        name: Seq<u8>,
+        name: Name,
         area: Area,
     },
     /// Leases a scanout.
@@ -92,18 +93,18 @@ pub enum Step {
     /// Shows an area of a buffer on a scanout.
     Show {
         scanout: u32,
-        name: Seq<u8>,
+        name: Name,
         area: Area,
     },
     /// Transfers, shows and flushes a whole buffer on a scanout.
     Flip {
         scanout: u32,
-        name: Seq<u8>,
+        name: Name,
     },
     /// Shows a buffer as a scanout's cursor, with its hot spot at `x`, `y` of the screen; or, with no name, hides it.
     Cursor {
         scanout: u32,
-        name: Option<Seq<u8>>,
+        name: Option<Name>,
         x: i32,
         y: i32,
         hot_x: u32,
@@ -117,11 +118,11 @@ pub enum Step {
     },
     /// Asks for the UUID of a buffer's resource.
     Uuid {
-        name: Seq<u8>,
+        name: Name,
     },
     /// Gives a buffer up, and ends its name.
     Close {
-        name: Seq<u8>,
+        name: Name,
     },
     /// Sends `bytes` as a request on the cursor queue or the control queue, with `room` bytes for its response.
     Raw {
