@@ -14,164 +14,71 @@ const ROOM: u64 = BASE + 49152;
 
 const TABLES: u64 = BASE + 57344;
 
-/// Four descriptors of the ring and two of a table, the head, and the fault's number or 0.
-type Case = ([(u64, u32, u16, u16); 6], u16, u8);
+/// An address, a length, flags, and the next descriptor's place.
+type Row = (u64, u32, u16, u16);
 
-const NONE: (u64, u32, u16, u16) = (0, 0, 0, 0);
+/// The first descriptors of a ring of four and of a table of two, the head, and the fault's number or 0.
+type Case = (&'static [Row], &'static [Row], u16, u8);
 
-const READ: (u64, u32, u16, u16) = (BASE, 24, 0, 0);
+const NONE: Row = (0, 0, 0, 0);
 
-const WRITE: (u64, u32, u16, u16) = (ROOM, 8, 2, 0);
+const READ: Row = (BASE, 24, 0, 0);
+
+const WRITE: Row = (ROOM, 8, 2, 0);
 
 static CASES: [Case; 27] = [
     // whole chains: one part, two parts, a table of one, a table of two after a part
-    ([NONE, READ, NONE, NONE, NONE, NONE], 1, 0),
-    ([(BASE, 8, 1, 2), NONE, WRITE, NONE, NONE, NONE], 0, 0),
-    ([(TABLES, 16, 4, 0), NONE, NONE, NONE, READ, NONE], 0, 0),
+    (&[NONE, READ], &[], 1, 0),
+    (&[(BASE, 8, 1, 2), NONE, WRITE], &[], 0, 0),
+    (&[(TABLES, 16, 4, 0)], &[READ], 0, 0),
     (
-        [
-            (BASE, 8, 1, 3),
-            NONE,
-            NONE,
-            (TABLES, 32, 6, 9),
-            (BASE, 8, 1, 1),
-            WRITE,
-        ],
+        &[(BASE, 8, 1, 3), NONE, NONE, (TABLES, 32, 6, 9)],
+        &[(BASE, 8, 1, 1), WRITE],
         0,
         0,
     ),
     // no bytes at a part's end, and one past it
-    (
-        [
-            (BASE + 24, 0, 1, 1),
-            (ROOM + 8, 0, 2, 0),
-            NONE,
-            NONE,
-            NONE,
-            NONE,
-        ],
-        0,
-        0,
-    ),
-    ([(BASE + 25, 0, 0, 0), NONE, NONE, NONE, NONE, NONE], 0, 7),
+    (&[(BASE + 24, 0, 1, 1), (ROOM + 8, 0, 2, 0)], &[], 0, 0),
+    (&[(BASE + 25, 0, 0, 0)], &[], 0, 7),
     // the last byte that there is
-    (
-        [
-            (0xffff_ffff_ffff_ffff, 0xffff_ffff, 0, 0),
-            NONE,
-            NONE,
-            NONE,
-            NONE,
-            NONE,
-        ],
-        0,
-        7,
-    ),
-    (
-        [
-            (0xffff_ffff_ffff_ffff, 2, 2, 0),
-            NONE,
-            NONE,
-            NONE,
-            NONE,
-            NONE,
-        ],
-        0,
-        7,
-    ),
+    (&[(0xffff_ffff_ffff_ffff, 0xffff_ffff, 0, 0)], &[], 0, 7),
+    (&[(0xffff_ffff_ffff_ffff, 2, 2, 0)], &[], 0, 7),
     // each fault alone
-    ([NONE, NONE, NONE, NONE, NONE, NONE], 4, 1),
-    ([(BASE, 8, 1, 4), NONE, NONE, NONE, NONE, NONE], 0, 1),
+    (&[], &[], 4, 1),
+    (&[(BASE, 8, 1, 4)], &[], 0, 1),
+    (&[(TABLES, 16, 4, 0)], &[(BASE, 8, 1, 1), READ], 0, 1),
+    (&[(BASE, 8, 1, 1), (BASE, 8, 1, 0)], &[], 0, 2),
     (
-        [(TABLES, 16, 4, 0), NONE, NONE, NONE, (BASE, 8, 1, 1), READ],
-        0,
-        1,
-    ),
-    (
-        [(BASE, 8, 1, 1), (BASE, 8, 1, 0), NONE, NONE, NONE, NONE],
+        &[(TABLES, 32, 4, 0)],
+        &[(BASE, 8, 1, 1), (BASE, 8, 1, 1)],
         0,
         2,
     ),
-    (
-        [
-            (TABLES, 32, 4, 0),
-            NONE,
-            NONE,
-            NONE,
-            (BASE, 8, 1, 1),
-            (BASE, 8, 1, 1),
-        ],
-        0,
-        2,
-    ),
-    (
-        [
-            (TABLES, 16, 4, 0),
-            NONE,
-            NONE,
-            NONE,
-            (TABLES, 16, 4, 0),
-            NONE,
-        ],
-        0,
-        3,
-    ),
-    ([(TABLES, 16, 5, 1), READ, NONE, NONE, READ, NONE], 0, 4),
-    ([(TABLES, 24, 4, 0), NONE, NONE, NONE, READ, NONE], 0, 5),
-    ([(ROOM, 8, 3, 1), READ, NONE, NONE, NONE, NONE], 0, 6),
-    ([(BASE, 25, 0, 0), NONE, NONE, NONE, NONE, NONE], 0, 7),
-    ([(TABLES + 1, 32, 4, 0), NONE, NONE, NONE, READ, NONE], 0, 7),
+    (&[(TABLES, 16, 4, 0)], &[(TABLES, 16, 4, 0)], 0, 3),
+    (&[(TABLES, 16, 5, 1), READ], &[READ], 0, 4),
+    (&[(TABLES, 24, 4, 0)], &[READ], 0, 5),
+    (&[(ROOM, 8, 3, 1), READ], &[], 0, 6),
+    (&[(BASE, 25, 0, 0)], &[], 0, 7),
+    (&[(TABLES + 1, 32, 4, 0)], &[READ], 0, 7),
     // each two faults that one visit can have
-    (
-        [(BASE, 8, 1, 1), (ROOM, 8, 3, 0), NONE, NONE, NONE, NONE],
-        0,
-        2,
-    ),
-    (
-        [
-            (TABLES, 16, 4, 0),
-            NONE,
-            NONE,
-            NONE,
-            (TABLES, 16, 5, 0),
-            NONE,
-        ],
-        0,
-        3,
-    ),
-    (
-        [
-            (TABLES, 16, 4, 0),
-            NONE,
-            NONE,
-            NONE,
-            (TABLES, 0, 4, 0),
-            NONE,
-        ],
-        0,
-        3,
-    ),
-    (
-        [(TABLES, 16, 4, 0), NONE, NONE, NONE, (BASE, 16, 4, 0), NONE],
-        0,
-        3,
-    ),
-    ([(TABLES, 0, 5, 1), NONE, NONE, NONE, NONE, NONE], 0, 4),
-    ([(BASE, 16, 5, 1), NONE, NONE, NONE, NONE, NONE], 0, 4),
-    ([(BASE, 80, 4, 0), NONE, NONE, NONE, NONE, NONE], 0, 5),
-    (
-        [(ROOM, 8, 3, 1), (ROOM, 9, 0, 0), NONE, NONE, NONE, NONE],
-        0,
-        6,
-    ),
+    (&[(BASE, 8, 1, 1), (ROOM, 8, 3, 0)], &[], 0, 2),
+    (&[(TABLES, 16, 4, 0)], &[(TABLES, 16, 5, 0)], 0, 3),
+    (&[(TABLES, 16, 4, 0)], &[(TABLES, 0, 4, 0)], 0, 3),
+    (&[(TABLES, 16, 4, 0)], &[(BASE, 16, 4, 0)], 0, 3),
+    (&[(TABLES, 0, 5, 1)], &[], 0, 4),
+    (&[(BASE, 16, 5, 1)], &[], 0, 4),
+    (&[(BASE, 80, 4, 0)], &[], 0, 5),
+    (&[(ROOM, 8, 3, 1), (ROOM, 9, 0, 0)], &[], 0, 6),
 ];
 
-fn descriptor_of(row: (u64, u32, u16, u16)) -> Descriptor {
+/// The row's descriptor, or one of no bytes.
+fn descriptor_of(row: Option<&Row>) -> Descriptor {
+    let (addr, len, flags, next) = row.copied().unwrap_or(NONE);
     Descriptor {
-        addr: row.0,
-        len: row.1,
-        flags: row.2,
-        next: row.3,
+        addr,
+        len,
+        flags,
+        next,
     }
 }
 
@@ -182,6 +89,7 @@ fn put(out: &mut Vec<u8>, descriptor: Descriptor) -> Result<(), AllocError> {
     out.extend_from_slice(&descriptor.next.to_le_bytes())
 }
 
+/// The fault's number, or 0.
 fn number_of(walked: &Result<Chain, ChainFault>) -> u8 {
     match walked {
         Ok(_) => 0,
@@ -195,62 +103,80 @@ fn number_of(walked: &Result<Chain, ChainFault>) -> u8 {
     }
 }
 
-fn walked_of(alloc: Global, rows: [(u64, u32, u16, u16); 6], head: u16) -> Result<u8, AllocError> {
-    let mut table = Vec::new(alloc);
-    for row in &rows[..4] {
-        table.push(descriptor_of(*row))?;
-    }
-    let mut tables = Vec::new(alloc);
-    for row in &rows[4..] {
-        put(&mut tables, descriptor_of(*row))?;
-    }
+/// The fault's number or 0, and how many segments are read.
+fn walked(
+    alloc: Global,
+    ring: &[Descriptor],
+    tables: &[u8],
+    head: u16,
+) -> Result<(u8, usize), AllocError> {
     let parts = Parts {
         base: BASE,
         request: 24,
         room: 8,
-        tables: tables.as_slice(),
+        tables,
     };
-    Ok(number_of(&walk(alloc, table.as_slice(), head, &parts)?))
+    let walked = walk(alloc, ring, head, &parts)?;
+    let segments = match &walked {
+        Ok(chain) => chain.readable.len(),
+        Err(_) => 0,
+    };
+    Ok((number_of(&walked), segments))
+}
+
+fn fault_of(alloc: Global, case: &Case) -> Result<u8, AllocError> {
+    let (ring, table, head, _) = *case;
+    let ring = [
+        descriptor_of(ring.get(0)),
+        descriptor_of(ring.get(1)),
+        descriptor_of(ring.get(2)),
+        descriptor_of(ring.get(3)),
+    ];
+    let mut tables = Vec::new(alloc);
+    for place in 0..2 {
+        put(&mut tables, descriptor_of(table.get(place)))?;
+    }
+    let (fault, _) = walked(alloc, &ring, tables.as_slice(), head)?;
+    Ok(fault)
 }
 
 #[test]
 fn walks_end_at_the_first_fault(rt: HostRuntime) -> Result<(), Fail> {
-    for (rows, head, fault) in CASES {
-        assert_eq!(rt; walked_of(rt.alloc(), rows, head)?, fault);
+    for case in &CASES {
+        assert!(rt; fault_of(rt.alloc(), case)? == case.3);
     }
     Ok(())
 }
 
-/// A queue of 64 whose first descriptor refers to a table of so many, each of which is followed by the
-/// next one and refers to no byte; the result is the number of segments, or 100 and the fault's number.
-fn long_table(alloc: Global, count: u16) -> Result<usize, AllocError>
-    requires { count ≤ 100 }
-{
-    let mut table = vec![in alloc; descriptor_of(READ); 64]?;
+/// A table of so many descriptors, each of which is followed by the next one and refers to no byte.
+fn table_of(alloc: Global, count: u16) -> Result<Vec<u8>, AllocError> {
     let mut tables = Vec::new(alloc);
     for place in 0..count {
         let more = if place + 1 < count { 1 } else { 0 };
-        put(&mut tables, descriptor_of((BASE, 0, more, place + 1)))?;
+        put(
+            &mut tables,
+            descriptor_of(Some(&(BASE, 0, more, place + 1))),
+        )?;
     }
-    table[0] = descriptor_of((TABLES, 16 * u32::from(count), 4, 0));
-    let parts = Parts {
-        base: BASE,
-        request: 24,
-        room: 8,
-        tables: tables.as_slice(),
-    };
-    match walk(alloc, table.as_slice(), 0, &parts)? {
-        Ok(chain) => Ok(chain.readable.len()),
-        Err(fault) => Ok(100 + number_of(&Err(fault)) as usize),
-    }
+    Ok(tables)
 }
+
+/// How a queue of 64 is walked whose first descriptor refers to such a table.
+fn long_table(alloc: Global, count: u16) -> Result<(u8, usize), AllocError> {
+    let tables = table_of(alloc, count)?;
+    let first = descriptor_of(Some(&(TABLES, 16 * u32::from(count), 4, 0)));
+    let ring = [first; 64];
+    walked(alloc, &ring, tables.as_slice(), 0)
+}
+
+/// How many descriptors a table has, and the fault's number and the segments that are read.
+static LENGTHS: [(u16, u8, usize); 4] = [(0, 5, 0), (1, 0, 1), (64, 0, 64), (65, 5, 0)];
 
 #[test]
 fn a_table_has_as_many_descriptors_as_the_queue(rt: HostRuntime) -> Result<(), Fail> {
-    assert_eq!(rt; long_table(rt.alloc(), 0)?, 105);
-    assert_eq!(rt; long_table(rt.alloc(), 1)?, 1);
-    assert_eq!(rt; long_table(rt.alloc(), 64)?, 64);
-    assert_eq!(rt; long_table(rt.alloc(), 65)?, 105);
+    for (count, fault, segments) in LENGTHS {
+        assert!(rt; long_table(rt.alloc(), count)? == (fault, segments));
+    }
     Ok(())
 }
 
@@ -339,7 +265,7 @@ fn check_needed(rt: &impl Abort, number: u8, row: &[u16; 21]) {
     for request in REQUESTS {
         for room in ROOMS {
             let needed = shape_of(number).needed(request, room);
-            assert_eq!(rt; Some(needed), row.get(at).copied(), "shape {number}");
+            assert!(rt; row.get(at).copied() == Some(needed), "shape {number}");
             at = at.wrapping_add(1);
         }
     }
@@ -368,6 +294,6 @@ fn a_table_is_its_descriptors_in_their_bytes(rt: HostRuntime) -> Result<(), Fail
         room: 8,
     };
     let tables = Shape::Indirect.tables(rt.alloc(), &extent)?;
-    assert_eq!(rt; tables.as_slice(), TABLE.as_slice());
+    assert!(rt; tables.as_slice() == TABLE.as_slice());
     Ok(())
 }

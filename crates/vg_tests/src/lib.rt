@@ -7,8 +7,6 @@ mod chain;
 #[cfg(test)]
 mod config;
 #[cfg(test)]
-mod cursor;
-#[cfg(test)]
 mod edid;
 #[cfg(test)]
 mod formats;

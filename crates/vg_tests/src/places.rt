@@ -1,5 +1,4 @@
-use std::test::Fail;
-use vg_places::{agree_at_each_place, fill_at_each_place, tabulate_at_each_place, zeros};
+use vg_places::{agree_at_each_place, fill_at_each_place, tabulate_at_each_place};
 
 #[test]
 fn laws_stand_at_concrete_types() {
@@ -8,11 +7,4 @@ fn laws_stand_at_concrete_types() {
     tabulate_at_each_place::<u8>();
     tabulate_at_each_place::<bool>();
     fill_at_each_place();
-}
-
-#[test]
-fn zeros_are_zero(rt: HostRuntime) -> Result<(), Fail> {
-    let bytes = zeros(rt.alloc(), 3)?;
-    assert_eq!(rt; bytes.as_slice(), [0, 0, 0].as_slice());
-    Ok(())
 }

@@ -77,47 +77,84 @@ fn send(
 
 /// Entries (how many, and of how many bytes each), rectangle (x, y, width, height) and offset; whether they are accepted,
 /// and two bytes of the pixels from a place on.
-static CASES: [(u32, u32, u32, u32, u32, u32, u64, bool, usize, u8, u8); 12] = [
-    (300, 4_096, 0, 0, 1_024, 300, 0, true, 0, 43, 1),
-    (300, 4_096, 0, 0, 1_024, 300, 0, true, 1_220_608, 1, 0),
-    (300, 4_096, 0, 0, 1_024, 300, 0, true, 1_224_702, 1, 0),
-    (300, 4_096, 0, 0, 1_024, 300, 1, false, 0, 0, 0),
-    (300, 4_096, 1, 5, 1_023, 1, 40_952, true, 20_490, 34, 1),
-    (300, 4_096, 1, 5, 1_023, 1, 40_952, true, 20_492, 33, 1),
+type Case = ((u32, u32), (u32, u32, u32, u32), u64, bool, usize, (u8, u8));
+
+static CASES: [Case; 12] = [
+    ((300, 4_096), (0, 0, 1_024, 300), 0, true, 0, (43, 1)),
+    ((300, 4_096), (0, 0, 1_024, 300), 0, true, 1_220_608, (1, 0)),
+    ((300, 4_096), (0, 0, 1_024, 300), 0, true, 1_224_702, (1, 0)),
+    ((300, 4_096), (0, 0, 1_024, 300), 1, false, 0, (0, 0)),
     (
-        300, 4_096, 1_023, 299, 1, 1, 1_224_700, true, 1_228_798, 1, 0,
+        (300, 4_096),
+        (1, 5, 1_023, 1),
+        40_952,
+        true,
+        20_490,
+        (34, 1),
     ),
-    (300, 4_096, 0, 0, 1, 1, 1_228_796, true, 0, 0, 0),
-    (300, 4_096, 0, 0, 1, 1, 1_228_797, false, 0, 0, 0),
-    (8, 1, 1_023, 299, 1, 1, 0, true, 1_228_796, 1, 43),
-    (8, 1, 0, 0, 2, 1, 0, true, 0, 1, 43),
-    (3, 2, 0, 0, 1, 1, 3, false, 0, 0, 0),
+    (
+        (300, 4_096),
+        (1, 5, 1_023, 1),
+        40_952,
+        true,
+        20_492,
+        (33, 1),
+    ),
+    (
+        (300, 4_096),
+        (1_023, 299, 1, 1),
+        1_224_700,
+        true,
+        1_228_798,
+        (1, 0),
+    ),
+    ((300, 4_096), (0, 0, 1, 1), 1_228_796, true, 0, (0, 0)),
+    ((300, 4_096), (0, 0, 1, 1), 1_228_797, false, 0, (0, 0)),
+    ((8, 1), (1_023, 299, 1, 1), 0, true, 1_228_796, (1, 43)),
+    ((8, 1), (0, 0, 2, 1), 0, true, 0, (1, 43)),
+    ((3, 2), (0, 0, 1, 1), 3, false, 0, (0, 0)),
 ];
+
+/// What a case comes to.
+fn sent(
+    rt: &impl Abort,
+    alloc: Global,
+    pages: &Pages,
+    case: &Case,
+) -> Result<(bool, Vec<u8>), Fail> {
+    let ((count, length), (x, y, width, height), offset, _, _, _) = *case;
+    let entries = falling(alloc, count, length)?;
+    let backings = attached(rt, alloc, pages, entries.as_slice())?;
+    let rect = Rect {
+        x,
+        y,
+        width,
+        height,
+    };
+    send(alloc, pages, &backings, &rect, offset, (1_024, 300))
+}
+
+/// Compares what a case came to with what it has to.
+fn compare(rt: &impl Abort, case: &Case, done: bool, pixels: &[u8]) {
+    let ((count, length), _, offset, accepted, place, bytes) = *case;
+    let found = (
+        done,
+        pixels.get(place).copied(),
+        pixels.get(place.saturating_add(1)).copied(),
+    );
+    let wanted = (accepted, Some(bytes.0), Some(bytes.1));
+    assert!(rt;
+        found == wanted,
+        "{count} entries of {length} bytes, from {offset}"
+    );
+}
 
 #[test]
 fn pixels_come_from_entries_in_falling_order(rt: HostRuntime) -> Result<(), Fail> {
     let pages = numbered(&rt, rt.alloc())?;
-    for (count, length, x, y, width, height, offset, accepted, place, first, second) in CASES {
-        let entries = falling(rt.alloc(), count, length)?;
-        let rect = Rect {
-            x,
-            y,
-            width,
-            height,
-        };
-        let backings = attached(&rt, rt.alloc(), &pages, entries.as_slice())?;
-        let (done, pixels) = send(rt.alloc(), &pages, &backings, &rect, offset, (1_024, 300))?;
-        assert_eq!(rt; done, accepted, "entries of {length} bytes, from {offset}");
-        assert_eq!(rt;
-            pixels.get(place).copied(),
-            Some(first),
-            "entries of {length} bytes, from {offset}"
-        );
-        assert_eq!(rt;
-            pixels.get(place + 1).copied(),
-            Some(second),
-            "entries of {length} bytes, from {offset}"
-        );
+    for case in &CASES {
+        let (done, pixels) = sent(&rt, rt.alloc(), &pages, case)?;
+        compare(&rt, case, done, pixels.as_slice());
     }
     Ok(())
 }
