@@ -1,6 +1,5 @@
 //! Walks of chains laid out by hand, and the descriptors of each shape (VIRTIO 1.2, 2.7.5).
 
-ghost use Rattle.std.specs.Prelude.{◌≤◌};
 ghost use Rattle.vg_chain.specs.Made.{IsCount};
 
 use std::alloc::{AllocError, Global};

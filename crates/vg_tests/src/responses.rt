@@ -116,9 +116,11 @@ fn responses_have_their_fields_at_their_places(rt: HostRuntime) -> Result<(), Fa
     Ok(())
 }
 
+type Bad = (u16, usize, &'static [Word]);
+
 /// Bytes that are none: other kinds, another length, a mode that is neither enabled nor zeros, another size of an EDID, and
 /// bytes behind its block.
-static BAD: [(u16, usize, &'static [Word]); 25] = [
+static BAD: [Bad; 25] = [
     (0x10ff, 0, &[]),
     (0x1101, 0, &[]),
     (0x1102, 0, &[]),
@@ -146,14 +148,17 @@ static BAD: [(u16, usize, &'static [Word]); 25] = [
     (0x1105, 17, &[]),
 ];
 
+fn check_bad(rt: &impl Abort, alloc: Global, row: &Bad) -> Result<(), AllocError> {
+    let (kind, count, words) = *row;
+    let bytes = bytes_of(alloc, kind, count, words)?;
+    assert!(rt; !is_read(alloc, bytes.as_slice())?, "{kind:#x} {count}");
+    Ok(())
+}
+
 #[test]
 fn other_bytes_are_no_response(rt: HostRuntime) -> Result<(), Fail> {
-    for (kind, count, words) in BAD {
-        let bytes = bytes_of(rt.alloc(), kind, count, words)?;
-        assert!(rt;
-            !is_read(rt.alloc(), bytes.as_slice())?,
-            "{kind:#x} {count}"
-        );
+    for row in &BAD {
+        check_bad(&rt, rt.alloc(), row)?;
     }
     Ok(())
 }
