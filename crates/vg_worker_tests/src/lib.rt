@@ -1,10 +1,13 @@
 //! Tests of a device's worker over its two rings and a book over a display, on one thread and on two, and what they drive it by.
 #![tactic(auto)]
 
-pub mod gate;
-pub mod guest;
+#[cfg(test)]
+mod gate;
+#[cfg(test)]
+mod guest;
 #[cfg(test)]
 mod lengths;
 #[cfg(test)]
 mod order;
-pub mod rig;
+#[cfg(test)]
+mod rig;
