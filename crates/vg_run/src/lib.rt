@@ -1,9 +1,11 @@
 //! The program's one call: a script is read, its clients run, and the journal is written.
 #![tactic(auto)]
 
+mod fault;
 mod top;
 mod words;
 
+pub use fault::{Fault, Kind, code_of, fault_of};
 pub use top::{Status, vgpu};
 pub use vg_drive::{
     Driven, at_most_one_history, clients_make_one_history, drive, drive_in, nothing_without_clients,

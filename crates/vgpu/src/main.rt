@@ -1,17 +1,11 @@
 //! The program `vgpu`: runs a script from standard input, and writes its journal to standard output.
 #![tactic(auto)]
 
-mod fault;
-
-use fault::{code_of, fault_of};
 use std::io;
 use std::process::ExitCode;
 use vg_io::{StdSink, StdSource};
-use vg_run::{Status, vgpu};
+use vg_run::{Status, code_of, fault_of, vgpu};
 use vg_worker::FreeGate;
-
-#[cfg(test)]
-mod tests;
 
 fn main(rt: HostRuntime) -> ExitCode {
     let status = match words(&rt) {

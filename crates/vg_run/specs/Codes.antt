@@ -2,10 +2,10 @@ use Rattle.std.specs.Prelude.{ℕ, ◌==◌, if◌then◌else◌, Option, None, 
 use Rattle.vg_run.specs.declared.top.Status.{Status}
 use Rattle.vg_run.specs.declared.top.Status.TheVariants.{Done, Usage, ReadFault, WriteFault, TooLong, NoMemory}
 use Rattle.vg_run.specs.declared.top.Status.TheVariants as statuses
-use Rattle.vgpu.specs.declared.fault.Kind.{Kind}
-use Rattle.vgpu.specs.declared.fault.Kind.TheVariants.{Text, Word, Number, Limit, Name, WaitCycle}
-use Rattle.vgpu.specs.declared.fault.Fault.{Fault}
-use Rattle.vgpu.specs.declared.fault.Fault.TheVariants as faults
+use Rattle.vg_run.specs.declared.fault.Kind.{Kind}
+use Rattle.vg_run.specs.declared.fault.Kind.TheVariants.{Text, Word, Number, Limit, Name, WaitCycle}
+use Rattle.vg_run.specs.declared.fault.Fault.{Fault}
+use Rattle.vg_run.specs.declared.fault.Fault.TheVariants as faults
 
 -- The exit status of each way that a call ends.
 abbrev pub exit_code : Status → ℕ

@@ -1,10 +1,10 @@
-//! What is said on standard error, and the exit status.
+//! What the program says on standard error, and its exit status.
 
 ghost use Rattle.std.specs.Prelude.{◌≡◌};
-ghost use Rattle.vgpu.specs.Codes.{exit_code, fault_told, kind_told};
+ghost use Rattle.vg_run.specs.Codes.{exit_code, fault_told, kind_told};
 
+use crate::top::Status;
 use thiserror::Error;
-use vg_run::Status;
 
 /// Why a call didn't end well.
 #[derive(Clone, Copy, Debug, PartialEq, Eq, Error)]

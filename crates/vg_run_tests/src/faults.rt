@@ -1,6 +1,7 @@
-use super::fault::{code_of, fault_of};
+//! What the program says of a status that no run gives today.
+
 use std::test::Fail;
-use vg_run::Status;
+use vg_run::{Status, code_of, fault_of};
 
 /// The one status that no run gives today: scripts have no waits yet. The others stand in rows/.
 #[test]
