@@ -1,6 +1,5 @@
 -- What a call gives at the least: an entry.
-use Rattle.std.proofs.Common.{◌≡◌, ◌+◌, ◌-◌, ◌*◌, ◌<◌, ◌≤◌, ◌∙◌, sym, ap, refl, arith, ℕ, zero, suc, Bool, true, false, cond, List, [], ◌∷◌, ◌++◌, length, map, drop, append_assoc, length-append, subst, Option, Some, None, Result, Ok, Err, ℤ}
-use Rattle.std.specs.List.{AllByRecursion}
+use Rattle.std.proofs.Common.{◌≡◌, ◌≤◌, arith, ℕ, Bool, true, false, cond, List, [], ◌∷◌, length, length-append, subst, Option, Some, None, Result, Ok, Err, ℤ}
 use Rattle.vg_holds.specs.declared.act.What.{What}
 use Rattle.vg_holds.specs.declared.act.What.TheVariants.{Scanout}
 use Rattle.vg_holds.specs.declared.holds.Holds.{Holds}
@@ -14,10 +13,8 @@ use Rattle.vg_tasks.specs.Known.{Known}
 use Rattle.vg_names.specs.Names.{NamesState, found}
 use Rattle.vg_names.specs.declared.names.Held.{Held}
 use Rattle.vg_tasks.specs.declared.task.Task.{Task}
-use Rattle.vg_tasks.specs.Plans.{weight_of, weights}
-use Rattle.vg_tasks.specs.Fits.{IsFit}
-use Rattle.vg_tasks.specs.Table.{clear_task, release_task}
-use Rattle.vg_tasks.specs.Tasks.{clear_tasks, close_tasks, cursor_tasks, drop_tasks, give_back, if_current, is_shown, leases_back, tasks_of}
+use Rattle.vg_tasks.specs.Table.{release_task}
+use Rattle.vg_tasks.specs.Tasks.{clear_tasks, close_tasks, cursor_tasks, drop_tasks, give_back, if_current, tasks_of}
 
 -- a call that isn't denied before there is any task has one
 abbrev HasTasks : Result (List Task) What → Type 0

@@ -1,6 +1,5 @@
 -- A client, and how its calls go on.
-use Rattle.std.specs.Prelude.{◌≡◌, ◌≤◌, ◌<◌, ◌+◌, ℕ, Bool, false, Option, Some, None, List, [], ◌∷◌, ◌++◌, length, Result, Ok, Err, Vec}
-use Rattle.std.specs.List.{AllByRecursion}
+use Rattle.std.specs.Prelude.{◌≡◌, ◌≤◌, ◌<◌, ◌+◌, ℕ, Bool, false, Option, Some, None, List, [], ◌∷◌, ◌++◌, length}
 use mathlib.Core.List.{IsPrefix}
 use Rattle.vg_machine.specs.Entries.{Entry}
 use Rattle.vg_holds.specs.declared.act.ActReply.{ActReply}
@@ -10,24 +9,14 @@ use Rattle.vg_holds.specs.declared.act.Act.TheVariants.{Enter, Leave}
 use Rattle.vg_holds.specs.declared.setup.Setup.{Setup}
 use Rattle.vg_history.specs.declared.entry.Entry.TheVariants.{Act}
 use Rattle.vg_driver.specs.Tickets.{Token}
-use Rattle.vg_holds.specs.declared.act.What.{What}
-use Rattle.vg_holds.specs.declared.holds.Holds.{Holds}
-use Rattle.vg_holds.specs.Holds.{Deniable}
 use Rattle.vg_machine.specs.Order.{updated}
-use Rattle.vg_chain.specs.Made.{IsCount}
-use Rattle.vg_tasks.specs.declared.call.Call.{Call}
-use Rattle.vg_tasks.specs.declared.call.Call.TheVariants as calls
 use Rattle.vg_client.specs.declared.caller.Caller.{Caller}
 use Rattle.vg_client.specs.declared.given.Added.{Added}
 use Rattle.vg_client.specs.declared.given.Given.{Given}
 use Rattle.vg_client.specs.declared.given.Given.TheVariants as givens
-use Rattle.vg_tasks.specs.declared.task.Change.{Change}
-use Rattle.vg_tasks.specs.declared.task.Change.TheVariants.{NewBuffer, EndOfName}
-use Rattle.vg_tasks.specs.declared.task.Task.{Task}
 use Rattle.vg_client.specs.Given.{given_of}
 use Rattle.vg_names.specs.declared.names.NameRef.{NameRef}
 use Rattle.vg_tasks.specs.Known.{Known, first_known}
-use Rattle.vg_tasks.specs.Fits.{IsFit}
 use Rattle.vg_client.specs.Accounts.{IsAccount, IsActive, IsNew, mine_of}
 use Rattle.vg_client.specs.Calls.{Plays}
 use Rattle.vg_client.specs.Outcomes.{IsNumbered}

@@ -1,24 +1,19 @@
 -- The lanes that were taken in, and what they have run.
-use Rattle.std.proofs.Common.{◌≡◌, inl, inr, ⊎_elim, ◌+◌, ◌<◌, ◌≤◌, ◌∙◌, sym, ap, refl, subst, arith, add-one, append_assoc, append-nil, ℕ, zero, suc, true, false, List, [], ◌∷◌, ◌++◌, length, map, get_or, Some, None}
-use Rattle.std.specs.Prelude.{All}
+use Rattle.std.proofs.Common.{◌≡◌, inl, inr, ◌<◌, ◌∙◌, sym, ap, refl, subst, arith, append_assoc, append-nil, ℕ, zero, suc, false, List, [], ◌∷◌, ◌++◌, length, map, get_or, Some, None}
 use Rattle.std.proofs.lemmas.List.{map-append}
-use Rattle.std.proofs.lemmas.List.Elements.{All-append, All-nil}
-use Rattle.std.proofs.lemmas.Simd.{map-map}
 use mathlib.Core.Logic.{dite}
-use mathlib.Core.List.{IsPrefix}
 use native.Mathlib.Decide.{ℕ_discrete}
 use Rattle.vg_history.specs.History.{ordinals}
 use Rattle.vg_history.specs.Lists.{Has, upto}
-use Rattle.vg_history.proofs.ListLemmas.{has_map, has_snoc, has_upto, map_has, prefix_self, prefix_trans}
-use Rattle.vg_book.specs.Own.{IsInStep}
-use Rattle.vg_book.specs.Tokens.{AllJoined, IsClosed, MakesClient, TakesIn}
+use Rattle.vg_history.proofs.ListLemmas.{has_map, prefix_self, prefix_trans}
+use Rattle.vg_book.specs.Tokens.{AllJoined, IsClosed, TakesIn}
 use Rattle.vg_ring.specs.DeviceEnds.{DeviceLists}
 use Rattle.vg_ring.specs.Entries as ring_entries
 use Rattle.vg_front.specs.Desks.{HasRunAll}
 use Rattle.vg_front.specs.Fronts.{Closes, FrontData}
 use Rattle.vg_machine.specs.Entries.{Entry}
 use Rattle.vg_machine.specs.Replay.{display}
-use Rattle.vg_machine.specs.State.{State, start}
+use Rattle.vg_machine.specs.State.{State}
 use Rattle.vg_closing.specs.Closing.{HasCompleted, HasTakenLanes, HaveClientsJoined, HaveCompleted, Lane, Root, counted_of}
 use Rattle.vg_closing.proofs.RangeLemmas.{upto-range}
 

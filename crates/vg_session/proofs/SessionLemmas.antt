@@ -1,39 +1,30 @@
 -- Clients on threads, and what they leave.
-use Rattle.std.proofs.Common.{◌≡◌, inl, inr, ⊎_elim, ◌+◌, ◌<◌, ◌≤◌, ◌∙◌, sym, ap, refl, subst, arith, add-one, append_assoc, append-nil, ℕ, zero, suc, true, false, List, [], ◌∷◌, ◌++◌, length, map, get_or, Some, None}
+use Rattle.std.proofs.Common.{◌≡◌, inl, inr, ⊎_elim, ◌+◌, ◌≤◌, ◌∙◌, sym, ap, refl, subst, arith, add-one, append_assoc, append-nil, ℕ, zero, suc, true, List, [], ◌∷◌, ◌++◌, length, map, Some}
 use Rattle.std.specs.Prelude.{All}
 use Rattle.std.proofs.lemmas.List.{map-append}
 use Rattle.std.proofs.lemmas.List.Elements.{All-append, All-nil}
 use Rattle.std.proofs.lemmas.Simd.{map-map}
-use mathlib.Core.Logic.{dite}
 use mathlib.Core.List.{IsPrefix}
-use native.Mathlib.Decide.{ℕ_discrete}
-use Rattle.vg_history.specs.History.{ordinals}
 use Rattle.vg_history.specs.Lists.{Has, upto}
-use Rattle.vg_history.proofs.ListLemmas.{has_map, has_snoc, has_upto, map_has, prefix_self, prefix_trans}
+use Rattle.vg_history.proofs.ListLemmas.{has_map, has_snoc, has_upto, map_has, prefix_trans}
 use Rattle.vg_book.specs.Own.{IsInStep}
-use Rattle.vg_book.specs.Tokens.{AllJoined, IsClosed, MakesClient, TakesIn}
+use Rattle.vg_book.specs.Tokens.{MakesClient, TakesIn}
 use Rattle.vg_crew.specs.Jobs.{AllGive}
 use Rattle.vg_crew.proofs.JobLemmas.{given_same}
-use Rattle.vg_ring.specs.DeviceEnds.{DeviceLists}
-use Rattle.vg_ring.specs.Entries as ring_entries
-use Rattle.vg_front.specs.Desks.{HasRunAll}
-use Rattle.vg_front.specs.Fronts.{Closes, FrontData}
 use Rattle.vg_holds.specs.declared.holds.Holds.{Holds}
 use Rattle.vg_holds.specs.declared.setup.Setup.{Setup}
-use Rattle.vg_machine.specs.Entries.{Entry}
 use Rattle.vg_holds.specs.Holds.{first_holds}
 use Rattle.vg_machine.specs.Replay.{display}
-use Rattle.vg_machine.specs.State.{State, start}
+use Rattle.vg_machine.specs.State.{start}
 use Rattle.vg_script.specs.declared.types.Script.{Script}
 use Rattle.vg_script.specs.Limits.{ScriptInLimits}
 use Rattle.vg_driver.specs.Tickets.{Account, Token}
 use Rattle.vg_client.specs.Accounts.{IsNew, mine_of}
 use Rattle.vg_part.specs.declared.performing.Performed.{Performed}
-use Rattle.vg_closing.specs.Closing.{HasCompleted, HasTakenLanes, HaveCompleted, Lane, Root, counted_of}
+use Rattle.vg_closing.specs.Closing.{Root}
 use Rattle.vg_session.specs.Session.{AreNew, HasJoined, HasTakenAll, HaveAllJoined, IsRootWith, MayPerform, Performs, number_of}
 use Rattle.vg_part.specs.Performing.{HasPerformed, lines_of}
 use Rattle.vg_part.specs.Setup.{setup_of}
-use Rattle.vg_closing.proofs.RangeLemmas.{upto-range}
 
 all-one : {X : Type 0} (P : X → Type 0) (x : X) → P x → All P (x ∷ [])
 all-one P x h zero d lt = h

@@ -1,31 +1,14 @@
--- What clients and workers on threads leave: a history that has all of each client, and lanes that have run what was completed.
-use Rattle.std.specs.Prelude.{◌≡◌, ◌≤◌, ◌<◌, ℕ, true, false, List, [], ◌++◌, length, map, Some}
+-- What clients on threads leave: a root that has taken in each, with its part performed.
+use Rattle.std.specs.Prelude.{◌≡◌, ◌≤◌, ℕ, true, List, [], ◌++◌, length, map, Some}
 use mathlib.Core.List.{IsPrefix}
-use Rattle.vg_history.specs.History.{ordinals}
 use Rattle.vg_history.specs.Lists.{Has, upto}
-use Rattle.vg_book.specs.declared.board.Counted.{Counted}
-use Rattle.vg_book.specs.Tokens.{IsClosed, Rooted}
-use Rattle.vg_book.specs.Tokens as tokens
-use Rattle.vg_ring.specs.declared.views.Entry as ring
-use Rattle.vg_ring.specs.DeviceEnds.{DeviceLists}
-use Rattle.vg_ring.specs.Entries as ring_entries
-use Rattle.vg_front.specs.Desks.{is_busy}
-use Rattle.vg_front.specs.Fronts.{FrontData}
-use Rattle.vg_front.specs.Lanes.{of_lane}
-use Rattle.vg_holds.specs.declared.act.Act.{Act}
-use Rattle.vg_holds.specs.declared.act.ActReply.{ActReply}
-use Rattle.vg_machine.specs.declared.history.Reply.{Reply}
-use Rattle.vg_machine.specs.declared.history.Request.{Request}
-use Rattle.vg_holds.specs.declared.holds.Holds.{Holds}
 use Rattle.vg_holds.specs.declared.setup.Setup.{Setup}
-use Rattle.vg_machine.specs.Entries.{Entry}
-use Rattle.vg_machine.specs.Replay.{display}
-use Rattle.vg_machine.specs.State.{State, start}
-use Rattle.vg_scanout.specs.declared.scanout.Frame.{Frame}
+use Rattle.vg_machine.specs.State.{start}
 use Rattle.vg_script.specs.declared.types.Script.{Script}
 use Rattle.vg_script.specs.Limits.{ScriptInLimits}
 use Rattle.vg_driver.specs.Tickets.{Account, Token}
 use Rattle.vg_client.specs.Accounts.{IsNew}
+use Rattle.vg_closing.specs.Closing.{Root}
 use Rattle.vg_part.specs.declared.performing.Performed.{Performed}
 use Rattle.vg_part.specs.Performing.{HasPerformed, lines_of}
 use Rattle.vg_part.specs.Setup.{setup_of}
