@@ -25,8 +25,7 @@ use Rattle.vg_script.specs.declared.types.Script.{Script}
 use Rattle.vg_driver.specs.Tickets.{Token}
 use Rattle.vg_client.specs.Accounts.{mine_of}
 use Rattle.vg_worker.proofs.LaneLemmas.{lanes_are_new, lanes_long}
-use Rattle.vg_closing.specs.Closing.{HaveClientsJoined, IsEnd, Lane, Root}
-use Rattle.vg_session.specs.Session.{HasJoined, HaveAllJoined}
+use Rattle.vg_session.specs.Session.{HasJoined, HaveAllJoined, IsEnd, Lane, Root}
 use Rattle.vg_part.specs.Kept.{Kept}
 use Rattle.vg_drive.specs.Kept.{KeptAll}
 use Rattle.vg_journal.specs.declared.journal.Journal.{Journal}
@@ -69,14 +68,6 @@ kept-from setup H first (lines ∷ more) all =
           let next : first + suc i ≡ (first + 1) + i = omega arith in
           subst (λ (k : ℕ). Kept setup k (get_or more i []) (of_client k H)) next (all (suc i) (omega (arith, within)))),
     )
-
--- all clients that the root made have joined it, since those are the script's
-pub clients-joined : (script : Script) (root : Root) → HaveAllJoined script root → HaveClientsJoined root
-clients-joined script root joined = record {
-  lanes = joined.lanes;
-  lanes_made = joined.lanes_made;
-  clients = λ n low high. let client = joined.clients n low (omega (arith, high, joined.given)) in (client.token.account, client.there, client.number_is);
-}
 
 pub is-run : (script : Script) (root : Root) (H : List Entry) (frames : List Frame) → InStep → OneHistory → HaveAllJoined script root → IsEnd root H frames → IsRunOf (setup_of script) script.clients H frames
 is-run script root H frames law one joined end =

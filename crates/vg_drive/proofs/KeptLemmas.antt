@@ -24,7 +24,7 @@ use Rattle.vg_drive.specs.Legal.{FollowAll}
 use Rattle.vg_client.specs.Own.{AreInOwnOrder, IsInOwnOrder, IsOnItsLane, IsOwn}
 use Rattle.vg_drive.specs.Run.{IsOwned}
 use Rattle.vg_client.proofs.HoldsLemmas.{fold-client}
-use Rattle.vg_closing.proofs.RangeLemmas.{upto-range}
+use Rattle.vg_session.proofs.RangeLemmas.{upto-range}
 use Rattle.vg_drive.proofs.OrderLemmas.{in_order, in_place-numbered, numbered-sorted}
 
 -- a client's entries in a history of two parts

@@ -7,7 +7,7 @@ use Rattle.vg_machine.specs.Entries.{Entry}
 use Rattle.vg_history.specs.declared.entry.Entry.TheVariants as entries
 use Rattle.vg_machine.specs.Order.{AreInOrder, GiveUp, IsFirst, IsInOrder, LaneOrder, by_call, call_of, client_of, is_leave, is_of_lane, numbers_below, of_client, placed}
 use Rattle.vg_part.specs.Follows.{AreInPlace}
-use Rattle.vg_closing.proofs.RangeLemmas.{range-more}
+use Rattle.vg_session.proofs.RangeLemmas.{range-more}
 
 -- a history of one client alone is all its own
 pub of_client-all : (client : ℕ) (H : List Entry) → AllByRecursion (λ e. client_of e ≡ client) H → of_client client H ≡ H

@@ -6,7 +6,7 @@ ghost use Rattle.vg_front.specs.Desks as desks;
 ghost use Rattle.vg_machine.specs.State.{start};
 ghost use Rattle.vg_script.specs.Limits.{ScriptInLimits};
 ghost use Rattle.vg_part.specs.Setup as setups;
-ghost use Rattle.vg_closing.specs.Closing.{HaveCompleted};
+ghost use Rattle.vg_session.specs.Session.{HaveCompleted};
 ghost use Rattle.vg_drive.specs.Legal.{IsLegalJournal};
 
 use crate::journal::journal_of;
@@ -16,7 +16,6 @@ use std::marker::{Brand, Send, Sync};
 use std::sync::Wait;
 use std::thread::Threads;
 use vg_book::{Carried, LaneToken, Naming, NoMemory, Opened, history_in_step};
-use vg_closing::{Closed, close};
 use vg_driver::Driver;
 use vg_front::Front;
 use vg_history::Turn;
@@ -25,7 +24,7 @@ use vg_machine::{Display, Setup};
 use vg_part::setup_of;
 use vg_ring::{ControlOf, CursorOf, DeviceEnd, Made, Ring, Rings};
 use vg_script::Script;
-use vg_session::run_threads;
+use vg_session::{Closed, close, run_threads};
 use vg_wire::Queue;
 use vg_worker::Gate;
 

@@ -2,6 +2,8 @@
 //! at which the book is closed.
 #![tactic(auto)]
 
+mod closing;
 mod threads;
 
+pub use closing::{Closed, close};
 pub use threads::run_threads;

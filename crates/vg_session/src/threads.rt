@@ -3,16 +3,15 @@
 ghost use Rattle.std.specs.Prelude.{◌≡◌, ◌≤◌, [], length, map, max, min, All, IfOk, OnOk};
 ghost use Rattle.vg_script.specs.Limits.{ScriptInLimits};
 ghost use Rattle.vg_part.specs.Setup as setups;
-ghost use Rattle.vg_closing.specs.Closing.{IsStill};
-ghost use Rattle.vg_session.specs.Session.{AreNew, HasTakenAll, HaveAllJoined, IsRootWith};
+ghost use Rattle.vg_session.specs.Session.{AreNew, HasTakenAll, HaveAllJoined, IsRootWith, IsStill};
 
+use crate::closing::settle;
 use std::alloc::{AllocError, Global};
 use std::marker::{Send, Sync};
 use std::sync::atomic::AtomicBool;
 use std::sync::{Mutex, Wait};
 use std::thread::Threads;
 use vg_book::{Book, Carried, ClientToken, LaneToken, Naming, NoMemory, Root, entries_in_step};
-use vg_closing::settle;
 use vg_crew::{Job, all};
 use vg_driver::Driver;
 use vg_front::Front;

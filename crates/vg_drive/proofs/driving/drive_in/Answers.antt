@@ -1,11 +1,8 @@
-use Rattle.vg_drive.proofs.DriveLemmas.{clients-joined, is-run, lanes-new, legal-run}
+use Rattle.vg_drive.proofs.DriveLemmas.{is-run, lanes-new, legal-run}
 use Rattle.vg_drive.proofs.driving.drive_in.Goals as goal
 
 pub ends-requires-clause-tokens : goal.ends-requires-clause-tokens
 ends-requires-clause-tokens g c = lanes-new c.args.opened.start c.args.opened.lanes c.in-Ok.tokens.items c.requires.book.1 c.in-Ok.ensures.lanes
-
-pub close-requires-clause-clients : goal.close-requires-clause-clients
-close-requires-clause-clients g c = clients-joined c.args.script.now c.run_threads.new.root c.in_ok-front.ensures.joined
 
 pub returns-clause-journal : goal.returns-clause-journal
 returns-clause-journal g c =

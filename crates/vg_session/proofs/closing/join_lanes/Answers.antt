@@ -1,5 +1,5 @@
-use Rattle.vg_closing.proofs.ClosingLemmas.{lanes-more, lanes-none}
-use Rattle.vg_closing.proofs.closing.join_lanes.Goals as goal
+use Rattle.vg_session.proofs.SessionLemmas.{lanes-more, lanes-none}
+use Rattle.vg_session.proofs.closing.join_lanes.Goals as goal
 
 pub loop-lane-init : goal.loop-lane-init
 loop-lane-init g c = lanes-none c.args.root.now

@@ -1,7 +1,7 @@
 //! What is left of a session once its threads are done: its front is served, and its book closed.
 
 ghost use Rattle.std.specs.Prelude.{IfOk};
-ghost use Rattle.vg_closing.specs.Closing.{HasTakenLanes, HaveClientsJoined, HaveCompleted, IsEnd, IsStill};
+ghost use Rattle.vg_session.specs.Session.{HasTakenLanes, HaveAllJoined, HaveCompleted, IsEnd, IsStill};
 
 use std::alloc::Global;
 use std::sync::atomic::AtomicBool;
@@ -22,7 +22,7 @@ pub struct Closed<B: Naming, N: Rings> {
 }
 
 /// Serves what the front still has, and gives the front.
-pub fn settle<G: Gate, B: Naming, N: Rings, R: Wait>(
+pub(crate) fn settle<G: Gate, B: Naming, N: Rings, R: Wait>(
     rt: &R,
     alloc: Global,
     front: Front<Carried<Display, B>, LaneToken<Display, B>, N>,
@@ -61,7 +61,7 @@ pub fn close<B: Naming, N: Rings>(
     root: Root<Display, B>,
     front: Front<Carried<Display, B>, LaneToken<Display, B>, N>,
 ) -> Result<Closed<B, N>, NoMemory>
-    requires clients { HaveClientsJoined root }
+    requires clients { (script : _) × HaveAllJoined script root }
     requires still { IsStill front }
     ensures ended { IfOk result (λ closed. IsEnd root closed.entries.items closed.frames.items) }
     ensures completed { IfOk result (λ closed. HaveCompleted closed.entries.items closed.control closed.cursor) }
