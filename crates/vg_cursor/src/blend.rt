@@ -3,40 +3,38 @@
 ghost use Rattle.std.specs.Prelude.{◌≡◌, ◌+◌, ◌*◌, ◌%◌, ◌≤◌, length};
 ghost use Rattle.vg_cursor.specs.Blended.{blended, mixed};
 ghost use Rattle.vg_cursor.specs.Cursor.{IsWhole};
+ghost use Rattle.vg_cursor.specs.Look.{cursor_like};
 ghost use Rattle.vg_cursor.specs.Rows.{row_over, rows_over};
 
-use crate::cursor::Cursor;
+use crate::look::Look;
 use crate::span::span_of;
 use vg_places::Area;
 
 /// How many bytes a row of an image has.
 const IMAGE_ROW: usize = 256;
 
-/// Blends a cursor into a screen of this size in pixels.
-pub(crate) fn blend_cursor(cursor: &Cursor, width: u32, height: u32, pixels: &mut [u8])
-    requires whole { IsWhole cursor.now }
-    requires length { length pixels.old ≡ 4 * width * height }
-    ensures { pixels.new ≡ blended cursor.now width pixels.old }
-{
-    if !cursor.visible {
-        return;
+impl<'a> Look<'a> {
+    /// Blends a cursor that looks so into the pixels of a screen of this size in pixels, row by row, four bytes each, as
+    /// B, G, R and A. What the cursor doesn't cover stays, and all of it where the cursor isn't shown.
+    pub fn blend(&self, width: u32, height: u32, pixels: &mut [u8])
+        requires whole { IsWhole (cursor_like self.now) }
+        requires length { length pixels.old ≡ 4 * width * height }
+        ensures { pixels.new ≡ blended (cursor_like self.now) width pixels.old }
+    {
+        if !self.visible {
+            return;
+        }
+        let across = span_of(self.x, self.hot_x, width);
+        let down = span_of(self.y, self.hot_y, height);
+        let area = Area {
+            row: down.first as usize,
+            column: 4 * across.first as usize,
+            width: 4 * across.count as usize,
+            height: down.count as usize,
+        };
+        let from = IMAGE_ROW * down.from as usize + 4 * across.from as usize;
+        blend_rows(pixels, 4 * width as usize, &area, self.image, from);
     }
-    let across = span_of(cursor.x, cursor.hot_x, width);
-    let down = span_of(cursor.y, cursor.hot_y, height);
-    let area = Area {
-        row: down.first as usize,
-        column: 4 * across.first as usize,
-        width: 4 * across.count as usize,
-        height: down.count as usize,
-    };
-    let from = IMAGE_ROW * down.from as usize + 4 * across.from as usize;
-    blend_rows(
-        pixels,
-        4 * width as usize,
-        &area,
-        cursor.image.as_slice(),
-        from,
-    );
 }
 
 /// Blends rows of an image into a rectangle of a screen, both in bytes. The first row of pixels begins at `from`.

@@ -1,10 +1,10 @@
 //! The cursor of each scanout: an image, whether it is shown, and where (VIRTIO 1.2, 5.7.6.10).
 
-ghost use Rattle.std.specs.Prelude.{◌≡◌, ◌<◌, ◌*◌, IfOk, length, replicate};
-ghost use Rattle.vg_cursor.specs.Blended.{blended};
-ghost use Rattle.vg_cursor.specs.Cursor.{changed, cursor_of, hidden_at, placed_at, shown_as, unset};
+ghost use Rattle.std.specs.Prelude.{◌≡◌, ◌<◌, IfOk, length, replicate};
+ghost use Rattle.vg_cursor.specs.Cursor.{IsWhole, changed, cursor_of, hidden_at, placed_at, shown_as, unset};
+ghost use Rattle.vg_cursor.specs.Look.{cursor_like};
 
-use crate::blend::blend_cursor;
+use crate::look::Look;
 use std::alloc::{AllocError, Global};
 use std::marker::Model;
 use vg_list::Seq;
@@ -104,14 +104,26 @@ impl Cursors {
         self.cursors[scanout as usize].visible
     }
 
-    /// Blends the cursor into the pixels of a screen of this size in pixels, row by row, four bytes each, as
-    /// B, G, R and A. What the cursor doesn't cover stays, and all of it where the cursor isn't shown.
-    pub fn blend(&self, scanout: u32, width: u32, height: u32, pixels: &mut [u8])
+    /// How the cursor looks.
+    pub fn look(&self, scanout: u32) -> Look<'_>
         requires scanout { scanout < length self.now }
-        requires length { length pixels.old ≡ 4 * width * height }
-        ensures { pixels.new ≡ blended (cursor_of self.now scanout) width pixels.old }
+        ensures look { cursor_like result ≡ cursor_of self.now scanout }
+        ensures whole { IsWhole (cursor_like result) }
     {
-        blend_cursor(&self.cursors[scanout as usize], width, height, pixels);
+        look_of(&self.cursors[scanout as usize])
+    }
+}
+
+fn look_of(cursor: &Cursor) -> Look<'_>
+    ensures { cursor_like result ≡ cursor.now }
+{
+    Look {
+        visible: cursor.visible,
+        image: cursor.image.as_slice(),
+        x: cursor.x,
+        y: cursor.y,
+        hot_x: cursor.hot_x,
+        hot_y: cursor.hot_y,
     }
 }
 

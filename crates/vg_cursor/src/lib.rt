@@ -4,7 +4,9 @@
 mod blend;
 mod cursor;
 mod laws;
+mod look;
 mod span;
 
 pub use cursor::{Cursor, Cursors};
 pub use laws::cover_each_pixel;
+pub use look::Look;

@@ -32,10 +32,6 @@ printed_none a text = record { front = []; taken = takes_nothing a; whole = refl
 pub printed_start : (a : Option (List ℕ)) (text : List ℕ) → Printed a a (text ++ []) text
 printed_start a text = record { front = []; taken = takes_nothing a; whole = sym (append-nil text) }
 
--- All is handed on: nothing is pending.
-pub printed_all : (a b : Option (List ℕ)) (text : List ℕ) → Takes a b text → Printed a b text []
-printed_all a b text taken = record { front = text; taken = taken; whole = append-nil text }
-
 -- A front is handed on: what is behind it is pending.
 pub printed_front : (a b : Option (List ℕ)) (text front pending : List ℕ) → Takes a b front → front ++ pending ≡ text → Printed a b text pending
 printed_front a b text front pending taken whole = record { front = front; taken = taken; whole = whole }
@@ -130,16 +126,6 @@ printed_put a b text pending more pending' first is_put =
       taken = first.taken;
       whole = ap (λ ys. first.front ++ ys) is_put ∙ sym (append_assoc first.front pending more) ∙ ap (λ ys. ys ++ more) first.whole;
     }
-
--- Pixels that are handed on from where they stand, behind what waited.
-pub pixels_printed : (a b c : Option (List ℕ)) (buffer pixels pending : List ℕ) → Takes a b buffer → Takes b c pixels → pending ≡ [] → Printed a c (buffer ++ pixels) pending
-pixels_printed a b c buffer pixels pending first second none =
-    let P : List ℕ → Type 0 = λ ys. Printed a c (buffer ++ pixels) ys in
-    subst P (sym none) (printed_all a c (buffer ++ pixels) (takes_both a b c buffer pixels first second))
-
--- A front of them.
-pub pixels_some : (a b c : Option (List ℕ)) (buffer pixels : List ℕ) → Takes a b buffer → TakesSome b c pixels → PrintedSome a c (buffer ++ pixels)
-pixels_some a b c buffer pixels first some = some_then a b c buffer [] pixels (printed_all a b buffer first) (some_taken b c pixels some)
 
 strip_whole : (front pixels piece : List ℕ) (at : ℕ) → piece ≡ take (length piece) (drop at pixels) → (front ++ take at pixels) ++ piece ≡ front ++ take (at + length piece) pixels
 strip_whole front pixels piece at is =

@@ -107,7 +107,7 @@ fn print_entry<K: Sink>(
     Ok(())
 }
 
-// Bytes that are a piece of their own go to the sink from where they stand, and fewer through the buffer.
+// Bytes go to the sink through the buffer.
 fn print_bytes<K: Sink>(sink: &mut K, buffer: &mut Vec<u8>, bytes: &[u8]) -> Result<(), PrintError>
     ensures ok { OnOk result (
         Printed (K.held sink.old) (K.held sink.new) (buffer.old.items ++ bytes.now) buffer.new.items) }
@@ -118,13 +118,8 @@ fn print_bytes<K: Sink>(sink: &mut K, buffer: &mut Vec<u8>, bytes: &[u8]) -> Res
     ensures same_memory { IsErrOf result PrintError.Memory → K.faults sink.new ≡ K.faults sink.old }
     ensures count { K.faults sink.old ≤ K.faults sink.new }
 {
-    if bytes.len() < PIECE {
-        put(buffer, bytes)?;
-        hand_on_piece(sink, buffer)?;
-        return Ok(());
-    }
-    hand_on(sink, buffer)?;
-    write_all(sink, bytes)?;
+    put(buffer, bytes)?;
+    hand_on_piece(sink, buffer)?;
     Ok(())
 }
 

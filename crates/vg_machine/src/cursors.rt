@@ -1,7 +1,8 @@
 //! What the commands of the cursor queue do (VIRTIO 1.2, 5.7.6.10).
 
 ghost use Rattle.std.specs.Prelude.{◌≡◌, ◌<◌, Some, None, IfOk, IfErr, OnErr, length};
-ghost use Rattle.vg_cursor.specs.Cursor.{changed, cursor_of};
+ghost use Rattle.vg_cursor.specs.Cursor.{IsWhole as IsWholeCursor, changed, cursor_of};
+ghost use Rattle.vg_cursor.specs.Look.{cursor_like};
 ghost use Rattle.vg_machine.specs.Change.{IsChange, IsImage, change_of, pointed_step};
 ghost use Rattle.vg_machine.specs.Step.{cursor_step, image_of, image_refusals, move_step};
 ghost use Rattle.vg_refusals.specs.Refusals.{refusal_of};
@@ -9,7 +10,7 @@ ghost use Rattle.vg_resource.specs.Resource.{IsWhole, resource_at};
 
 use crate::display::Display;
 use std::alloc::{AllocError, Global};
-use vg_cursor::Cursors;
+use vg_cursor::{Cursors, Look};
 use vg_list::Seq;
 use vg_places::zeros;
 use vg_resource::Resource;
@@ -97,7 +98,7 @@ impl Display {
         self.point(alloc, scanout, &Change::Place { x, y })
     }
 
-    /// Changes a cursor, and makes a frame of its scanout, if that is bound. What can fail comes before the change.
+    /// Changes a cursor, and makes a frame of its scanout as it looks then, if that is bound. What can fail comes before the change.
     fn point(
         &mut self,
         alloc: Global,
@@ -109,11 +110,11 @@ impl Display {
         ensures step { IfOk result (λ response. pointed_step self.old scanout (change_of change.now) ≡ (self.new, response)) }
         ensures err { OnErr result (self.new ≡ self.old) }
     {
-        if let Err(code) = self.scanouts.ready(alloc, scanout)? {
+        let look = look_after(&self.cursors, scanout, change);
+        if let Err(code) = self.scanouts.snap(alloc, self.entries, scanout, &look)? {
             return Ok(Response::Error { code });
         }
         change_cursor(&mut self.cursors, scanout, change);
-        self.scanouts.snap(self.entries, scanout, &self.cursors);
         Ok(Response::Nodata)
     }
 
@@ -162,6 +163,43 @@ fn shown_image(alloc: Global, surface: &Resource) -> Result<Vec<u8>, AllocError>
         surface.pixels.as_slice(),
     );
     Ok(image)
+}
+
+/// How a cursor looks once it is changed.
+fn look_after<'a>(cursors: &'a Cursors, scanout: u32, change: &'a Change) -> Look<'a>
+    requires scanout { scanout < length cursors.now }
+    requires change { IsChange change.now }
+    ensures look { cursor_like result ≡ change_of change.now (cursor_of cursors.now scanout) }
+    ensures whole { IsWholeCursor (cursor_like result) }
+{
+    let look = cursors.look(scanout);
+    match change {
+        Change::Show {
+            image,
+            x,
+            y,
+            hot_x,
+            hot_y,
+        } => Look {
+            visible: true,
+            image: image.as_slice(),
+            x: *x,
+            y: *y,
+            hot_x: *hot_x,
+            hot_y: *hot_y,
+        },
+        Change::Hide { x, y } => Look {
+            visible: false,
+            x: *x,
+            y: *y,
+            ..look
+        },
+        Change::Place { x, y } => Look {
+            x: *x,
+            y: *y,
+            ..look
+        },
+    }
 }
 
 fn change_cursor(cursors: &mut Cursors, scanout: u32, change: &Change)

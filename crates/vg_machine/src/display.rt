@@ -47,9 +47,9 @@ impl Model for Display {
 
     ghost Value = { State };
 
-    ghost view = { λ d. record { setup = d.setup; entries = d.entries; memory = d.pages; resources = d.resources; backings = d.backings; uuids = d.uuids; cursors = d.cursors; scanouts = d.scanouts.state; share = d.share } };
+    ghost view = { λ d. record { setup = d.setup; entries = d.entries; memory = d.pages; resources = d.resources; backings = d.backings; uuids = d.uuids; cursors = d.cursors; scanouts = d.scanouts; share = d.share } };
 
-    ghost invariant = { λ d. IsConsistent (record { setup = d.setup; entries = d.entries; memory = d.pages; resources = d.resources; backings = d.backings; uuids = d.uuids; cursors = d.cursors; scanouts = d.scanouts.state; share = d.share }) };
+    ghost invariant = { λ d. IsConsistent (record { setup = d.setup; entries = d.entries; memory = d.pages; resources = d.resources; backings = d.backings; uuids = d.uuids; cursors = d.cursors; scanouts = d.scanouts; share = d.share }) };
 }
 
 impl Display {

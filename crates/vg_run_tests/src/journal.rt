@@ -41,14 +41,21 @@ fn request(queue: Queue, lane: u32, ordinal: u64, room: u32, bytes: Vec<u8>) -> 
     }
 }
 
-fn frame(scanout: u32, width: u32, height: u32, entry: u64, pixels: Vec<u8>) -> Frame {
-    Frame {
+fn frame(
+    alloc: Global,
+    scanout: u32,
+    width: u32,
+    height: u32,
+    entry: u64,
+    pixels: &[u8],
+) -> Result<Frame, AllocError> {
+    Ok(Frame {
         scanout,
         width,
         height,
         entry,
-        pixels: Strips::from_vec(pixels),
-    }
+        pixels: Strips::cut(alloc, pixels, None)?,
+    })
 }
 
 /// Two clients on two displays, whose frames are of 2 by 1 and of 0 by 0 pixels.
@@ -69,14 +76,9 @@ fn two_clients(alloc: Global) -> Result<Journal, AllocError> {
     entries.push(act(1, 3, Act::Leave))?;
     entries.push(act(2, 3, Act::Leave))?;
     let mut frames = Vec::new(alloc);
-    frames.push(frame(
-        0,
-        2,
-        1,
-        3,
-        vec![in alloc; 10u8, 0, 255, 1, 101, 110, 100, 10]?,
-    ))?;
-    frames.push(frame(1, 0, 0, 4, Vec::new(alloc)))?;
+    let pixels = [10u8, 0, 255, 1, 101, 110, 100, 10];
+    frames.push(frame(alloc, 0, 2, 1, 3, &pixels)?)?;
+    frames.push(frame(alloc, 1, 0, 0, 4, &[])?)?;
     Ok(Journal {
         setup: Setup {
             displays: Seq::from_vec(vec![in alloc; (640u32, 480u32), (64, 48)]?),

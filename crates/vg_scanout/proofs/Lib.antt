@@ -1,5 +1,5 @@
 pub mod ScreenLemmas
 pub mod PanelLemmas
-pub mod ReadyLemmas
+pub mod SnapLemmas
 pub mod LawLemmas
 pub mod RowLemmas

@@ -1,5 +1,5 @@
 -- What the code keeps of a scanout: its binding, and where its screen's pixels stand.
-use Rattle.std.specs.Prelude.{◌≡◌, ℕ, ◌+◌, ◌*◌, ◌<◌, ◌≤◌, ◌==◌, ◌&&◌, Bool, false, if◌then◌else◌, List, [], length, map, get_or, replicate, slice_get, Option, Some, None}
+use Rattle.std.specs.Prelude.{◌≡◌, ℕ, ◌*◌, ◌<◌, ◌≤◌, ◌==◌, ◌&&◌, Bool, false, if◌then◌else◌, List, [], length, map, get_or, replicate, slice_get, Option, Some, None}
 use Rattle.std.specs.List.{All, sum_by}
 use Rattle.vg_formats.specs.declared.rect.Rect.{Rect}
 use Rattle.vg_formats.specs.Pixels.{are_meeting}
@@ -8,10 +8,8 @@ use Rattle.vg_scanout.specs.declared.scanout.Frame.{Frame}
 use Rattle.vg_scanout.specs.declared.panel.Ground.{Ground}
 use Rattle.vg_scanout.specs.declared.panel.Ground.TheVariants.{Blank, Shared, Kept}
 use Rattle.vg_scanout.specs.declared.panel.Panel.{Panel}
-use Rattle.vg_scanout.specs.declared.ready.Picture.{Picture}
-use Rattle.vg_scanout.specs.declared.ready.Ready.{Ready}
 use Rattle.vg_scanout.specs.Fits.{IsScreen}
-use Rattle.vg_scanout.specs.Scanout.{Screen, after_flush, bytes_of_screen, pixels_with}
+use Rattle.vg_scanout.specs.Scanout.{Screen, after_flush, pixels_with}
 
 -- The pixels of a frame, if there is one.
 abbrev pub pixels_of_frame : Option Frame → List ℕ
@@ -109,23 +107,3 @@ pub record IsGround (binding : Binding) (part : Rect) (own pixels : List ℕ) : 
 -- The rows of a screen that this part of it touches, as a screen of their own.
 abbrev pub rows_touched : Binding → Rect → Binding
 rows_touched binding part = record binding { rect = record { x = binding.rect.x; y = part.y; width = binding.rect.width; height = part.height } }
-
--- The screen of which a copy was made, if there was one.
-abbrev pub screen_copied : Option Picture → Option Screen
-screen_copied (Some picture) = Some (record { binding = picture.binding; pixels = picture.pixels })
-screen_copied None = None
-
--- Of which scanout a frame may be made now.
-abbrev pub scanout_ready : Option Ready → Option ℕ
-scanout_ready (Some ready) = Some ready.scanout
-scanout_ready None = None
-
--- What is ready is a copy of the scanout's screen, for a frame within the limit of all frames, for which there is room.
-abbrev pub IsReady : List (Option Screen) → ℕ → ℕ → ℕ → Option Ready → Type 0
-IsReady screens bytes count room (Some ready) =
-    (ready.scanout < length screens)
-    × (screen_copied ready.picture ≡ get_or screens ready.scanout None)
-    × IsScreen (screen_copied ready.picture)
-    × (bytes + bytes_of_screen (screen_copied ready.picture) ≤ 268435456)
-    × (count < room)
-IsReady screens bytes count room None = Unit {0}

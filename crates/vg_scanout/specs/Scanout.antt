@@ -155,15 +155,12 @@ bytes_of_screen None = 0
 abbrev pub is_past_limit : ℕ → ScanoutState → Bool
 is_past_limit scanout state = nat_lt 268435456 (frame_bytes state.frames + bytes_of_screen (screen_at scanout state))
 
--- Whether a frame of the scanout's screen may be made; what is refused changes nothing.
-unfoldable pub ready : ℕ → ScanoutState → Result Unit ℕ
-ready scanout state = (unless_refused (refusal_of ((is_past_limit scanout state, ERR_OUT_OF_MEMORY) ∷ [])) state state).1
-
 -- A frame of the scanout's screen as it is, which an entry makes; none where the scanout is disabled.
 abbrev pub snapped : ℕ → List Cursor → ℕ → ScanoutState → ScanoutState
 snapped entry cursors scanout state = record state { frames = state.frames ++ frame_of entry cursors scanout (screen_at scanout state) }
 
--- The scanouts, and the one of which a frame may be made now without taking memory, if there is one.
-pub record Prepared : Type 0 where
-  pub state : ScanoutState
-  pub ready : Option ℕ
+-- The same, unless it is refused for all frames' bytes.
+unfoldable pub snap : ℕ → List Cursor → ℕ → ScanoutState → ScanoutState × Result Unit ℕ
+snap entry cursors scanout state =
+    unless_refused (refusal_of ((is_past_limit scanout state, ERR_OUT_OF_MEMORY) ∷ [])) state
+    (snapped entry cursors scanout state)

@@ -1,8 +1,10 @@
 //! The frames that a flush makes, and what the screens stand on after it.
 
-ghost use Rattle.std.specs.Prelude.{◌≡◌, ◌<◌, ◌≤◌, ◌+◌, ◌-◌, ◌*◌, ◌^◌, ◌++◌, true, [], ◌∷◌, Some, None, All, IfOk, if◌then◌else◌, drop, length, min, take};
+ghost use Rattle.std.specs.Prelude.{◌≡◌, ◌<◌, ◌≤◌, ◌+◌, ◌-◌, ◌*◌, ◌^◌, ◌++◌, true, List, [], ◌∷◌, Some, None, All, IfOk, if◌then◌else◌, drop, length, min, take};
 ghost use Rattle.vg_cursor.specs.Blended.{blended};
-ghost use Rattle.vg_cursor.specs.Cursor.{cursor_of};
+ghost use Rattle.vg_cursor.specs.declared.cursor.Cursor.{Cursor};
+ghost use Rattle.vg_cursor.specs.Cursor.{IsWhole, cursor_of};
+ghost use Rattle.vg_cursor.specs.Look.{cursor_like};
 ghost use Rattle.vg_formats.specs.declared.format.Format.TheVariants.{B8G8R8A8};
 ghost use Rattle.vg_formats.specs.Pixels.{HasPixels, LiesWithin};
 ghost use Rattle.vg_scanout.specs.declared.panel.Ground.TheVariants as grounds;
@@ -13,7 +15,7 @@ ghost use Rattle.vg_scanout.specs.Scanout.{frame_of, new_frame, new_frames, pixe
 use crate::panel::{Ground, Panel};
 use crate::scanout::{Binding, Frame};
 use std::alloc::{AllocError, Global};
-use vg_cursor::Cursors;
+use vg_cursor::{Cursors, Look};
 use vg_formats::{Format, Rect};
 use vg_places::Area;
 use vg_shown::{rows_are_their_bytes, show_rows};
@@ -235,7 +237,7 @@ fn picture_of(
             Ground::Shared(number),
         ));
     }
-    let pixels = with_cursor(scanout, binding, cursors, screen.to_vec(alloc)?);
+    let pixels = with_cursor(&cursors.look(scanout), binding, screen.to_vec(alloc)?);
     let pixels = Strips::cut(alloc, pixels.as_slice(), Some(&screen))?;
     Ok((
         framed(entry, scanout, binding, pixels),
@@ -243,30 +245,33 @@ fn picture_of(
     ))
 }
 
-/// The frame of a screen of these pixels, with its cursor. It takes no memory.
+/// The frame of a screen with a cursor that looks so. The strips that the cursor doesn't cover are those in which the screen stands.
 pub(crate) fn frame_of(
+    alloc: Global,
     entry: u64,
     scanout: u32,
-    binding: &Binding,
-    cursors: &Cursors,
-    pixels: Vec<u8>,
-) -> Frame
-    requires scanout { scanout < length cursors.now }
-    requires pixels { length pixels.items ≡ 4 * binding.now.rect.width * binding.now.rect.height }
-    ensures { result ∷ [] ≡ frame_of entry cursors.now scanout (Some (record { binding = binding.now; pixels = pixels.items })) }
+    panel: &Panel,
+    look: &Look,
+    frames: &[Frame],
+) -> Result<Frame, AllocError>
+    requires panel { IsPanel frames.now (Some panel.now) }
+    requires look { IsWhole (cursor_like look.now) }
+    ensures { IfOk result (λ frame. (cursors : List Cursor) → cursor_of cursors scanout ≡ cursor_like look.now
+        → frame ∷ [] ≡ frame_of entry cursors scanout (screen_in frames.now (Some panel.now))) }
 {
-    let pixels = with_cursor(scanout, binding, cursors, pixels);
-    framed(entry, scanout, binding, Strips::from_vec(pixels))
+    let pixels = with_cursor(look, &panel.binding, panel.pixels(alloc, frames)?);
+    let pixels = Strips::cut(alloc, pixels.as_slice(), panel.strips(frames))?;
+    Ok(framed(entry, scanout, &panel.binding, pixels))
 }
 
-/// The pixels of a screen, with its cursor in them.
-fn with_cursor(scanout: u32, binding: &Binding, cursors: &Cursors, mut pixels: Vec<u8>) -> Vec<u8>
-    requires scanout { scanout < length cursors.now }
+/// The pixels of a screen, with a cursor that looks so in them.
+fn with_cursor(look: &Look, binding: &Binding, mut pixels: Vec<u8>) -> Vec<u8>
+    requires look { IsWhole (cursor_like look.now) }
     requires pixels { length pixels.items ≡ 4 * binding.now.rect.width * binding.now.rect.height }
-    ensures { result.items ≡ blended (cursor_of cursors.now scanout) binding.now.rect.width pixels.items }
+    ensures { result.items ≡ blended (cursor_like look.now) binding.now.rect.width pixels.items }
 {
     let (width, height) = (binding.rect.width, binding.rect.height);
-    cursors.blend(scanout, width, height, pixels.as_mut_slice());
+    look.blend(width, height, pixels.as_mut_slice());
     pixels
 }
 

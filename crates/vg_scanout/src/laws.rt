@@ -14,9 +14,9 @@ impl Scanouts {
     /// scanout's cursor where that is shown.
     pub fn each_frame_is_of_its_screen(&self)
         ensures flushed { (entry id : ℕ) (rect : Rect) (surface : List ℕ) (cursors : List Cursor)
-            → MakesFrames entry cursors self.now.state (flushed entry id rect surface cursors self.now.state) }
+            → MakesFrames entry cursors self.now (flushed entry id rect surface cursors self.now) }
         ensures snapped { (entry scanout : ℕ) (cursors : List Cursor)
-            → MakesFrames entry cursors self.now.state (snapped entry cursors scanout self.now.state) }
+            → MakesFrames entry cursors self.now (snapped entry cursors scanout self.now) }
     {
         self.are_screens();
         cover_each_pixel();

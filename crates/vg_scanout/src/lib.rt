@@ -4,7 +4,6 @@
 mod flush;
 mod laws;
 mod panel;
-mod ready;
 mod scanout;
 
 pub use scanout::{Binding, Frame, Scanouts};

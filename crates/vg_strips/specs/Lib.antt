@@ -1,3 +1,2 @@
 pub mod Strips
 pub mod Plans
-pub mod Forms

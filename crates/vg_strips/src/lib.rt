@@ -1,7 +1,6 @@
 //! Bytes in strips, which several lists of bytes may share.
 #![tactic(auto)]
 
-mod cut;
 mod plan;
 mod strip;
 mod strips;

@@ -8,8 +8,6 @@ use Rattle.std.proofs.MapsCrossing.{BTreeMap-send}
 use Rattle.vg_list.specs.contracts.seq.Seq as seq
 use Rattle.vg_strips.proofs.Sent.{strips_send}
 use Rattle.vg_scanout.specs.contracts.panel.Panel as panel
-use Rattle.vg_scanout.specs.contracts.ready.Picture as picture
-use Rattle.vg_scanout.specs.contracts.ready.Ready as ready
 use Rattle.vg_scanout.specs.contracts.scanout.Frame as frame
 use Rattle.vg_scanout.specs.contracts.scanout.Scanouts as scanouts
 use Rattle.vg_scanout.specs.contracts.scanout.Scanouts.TheInside as scanouts_in
@@ -43,15 +41,9 @@ frame_send = search (sendable, crosses, strips_send) depth 20
 panel_send : IsSend panel.the_row
 panel_send = search (sendable, crosses, strips_send) depth 20
 
-picture_send : IsSend picture.the_row
-picture_send = let T = picture.the_type in recorded_send _ _ _ T.to_one (struct_send (shape T) (search (sendable, crosses) depth 20, (search (sendable, crosses) depth 20, tt)))
-
-ready_send : IsSend ready.the_row
-ready_send = let T = ready.the_type in recorded_send _ _ _ T.to_one (struct_send (shape T) (search sendable, (search (sendable, crosses, picture_send) depth 20, tt)))
-
 scanouts_send : IsSend scanouts.the_row
 scanouts_send = let S = scanouts_in.the_type in
-    view_send _ _ _ _ _ (recorded_send _ _ _ S.to_one (struct_send (shape S) (search (sendable, crosses, panel_send) depth 20, (search (sendable, crosses, frame_send) depth 20, (search sendable, (search (sendable, ready_send) depth 20, tt))))))
+    view_send _ _ _ _ _ (recorded_send _ _ _ S.to_one (struct_send (shape S) (search (sendable, crosses, panel_send) depth 20, (search (sendable, crosses, frame_send) depth 20, (search sendable, tt)))))
 
 pub display_send : IsSend display.the_row
 display_send = let D = display_in.the_type in

@@ -10,5 +10,5 @@ returns-clause-step c =
     let s = c.self.inside in
     let known : is_some (resource_at c.args.resource s.resources) ≡ true = search rules in
     rw (c.response_of.ensures, ← c.self.view_is)
-    (lifted-attach (λ backings. record { setup = s.setup; entries = s.entries; memory = s.pages; resources = s.resources; backings = backings; uuids = s.uuids; cursors = s.cursors; scanouts = s.scanouts.state; share = s.share })
+    (lifted-attach (λ backings. record { setup = s.setup; entries = s.entries; memory = s.pages; resources = s.resources; backings = backings; uuids = s.uuids; cursors = s.cursors; scanouts = s.scanouts; share = s.share })
     (is_some (resource_at c.args.resource s.resources)) s.pages c.args.resource c.args.entries.now s.backings c.attach.new.self c.in_ok-done.done known c.in_ok-done.ensures.done)

@@ -12,7 +12,7 @@ invariant_of-self-2 c =
       pages = was.pages;
       backings = was.backings;
       screens = was.screens;
-      showing = all-showing c.self.inside.resources c.create.new.self c.self.inside.scanouts.state.screens keeping was.showing;
+      showing = all-showing c.self.inside.resources c.create.new.self c.self.inside.scanouts.screens keeping was.showing;
       leases = was.leases;
       share = was.share;
       reserved = was.reserved;
@@ -24,5 +24,5 @@ pub returns-clause-step : goal.returns-clause-step
 returns-clause-step c =
     let s = c.self.inside in
     rw (c.response_of.ensures, ← c.self.view_is)
-    (lifted-create (λ resources. record { setup = s.setup; entries = s.entries; memory = s.pages; resources = resources; backings = s.backings; uuids = s.uuids; cursors = s.cursors; scanouts = s.scanouts.state; share = s.share })
+    (lifted-create (λ resources. record { setup = s.setup; entries = s.entries; memory = s.pages; resources = resources; backings = s.backings; uuids = s.uuids; cursors = s.cursors; scanouts = s.scanouts; share = s.share })
     c.args.resource c.args.width c.args.height c.args.format s.resources c.create.new.self c.in_ok-done.done c.in_ok-done.ensures.done)

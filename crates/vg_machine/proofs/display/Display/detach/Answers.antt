@@ -28,6 +28,6 @@ returns c =
     record {
       step =
           rw (c.response_of.ensures, ← c.self.view_is)
-          (lifted-detach (λ backings. record { setup = s.setup; entries = s.entries; memory = s.pages; resources = s.resources; backings = backings; uuids = s.uuids; cursors = s.cursors; scanouts = s.scanouts.state; share = s.share })
+          (lifted-detach (λ backings. record { setup = s.setup; entries = s.entries; memory = s.pages; resources = s.resources; backings = backings; uuids = s.uuids; cursors = s.cursors; scanouts = s.scanouts; share = s.share })
           (is_some (resource_at c.args.resource s.resources)) c.args.resource s.backings c.detach.new.self c.detach.result known c.detach.ensures.done);
     }

@@ -11,14 +11,14 @@ flush-requires c =
     let surface = c.in-Some.surface.now in
     record {
       cursors = omega (arith, c.self.invariant.screens, c.self.invariant.cursors);
-      surface = rw c.as_slice-pixels.ensures (fits-surface s.resources c.args.resource surface s.scanouts.state.screens (sym c.in-Some.ensures.value) c.in-Some.ensures.whole c.self.invariant.showing);
+      surface = rw c.as_slice-pixels.ensures (fits-surface s.resources c.args.resource surface s.scanouts.screens (sym c.in-Some.ensures.value) c.in-Some.ensures.whole c.self.invariant.showing);
     }
 
 pub invariant_of-self-2 : goal.invariant_of-self-2
 invariant_of-self-2 c =
     let was = c.self.invariant in
     let s = c.self.inside in
-    let now = showing-flush s.resources _ c.args.resource c.args.rect.now _ _ s.scanouts.state c.flush.new.self.state c.in_ok-done.done _ c.in_ok-done.ensures.done (record { count_is = was.screens; showing = was.showing }) in
+    let now = showing-flush s.resources _ c.args.resource c.args.rect.now _ _ s.scanouts c.flush.new.self c.in_ok-done.done _ c.in_ok-done.ensures.done (record { count_is = was.screens; showing = was.showing }) in
     record {
       setup = was.setup;
       pages = was.pages;
@@ -38,4 +38,4 @@ returns-clause-step c =
     let surface = c.in-Some.surface.now in
     let inside : is_inside c.args.rect.now surface.width surface.height ≡ true = search rules in
     rw (c.response_of.ensures, ← c.self.view_is)
-    (step-flush (record { setup = s.setup; entries = s.entries; memory = s.pages; resources = s.resources; backings = s.backings; uuids = s.uuids; cursors = s.cursors; scanouts = s.scanouts.state; share = s.share }) c.args.rect.now c.args.resource surface c.flush.new.self.state c.in_ok-done.done (sym c.in-Some.ensures.value) inside (rw c.as_slice-pixels.ensures at c.in_ok-done.ensures.done))
+    (step-flush (record { setup = s.setup; entries = s.entries; memory = s.pages; resources = s.resources; backings = s.backings; uuids = s.uuids; cursors = s.cursors; scanouts = s.scanouts; share = s.share }) c.args.rect.now c.args.resource surface c.flush.new.self c.in_ok-done.done (sym c.in-Some.ensures.value) inside (rw c.as_slice-pixels.ensures at c.in_ok-done.ensures.done))

@@ -17,7 +17,7 @@ invariant_of-self c =
     let surface = c.in-Some.surface.now in
     let binding = binding_of c.args.resource c.args.rect.now surface in
     let shows = found-shown binding (resource_at c.args.resource s.resources) surface (sym c.in-Some.ensures.value) (shows-binding c.args.resource c.args.rect.now surface (sym c.if-is_empty.ensures) (within-true c.args.rect.now surface.width surface.height (search rules) (search rules))) in
-    let now = showing-bind s.resources c.args.scanout binding s.scanouts.state c.bind.new.self.state c.bind.result _ c.bind.ensures shows (record { count_is = was.screens; showing = was.showing }) in
+    let now = showing-bind s.resources c.args.scanout binding s.scanouts c.bind.new.self c.bind.result _ c.bind.ensures shows (record { count_is = was.screens; showing = was.showing }) in
     record {
       setup = was.setup;
       pages = was.pages;
@@ -40,5 +40,5 @@ returns c =
     let fits : (is_empty c.args.rect.now || not (is_inside c.args.rect.now surface.width surface.height)) ≡ false = search rules in
     record {
       step = rw (c.response_of.ensures, ← c.self.view_is)
-          (step-show (record { setup = s.setup; entries = s.entries; memory = s.pages; resources = s.resources; backings = s.backings; uuids = s.uuids; cursors = s.cursors; scanouts = s.scanouts.state; share = s.share }) c.args.rect.now c.args.scanout c.args.resource surface c.bind.new.self.state c.bind.result there some (sym c.in-Some.ensures.value) fits c.bind.ensures);
+          (step-show (record { setup = s.setup; entries = s.entries; memory = s.pages; resources = s.resources; backings = s.backings; uuids = s.uuids; cursors = s.cursors; scanouts = s.scanouts; share = s.share }) c.args.rect.now c.args.scanout c.args.resource surface c.bind.new.self c.bind.result there some (sym c.in-Some.ensures.value) fits c.bind.ensures);
     }

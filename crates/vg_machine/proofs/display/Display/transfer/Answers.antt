@@ -13,7 +13,7 @@ invariant_of-self c =
       pages = was.pages;
       backings = was.backings;
       screens = was.screens;
-      showing = all-showing s.resources c.receive-done.new.resources s.scanouts.state.screens keeping was.showing;
+      showing = all-showing s.resources c.receive-done.new.resources s.scanouts.screens keeping was.showing;
       leases = was.leases;
       share = was.share;
       reserved = was.reserved;
@@ -27,6 +27,6 @@ returns c =
     record {
       step =
           rw (c.response_of.ensures, ← c.self.view_is)
-          (lifted-receive (λ resources. record { setup = s.setup; entries = s.entries; memory = s.pages; resources = resources; backings = s.backings; uuids = s.uuids; cursors = s.cursors; scanouts = s.scanouts.state; share = s.share })
+          (lifted-receive (λ resources. record { setup = s.setup; entries = s.entries; memory = s.pages; resources = resources; backings = s.backings; uuids = s.uuids; cursors = s.cursors; scanouts = s.scanouts; share = s.share })
           s.pages c.args.resource c.args.rect.now c.args.offset s.backings s.resources c.receive-done.new.resources c.receive-done.result c.receive-done.ensures);
     }

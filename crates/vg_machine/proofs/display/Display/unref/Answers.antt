@@ -24,7 +24,7 @@ pub invariant_of-self-2 : goal.invariant_of-self-2
 invariant_of-self-2 c =
     let was = c.self.invariant in
     let s = c.self.inside in
-    let now = showing-without s.resources c.args.resource _ s.scanouts.state (record { count_is = was.screens; showing = was.showing }) in
+    let now = showing-without s.resources c.args.resource _ s.scanouts (record { count_is = was.screens; showing = was.showing }) in
     let gone = remove-done c.args.resource s.resources c.remove.new.self c.remove.result c.remove.ensures c.in_default.is in
     record {
       setup = was.setup;

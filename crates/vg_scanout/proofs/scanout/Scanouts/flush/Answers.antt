@@ -75,7 +75,6 @@ invariant_of-self-2 c =
       omega (arith, c.if-bytes-gt-MOST_FRAME_BYTES.false),
       are-panels _ _ _ (stand c) shown,
       omega (arith, long, c.self.invariant.3),
-      tt,
     )
 
 pub returns-clause-done : goal.returns-clause-done

@@ -14,7 +14,7 @@ invariant_of-self c =
     let made : take c.self.inside.panels.len (now ++ drop (length now) old) ≡ map (unbound_panel c.args.resource) old =
     written-back (unbound_panel c.args.resource) old c.as_mut_slice.result.now now c.self.inside.panels.len c.as_mut_slice.ensures.value c.as_mut_slice.ensures.len c.disable_each.ensures
     in
-    (c.self.invariant.0, c.self.invariant.1, rw made (unbound-panels frames c.args.resource old c.self.invariant.2), rw made (omega (arith, length-map old (unbound_panel c.args.resource), c.self.invariant.3)), tt)
+    (c.self.invariant.0, c.self.invariant.1, rw made (unbound-panels frames c.args.resource old c.self.invariant.2), rw made (omega (arith, length-map old (unbound_panel c.args.resource), c.self.invariant.3)))
 
 pub returns : goal.returns
 returns c =

@@ -1,7 +1,7 @@
 use Rattle.std.proofs.Common.{List, ℕ, subst, ◌∙◌}
 use Rattle.vg_strips.proofs.PutLemmas.{strip-in-front}
 use Rattle.vg_strips.specs.Strips.{IsCut}
-use Rattle.vg_strips.proofs.cut.Cut.in_front.Goals as goal
+use Rattle.vg_strips.proofs.strips.Strips.in_front.Goals as goal
 
 pub returns : goal.returns
 returns c =

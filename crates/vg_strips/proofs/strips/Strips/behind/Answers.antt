@@ -1,7 +1,7 @@
 use Rattle.std.proofs.Common.{◌<◌, ◌/◌, List, ℕ, get_or, length, subst, ap, ◌∙◌}
 use Rattle.vg_strips.proofs.PutLemmas.{strip-behind}
 use Rattle.vg_strips.specs.Strips.{IsCut}
-use Rattle.vg_strips.proofs.cut.Cut.behind.Goals as goal
+use Rattle.vg_strips.proofs.strips.Strips.behind.Goals as goal
 
 pub rest_of-requires : goal.rest_of-requires
 rest_of-requires c =

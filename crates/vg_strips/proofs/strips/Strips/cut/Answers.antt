@@ -2,7 +2,7 @@ use Rattle.std.proofs.Common.{List, ℕ, ap, length, map, subst, sym, ◌∙◌,
 use Rattle.vg_strips.proofs.StripLemmas.{cut-all, planned-more}
 use Rattle.vg_strips.specs.Plans.{bytes_by}
 use Rattle.vg_strips.specs.Strips.{IsCut}
-use Rattle.vg_strips.proofs.cut.Cut.of.Goals as goal
+use Rattle.vg_strips.proofs.strips.Strips.cut.Goals as goal
 
 pub loop-k-preserved : goal.loop-k-preserved
 loop-k-preserved c =

@@ -1,6 +1,6 @@
 use Rattle.std.proofs.Common.{◌≡◌, ◌+◌, ◌-◌, ◌*◌, ◌/◌, ◌%◌, ◌++◌, List, ℕ, drop, length, take, ap, ◌∙◌, inl, refl}
 use Rattle.vg_strips.proofs.PutLemmas.{wide-is}
-use Rattle.vg_strips.proofs.cut.Cut.widened.Goals as goal
+use Rattle.vg_strips.proofs.strips.Strips.widened.Goals as goal
 
 pub returns : goal.returns
 returns c =

@@ -1,6 +1,6 @@
 use Rattle.std.proofs.Common.{◌≡◌, ◌+◌, ◌<◌, ◌≤◌, List, ℕ, drop, length, take, subst, sym}
 use Rattle.vg_strips.proofs.StripLemmas.{piece-of}
-use Rattle.vg_strips.proofs.cut.Cut.piece.Goals as goal
+use Rattle.vg_strips.proofs.strips.Strips.piece.Goals as goal
 
 pub rest_of-requires : goal.rest_of-requires
 rest_of-requires c = (piece-of c.args.self.now c.self.inside.strips.items c.args.at c.index.result.now c.as_slice.result.now (sym c.self.view_is) c.self.invariant.1 c.requires c.index.ensures c.as_slice.ensures).0

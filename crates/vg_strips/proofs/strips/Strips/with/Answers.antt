@@ -3,7 +3,7 @@ use Rattle.vg_strips.proofs.PutLemmas.{length-put, strips-with}
 use Rattle.vg_strips.proofs.StripLemmas.{cut-all, planned-more}
 use Rattle.vg_strips.specs.Plans.{bytes_by}
 use Rattle.vg_strips.specs.Strips.{IsCut, IsWide, put, strip_with}
-use Rattle.vg_strips.proofs.cut.Cut.with.Goals as goal
+use Rattle.vg_strips.proofs.strips.Strips.with.Goals as goal
 
 pub loop-k-preserved : goal.loop-k-preserved
 loop-k-preserved c =
