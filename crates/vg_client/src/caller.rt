@@ -73,19 +73,19 @@ pub(crate) fn make_call<B: Naming, N: Rings, R: Wait>(
     book: &Book<Display, B>,
     driver: &Driver<B, N>,
     client: &mut Caller<B>,
-    call: &Call,
+    call: Call,
 ) -> Result<Outcome, AllocError>
     requires ready { IsReady client.old }
-    requires fit { IsCallFit client.old.token.account.holds.displays call.now }
+    requires fit { IsCallFit client.old.token.account.holds.displays call }
     requires room { length (mine_of client.old.token) + 20 < 2 ^ 31 - 1 }
     ensures done { IfOk result (λ outcome. (mine : List Entries)
-        × Gives client.old.token.account.number (known client.old) call.now mine (known client.new)
+        × Gives client.old.token.account.number (known client.old) call mine (known client.new)
         × HasGoneOn client.old mine client.new
         × (length mine ≤ 19)
         × IsOutcome client.old.token.seen mine client.new.token.seen outcome) }
     ensures name { IfOk result (λ outcome. generation_of outcome.name ≡ newest (known client.old) (known client.new)) }
     ensures begun { OnErr result ((mine : List Entries)
-        × Begins client.old.token.account.number (known client.old) call.now mine
+        × Begins client.old.token.account.number (known client.old) call mine
         × HasAdded client.old mine client.new) }
 {
     let made = client.names.made();

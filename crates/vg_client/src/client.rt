@@ -70,19 +70,19 @@ impl<B: Naming> Client<B> {
         alloc: Global,
         book: &Book<Display, B>,
         driver: &Driver<B, N>,
-        call: &Call,
+        call: Call,
     ) -> Result<Outcome, NoMemory>
-        requires fit { IsCallFit self.old.caller.token.account.holds.displays call.now }
+        requires fit { IsCallFit self.old.caller.token.account.holds.displays call }
         requires room { length (mine_of self.old.caller.token) + 20 < 2 ^ 31 - 1 }
         ensures done { IfOk result (λ outcome. (mine : List Entries)
-            × Gives self.old.caller.token.account.number (known self.old.caller) call.now mine (known self.new.caller)
+            × Gives self.old.caller.token.account.number (known self.old.caller) call mine (known self.new.caller)
             × HasGoneOn self.old.caller mine self.new.caller
             × (length mine ≤ 19)
             × IsOutcome self.old.caller.token.seen mine self.new.caller.token.seen outcome) }
         ensures name { IfOk result (λ outcome. generation_of outcome.name ≡ newest (known self.old.caller) (known self.new.caller)) }
         ensures goes_on { OnOk result ((self.old.stopped ≡ false) × (self.new.stopped ≡ false)) }
         ensures begun { OnErr result ((mine : List Entries)
-            × Begins self.old.caller.token.account.number (known self.old.caller) call.now mine
+            × Begins self.old.caller.token.account.number (known self.old.caller) call mine
             × HasAdded self.old.caller mine self.new.caller) }
         ensures stops { OnErr result (self.new.stopped ≡ true) }
         ensures nothing { self.old.stopped ≡ true → self.new ≡ self.old }

@@ -44,15 +44,15 @@ pub struct Driven<B: Naming, N: Rings> {
 pub fn drive<G: Gate, R: Threads + Wait + Sync>(
     rt: &R,
     alloc: Global,
-    script: &Script,
+    script: Script,
     workers: u32,
     gate: &G,
 ) -> Result<Journal, NoMemory>
-    requires limits { ScriptInLimits script.now }
+    requires limits { ScriptInLimits script }
     requires workers { (1 ≤ workers) × (workers ≤ 8) }
-    ensures { IfOk result (IsLegalJournal script.now) }
+    ensures { IfOk result (IsLegalJournal script) }
 {
-    let Ok(setup) = setup_of(alloc, script) else {
+    let Ok(setup) = setup_of(alloc, &script) else {
         return Err(NoMemory);
     };
     let Ok(display) = Display::new(alloc, &setup) else {
@@ -70,16 +70,16 @@ fn with_rings<B: Naming + Send + Sync, G: Gate, R: Threads + Wait + Sync>(
     alloc: Global,
     opened: Opened<Display>,
     setup: Setup,
-    script: &Script,
+    script: Script,
     workers: u32,
     gate: &G,
 ) -> Result<Journal, NoMemory>
-    requires limits { ScriptInLimits script.now }
+    requires limits { ScriptInLimits script }
     requires workers { (1 ≤ workers) × (workers ≤ 8) }
-    requires setup { setup ≡ setups.setup_of script.now }
+    requires setup { setup ≡ setups.setup_of script }
     requires book { (opened.table ≡ B.table) × (opened.lanes ≡ 66) }
     requires start { opened.start ≡ Some (start setup) }
-    ensures { IfOk result (IsLegalJournal script.now) }
+    ensures { IfOk result (IsLegalJournal script) }
 {
     let Ok(control) = Ring::make::<Carried<Display, B>>(alloc, Queue::Control, 64) else {
         return Err(NoMemory);
@@ -100,18 +100,18 @@ fn journal_in<B: Naming + Send + Sync, N: Rings + Send + Sync, G: Gate, R: Threa
     control: Made<Carried<Display, B>>,
     cursor: Made<Carried<Display, B>>,
     setup: Setup,
-    script: &Script,
+    script: Script,
     workers: u32,
     gate: &G,
 ) -> Result<Journal, NoMemory>
-    requires limits { ScriptInLimits script.now }
+    requires limits { ScriptInLimits script }
     requires workers { (1 ≤ workers) × (workers ≤ 8) }
-    requires setup { setup ≡ setups.setup_of script.now }
+    requires setup { setup ≡ setups.setup_of script }
     requires book { (opened.table ≡ B.table) × (opened.lanes ≡ 66) }
     requires start { opened.start ≡ Some (start setup) }
     requires control { (control.table ≡ N.control) × (control.queue ≡ queues.Control) }
     requires cursor { (cursor.table ≡ N.cursor) × (cursor.queue ≡ queues.Cursor) }
-    ensures { IfOk result (IsLegalJournal script.now) }
+    ensures { IfOk result (IsLegalJournal script) }
 {
     let driven = drive_in::<B, N, G, R>(
         rt, alloc, opened, control, cursor, setup, script, workers, gate,
@@ -128,18 +128,18 @@ pub fn drive_in<B: Naming + Send + Sync, N: Rings + Send + Sync, G: Gate, R: Thr
     control: Made<Carried<Display, B>>,
     cursor: Made<Carried<Display, B>>,
     setup: Setup,
-    script: &Script,
+    script: Script,
     workers: u32,
     gate: &G,
 ) -> Result<Driven<B, N>, NoMemory>
-    requires limits { ScriptInLimits script.now }
+    requires limits { ScriptInLimits script }
     requires workers { (1 ≤ workers) × (workers ≤ 8) }
-    requires setup { setup ≡ setups.setup_of script.now }
+    requires setup { setup ≡ setups.setup_of script }
     requires book { (opened.table ≡ B.table) × (opened.lanes ≡ 66) }
     requires start { opened.start ≡ Some (start setup) }
     requires control { (control.table ≡ N.control) × (control.queue ≡ queues.Control) }
     requires cursor { (cursor.table ≡ N.cursor) × (cursor.queue ≡ queues.Cursor) }
-    ensures journal { IfOk result (λ driven. IsLegalJournal script.now driven.journal) }
+    ensures journal { IfOk result (λ driven. IsLegalJournal script driven.journal) }
     ensures completed { IfOk result (λ driven. HaveCompleted driven.journal.entries driven.control driven.cursor) }
 {
     // Laws, and no work: the history has each client's entries as it made them, and so it is one that the clients can have.

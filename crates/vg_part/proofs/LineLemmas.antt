@@ -1,14 +1,17 @@
 -- What the lines of a client give, one line after another.
-use Rattle.std.proofs.Common.{◌≡◌, ◌⊎◌, inl, inr, ◌+◌, ◌*◌, ◌≤◌, ◌<◌, ◌^◌, ◌∙◌, sym, ap, refl, subst, arith, ℕ, true, false, List, [], ◌∷◌, ◌++◌, length, length-append, drop, append_assoc, append-nil, Option, Some, None, Result, Ok, Err}
+use Rattle.std.proofs.Common.{◌≡◌, ◌⊎◌, inl, inr, ◌+◌, ◌*◌, ◌≤◌, ◌<◌, ◌^◌, ◌∙◌, sym, ap, refl, subst, arith, ℕ, zero, suc, true, false, List, [], ◌∷◌, ◌++◌, length, length-append, drop, get_or, append_assoc, append-nil, Option, Some, None, Result, Ok, Err}
 use Rattle.std.specs.Prelude.{OnErr, OnOk}
 use Rattle.std.proofs.lemmas.List.{drop_all}
+use Rattle.std.proofs.lemmas.List.{length-reverse}
+use mathlib.Core.List.{reverse, reverse-append, reverse-reverse, nil≢cons}
 use Rattle.vg_holds.specs.declared.setup.Setup.{Setup}
 use Rattle.vg_holds.specs.declared.act.Act.TheVariants.{Enter, Leave}
 use Rattle.vg_holds.specs.declared.act.ActReply.TheVariants as act_replies
 use Rattle.vg_machine.specs.Entries.{Entry}
 use Rattle.vg_history.specs.declared.entry.Entry.TheVariants as entries
-use Rattle.vg_machine.specs.State.{State}
+use Rattle.vg_machine.specs.State.{State, start}
 use Rattle.vg_script.specs.declared.types.Line.{Line}
+use Rattle.vg_script.specs.Limits.{StepInLimits}
 use Rattle.vg_driver.specs.Tickets.{Token}
 use Rattle.vg_client.specs.Accounts.{IsAccount, IsNew, mine_of}
 use Rattle.vg_client.specs.Callers.{ClientState, HasAdded, HasEnded, HasEntered, HasGoneOn, known}
@@ -16,7 +19,7 @@ use Rattle.vg_client.specs.Calls.{Gives, newest}
 use Rattle.vg_tasks.specs.Known.{Known, first_known}
 use Rattle.vg_client.specs.Own.{IsOwn}
 use Rattle.vg_part.specs.Follows.{GivesAll, GivesCalls, call_of_step, no_refs, refs_after}
-use Rattle.vg_part.specs.Performing.{GivesRest, HasKept, HasPerformed, IsFollowing}
+use Rattle.vg_part.specs.Performing.{AreInLimits, GivesRest, HasKept, HasPerformed, IsFollowing}
 
 pub following-first : {B : Type 0} (setup : Setup) (lines : List Line) (token : Token) (client : ClientState B) → IsNew setup token → HasEntered token client.caller → client.stopped ≡ false → IsFollowing setup lines 0 client no_refs
 following-first setup lines token client new entered goes_on =
@@ -66,9 +69,73 @@ following-more setup lines i client client' refs refs' line mine following here 
       gives = subst Rests (sym same) rests;
     }
 
+-- the line at a place, and those behind it
+pub next-line : (i : ℕ) (lines rest : List Line) (line : Line) → drop i lines ≡ line ∷ rest → (get_or lines i line ≡ line) × (drop (i + 1) lines ≡ rest)
+next-line zero lines rest line is = (ap (λ (ls : List Line). get_or ls 0 line) is, ap (λ (ls : List Line). drop 1 ls) is)
+next-line (suc i) [] rest line is = absurd (nil≢cons is)
+next-line (suc i) (first ∷ more) rest line is =
+    let next = next-line i more rest line is in
+    let one : suc i + 1 ≡ suc (i + 1) = omega arith in
+    (next.0, ap (λ (n : ℕ). drop n (first ∷ more)) one ∙ next.1)
+
+-- the last of these, turned round, is the first
+pub turned : (left rest : List Line) (line : Line) → left ≡ rest ++ line ∷ [] → reverse left ≡ line ∷ reverse rest
+turned left rest line is = ap (λ (ls : List Line). reverse ls) is ∙ reverse-append rest (line ∷ [])
+
+-- a client is on its way with its lines: those that are left stand with the first one last
+abbrev pub IsRunning : {B : Type 0} → List Line → List Line → ClientState B → ClientState B → (List ℕ → ℕ) → Type 0
+IsRunning lines left old client refs =
+    (setup : Setup) × (old.caller.token.start ≡ Some (start setup)) × AreInLimits setup lines
+    × ((i : ℕ) × (drop i lines ≡ reverse left) × (i + length left ≡ length lines) × IsFollowing setup lines i client refs)
+    × (client.caller.token.account.number ≡ old.caller.token.account.number)
+
+pub running-first : {B : Type 0} (setup : Setup) (lines left : List Line) (client : ClientState B) (refs : List ℕ → ℕ) → AreInLimits setup lines → IsFollowing setup lines 0 client no_refs → refs ≡ no_refs → left ≡ reverse lines → IsRunning lines left client client refs
+running-first setup lines left client refs limits following none is =
+    let again : lines ≡ reverse left = sym (ap (λ (ls : List Line). reverse ls) is ∙ reverse-reverse lines) in
+    let long : length left ≡ length lines = ap (λ (ls : List Line). length ls) is ∙ length-reverse lines in
+    (setup, following.begun, limits, (0, again, omega (arith, long), subst (λ r. IsFollowing setup lines 0 client r) (sym none) following), refl)
+
+pub running-more : {B : Type 0} (lines left rest : List Line) (old client client' : ClientState B) (refs refs' : List ℕ → ℕ) (line : Line) (mine : List Entry)
+    → IsRunning lines left old client refs → left ≡ rest ++ line ∷ []
+    → Gives client.caller.token.account.number (known client.caller) (call_of_step refs line.step) mine (known client'.caller) → HasGoneOn client.caller mine client'.caller → length mine ≤ 19 → client'.stopped ≡ false
+    → refs' ≡ refs_after line.step (newest (known client.caller) (known client'.caller)) refs
+    → IsRunning lines rest old client' refs'
+running-more lines left rest old client client' refs refs' line mine running is gives on few goes_on learns =
+    let setup = running.0 in
+    let at = running.3 in
+    let i : ℕ = at.0 in
+    let front : drop i lines ≡ line ∷ reverse rest = at.1 ∙ turned left rest line is in
+    let behind : drop (i + 1) lines ≡ reverse rest = (next-line i lines (reverse rest) line front).1 in
+    let here : drop i lines ≡ line ∷ drop (i + 1) lines = front ∙ ap (λ (ls : List Line). line ∷ ls) (sym behind) in
+    let shorter : length left ≡ length rest + 1 = ap (λ (ls : List Line). length ls) is ∙ length-append rest (line ∷ []) in
+    (setup, running.1, running.2, (i + 1, behind, omega (arith, shorter, at.2), following-more setup lines i client client' refs refs' line mine at.3 here gives on few goes_on learns), on.added.number ∙ running.4)
+
+-- the next line is within its limits
+pub line-fits : {B : Type 0} (lines left rest : List Line) (old client : ClientState B) (refs : List ℕ → ℕ) (line : Line) → IsRunning lines left old client refs → left ≡ rest ++ line ∷ [] → StepInLimits client.caller.token.account.holds.displays line.step
+line-fits lines left rest old client refs line running is =
+    let at = running.3 in
+    let next = next-line at.0 lines (reverse rest) line (at.1 ∙ turned left rest line is) in
+    let shorter : length left ≡ length rest + 1 = ap (λ (ls : List Line). length ls) is ∙ length-append rest (line ∷ []) in
+    let fits : StepInLimits (length running.0.displays) (get_or lines at.0 line).step = running.2.2 at.0 line (omega (arith, shorter, at.2)) in
+    subst (λ (n : ℕ). StepInLimits n line.step) (sym at.3.displays) (subst (λ (l : Line). StepInLimits (length running.0.displays) l.step) next.0 fits)
+
+-- once no line is left
+pub running-done : {B : Type 0} (lines left : List Line) (old client : ClientState B) (refs : List ℕ → ℕ) → IsRunning lines left old client refs → length left ≡ 0
+    → (setup : Setup) × (old.caller.token.start ≡ Some (start setup)) × ((after : List ℕ → ℕ) × IsFollowing setup lines (length lines) client after)
+running-done lines left old client refs running none =
+    let at = running.3 in
+    let end : at.0 ≡ length lines = omega (arith, none, at.2) in
+    (running.0, running.1, (refs, subst (λ (i : ℕ). IsFollowing running.0 lines i client refs) end at.3))
+
 abbrev setup_in : Option State → Setup → Setup
 setup_in (Some state) setup = state.setup
 setup_in None setup = setup
+
+-- a token is new in a display of one setup alone
+pub of-one-setup : {B : Type 0} (setup other : Setup) (lines : List Line) (token after : Token) (client : ClientState B) → IsNew setup token → HasEntered token client.caller → client.caller.token.start ≡ Some (start other) → HasPerformed other lines after → HasPerformed setup lines after
+of-one-setup setup other lines token after client new entered first done =
+    let same : other ≡ setup = ap (λ (s : Option State). setup_in s setup) (sym first ∙ entered.start ∙ new.begun) in
+    subst (λ (s : Setup). HasPerformed s lines after) same done
 
 -- once no line is left, and the client has ended, it has kept to its lines
 pub performed : {B : Type 0} (setup : Setup) (lines : List Line) (i : ℕ) (client : ClientState B) (token : Token) (refs : List ℕ → ℕ)

@@ -1,5 +1,5 @@
 -- The names that words were last given to, after one more was given, and calls on them.
-use Rattle.std.proofs.Common.{◌≡◌, ℕ, Bool, true, false, cond, List, refl, ◌∙◌, ap, Bor, bytes_eq, Option, None, Some}
+use Rattle.std.proofs.Common.{◌≡◌, ℕ, Bool, true, false, cond, List, refl, ◌∙◌, ap, bytes_eq, Option, None, Some}
 use mathlib.Core.Path.{fun_ext}
 use Rattle.std.proofs.lemmas.Map.Text.{is_eq-slice_cmp}
 use Rattle.std.specs.BTreeMap.{BTreeMap, UpdatesBy, get_by}
@@ -19,11 +19,11 @@ chosen : (b : Bool) (one other : Option NameRef) → generation_of (cond b one o
 chosen true one other = refl
 chosen false one other = refl
 
-pub refs-bound : (old new : BTreeMap (Bor (List ℕ)) NameRef) (word : List ℕ) (name : NameRef) → UpdatesBy (λ x y. slice_cmp nat_cmp x.now y.now) (λ k. slice_cmp nat_cmp word k.now) old new (Some name)
+pub refs-bound : (old new : BTreeMap (List ℕ) NameRef) (word : List ℕ) (name : NameRef) → UpdatesBy (slice_cmp nat_cmp) (λ k. slice_cmp nat_cmp word k) old new (Some name)
     → refs_of new ≡ with_ref word name.generation (refs_of old)
 refs-bound old new word name updates =
-    fun_ext (λ q. ap generation_of (updates.0 (record { ref_ptr = (0, 0); now = q })) ∙ ap (λ b. generation_of (cond b (Some name) (get_by (λ k. slice_cmp nat_cmp q k.now) old))) (is_eq-slice_cmp word q)
-    ∙ chosen (bytes_eq word q) (Some name) (get_by (λ k. slice_cmp nat_cmp q k.now) old))
+    fun_ext (λ q. ap generation_of (updates.0 q) ∙ ap (λ b. generation_of (cond b (Some name) (get_by (λ k. slice_cmp nat_cmp q k) old))) (is_eq-slice_cmp word q)
+    ∙ chosen (bytes_eq word q) (Some name) (get_by (λ k. slice_cmp nat_cmp q k) old))
 
 -- a call gives what it gives without the places of its names
 pub gives-placed : (client : ℕ) (known known' : Known) (call : Call) (mine : List Entry) → Gives client known call mine known' → Gives client known (unplaced call) mine known'

@@ -10,7 +10,8 @@ use Rattle.vg_history.specs.declared.entry.Entry.TheVariants as entries
 use Rattle.vg_machine.specs.State.{start}
 use Rattle.vg_script.specs.declared.types.Line.{Line}
 use Rattle.vg_script.specs.declared.types.Script.{Script}
-use Rattle.vg_client.specs.Accounts.{mine_of}
+use Rattle.vg_script.specs.Limits.{ClientInLimits}
+use Rattle.vg_client.specs.Accounts.{IsNew, mine_of}
 use Rattle.vg_client.specs.Callers.{ClientState, IsReady, known}
 use Rattle.vg_tasks.specs.Known.{Known, first_known}
 use Rattle.vg_part.specs.Follows.{GivesAll, no_refs}
@@ -19,6 +20,14 @@ use Rattle.vg_part.specs.Kept.{Kept}
 -- The lines of a script's client, of which the first has number 1.
 abbrev pub lines_of : Script → ℕ → List Line
 lines_of script client = get_or script.clients (client - 1) []
+
+-- A client has at most so many lines, each within its limits.
+abbrev pub AreInLimits : Setup → List Line → Type 0
+AreInLimits setup lines = (length setup.displays ≤ 16) × (length lines ≤ 100000) × ClientInLimits (length setup.displays) lines
+
+-- The client of this token, which is new in a display of this setup, may perform these lines.
+abbrev pub MayPerform : Setup → List Line → Token → Type 0
+MayPerform setup lines token = IsNew setup token × AreInLimits setup lines
 
 -- What is left of a client where memory lacked: it is who it was, and has stopped, or has few entries more.
 pub record HasKept {B : Type 0} (old new : ClientState B) : Type 0 where

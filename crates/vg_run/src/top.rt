@@ -88,7 +88,7 @@ pub fn vgpu<R: Threads + Wait + Sync, S: Source, K: Sink, G: Gate>(
         return Status::Usage;
     };
     match read_script(alloc, source) {
-        Ok(script) => write_run(rt, alloc, &script, workers, sink, gate),
+        Ok(script) => write_run(rt, alloc, script, workers, sink, gate),
         Err(status) => status,
     }
 }
@@ -124,14 +124,14 @@ fn read_script<S: Source>(alloc: Global, source: &mut S) -> Result<Script, Statu
 fn write_run<R: Threads + Wait + Sync, K: Sink, G: Gate>(
     rt: &R,
     alloc: Global,
-    script: &Script,
+    script: Script,
     workers: u32,
     sink: &mut K,
     gate: &G,
 ) -> Status
-    requires limits { ScriptInLimits script.now }
+    requires limits { ScriptInLimits script }
     requires workers { (1 ≤ workers) × (workers ≤ 8) }
-    ensures ended { (Ended result script.now (K.held sink.old) (K.held sink.new) (K.faults sink.old) (K.faults sink.new))
+    ensures ended { (Ended result script (K.held sink.old) (K.held sink.new) (K.faults sink.old) (K.faults sink.new))
         ⊎ ((result ≡ Status.NoMemory) × (sink.new ≡ sink.old)) }
     ensures count { K.faults sink.old ≤ K.faults sink.new }
 {

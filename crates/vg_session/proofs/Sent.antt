@@ -1,13 +1,12 @@
 -- What clients on threads share may be shared by threads, and they and what they give may go to other threads.
 use denote.RattleType.{RattleType}
-use denote.Param.Send.{IsSend, IsSync, sendable, enum_sync, recorded_send, recorded_sync, struct_send, struct_sync}
+use denote.Param.Send.{IsSend, IsSync, sendable, enum_send, recorded_send, struct_send}
 use denote.Enum.Declared as enum
 use denote.Struct.Declared.{shape}
 use denote.Ref.{NamedLft}
 use Rattle.std.proofs.Crossing.{crosses}
 use Rattle.vg_list.specs.contracts.seq.Seq as seq
 use Rattle.vg_script.specs.contracts.types.Line as line
-use Rattle.vg_script.specs.contracts.types.Script as script
 use Rattle.vg_steps.specs.contracts.types.Step as step
 use Rattle.vg_words.specs.contracts.name.Name as name
 use Rattle.vg_book.specs.declared.board.Naming as Naming
@@ -18,21 +17,18 @@ use Rattle.vg_worker.proofs.Sent.{book_shared, client_sent}
 use Rattle.vg_session.specs.contracts.threads.Performing as performing
 use Rattle.vg_part.specs.contracts.performing.Performed as performed
 
-seq_sync : (X : RattleType) → IsSync X → IsSync (seq.the_row X)
-seq_sync X x = search (sendable, crosses) depth 20
+seq_send : (X : RattleType) → IsSend X → IsSend (seq.the_row X)
+seq_send X x = search (sendable, crosses) depth 20
 
-name_sync : IsSync name.the_row
-name_sync = search (sendable, crosses) depth 20
+name_send : IsSend name.the_row
+name_send = search (sendable, crosses) depth 20
 
 -- a step, as a line has it
-step_sync : IsSync (enum.field step.the_type).row
-step_sync = enum_sync (enum.shape step.the_type) (tt, (search (sendable, crosses, name_sync, seq_sync) depth 20, (search (sendable, crosses, name_sync, seq_sync) depth 20, (search (sendable, crosses, name_sync, seq_sync) depth 20, (search (sendable, crosses, name_sync, seq_sync) depth 20, (search (sendable, crosses, name_sync, seq_sync) depth 20, (search (sendable, crosses, name_sync, seq_sync) depth 20, (search (sendable, crosses, name_sync, seq_sync) depth 20, (search (sendable, crosses, name_sync, seq_sync) depth 20, (search (sendable, crosses, name_sync, seq_sync) depth 20, (search (sendable, crosses, name_sync, seq_sync) depth 20, (search (sendable, crosses, name_sync, seq_sync) depth 20, (search (sendable, crosses, name_sync, seq_sync) depth 20, (search (sendable, crosses, name_sync, seq_sync) depth 20, (search (sendable, crosses, name_sync, seq_sync) depth 20, (search (sendable, crosses, name_sync, seq_sync) depth 20, (search (sendable, crosses, name_sync, seq_sync) depth 20, tt)))))))))))))))))
+step_send : IsSend (enum.field step.the_type).row
+step_send = enum_send (enum.shape step.the_type) (tt, (search (sendable, crosses, name_send, seq_send) depth 20, (search (sendable, crosses, name_send, seq_send) depth 20, (search (sendable, crosses, name_send, seq_send) depth 20, (search (sendable, crosses, name_send, seq_send) depth 20, (search (sendable, crosses, name_send, seq_send) depth 20, (search (sendable, crosses, name_send, seq_send) depth 20, (search (sendable, crosses, name_send, seq_send) depth 20, (search (sendable, crosses, name_send, seq_send) depth 20, (search (sendable, crosses, name_send, seq_send) depth 20, (search (sendable, crosses, name_send, seq_send) depth 20, (search (sendable, crosses, name_send, seq_send) depth 20, (search (sendable, crosses, name_send, seq_send) depth 20, (search (sendable, crosses, name_send, seq_send) depth 20, (search (sendable, crosses, name_send, seq_send) depth 20, (search (sendable, crosses, name_send, seq_send) depth 20, (search (sendable, crosses, name_send, seq_send) depth 20, tt)))))))))))))))))
 
-line_sync : IsSync line.the_row
-line_sync = let T = line.the_type in recorded_sync _ _ _ T.to_one (struct_sync (shape T) (search sendable, (step_sync, tt)))
-
-pub script_shared : IsSync script.the_row
-script_shared = search (sendable, crosses, seq_sync, line_sync) depth 20
+line_send : IsSend line.the_row
+line_send = let T = line.the_type in recorded_send _ _ _ T.to_one (struct_send (shape T) (search sendable, (step_send, tt)))
 
 module _ (B : RattleType) (gb : Naming.Ghosts B.Denot) where
   pub performed_sent : IsSend (performed.the_row B gb)
@@ -44,4 +40,4 @@ module _ (B : RattleType) (gb : Naming.Ghosts B.Denot) where
 
     pub performing_sent : (κ : NamedLft) → IsSend (performing.the_row κ B N gb gn)
     performing_sent κ = let T = performing.the_type κ B N gb gn in
-        recorded_send _ _ _ T.to_one (struct_send (shape T) (search (sendable, crosses) depth 20, (search (sendable, crosses, book_shared) depth 20, (search (sendable, crosses, driver_shared) depth 20, (search (sendable, crosses, script_shared) depth 20, (search (sendable, crosses, client_sent) depth 20, tt))))))
+        recorded_send _ _ _ T.to_one (struct_send (shape T) (search (sendable, crosses) depth 20, (search (sendable, crosses, book_shared) depth 20, (search (sendable, crosses, driver_shared) depth 20, (search (sendable, crosses, line_send) depth 20, (search (sendable, crosses, client_sent) depth 20, tt))))))

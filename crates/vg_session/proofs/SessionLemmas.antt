@@ -1,6 +1,7 @@
 -- Clients on threads, and what they leave.
-use Rattle.std.proofs.Common.{◌≡◌, inl, inr, ⊎_elim, ◌+◌, ◌<◌, ◌≤◌, ◌∙◌, sym, ap, refl, subst, arith, add-one, append_assoc, append-nil, ℕ, zero, suc, true, false, List, [], ◌∷◌, ◌++◌, length, map, get_or, Some, None}
-use Rattle.std.specs.Prelude.{All}
+use Rattle.std.proofs.Common.{◌≡◌, inl, inr, ⊎_elim, ◌+◌, ◌-◌, ◌<◌, ◌≤◌, ◌∙◌, sym, ap, refl, subst, arith, add-one, append_assoc, append-nil, ℕ, zero, suc, true, false, List, [], ◌∷◌, ◌++◌, length, map, get_or, Some, None}
+use Rattle.std.specs.Prelude.{All, sum_by}
+use Rattle.std.specs.List.{fold}
 use Rattle.std.proofs.lemmas.List.{map-append}
 use Rattle.std.proofs.lemmas.List.Elements.{All-append, All-nil}
 use Rattle.std.proofs.lemmas.Simd.{map-map}
@@ -24,13 +25,14 @@ use Rattle.vg_machine.specs.Entries.{Entry}
 use Rattle.vg_holds.specs.Holds.{first_holds}
 use Rattle.vg_machine.specs.Replay.{display}
 use Rattle.vg_machine.specs.State.{State, start}
+use Rattle.vg_script.specs.declared.types.Line.{Line}
 use Rattle.vg_script.specs.declared.types.Script.{Script}
 use Rattle.vg_script.specs.Limits.{ScriptInLimits}
 use Rattle.vg_driver.specs.Tickets.{Account, Token}
 use Rattle.vg_client.specs.Accounts.{IsNew, mine_of}
 use Rattle.vg_part.specs.declared.performing.Performed.{Performed}
-use Rattle.vg_session.specs.Session.{AreNew, HasCompleted, HasJoined, HasTakenAll, HasTakenLanes, HaveAllJoined, HaveCompleted, IsRootWith, Lane, MayPerform, Performs, Root, counted_of, number_of}
-use Rattle.vg_part.specs.Performing.{HasPerformed, lines_of}
+use Rattle.vg_session.specs.Session.{AreNew, HasCompleted, HasJoined, HasTakenAll, HasTakenLanes, HaveAllJoined, HaveCompleted, IsReady, IsRootWith, Lane, Performs, Root, counted_of, number_of}
+use Rattle.vg_part.specs.Performing.{AreInLimits, HasPerformed, lines_of}
 use Rattle.vg_part.specs.Setup.{setup_of}
 use Rattle.vg_session.proofs.RangeLemmas.{upto-range}
 
@@ -53,19 +55,44 @@ new-client setup n root root' holds token is makes step first =
       mine = ap (λ (t : Token). mine_of t) makes.client;
     }
 
-module _ {X : Type 0} (token : X → Token) (script : X → Script) where
-  -- so many clients were made, each for a job of this script
+-- the element behind a front
+pub at-end : (front rest : List (List Line)) (lines : List Line) → get_or (front ++ lines ∷ rest) (length front) [] ≡ lines
+at-end [] rest lines = refl
+at-end (first ∷ more) rest lines = at-end more rest lines
+
+-- a client's lines are within their limits where its script is
+few-from : (acc : ℕ) (clients : List (List Line)) (k : ℕ) → acc + length (get_or clients k []) ≤ fold (λ a (lines : List Line). a + length lines) acc clients
+few-from acc [] k = omega arith
+few-from acc (lines ∷ more) zero = omega (arith, few-from (acc + length lines) more 0)
+few-from acc (lines ∷ more) (suc k) = omega (arith, few-from (acc + length lines) more k)
+
+few-of : (clients : List (List Line)) (k : ℕ) → length (get_or clients k []) ≤ sum_by length clients
+few-of clients k = omega (arith, few-from 0 clients k)
+
+lines-in : (s : Script) (number : ℕ) → ScriptInLimits s → 1 ≤ number → number ≤ length s.clients → AreInLimits (setup_of s) (lines_of s number)
+lines-in s number limits low high =
+    (limits.count.1, omega (arith, limits.lines, few-of s.clients (number - 1)), limits.calls (number - 1) [] (omega (arith, low, high)))
+
+module _ {X : Type 0} (token : X → Token) (lines : X → List Line) where
+  -- these are the lines of the job's client
+  abbrev pub HasLines : Script → X → Type 0
+  HasLines s job = lines job ≡ lines_of s (number_of (token job))
+
+  -- so many clients were made, each for a job with its lines
   abbrev pub IsMade : Setup → Script → ℕ → Root → List X → Type 0
-  IsMade setup s n root jobs = IsRootWith setup n root × AreNew setup n (map token jobs) × All (λ job. script job ≡ s) jobs
+  IsMade setup s n root jobs = IsRootWith setup n root × AreNew setup n (map token jobs) × All (HasLines s) jobs
 
   pub made-none : (setup : Setup) (s : Script) (root : Root) (jobs : List X) → IsRootWith setup 0 root → jobs ≡ [] → IsMade setup s 0 root jobs
   made-none setup s root jobs is none = subst (λ (xs : List X). IsMade setup s 0 root xs) (sym none) (is, record { numbers = refl; new = λ t at. absurd at }, All-nil _)
 
   pub made-more : (setup : Setup) (s : Script) (n : ℕ) (root root' : Root) (holds : Holds) (made : Token) (jobs jobs' : List X) (job : X) → IsMade setup s n root jobs → MakesClient display root holds root' made → IsInStep made
-      → holds ≡ first_holds setup (n + 1) → token job ≡ made → script job ≡ s → jobs' ≡ jobs ++ job ∷ [] → IsMade setup s (n + 1) root' jobs'
+      → holds ≡ first_holds setup (n + 1) → token job ≡ made → lines job ≡ get_or s.clients n [] → jobs' ≡ jobs ++ job ∷ [] → IsMade setup s (n + 1) root' jobs'
   made-more setup s n root root' holds made jobs jobs' job h makes step first is of more =
       let fresh = new-client setup n root root' holds made h.0 makes step first in
       let number : made.account.number ≡ n + 1 = ap (λ (t : Token). t.account.number) makes.client ∙ ap (λ (k : ℕ). k + 1) h.0.given in
+      let numbered : number_of (token job) ≡ n + 1 = ap number_of is ∙ number in
+      let at : n ≡ number_of (token job) - 1 = omega (arith, numbered) in
+      let has : HasLines s job = of ∙ ap (λ (k : ℕ). get_or s.clients k []) at in
       let split : map token (jobs ++ job ∷ []) ≡ map token jobs ++ made ∷ [] = map-append token jobs (job ∷ []) ∙ ap (λ (t : Token). map token jobs ++ t ∷ []) is in
       let numbers : map number_of (map token jobs ++ made ∷ []) ≡ upto (n + 1) =
       map-append number_of (map token jobs) (made ∷ []) ∙ ap (λ (ns : List ℕ). ns ++ made.account.number ∷ []) h.1.numbers ∙ ap (λ (k : ℕ). upto n ++ k ∷ []) number ∙ upto-more n in
@@ -83,31 +110,31 @@ module _ {X : Type 0} (token : X → Token) (script : X → Script) where
       subst (λ (xs : List X). IsMade setup s (n + 1) root' xs) (sym more) (
         root-is,
         subst (AreNew setup (n + 1)) (sym split) all,
-        All-append (λ j. script j ≡ s) jobs (job ∷ []) h.2 (all-one (λ j. script j ≡ s) job of),
+        All-append (HasLines s) jobs (job ∷ []) h.2 (all-one (HasLines s) job has),
       )
 
   -- each job may begin
-  may-perform : (s : Script) (job : X) → ScriptInLimits s → script job ≡ s → IsNew (setup_of s) (token job) → 1 ≤ number_of (token job) → number_of (token job) ≤ length s.clients → MayPerform (script job) (token job)
-  may-perform s job limits is new low high = subst (λ (x : Script). MayPerform x (token job)) (sym is) (limits, new, (low, high))
+  is-ready : (s : Script) (job : X) → ScriptInLimits s → HasLines s job → IsNew (setup_of s) (token job) → 1 ≤ number_of (token job) → number_of (token job) ≤ length s.clients → IsReady (lines job) (token job)
+  is-ready s job limits is new low high = (setup_of s, (new, subst (λ (ls : List Line). AreInLimits (setup_of s) ls) (sym is) (lines-in s (number_of (token job)) limits low high)))
 
-  pub all-ready : (setup : Setup) (s : Script) (jobs : List X) → setup ≡ setup_of s → ScriptInLimits s → AreNew setup (length s.clients) (map token jobs) → All (λ job. script job ≡ s) jobs
-      → All (λ job. MayPerform (script job) (token job)) jobs
-  all-ready setup s jobs is limits new scripts = each jobs (λ t at. subst (λ (x : Setup). IsNew x t) is (new.new t at))
-      (λ t at. upto-has (length s.clients) (number_of t) (subst (λ (ns : List ℕ). Has ns (number_of t)) new.numbers (has_map number_of (map token jobs) t at))) scripts
+  pub all-ready : (setup : Setup) (s : Script) (jobs : List X) → setup ≡ setup_of s → ScriptInLimits s → AreNew setup (length s.clients) (map token jobs) → All (HasLines s) jobs
+      → All (λ job. IsReady (lines job) (token job)) jobs
+  all-ready setup s jobs is limits new has = each jobs (λ t at. subst (λ (x : Setup). IsNew x t) is (new.new t at))
+      (λ t at. upto-has (length s.clients) (number_of t) (subst (λ (ns : List ℕ). Has ns (number_of t)) new.numbers (has_map number_of (map token jobs) t at))) has
     where
       upto-has : (n k : ℕ) → Has (upto n) k → (1 ≤ k) × (k ≤ n)
       upto-has zero k at = absurd at
       upto-has (suc n) k at = ⊎_elim (λ there. let r = upto-has n k there in (r.0, omega (arith, r.1))) (λ same. (omega (arith, same), omega (arith, same))) (has_snoc (upto n) (suc n) k at)
 
-      each : (js : List X) → ((t : Token) → Has (map token js) t → IsNew (setup_of s) t) → ((t : Token) → Has (map token js) t → (1 ≤ number_of t) × (number_of t ≤ length s.clients)) → All (λ job. script job ≡ s) js
-          → All (λ job. MayPerform (script job) (token job)) js
+      each : (js : List X) → ((t : Token) → Has (map token js) t → IsNew (setup_of s) t) → ((t : Token) → Has (map token js) t → (1 ≤ number_of t) × (number_of t ≤ length s.clients)) → All (HasLines s) js
+          → All (λ job. IsReady (lines job) (token job)) js
       each [] fresh within of k d lt = absurd (omega (arith, lt))
-      each (j ∷ js) fresh within of zero d lt = let w = within (token j) (inl refl) in may-perform s j limits (of 0 j (omega arith)) (fresh (token j) (inl refl)) w.0 w.1
+      each (j ∷ js) fresh within of zero d lt = let w = within (token j) (inl refl) in is-ready s j limits (of 0 j (omega arith)) (fresh (token j) (inl refl)) w.0 w.1
       each (j ∷ js) fresh within of (suc k) d lt = each js (λ t at. fresh t (inr at)) (λ t at. within t (inr at)) (λ i e l. of (suc i) e (omega (arith, l))) k d (omega (arith, lt))
 
   module _ {B : Type 0} where
     abbrev Gives : X → Performed B → Type 0
-    Gives job performed = Performs (script job) (token job) performed
+    Gives job performed = Performs (lines job) (token job) performed
 
     abbrev number-of : Performed B → ℕ
     number-of p = p.token.account.number
@@ -123,36 +150,37 @@ module _ {X : Type 0} (token : X → Token) (script : X → Script) where
     same-numbers jobs ps h = given_same Gives (λ j. number_of (token j)) number-of jobs ps h (λ j p gave. gave.0) ∙ sym (map-map number_of token jobs)
 
     -- the job that gave one of them
-    giver : (s : Script) (jobs : List X) (ps : List (Performed B)) → AllGive Gives jobs ps → All (λ job. script job ≡ s) jobs → (p : Performed B) → Has ps p → (job : X) × (script job ≡ s) × Gives job p
+    giver : (s : Script) (jobs : List X) (ps : List (Performed B)) → AllGive Gives jobs ps → All (HasLines s) jobs → (p : Performed B) → Has ps p → (job : X) × HasLines s job × Has (map token jobs) (token job) × Gives job p
     giver s [] ps h of p at = gone ps h at
       where
-        gone : (xs : List (Performed B)) → AllGive Gives [] xs → Has xs p → (job : X) × (script job ≡ s) × Gives job p
+        gone : (xs : List (Performed B)) → AllGive Gives [] xs → Has xs p → (job : X) × HasLines s job × Has [] (token job) × Gives job p
         gone [] h at = absurd at
         gone (x ∷ xs) h at = absurd h
     giver s (j ∷ js) [] h of p at = absurd at
-    giver s (j ∷ js) (x ∷ ps) h of p (inl e) = (j, of 0 j (omega arith), subst (λ (y : Performed B). Gives j y) e h.0)
-    giver s (j ∷ js) (x ∷ ps) h of p (inr at) = giver s js ps h.1 (λ i e l. of (suc i) e (omega (arith, l))) p at
+    giver s (j ∷ js) (x ∷ ps) h of p (inl e) = (j, of 0 j (omega arith), inl refl, subst (λ (y : Performed B). Gives j y) e h.0)
+    giver s (j ∷ js) (x ∷ ps) h of p (inr at) = let by = giver s js ps h.1 (λ i e l. of (suc i) e (omega (arith, l))) p at in (by.0, by.1, inr by.2, by.3)
 
-    has-joined : (s : Script) (old new : Root) (jobs : List X) (ps : List (Performed B)) → AreNew (setup_of s) (length s.clients) (map token jobs) → All (λ job. script job ≡ s) jobs → AllGive Gives jobs ps
+    has-joined : (s : Script) (old new : Root) (jobs : List X) (ps : List (Performed B)) → AreNew (setup_of s) (length s.clients) (map token jobs) → All (HasLines s) jobs → AllGive Gives jobs ps
         → HasTakenAll old ps new → old.accounts ≡ [] → (number : ℕ) → 1 ≤ number → number ≤ length s.clients → HasJoined s new number
     has-joined s old new jobs ps fresh of h taken none number low high =
         let found = map_has number-of ps number (subst (λ (ns : List ℕ). Has ns number) (sym (same-numbers jobs ps h ∙ fresh.numbers)) (has_upto (length s.clients) number low high)) in
         let p : Performed B = found.0 in
         let by = giver s jobs ps h of p found.1 in
         let told = taken.each p found.1 in
-        let performed : HasPerformed (setup_of (script by.0)) (lines_of (script by.0) (number_of (token by.0))) p.token = by.2.2 told.0 in
-        let here : number_of (token by.0) ≡ number = sym by.2.0 ∙ found.2 in
+        let gave : Gives by.0 p = by.3 in
+        let here : number_of (token by.0) ≡ number = sym gave.0 ∙ found.2 in
+        let its : lines by.0 ≡ lines_of s number = by.1 ∙ ap (lines_of s) here in
         let accounts : new.accounts ≡ map (λ (q : Performed B). q.token.account) ps = taken.accounts ∙ ap (λ as'. as' ++ map (λ (q : Performed B). q.token.account) ps) none in
         record {
           token = p.token;
           number_is = found.2;
           there = subst (λ as'. Has as' p.token.account) (sym accounts) (has_map (λ (q : Performed B). q.token.account) ps p found.1);
           seen = told.1;
-          performed = subst (λ (x : Script). HasPerformed (setup_of x) (lines_of x number) p.token) by.1 (subst (λ (k : ℕ). HasPerformed (setup_of (script by.0)) (lines_of (script by.0) k) p.token) here performed);
+          performed = subst (λ (ls : List Line). HasPerformed (setup_of s) ls p.token) its (gave.2 told.0 (setup_of s) (fresh.new (token by.0) by.2));
         }
 
     pub all-joined : (setup : Setup) (s : Script) (old new : Root) (jobs : List X) (ps : List (Performed B)) → setup ≡ setup_of s → IsRootWith setup (length s.clients) old → AreNew setup (length s.clients) (map token jobs)
-        → All (λ job. script job ≡ s) jobs → AllGive Gives jobs ps → HasTakenAll old ps new → HaveAllJoined s new
+        → All (HasLines s) jobs → AllGive Gives jobs ps → HasTakenAll old ps new → HaveAllJoined s new
     all-joined setup s old new jobs ps is root fresh of h taken = record {
       given = taken.given ∙ root.given;
       lanes = taken.lanes ∙ root.lanes;

@@ -22,12 +22,12 @@ use Rattle.vg_machine.specs.Entries.{Entry}
 use Rattle.vg_machine.specs.Replay.{display}
 use Rattle.vg_machine.specs.State.{State, start}
 use Rattle.vg_scanout.specs.declared.scanout.Frame.{Frame}
+use Rattle.vg_script.specs.declared.types.Line.{Line}
 use Rattle.vg_script.specs.declared.types.Script.{Script}
-use Rattle.vg_script.specs.Limits.{ScriptInLimits}
 use Rattle.vg_driver.specs.Tickets.{Account, Token}
 use Rattle.vg_client.specs.Accounts.{IsNew}
 use Rattle.vg_part.specs.declared.performing.Performed.{Performed}
-use Rattle.vg_part.specs.Performing.{HasPerformed, lines_of}
+use Rattle.vg_part.specs.Performing.{HasPerformed, MayPerform, lines_of}
 use Rattle.vg_part.specs.Setup.{setup_of}
 
 -- The root and the lanes' tokens of a book whose machine is a display.
@@ -58,14 +58,14 @@ pub record HaveCompleted (H : List Entry) (control cursor : DeviceLists) : Type 
   pub on_control : (lane : ℕ) → lane < 65 → HasCompleted H control lane
   pub on_cursor : HasCompleted H cursor 65
 
--- The client of this token may perform its part of the script, and has performed it.
-abbrev pub MayPerform : Script → Token → Type 0
-MayPerform script token = ScriptInLimits script × IsNew (setup_of script) token × ((1 ≤ token.account.number) × (token.account.number ≤ length script.clients))
+-- The client of this token may perform these lines, and has performed them.
+abbrev pub IsReady : List Line → Token → Type 0
+IsReady lines token = (setup : Setup) × MayPerform setup lines token
 
-abbrev pub Performs : {B : Type 0} → Script → Token → Performed B → Type 0
-Performs script token performed =
+abbrev pub Performs : {B : Type 0} → List Line → Token → Performed B → Type 0
+Performs lines token performed =
     (performed.token.account.number ≡ token.account.number) × (performed.token.account.out ≡ [])
-    × (performed.done ≡ true → HasPerformed (setup_of script) (lines_of script token.account.number) performed.token)
+    × (performed.done ≡ true → (setup : Setup) → IsNew setup token → HasPerformed setup lines performed.token)
 
 -- A root that has made so many clients, which are all outside, and the lanes of a display of this setup.
 pub record IsRootWith (setup : Setup) (clients : ℕ) (root : Root) : Type 0 where

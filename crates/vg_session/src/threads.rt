@@ -1,7 +1,9 @@
 //! A script's clients and a device's workers on threads.
 
-ghost use Rattle.std.specs.Prelude.{◌≡◌, ◌≤◌, [], length, map, max, min, All, IfOk, OnOk};
+ghost use Rattle.std.specs.Prelude.{◌≡◌, ◌≤◌, [], List, length, map, max, min, All, IfOk, OnOk};
+ghost use Rattle.vg_script.specs.declared.types.Line.{Line as Lines};
 ghost use Rattle.vg_script.specs.Limits.{ScriptInLimits};
+ghost use Rattle.vg_part.specs.Performing as parts;
 ghost use Rattle.vg_part.specs.Setup as setups;
 ghost use Rattle.vg_session.specs.Session.{AreNew, HasTakenAll, HaveAllJoined, IsRootWith, IsStill};
 
@@ -18,7 +20,7 @@ use vg_front::Front;
 use vg_machine::{Display, Holds, Setup};
 use vg_part::{Performed, perform};
 use vg_ring::Rings;
-use vg_script::Script;
+use vg_script::{Line, Script};
 use vg_worker::{Gate, Worker};
 
 /// A client that is to perform its part of a script.
@@ -27,16 +29,16 @@ struct Performing<'a, B: Naming, N: Rings> {
     alloc: Global,
     book: &'a Book<Display, B>,
     driver: &'a Driver<B, N>,
-    script: &'a Script,
+    lines: Vec<Line>,
     token: ClientToken<Display, B>,
 }
 
 impl<'a, B: Naming, N: Rings> Job<Performed<B>> for Performing<'a, B, N> {
-    ghost use Rattle.vg_session.specs.Session.{MayPerform, Performs};
+    ghost use Rattle.vg_session.specs.Session.{IsReady, Performs};
 
-    ghost is_ready = { λ job. MayPerform job.script.now job.token };
+    ghost is_ready = { λ job. IsReady job.lines.items job.token };
 
-    ghost gives = { λ job performed. Performs job.script.now job.token performed };
+    ghost gives = { λ job performed. Performs job.lines.items job.token performed };
 
     fn run<R: Threads + Wait + Sync>(self, rt: &R) -> Performed<B> {
         perform(
@@ -44,7 +46,7 @@ impl<'a, B: Naming, N: Rings> Job<Performed<B>> for Performing<'a, B, N> {
             self.alloc,
             self.book,
             self.driver,
-            self.script,
+            self.lines,
             self.token,
         )
     }
@@ -65,22 +67,22 @@ pub fn run_threads<
     root: &mut Root<Display, B>,
     front: Front<Carried<Display, B>, LaneToken<Display, B>, N>,
     setup: &Setup,
-    script: &Script,
+    script: Script,
     workers: u32,
     gate: &G,
 ) -> Result<Front<Carried<Display, B>, LaneToken<Display, B>, N>, NoMemory>
-    requires limits { ScriptInLimits script.now }
-    requires setup { setup.now ≡ setups.setup_of script.now }
+    requires limits { ScriptInLimits script }
+    requires setup { setup.now ≡ setups.setup_of script }
     requires root { IsRootWith setup.now 0 root.old }
-    ensures joined { OnOk result (HaveAllJoined script.now root.new) }
+    ensures joined { OnOk result (HaveAllJoined script root.new) }
     ensures still { IfOk result IsStill }
 {
     let front = Mutex::new(front);
     let stop = AtomicBool::new(false);
+    let count = useful_workers(&script, workers);
     let Ok(clients) = performers(alloc, book, driver, root, setup, script) else {
         return Err(NoMemory);
     };
-    let count = useful_workers(script, workers);
     let Ok(workers) = servers(alloc, &front, book, gate, &stop, count) else {
         return Err(NoMemory);
     };
@@ -98,26 +100,27 @@ fn performers<'a, B: Naming, N: Rings>(
     driver: &'a Driver<B, N>,
     root: &mut Root<Display, B>,
     setup: &Setup,
-    script: &'a Script,
+    script: Script,
 ) -> Result<Vec<Performing<'a, B, N>>, AllocError>
-    requires limits { ScriptInLimits script.now }
-    requires setup { setup.now ≡ setups.setup_of script.now }
+    requires limits { ScriptInLimits script }
+    requires setup { setup.now ≡ setups.setup_of script }
     requires root { IsRootWith setup.now 0 root.old }
-    ensures root { OnOk result (IsRootWith setup.now (length script.now.clients) root.new) }
-    ensures clients { IfOk result (λ jobs. AreNew setup.now (length script.now.clients) (map (λ job. job.token) jobs.items)) }
-    ensures script { IfOk result (λ jobs. All (λ job. job.script.now ≡ script.now) jobs.items) }
+    ensures root { OnOk result (IsRootWith setup.now (length script.clients) root.new) }
+    ensures clients { IfOk result (λ jobs. AreNew setup.now (length script.clients) (map (λ job. job.token) jobs.items)) }
+    ensures lines { IfOk result (λ jobs. All (λ job. job.lines.items ≡ parts.lines_of script job.token.account.number) jobs.items) }
 {
     // A law, and no work: a new client sees its entries in the order in which it made them.
     entries_in_step::<Display>();
-    let count = clients_of(script);
     let mut jobs = Vec::new(alloc);
-    for made in 0..count {
-        let token = root.client(book, Holds::new(alloc, setup, made + 1));
+    let mut number = 0;
+    for lines in script.clients.into_vec() {
+        number += 1;
+        let token = root.client(book, Holds::new(alloc, setup, number));
         jobs.push(Performing {
             alloc,
             book,
             driver,
-            script,
+            lines: lines.into_vec(),
             token,
         })?;
     }

@@ -119,17 +119,10 @@ pub(crate) fn uuid_task(key: u32) -> Task
 }
 
 /// Bytes as they are.
-pub(crate) fn raw_task(
-    alloc: Global,
-    queue: Queue,
-    room: u32,
-    shape: Shape,
-    bytes: &[u8],
-) -> Result<Task, AllocError>
-    ensures { IfOk result (λ task. task ≡ table.raw_task queue room shape bytes.now) }
+pub(crate) fn raw_task(queue: Queue, room: u32, shape: Shape, bytes: Seq<u8>) -> Task
+    ensures { result ≡ table.raw_task queue room shape bytes }
 {
-    let bytes = Seq::from_vec(bytes.to_vec(alloc)?);
-    Ok(Task {
+    Task {
         deed: Deed::Raw {
             queue,
             room,
@@ -137,7 +130,7 @@ pub(crate) fn raw_task(
             bytes,
         },
         change: Change::Nothing,
-    })
+    }
 }
 
 /// Takes guest pages for a buffer of pixels of four bytes.
@@ -205,22 +198,15 @@ fn page_entry(page: u32) -> MemEntry
 }
 
 /// Writes bytes into a buffer, so many times one after another.
-pub(crate) fn store_task(
-    alloc: Global,
-    key: u32,
-    offset: u32,
-    bytes: &[u8],
-    times: u32,
-) -> Result<Task, AllocError>
-    ensures { IfOk result (λ task. task ≡ table.store_task key offset bytes.now times) }
+pub(crate) fn store_task(key: u32, offset: u32, bytes: Seq<u8>, times: u32) -> Task
+    ensures { result ≡ table.store_task key offset bytes times }
 {
-    let bytes = Seq::from_vec(bytes.to_vec(alloc)?);
-    Ok(act_task(Act::Store {
+    act_task(Act::Store {
         key,
         offset,
         bytes,
         times,
-    }))
+    })
 }
 
 /// TRANSFER_TO_HOST_2D of a rectangle of a buffer, each pixel from its own place.

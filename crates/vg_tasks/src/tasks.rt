@@ -19,6 +19,7 @@ use crate::task::{
 use std::alloc::{AllocError, Global};
 use vg_formats::Rect;
 use vg_holds::{Act, Holds, What};
+use vg_list::Seq;
 use vg_names::{Held, NameRef, Names};
 
 /// The tasks of a call, or what is denied before there is any.
@@ -27,43 +28,43 @@ pub fn tasks_of(
     holds: &Holds,
     names: &Names,
     shows: &[Option<u32>],
-    call: &Call,
+    call: Call,
 ) -> Result<Result<Vec<Task>, What>, AllocError>
-    requires call { IsCallFit holds.now.displays call.now }
+    requires call { IsCallFit holds.now.displays call }
     requires shows { length shows.now ≤ 16 }
-    ensures plans { Plans (plan.tasks_of (record { holds = holds.now; names = names.now; shows = shows.now }) call.now) result }
+    ensures plans { Plans (plan.tasks_of (record { holds = holds.now; names = names.now; shows = shows.now }) call) result }
     ensures denied { IfOk result (λ done. IfErr done (MayDeny holds.now)) }
 {
     match call {
         Call::Info => one(alloc, info_task()),
-        Call::Edid { scanout } => one(alloc, edid_task(*scanout)),
+        Call::Edid { scanout } => one(alloc, edid_task(scanout)),
         Call::Buffer {
             width,
             height,
             format,
-        } => one(alloc, reserve_task(*width, *height, *format)),
+        } => one(alloc, reserve_task(width, height, format)),
         Call::Store {
             name,
             offset,
             bytes,
             times,
-        } => store_tasks(alloc, names, *name, *offset, bytes.as_slice(), *times),
+        } => store_tasks(alloc, names, name, offset, bytes, times),
         Call::Load {
             name,
             offset,
             length,
-        } => load_tasks(alloc, names, *name, *offset, *length),
-        Call::Send { name, rect } => send_tasks(alloc, names, *name, *rect),
-        Call::Flush { name, rect } => flush_tasks(alloc, names, *name, *rect),
-        Call::Take { scanout } => one(alloc, act_task(Act::Take { scanout: *scanout })),
-        Call::Drop { scanout } => drop_tasks(alloc, holds, *scanout),
-        Call::Hide { scanout } => one(alloc, hide_task(*scanout)),
+        } => load_tasks(alloc, names, name, offset, length),
+        Call::Send { name, rect } => send_tasks(alloc, names, name, rect),
+        Call::Flush { name, rect } => flush_tasks(alloc, names, name, rect),
+        Call::Take { scanout } => one(alloc, act_task(Act::Take { scanout })),
+        Call::Drop { scanout } => drop_tasks(alloc, holds, scanout),
+        Call::Hide { scanout } => one(alloc, hide_task(scanout)),
         Call::Show {
             scanout,
             name,
             rect,
-        } => show_tasks(alloc, names, *scanout, *name, *rect),
-        Call::Flip { scanout, name } => flip_tasks(alloc, names, *scanout, *name),
+        } => show_tasks(alloc, names, scanout, name, rect),
+        Call::Flip { scanout, name } => flip_tasks(alloc, names, scanout, name),
         Call::Cursor {
             scanout,
             name,
@@ -71,19 +72,16 @@ pub fn tasks_of(
             y,
             hot_x,
             hot_y,
-        } => cursor_tasks(alloc, names, *scanout, *name, *x, *y, *hot_x, *hot_y),
-        Call::Move { scanout, x, y } => one(alloc, move_task(*scanout, *x, *y)),
-        Call::Uuid { name } => uuid_tasks(alloc, names, *name),
+        } => cursor_tasks(alloc, names, scanout, name, x, y, hot_x, hot_y),
+        Call::Move { scanout, x, y } => one(alloc, move_task(scanout, x, y)),
+        Call::Uuid { name } => uuid_tasks(alloc, names, name),
         Call::Raw {
             queue,
             room,
             shape,
             bytes,
-        } => one(
-            alloc,
-            raw_task(alloc, *queue, *room, *shape, bytes.as_slice())?,
-        ),
-        Call::Close { name } => close_tasks(alloc, names, shows, *name),
+        } => one(alloc, raw_task(queue, room, shape, bytes)),
+        Call::Close { name } => close_tasks(alloc, names, shows, name),
     }
 }
 
@@ -100,14 +98,14 @@ fn store_tasks(
     names: &Names,
     name: NameRef,
     offset: u32,
-    bytes: &[u8],
+    bytes: Seq<u8>,
     times: u32,
 ) -> Result<Result<Vec<Task>, What>, AllocError>
-    ensures plans { Plans (with_held names.now name (λ held. table.store_task held.key offset bytes.now times ∷ [])) result }
+    ensures plans { Plans (with_held names.now name (λ held. table.store_task held.key offset bytes times ∷ [])) result }
     ensures denied { IfOk result (λ done. IfErr done (λ what. what ≡ whats.Name)) }
 {
     match names.find(name.generation) {
-        Some(held) => one(alloc, store_task(alloc, held.key, offset, bytes, times)?),
+        Some(held) => one(alloc, store_task(held.key, offset, bytes, times)),
         None => Ok(Err(What::Name)),
     }
 }

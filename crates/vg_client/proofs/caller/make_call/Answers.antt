@@ -10,7 +10,7 @@ use Rattle.vg_client.proofs.GivesLemmas.{gives-some}
 use Rattle.vg_client.proofs.caller.make_call.Goals as goal
 
 pub returns-in_err-plan-clause-begun : goal.returns-in_err-plan-clause-begun
-returns-in_err-plan-clause-begun g c = on_err _ (unbegun c.args.call.now c.args.client.now c.requires.ready)
+returns-in_err-plan-clause-begun g c = on_err _ (unbegun c.args.call c.args.client.now c.requires.ready)
 
 pub name_made-requires-clause-room : goal.name_made-requires-clause-room
 name_made-requires-clause-room g c =
@@ -21,7 +21,7 @@ name_made-requires-clause-room g c =
 pub outcome-requires : goal.outcome-requires
 outcome-requires g c =
     let old = c.args.client.now in
-    let call = c.args.call.now in
+    let call = c.args.call in
     let done = c.in_ok-played.ensures.done in
     let same : record { holds = c.holds.result.now; names = old.names; shows = c.as_slice.result.now } ≡ known old =
     ap (λ (h : Holds). let k : Known = record { holds = h; names = old.names; shows = c.as_slice.result.now } in k) c.holds.ensures
@@ -33,7 +33,7 @@ outcome-requires g c =
 pub returns-clause-done : goal.returns-clause-done
 returns-clause-done g c =
     let old = c.args.client.now in
-    let call = c.args.call.now in
+    let call = c.args.call in
     let done = c.in_ok-played.ensures.done in
     let same : record { holds = c.holds.result.now; names = old.names; shows = c.as_slice.result.now } ≡ known old =
     ap (λ (h : Holds). let k : Known = record { holds = h; names = old.names; shows = c.as_slice.result.now } in k) c.holds.ensures

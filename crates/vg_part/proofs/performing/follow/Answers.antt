@@ -1,10 +1,12 @@
 use Rattle.std.proofs.Common.{arith, length}
-use Rattle.vg_part.specs.Setup.{setup_of}
 use Rattle.vg_part.proofs.LineLemmas.{ok-told, performed}
 use Rattle.vg_part.proofs.performing.follow.Goals as goal
 
 pub returns-in-Ok-clause-performed : goal.returns-in-Ok-clause-performed
 returns-in-Ok-clause-performed g c = λ yes.
-    let following = c.run_lines-went.ensures.done yes in
-    let lines = c.args.lines.now in
-    performed (setup_of c.args.script.now) lines (length lines) c.run_lines-went.new.client c.end-token.result.0 following.0 following.1 (omega arith) c.end-token.ensures.number c.end-token.ensures.start (ok-told c.end-token.result.1 _ c.in-Ok.is c.end-token.ensures.ended).1
+    let done = c.run_lines-went.ensures.done yes in
+    let lines = c.args.lines.items in (
+      done.0,
+      done.1,
+      performed done.0 lines (length lines) c.run_lines-went.new.client c.end-token.result.0 done.2.0 done.2.1 (omega arith) c.end-token.ensures.number c.end-token.ensures.start (ok-told c.end-token.result.1 _ c.in-Ok.is c.end-token.ensures.ended).1,
+    )

@@ -1,8 +1,10 @@
-use Rattle.std.proofs.Common.{◌≡◌}
-use Rattle.vg_part.specs.Performing.{IsFollowing}
+use Rattle.std.proofs.Common.{length}
 use Rattle.vg_part.specs.Refs.{refs_of}
-use Rattle.vg_part.specs.Setup.{setup_of}
+use Rattle.vg_part.proofs.LineLemmas.{IsRunning}
 use Rattle.vg_part.proofs.performing.run_lines.Given as goal
 
 abbrev pub invariant-loop-line : goal.invariant-loop-line
-invariant-loop-line g l = IsFollowing (setup_of l.script) l.lines l.line-index l.client (refs_of l.refs) × (l.client.caller.token.account.number ≡ l.fn.client.caller.token.account.number)
+invariant-loop-line g l = IsRunning l.fn.lines.items l.left.items l.fn.client l.client (refs_of l.refs)
+
+abbrev pub decreases-loop-line : goal.decreases-loop-line
+decreases-loop-line g l = length l.left.items

@@ -17,13 +17,13 @@ all-requires-send-W g c κs within = let n = c.type_bounds.send-N in let y = c.t
 pub all-requires-after_bounds : goal.all-requires-after_bounds
 all-requires-after_bounds g c κs within =
     let made = c.in-Ok.ensures in
-    (all-ready (λ job. job.token) (λ job. job.script.now) c.args.setup.now c.args.script.now c.in-Ok.clients.items c.requires.setup c.requires.limits made.clients made.script, λ k d lt. tt)
+    (all-ready (λ job. job.token) (λ job. job.lines.items) c.args.setup.now c.args.script c.in-Ok.clients.items c.requires.setup c.requires.limits made.clients made.lines, λ k d lt. tt)
 
 pub join_all-requires : goal.join_all-requires
-join_all-requires g c = all-idle (λ job. job.token) (λ job. job.script.now) c.in-Ok.clients.items c.in-Ok-all.performed.items c.in-Ok-all.ensures.0
+join_all-requires g c = all-idle (λ job. job.token) (λ job. job.lines.items) c.in-Ok.clients.items c.in-Ok-all.performed.items c.in-Ok-all.ensures.0
 
 pub returns-clause-joined : goal.returns-clause-joined
 returns-clause-joined g c =
     let made = c.in-Ok.ensures in
-    all-joined (λ job. job.token) (λ job. job.script.now) c.args.setup.now c.args.script.now _ c.join_all.new.root c.in-Ok.clients.items c.in-Ok-all.performed.items
-    c.requires.setup made.root made.clients made.script c.in-Ok-all.ensures.0 c.in_ok-join_all.ensures
+    all-joined (λ job. job.token) (λ job. job.lines.items) c.args.setup.now c.args.script _ c.join_all.new.root c.in-Ok.clients.items c.in-Ok-all.performed.items
+    c.requires.setup made.root made.clients made.lines c.in-Ok-all.ensures.0 c.in_ok-join_all.ensures
