@@ -1,6 +1,5 @@
-use Rattle.std.proofs.Common.{◌≡◌, ◌<◌, ◌+◌, ◌∙◌, [], ◌∷◌, ◌++◌, List, sym, ap, subst, arith, length, refl, rules}
+use Rattle.std.proofs.Common.{◌≡◌, ◌∙◌, [], ◌∷◌, ◌++◌, List, sym, ap, arith, rules}
 use Rattle.vg_script.specs.declared.types.Line.{Line}
-use Rattle.vg_script.specs.Limits.{StepInLimits}
 use Rattle.vg_part.specs.Follows.{no_refs}
 use Rattle.vg_part.specs.Refs.{refs_of}
 use Rattle.vg_part.proofs.LineLemmas.{line-fits, running-done, running-first, running-more}
