@@ -157,7 +157,7 @@ module _ {M S A R Q P H : Type 0} (g : Ghosts M S A R Q P H) (first : S) where
   first_only v u (suc j) e = absurd (some-ne-none u (sym e))
 
   -- the table as it is made
-  pub opens : (c : Core M S A R Q P H) → c.entries.items ≡ [] → g.state c.machine ≡ first → g.count first ≡ 0 → Rule (opening (0 ∷ []) (Held c ∷ []) (first_view first))
+  pub opens : (c : Core M S A R Q P H) → c.history ≡ [] → g.state c.machine ≡ first → g.count first ≡ 0 → Rule (opening (0 ∷ []) (Held c ∷ []) (first_view first))
   opens c empty state count =
       let p : Plan g = record { log = []; given = 0; lanes_made = 0; owner = λ _. 0; home = λ _ _. 0; lane_owner = λ _. 0; word = 0; taker = 0 } in
       let own : Knows g first p 0 (first_view first) = record {
@@ -209,5 +209,5 @@ module _ {M S A R Q P H : Type 0} (g : Ghosts M S A R Q P H) (first : S) where
       (q.busy t.2))
 
   -- the table as it is made, with the slot that was pushed
-  pub opens_pushed : (c : Core M S A R Q P H) (l xs : List Sl) → xs ≡ l ++ Held c ∷ [] → l ≡ [] → c.entries.items ≡ [] → g.state c.machine ≡ first → g.count first ≡ 0 → Rule (opening (0 ∷ []) xs (first_view first))
+  pub opens_pushed : (c : Core M S A R Q P H) (l xs : List Sl) → xs ≡ l ++ Held c ∷ [] → l ≡ [] → c.history ≡ [] → g.state c.machine ≡ first → g.count first ≡ 0 → Rule (opening (0 ∷ []) xs (first_view first))
   opens_pushed c l xs pushed none_before empty state count = subst (λ (x : List Sl). Rule (opening (0 ∷ []) x (first_view first))) (sym (pushed ∙ ap (λ (y : List Sl). y ++ Held c ∷ []) none_before)) (opens c empty state count)

@@ -1,12 +1,12 @@
 -- A client's entries stand in what it has seen as it made them.
-use Rattle.std.proofs.Common.{◌≡◌, ◌⊎◌, inl, inr, ⊎_elim, ℕ, zero, suc, ◌+◌, ◌<◌, ◌≤◌, ◌==◌, Bool, true, false, cond, List, [], ◌∷◌, ◌++◌, map, refl, ap, sym, subst, ◌∙◌, arith, eq-eqb, append_assoc, append-nil}
+use Rattle.std.proofs.Common.{◌≡◌, inl, inr, ⊎_elim, ℕ, ◌+◌, ◌≤◌, ◌==◌, Bool, true, false, cond, List, [], ◌∷◌, ◌++◌, map, refl, ap, sym, subst, ◌∙◌, arith, eq-eqb, append_assoc, append-nil}
 use Rattle.std.proofs.lemmas.Bool.Decides.{nat_tests}
 use mathlib.Core.List.{IsPrefix, map-append}
 use Rattle.vg_history.specs.declared.machine.Machine.{Ghosts}
 use Rattle.vg_history.specs.declared.entry.Entry.{Entry}
 use Rattle.vg_history.specs.declared.entry.Entry.TheVariants.{Act, Command}
 use Rattle.vg_history.specs.Lists.{Has, times, upto}
-use Rattle.vg_history.specs.Entries.{client_of, call_of, EachOnce, IsApart, IsSameCall}
+use Rattle.vg_history.specs.Entries.{client_of, call_of, EachOnce}
 use Rattle.vg_history.proofs.ListLemmas.{has_append, has_at, has_left, has_map, has_right, has_snoc, times_append, times_has, upto_one}
 use Rattle.vg_book.specs.declared.board.Account.{Account}
 use Rattle.vg_book.specs.declared.board.Order.{Order}

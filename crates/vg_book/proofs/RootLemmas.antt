@@ -153,9 +153,9 @@ module _ {M S A R Q P H : Type 0} (g : Ghosts M S A R Q P H) where
     lanes = λ l high. subst (λ (ls : List Counted). (x : Counted) × Has ls x × (x.lane ≡ l)) (ap (λ (x : Rooted M S A R Q P H). x.lanes) e) (all.lanes l (subst (λ (k : ℕ). l < k) ok.lanes_are high));
   }
 
-  pub closes : (r : Rooted M S A R Q P H) (m : Sat) (c : Core M S A R Q P H) (log : List E) → RootOk g r.given r.lanes_made m → r ≡ root_value g r.given r.lanes_made m → IsCoreOf g m.0.start log c → Shown g m.0 log → IsClosed g r c.machine c.entries.items
+  pub closes : (r : Rooted M S A R Q P H) (m : Sat) (c : Core M S A R Q P H) (log : List E) → RootOk g r.given r.lanes_made m → r ≡ root_value g r.given r.lanes_made m → IsCoreOf g m.0.start log c → Shown g m.0 log → IsClosed g r c.machine c.history
   closes r m c log ok e core shown =
-      let same : c.entries.items ≡ log = core.entries in
+      let same : c.history ≡ log = core.entries in
       let main : IsClosed g (root_value g r.given r.lanes_made m) c.machine log = record {
         more = shown.seen;
         state = core.state;

@@ -70,7 +70,7 @@ module _ {M S A R Q P H : Type 0} (g : Ghosts M S A R Q P H) where
   pub may_give : (m n : Sat) → MayTake m → (t : HasTaken g m n) → (n.0.holding ≡ true) × ((s : S) × (n.0.start ≡ Some s)) × IsCoreOf g n.0.start n.0.seen t.1
   may_give m n may t = subst (λ (x : Sat). (x.0.holding ≡ true) × ((s : S) × (x.0.start ≡ Some s)) × IsCoreOf g x.0.start x.0.seen t.1) (sym t.2) (refl, may.0, t.3)
 
-  pub with_room : (m n : Sat) (t : HasTaken g m n) → length t.1.entries.items < 2 ^ 31 - 1 → HasTurn g m n
+  pub with_room : (m n : Sat) (t : HasTaken g m n) → length t.1.history < 2 ^ 31 - 1 → HasTurn g m n
   with_room m n t room = (t.0, t.1, t.2, t.3, t.4, subst (λ (l : List E). length l < 2 ^ 31 - 1) t.3.entries room)
 
   -- who took the turn may give it back as it was

@@ -227,7 +227,7 @@ module _ {M S A R Q P H : Type 0} (g : Ghosts M S A R Q P H) (first : S) where
 
   -- what the slot in hand has, after an entry more
   pub record IsNext (start : Option S) (log : List E) (e : E) (c : Core M S A R Q P H) : Type 0 where
-    pub entries : c.entries.items ≡ log ++ e ∷ []
+    pub entries : c.history ≡ log ++ e ∷ []
     pub reply : (x : S) → start ≡ Some x → HasReply g (replay g x log) e
     pub state : (x : S) → start ≡ Some x → g.state c.machine ≡ replay g x (log ++ e ∷ [])
     pub counted : g.count (g.state c.machine) ≡ length log + 1

@@ -67,7 +67,7 @@ module _ {M S A R Q P H : Type 0} (g : Ghosts M S A R Q P H) where
 
   -- The machine and entries of this history.
   pub record IsCoreOf (start : Option S) (log : List E) (c : Core M S A R Q P H) : Type 0 where
-    pub entries : c.entries.items ≡ log
+    pub entries : c.history ≡ log
     pub state : (s : S) → start ≡ Some s → g.state c.machine ≡ replay g s log
     pub counted : g.count (g.state c.machine) ≡ length log
 

@@ -124,7 +124,7 @@ module _ {M S A R Q P H : Type 0} where
 
   -- What the slot in hand has as the history.
   abbrev pub entries_in : List (ℕ × Slot M S A R Q P H) → List (Entry M S A R Q P H)
-  entries_in ((k, Held c) ∷ more) = c.entries.items
+  entries_in ((k, Held c) ∷ more) = c.history
   entries_in _ = []
 
   -- The account after this act of its client was entered.

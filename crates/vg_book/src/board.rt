@@ -11,13 +11,13 @@ use std::alloc::Global;
 use std::collections::LinkedList;
 use std::marker::{Brand, PhantomData};
 use std::snapshot::Snapshot;
-use vg_history::{Entry, Machine};
+use vg_history::{Entry, History, Machine};
 
 /// The machine, and its history so far.
 #[derive(Drop)]
 pub struct Core<M: Machine> {
     pub machine: M,
-    pub entries: Vec<Entry<M>>,
+    pub history: History<M>,
 }
 
 /// What the slot holds, or what a step is told. At home it is always `Held`.

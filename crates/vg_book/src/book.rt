@@ -11,7 +11,7 @@ use atomic_table::Table;
 use std::alloc::{AllocError, Global};
 use std::marker::{Model, PhantomData};
 use std::snapshot::Snapshot;
-use vg_history::{Entry, Machine};
+use vg_history::{History, Machine};
 
 /// A book with no entry, which has no name yet.
 #[derive(Drop)]
@@ -50,7 +50,7 @@ impl<M: Machine> Opened<M> {
         let about = Snapshot::of(&machine);
         let core = Core {
             machine,
-            entries: Vec::new(alloc),
+            history: History::new(alloc),
         };
         let mut slots = Vec::new(alloc);
         slots.push(Slot::Held(core))?;
@@ -82,15 +82,15 @@ impl<M: Machine> Opened<M> {
 
 impl<M: Machine, B: Naming> Book<M, B> {
     /// The machine, and the whole history, once all clients and lanes have joined the root.
-    pub fn close(self, root: Root<M, B>) -> (M, Vec<Entry<M>>)
+    pub fn close(self, root: Root<M, B>) -> (M, History<M>)
         requires { AllJoined M.Machine root }
-        ensures { IsClosed M.Machine root result.0 result.1.items }
+        ensures { IsClosed M.Machine root result.0 result.1 }
     {
         let Book { table, of: _ } = self;
         let mut closed = table.close_with(root.into_seat());
         let slot = closed.take(0);
         closed.free();
-        let Core { machine, entries } = slot.into_core();
-        (machine, entries)
+        let Core { machine, history } = slot.into_core();
+        (machine, history)
     }
 }

@@ -1,23 +1,19 @@
 //! The machine and the history, in the hands of who has the turn.
 
-ghost use Rattle.std.specs.Prelude.{◌≡◌, ℕ, ◌+◌, ◌-◌, ◌^◌, ◌<◌, true, [], ◌∷◌, ◌++◌, length, IfOk, IfErr, OnErr, vec_len};
-ghost use Rattle.vg_history.specs.declared.entry.Entry.TheVariants as entries;
+ghost use Rattle.std.specs.Prelude.{◌≡◌, ℕ, ◌+◌, ◌-◌, ◌^◌, ◌<◌, true, [], ◌∷◌, ◌++◌, length, IfOk, IfErr, OnErr};
 ghost use Rattle.vg_book.specs.declared.board.Slot.TheVariants.{Held};
 ghost use Rattle.vg_book.specs.Hands.{IsSameCore, ActsOn, RunsOn};
 
 use crate::board::{Core, Slot};
 use std::alloc::Global;
-use vg_history::{Entry, Machine};
+use vg_history::Machine;
 
 /// There was no memory.
 #[derive(Debug, Drop)]
 pub struct NoMemory;
 
-/// The most entries that a history has.
-const MOST: usize = 2147483647;
-
 impl<M: Machine> Core<M> {
-    /// Makes room for an entry, does the act, and enters it. For want of memory nothing changes.
+    /// Does the act, and enters it. For want of memory nothing changes.
     fn act(
         &mut self,
         alloc: Global,
@@ -30,24 +26,16 @@ impl<M: Machine> Core<M> {
         ensures ok { IfOk result (λ r. ActsOn M.Machine self.old client call holds.old act self.new holds.new r.0 r.1) }
         ensures err { OnErr result (IsSameCore M.Machine self.old self.new × (holds.new ≡ holds.old)) }
     {
-        if self.entries.reserve(1).is_err() {
-            return Err(NoMemory);
-        }
-        match self.machine.act(alloc, client, holds, &act) {
-            Ok((reply, copy)) => {
-                self.entries.push_reserved(Entry::Act {
-                    client,
-                    call,
-                    act,
-                    reply,
-                });
-                Ok((self.entries.len() as u64, copy))
-            }
+        match self
+            .history
+            .act(alloc, &mut self.machine, client, call, holds, act)
+        {
+            Ok(done) => Ok(done),
             Err(_) => Err(NoMemory),
         }
     }
 
-    /// Makes room for an entry, runs the request, and enters it.
+    /// Runs the request, and enters it.
     fn run(
         &mut self,
         alloc: Global,
@@ -59,21 +47,8 @@ impl<M: Machine> Core<M> {
         ensures ok { IfOk result (λ r. RunsOn M.Machine self.old client call request self.new r.0 r.1) }
         ensures err { IfErr result (λ q. IsSameCore M.Machine self.old self.new × (q ≡ request)) }
     {
-        if self.entries.reserve(1).is_err() {
-            return Err(request);
-        }
-        match self.machine.request(alloc, &request) {
-            Ok((reply, copy)) => {
-                self.entries.push_reserved(Entry::Command {
-                    client,
-                    call,
-                    request,
-                    reply,
-                });
-                Ok((self.entries.len() as u64 - 1, copy))
-            }
-            Err(_) => Err(request),
-        }
+        self.history
+            .run(alloc, &mut self.machine, client, call, request)
     }
 }
 
@@ -90,10 +65,10 @@ impl<M: Machine> Slot<M> {
 
     pub(crate) fn has_room(&self) -> bool
         requires { (c : _) × (self.now ≡ Held c) }
-        ensures { (c : _) → self.now ≡ Held c → result ≡ true → length c.entries.items < 2 ^ 31 - 1 }
+        ensures { (c : _) → self.now ≡ Held c → result ≡ true → length c.history < 2 ^ 31 - 1 }
     {
         match self {
-            Slot::Held(core) => core.entries.len() < MOST,
+            Slot::Held(core) => core.history.has_room(),
             _ => unreachable!(),
         }
     }

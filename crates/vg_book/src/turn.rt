@@ -43,7 +43,7 @@ fn has_room<M: Machine>(table: &Board<M>, seat: &mut Place<M>) -> bool
     requires hand { (c : _) × (seat.old.me.1 ≡ (0, Held c) ∷ []) }
     ensures id { seat.new.table_id ≡ seat.old.table_id }
     ensures same { seat.new.me ≡ seat.old.me }
-    ensures room { (c : _) → seat.old.me.1 ≡ (0, Held c) ∷ [] → result ≡ true → length c.entries.items < 2 ^ 31 - 1 }
+    ensures room { (c : _) → seat.old.me.1 ≡ (0, Held c) ∷ [] → result ≡ true → length c.history < 2 ^ 31 - 1 }
 {
     let slot = seat.slot_mut(&table.shared, 0);
     slot.has_room()

@@ -69,7 +69,7 @@ fn adds<B: Naming + Send + Sync, R: Threads + Wait + Abort + Sync>(
 ) -> Result<(), Fail>
     requires { (opened.table ≡ B.table) × (opened.lanes ≡ 0) }
 {
-    let (counter, entries) = all_add::<B, R>(rt, alloc, opened, 2, 1000)
+    let (counter, history) = all_add::<B, R>(rt, alloc, opened, 2, 1000)
         .ok()
         .ok_or("memory")?;
     let want = Found {
@@ -78,10 +78,11 @@ fn adds<B: Naming + Send + Sync, R: Threads + Wait + Abort + Sync>(
         in_order: 0,
     };
     assert_eq!(rt;
-        (counter.entries, counter.total, entries.len()),
+        (counter.entries, counter.total, history.len()),
         (2000, 2000, 2000)
     );
-    assert_eq!(rt; replayed(entries.as_slice()), want);
+    let (_, entries) = history.parts();
+    assert_eq!(rt; replayed(entries), want);
     Ok(())
 }
 
@@ -121,15 +122,16 @@ fn shares<B: Naming + Send + Sync, R: Threads + Wait + Abort + Sync>(
     requires lanes { 0 < lanes }
     requires clients { clients < 2 ^ 32 - 1 }
 {
-    let (counter, entries) = run_all::<B, R>(rt, alloc, opened, lanes, clients, rounds, halt)
+    let (counter, history) = run_all::<B, R>(rt, alloc, opened, lanes, clients, rounds, halt)
         .ok()
         .ok_or("memory")?;
     assert_eq!(rt;
         (counter.entries, counter.total),
         (u64::from(want.agreeing), u64::from(want.agreeing))
     );
-    assert_eq!(rt; entries.len(), want.agreeing as usize);
-    assert_eq!(rt; replayed(entries.as_slice()), want);
+    assert_eq!(rt; history.len(), want.agreeing as usize);
+    let (_, entries) = history.parts();
+    assert_eq!(rt; replayed(entries), want);
     Ok(())
 }
 
@@ -153,9 +155,10 @@ fn meets<B: Naming + Send + Sync, R: Threads + Wait + Abort + Sync>(
 ) -> Result<(), Fail>
     requires { (opened.table ≡ B.table) × (opened.lanes ≡ 0) }
 {
-    let (_, entries) = both_meet::<B, R>(rt, alloc, opened).ok().ok_or("memory")?;
+    let (_, history) = both_meet::<B, R>(rt, alloc, opened).ok().ok_or("memory")?;
+    let (_, entries) = history.parts();
     let mut calls = Vec::new(alloc);
-    for entry in &entries {
+    for entry in entries {
         calls.push(call_of(entry))?;
     }
     assert_eq!(rt; calls.as_slice(), [1, 1, 2, 2].as_slice());

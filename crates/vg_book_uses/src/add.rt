@@ -10,7 +10,7 @@ use std::sync::Wait;
 use std::thread::Threads;
 use vg_book::{Book, ClientToken, Naming, NoMemory, Opened, Root};
 use vg_crew::{Job, each};
-use vg_history::{Entry, Machine};
+use vg_history::{History, Machine};
 
 /// Adds 1 so many times, for a client with nothing outstanding.
 pub fn add_times<B: Naming, R: Wait>(
@@ -101,11 +101,11 @@ pub fn all_add<B: Naming + Send + Sync, R: Threads + Wait + Sync>(
     opened: Opened<Counter>,
     count: u32,
     times: u64,
-) -> Result<(Counter, Vec<Entry<Counter>>), NoMemory>
+) -> Result<(Counter, History<Counter>), NoMemory>
     requires book { (opened.table ≡ B.table) × (opened.lanes ≡ 0) }
     requires count { count < 2 ^ 32 - 1 }
-    ensures whole { IfOk result (λ r. (s : _) → opened.start ≡ Some s → IsWhole ⟦<Counter as Machine>⟧ s r.0 r.1.items) }
-    ensures added { IfOk result (λ r. HaveAllAdded count times r.1.items) }
+    ensures whole { IfOk result (λ r. (s : _) → opened.start ≡ Some s → IsWhole ⟦<Counter as Machine>⟧ s r.0 r.1) }
+    ensures added { IfOk result (λ r. HaveAllAdded count times r.1) }
 {
     let Ok((book, mut root, _)) = opened.named::<B>(alloc) else {
         return Err(NoMemory);

@@ -5,6 +5,7 @@ ghost use Rattle.vg_book_uses.specs.Counting.{amount_of, held_of, plus};
 
 use std::alloc::{AllocError, Global};
 use vg_history::Machine;
+use vg_text::Packed;
 
 #[derive(Debug, Drop)]
 pub enum Act {
@@ -81,7 +82,7 @@ impl Machine for Counter {
 
     type Holds = u64;
 
-    ghost use Rattle.std.specs.Prelude.{nat_le};
+    ghost use Rattle.std.specs.Prelude.{true, nat_le, []};
     ghost use Rattle.vg_book_uses.specs.Counting.{amount_of, held_of, plus, is_stop, adds_one, keeps};
 
     ghost state = { λ c. c };
@@ -103,6 +104,12 @@ impl Machine for Counter {
     ghost ends_hold = { is_stop };
 
     ghost tagged = { λ q. (q.lane, q.ordinal) };
+
+    ghost is_first = { λ q. true };
+
+    ghost act_text = { λ a r. [] };
+
+    ghost command_text = { λ q r. [] };
 
     fn act(
         &mut self,
@@ -131,6 +138,19 @@ impl Machine for Counter {
 
     fn tag(request: &Request) -> (u32, u64) {
         (request.lane, request.ordinal)
+    }
+
+    fn by_first(_request: &Request) -> bool {
+        true
+    }
+
+    // Nobody prints a counter's history: none of its entries is spelled, so that all are held whole.
+    fn put_act(_out: &mut Packed, _act: &Act, _reply: &u64) -> Result<(), AllocError> {
+        Err(AllocError)
+    }
+
+    fn put_command(_out: &mut Packed, _request: &Request, _reply: &u64) -> Result<(), AllocError> {
+        Err(AllocError)
     }
 
     ghost acts_count = { λ s c a. adds_one s (amount_of a) };

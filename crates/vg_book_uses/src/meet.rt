@@ -15,7 +15,7 @@ use std::sync::{Mutex, Wait};
 use std::thread::Threads;
 use vg_book::{Book, ClientToken, Naming, NoMemory, Note, Opened, Root};
 use vg_crew::{Job, each};
-use vg_history::{Entry, Machine};
+use vg_history::{History, Machine};
 
 /// A note that has seen this call of this client.
 #[derive(Drop)]
@@ -151,10 +151,10 @@ pub fn both_meet<B: Naming + Send + Sync, R: Threads + Wait + Sync>(
     rt: &R,
     alloc: Global,
     opened: Opened<Counter>,
-) -> Result<(Counter, Vec<Entry<Counter>>), NoMemory>
+) -> Result<(Counter, History<Counter>), NoMemory>
     requires { (opened.table ≡ B.table) × (opened.lanes ≡ 0) }
-    ensures whole { IfOk result (λ r. (s : _) → opened.start ≡ Some s → IsWhole ⟦<Counter as Machine>⟧ s r.0 r.1.items) }
-    ensures shared { IfOk result (λ r. HaveShared ⟦<Counter as Machine>⟧ 2 2 r.1.items) }
+    ensures whole { IfOk result (λ r. (s : _) → opened.start ≡ Some s → IsWhole ⟦<Counter as Machine>⟧ s r.0 r.1) }
+    ensures shared { IfOk result (λ r. HaveShared ⟦<Counter as Machine>⟧ 2 2 r.1) }
 {
     let Ok((book, mut root, _)) = opened.named::<B>(alloc) else {
         return Err(NoMemory);

@@ -15,7 +15,7 @@ use std::sync::{Mutex, Wait};
 use std::thread::Threads;
 use vg_book::{Book, ClientToken, LaneToken, Naming, NoMemory, Opened, Root};
 use vg_crew::{Job, all};
-use vg_history::{Entry, Machine};
+use vg_history::{History, Machine};
 
 /// A client that adds 1 by an act and asks a lane to add 1, so many times. It halts the desk that it is at in this round.
 #[derive(Drop)]
@@ -204,12 +204,12 @@ pub fn run_all<B: Naming + Send + Sync, R: Threads + Wait + Sync>(
     clients: u32,
     rounds: u32,
     halt: u32,
-) -> Result<(Counter, Vec<Entry<Counter>>), NoMemory>
+) -> Result<(Counter, History<Counter>), NoMemory>
     requires book { (opened.table ≡ B.table) × (opened.lanes ≡ lanes) }
     requires lanes { 0 < lanes }
     requires clients { clients < 2 ^ 32 - 1 }
-    ensures whole { IfOk result (λ r. (s : _) → opened.start ≡ Some s → IsWhole ⟦<Counter as Machine>⟧ s r.0 r.1.items) }
-    ensures shared { IfOk result (λ r. HaveShared ⟦<Counter as Machine>⟧ clients (2 * rounds) r.1.items) }
+    ensures whole { IfOk result (λ r. (s : _) → opened.start ≡ Some s → IsWhole ⟦<Counter as Machine>⟧ s r.0 r.1) }
+    ensures shared { IfOk result (λ r. HaveShared ⟦<Counter as Machine>⟧ clients (2 * rounds) r.1) }
 {
     let Ok((book, mut root, tokens)) = opened.named::<B>(alloc) else {
         return Err(NoMemory);

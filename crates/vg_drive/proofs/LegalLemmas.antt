@@ -1,8 +1,6 @@
 -- The journal of what a run leaves.
-use Rattle.std.proofs.Common.{◌≡◌, ◌<◌, ◌≤◌, ◌+◌, ◌∙◌, ap, refl, subst, arith, ℕ, Bool, true, false, cond, List, [], ◌∷◌, count_by, get_or, length, take}
+use Rattle.std.proofs.Common.{◌≡◌, ◌≤◌, ◌∙◌, ap, refl, subst, arith, ℕ, List, [], ◌∷◌, count_by, length}
 use Rattle.std.specs.List.{AllByRecursion}
-use Rattle.std.proofs.lemmas.List.{length-take}
-use Rattle.std.proofs.lemmas.List.Sums.{count_by-le-length, count_by_more_no, count_by_more_yes}
 use Rattle.vg_holds.specs.declared.setup.Setup.{Setup}
 use Rattle.vg_scanout.specs.declared.scanout.Frame.{Frame}
 use Rattle.vg_machine.specs.Entries.{Entry}
@@ -35,21 +33,6 @@ legal-journal script setup clients H entries frames frames' control cursor is_se
           ∙ ap (λ (n : ℕ). record { setup = setup_of script; entries = entries; control = count_by is_on_control entries; cursor = n; frames = (replay (setup_of script) H).scanouts.frames }) is_cursor
           ∙ ap (λ (es : List Entry). record { setup = setup_of script; entries = es; control = count_by is_on_control es; cursor = count_by is_on_cursor es; frames = (replay (setup_of script) H).scanouts.frames }) is_history,
     )
-
--- one entry more is counted, or not
-pub count-more : (test : Entry → Bool) (H : List Entry) (i : ℕ) (d : Entry) (b : Bool) → i < length H → test (get_or H i d) ≡ b → count_by test (take (i + 1) H) ≡ count_by test (take i H) + cond b 1 0
-count-more test H i d true within is = count_by_more_yes test H i d within is
-count-more test H i d false within is = let same = count_by_more_no test H i d within is in omega (arith, same)
-
-pub count-small : (test : Entry → Bool) (H : List Entry) (i : ℕ) → count_by test (take i H) ≤ i
-count-small test H i =
-    let few = count_by-le-length test (take i H) in
-    let long = length-take i H in
-    omega (arith, few, long)
-
-pub one-most : (b : Bool) (n : ℕ) → n ≡ cond b 1 0 → n ≤ 1
-one-most true n is = omega (arith, is)
-one-most false n is = omega (arith, is)
 
 -- where there are no clients, no entry is of one
 pub no-entries : (script : Script) (H : List Entry) → script.clients ≡ [] → AllByRecursion (IsOfClients script) H → H ≡ []

@@ -1,9 +1,8 @@
-use Rattle.std.specs.Prelude.{◌≡◌, ◌≤◌, ◌+◌, ℕ, Bool, List, [], ◌∷◌, length, count_by, true, false, not}
+use Rattle.std.specs.Prelude.{◌≡◌, ◌≤◌, ◌+◌, ℕ, Bool, List, [], ◌∷◌, length, count_by, false, not}
 use Rattle.std.specs.List.{All, AllByRecursion}
-use Rattle.vg_wire.specs.declared.request.Queue.{Queue}
-use Rattle.vg_wire.specs.declared.request.Queue.TheVariants.{Control, Cursor}
 use Rattle.vg_machine.specs.Entries.{Entry}
 use Rattle.vg_history.specs.declared.entry.Entry.TheVariants as entries
+use Rattle.vg_machine.specs.Lines.{is_control}
 use Rattle.vg_machine.specs.Replay.{replay}
 use Rattle.vg_machine.specs.Order.{Sound, client_of}
 use Rattle.vg_script.specs.declared.types.Line.{Line}
@@ -36,10 +35,6 @@ pub record Legal (script : Script) (H : List Entry) : Type 0 where
   pub sound : Sound (setup_of script) H
   pub follows : FollowAll (setup_of script) 1 script.clients H
   pub clients : AllByRecursion (IsOfClients script) H
-
-abbrev pub is_control : Queue → Bool
-is_control Control = true
-is_control Cursor = false
 
 -- A command on the control queue, and on the cursor queue.
 abbrev pub is_on_control : Entry → Bool

@@ -155,13 +155,13 @@ pub fn drive_in<B: Naming + Send + Sync, N: Rings + Send + Sync, G: Gate, R: Thr
     )?;
     let closed = close(book, root, front)?;
     let Closed {
-        entries,
+        history,
         frames,
         control,
         cursor,
     } = closed;
     Ok(Driven {
-        journal: journal_of(setup, entries, frames),
+        journal: journal_of(setup, history, frames),
         control,
         cursor,
     })

@@ -1,3 +1,5 @@
 pub mod ListLemmas
 pub mod EntryLemmas
 pub mod HistoryLemmas
+pub mod LineLemmas
+pub mod Sent

@@ -6,9 +6,14 @@
 #![tactic(auto)]
 
 mod entry;
+mod held;
 mod laws;
+mod listed;
 mod machine;
+mod spelled;
 
 pub use entry::Entry;
+pub use held::History;
 pub use laws::{allowed_still, fence_behind, one_of_a_call, replay_goes_on};
 pub use machine::{Machine, Tagged, Turn};
+pub use spelled::put_line;

@@ -1,14 +1,16 @@
 //! The machine that a history is about, and what can be asked of what travels to it.
 
-ghost use Rattle.std.specs.Prelude.{◌≡◌, ℕ, ◌+◌, ◌<◌, ◌^◌, ◌-◌, Bool, true, false, IfOk, OnErr};
+ghost use Rattle.std.specs.Prelude.{◌≡◌, ℕ, ◌+◌, ◌<◌, ◌^◌, ◌-◌, Bool, true, false, List, ◌++◌, IfOk, OnOk, OnErr};
 
 use std::alloc::{AllocError, Global};
+use vg_text::Packed;
 
 /// A thing with a state, which acts and requests change, one at a time.
 ///
 /// Its definitions are members that only contracts read: the state after an act or a request and what each is answered,
 /// and how a client's holds change with an act. `act` and `request` give their reply twice, since one stands in the
-/// history and the other goes to the caller. A machine counts its entries, and takes fewer than 2^31 - 1.
+/// history and the other goes to the caller. A machine counts its entries, and takes fewer than 2^31 - 1. It says how a
+/// journal spells its entries, and by which of two queues a request goes.
 pub trait Machine: Drop {
     type State;
 
@@ -50,6 +52,14 @@ pub trait Machine: Drop {
     // The lane of a request, and its ordinal there, from 1.
     ghost tagged: { Self.Request → ℕ × ℕ };
 
+    // A request goes by the first of two queues, and not by the second.
+    ghost is_first: { Self.Request → Bool };
+
+    // What stands in the line of an act or of a command behind its numbers, with the line's end.
+    ghost act_text: { Self.Act → Self.ActReply → List ℕ };
+
+    ghost command_text: { Self.Request → Self.Reply → List ℕ };
+
     /// Does the act of a client, and gives the reply twice. For want of memory nothing changes.
     fn act(
         &mut self,
@@ -86,6 +96,22 @@ pub trait Machine: Drop {
     /// The lane of the request, and its ordinal there, from 1.
     fn tag(request: &Self::Request) -> (u32, u64)
         ensures { result ≡ tagged request.now };
+
+    /// Whether the request goes by the first of two queues.
+    fn by_first(request: &Self::Request) -> bool
+        ensures { result ≡ is_first request.now };
+
+    /// Adds what stands in the line of an act behind its numbers, with the line's end.
+    fn put_act(out: &mut Packed, act: &Self::Act, reply: &Self::ActReply) -> Result<(), AllocError>
+        ensures { OnOk result (out.new ≡ out.old ++ act_text act.now reply.now) };
+
+    /// The same of a command.
+    fn put_command(
+        out: &mut Packed,
+        request: &Self::Request,
+        reply: &Self::Reply,
+    ) -> Result<(), AllocError>
+        ensures { OnOk result (out.new ≡ out.old ++ command_text request.now reply.now) };
 
     // Each entry is counted.
     ghost acts_count: { (s : Self.State) (c : ℕ) (a : Self.Act) → count (acted s c a) ≡ count s + 1 };

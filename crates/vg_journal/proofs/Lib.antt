@@ -1,4 +1,4 @@
-pub mod NumberedLemmas
+pub mod LineLemmas
 pub mod PrintingLemmas
 pub mod JournalLemmas
-pub mod DigitLemmas
+pub mod PieceLemmas

@@ -1,16 +1,26 @@
-use Rattle.std.proofs.Common.{ℕ, codes, ◌≡◌, ◌+◌, ◌<◌, ◌≤◌, List, get_or, Result, Ok, Err, OnErr, [], ◌++◌, length, take, drop, Option, Some, None, append_assoc, append-nil, sym, ap, ◌∙◌, refl, subst}
+use Rattle.std.proofs.Common.{ℕ, codes, ◌≡◌, ◌+◌, ◌<◌, ◌≤◌, List, get_or, Result, Ok, Err, OnOk, OnErr, [], ◌++◌, length, take, drop, Option, Some, None, append_assoc, append-nil, sym, ap, ◌∙◌, refl, subst}
 use Rattle.std.proofs.Math.Seq.{take-add}
 use Rattle.std.proofs.lemmas.List.{take-append-drop, take_all, take_at}
 use Rattle.vg_io.specs.Streams.{Takes, TakesPart, TakesSome}
 use Rattle.vg_journal.specs.Printing.{Printed, PrintedSome}
 use Rattle.vg_scanout.specs.declared.scanout.Frame.{Frame}
-use Rattle.vg_journal.specs.Text.{numbered, frame_line, frame_text}
-use Rattle.vg_journal.proofs.NumberedLemmas.{numbered_append, written_more}
+use Rattle.vg_text.specs.Text.{numbered}
+use Rattle.vg_text.proofs.NumberedLemmas.{numbered_append, written_more}
+use Rattle.vg_journal.specs.Text.{frame_line, frame_text}
 
 -- What holds, holds after an error.
 pub on_err : {T E : Type 0} {P : Type 0} (r : Result T E) → P → OnErr r P
 on_err (Ok x) p = tt
 on_err (Err e) p = p
+
+-- What follows from what holds, where it is an answer or an error.
+pub ok_then : {T E : Type 0} {P Q : Type 0} (r : Result T E) → (P → Q) → OnOk r P → OnOk r Q
+ok_then (Ok x) follows p = follows p
+ok_then (Err e) follows p = tt
+
+pub err_then : {T E : Type 0} {P Q : Type 0} (r : Result T E) → (P → Q) → OnErr r P → OnErr r Q
+err_then (Ok x) follows p = tt
+err_then (Err e) follows p = follows p
 
 -- What a sink takes in two calls.
 pub takes_both : (a b c : Option (List ℕ)) (xs ys : List ℕ) → Takes a b xs → Takes b c ys → Takes a c (xs ++ ys)
@@ -151,15 +161,57 @@ pub strips_printed : (a b : Option (List ℕ)) (front pixels pending : List ℕ)
 strips_printed a b front pixels pending at printed all = subst (λ ys. Printed a b (front ++ ys) pending) (take_all at pixels all) printed
 
 -- A frame: its line, its pixels, and a line end.
-frame_whole : (old buffer : List ℕ) (n : ℕ) (frame : Frame) → buffer ≡ old ++ frame_line n frame → (buffer ++ frame.pixels) ++ codes "\n" ≡ old ++ frame_text n frame
-frame_whole old buffer n frame is_buffer = rw is_buffer (simp append_assoc)
+frame_whole : (old : List ℕ) (n : ℕ) (frame : Frame) → ((old ++ frame_line n frame) ++ frame.pixels) ++ codes "\n" ≡ old ++ frame_text n frame
+frame_whole old n frame = simp append_assoc
 
-pub frame_printed : (a b : Option (List ℕ)) (old buffer pending pending' : List ℕ) (n : ℕ) (frame : Frame) → buffer ≡ old ++ frame_line n frame → Printed a b (buffer ++ frame.pixels) pending → pending' ≡ pending ++ codes "\n"
-    → Printed a b (old ++ frame_text n frame) pending'
-frame_printed a b old buffer pending pending' n frame is_buffer printed is_put =
-    subst (λ ys. Printed a b ys pending') (frame_whole old buffer n frame is_buffer) (printed_put a b (buffer ++ frame.pixels) pending (codes "\n") pending' printed is_put)
+pub frame_printed : (a b c : Option (List ℕ)) (old p0 p1 p2 : List ℕ) (n : ℕ) (frame : Frame) → Printed a b (old ++ frame_line n frame) p0 → Printed b c (p0 ++ frame.pixels) p1 → p2 ≡ p1 ++ codes "\n"
+    → Printed a c (old ++ frame_text n frame) p2
+frame_printed a b c old p0 p1 p2 n frame first second is_put =
+    subst (λ ys. Printed a c ys p2) (frame_whole old n frame) (printed_put a c _ p1 (codes "\n") p2 (printed_then a b c _ p0 frame.pixels p1 first second) is_put)
+
+-- A front of its line and its pixels.
+pub pixels_some : (a b : Option (List ℕ)) (old : List ℕ) (n : ℕ) (frame : Frame) → PrintedSome a b ((old ++ frame_line n frame) ++ frame.pixels) → PrintedSome a b (old ++ frame_text n frame)
+pixels_some a b old n frame some = subst (PrintedSome a b) (frame_whole old n frame) (some_longer a b _ (codes "\n") some)
+
+-- A front of its line.
+pub line_some : (a b : Option (List ℕ)) (old : List ℕ) (n : ℕ) (frame : Frame) → PrintedSome a b (old ++ frame_line n frame) → PrintedSome a b (old ++ frame_text n frame)
+line_some a b old n frame some = pixels_some a b old n frame (some_longer a b _ frame.pixels some)
+
+-- The next part of a text moves to what is pending, and what is pending is handed on.
+pub next_printed : (a b c : Option (List ℕ)) (text p0 r0 p1 r1 p2 : List ℕ) → Printed a b text (p0 ++ r0) → p1 ++ r1 ≡ p0 ++ r0 → Printed b c p1 p2 → Printed a c text (p2 ++ r1)
+next_printed a b c text p0 r0 p1 r1 p2 first moved second =
+    record {
+      front = first.front ++ second.front;
+      taken = takes_both a b c _ _ first.taken second.taken;
+      whole = append_assoc first.front second.front (p2 ++ r1)
+          ∙ ap (λ ys. first.front ++ ys) (sym (append_assoc second.front p2 r1) ∙ ap (λ ys. ys ++ r1) second.whole ∙ moved) ∙ first.whole;
+    }
 
 -- A front of it.
-pub frame_some : (a b : Option (List ℕ)) (old buffer : List ℕ) (n : ℕ) (frame : Frame) → buffer ≡ old ++ frame_line n frame → PrintedSome a b (buffer ++ frame.pixels) → PrintedSome a b (old ++ frame_text n frame)
-frame_some a b old buffer n frame is_buffer some =
-    subst (PrintedSome a b) (frame_whole old buffer n frame is_buffer) (some_longer a b (buffer ++ frame.pixels) (codes "\n") some)
+pub next_some : (a b c : Option (List ℕ)) (text p0 r0 p1 r1 : List ℕ) → Printed a b text (p0 ++ r0) → p1 ++ r1 ≡ p0 ++ r0 → TakesSome b c p1 → PrintedSome a c text
+next_some a b c text p0 r0 p1 r1 first moved second =
+    let some = some_longer b c p1 r1 (some_taken b c p1 second) in
+    record {
+      front = first.front ++ some.front;
+      rest = some.rest;
+      taken = takes_both a b c _ _ first.taken some.taken;
+      whole = append_assoc first.front some.front some.rest ∙ ap (λ ys. first.front ++ ys) (some.whole ∙ moved) ∙ first.whole;
+    }
+
+-- Nothing is left to move.
+pub spelled_whole : (a b : Option (List ℕ)) (text p r : List ℕ) → Printed a b text (p ++ r) → r ≡ [] → Printed a b text p
+spelled_whole a b text p r printed none = subst (Printed a b text) (ap (λ ys. p ++ ys) none ∙ append-nil p) printed
+
+-- A text in two parts, one after the other.
+pub two_printed : (a b c : Option (List ℕ)) (old first second text p0 p1 : List ℕ) → Printed a b (old ++ first) p0 → first ++ second ≡ text → Printed b c (p0 ++ second) p1 → Printed a c (old ++ text) p1
+two_printed a b c old first second text p0 p1 one whole two =
+    subst (λ ys. Printed a c ys p1) (append_assoc old first second ∙ ap (λ ys. old ++ ys) whole) (printed_then a b c _ p0 second p1 one two)
+
+-- A front of the first, and a front of the second behind the first.
+pub first_some : (a b : Option (List ℕ)) (old first second text : List ℕ) → PrintedSome a b (old ++ first) → first ++ second ≡ text → PrintedSome a b (old ++ text)
+first_some a b old first second text some whole =
+    subst (PrintedSome a b) (append_assoc old first second ∙ ap (λ ys. old ++ ys) whole) (some_longer a b _ second some)
+
+pub second_some : (a b c : Option (List ℕ)) (old first second text p0 : List ℕ) → Printed a b (old ++ first) p0 → first ++ second ≡ text → PrintedSome b c (p0 ++ second) → PrintedSome a c (old ++ text)
+second_some a b c old first second text p0 one whole some =
+    subst (PrintedSome a c) (append_assoc old first second ∙ ap (λ ys. old ++ ys) whole) (some_then a b c _ p0 second one some)

@@ -8,13 +8,13 @@ use crate::printer::{PrintError, print_text};
 use std::alloc::{AllocError, Global};
 use vg_io::{Failed, Sink};
 use vg_list::Seq;
-use vg_machine::{Entry, Frame, Setup};
+use vg_machine::{Frame, History, Setup};
 
 /// A run: its setup, its history, how many of its commands were on each queue, and its frames.
 #[derive(Drop)]
 pub struct Journal {
     pub setup: Setup,
-    pub entries: Seq<Entry>,
+    pub entries: History,
     pub control: u64,
     pub cursor: u64,
     pub frames: Seq<Frame>,

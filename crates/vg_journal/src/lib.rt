@@ -1,7 +1,6 @@
 //! The journal of a run as text.
 #![tactic(auto)]
 
-mod digits;
 mod journal;
 mod lines;
 mod printer;

@@ -1,17 +1,20 @@
 //! The text of a journal on its way to a sink, through a buffer.
 
-ghost use Rattle.std.specs.Prelude.{◌≡◌, ◌<◌, ◌≤◌, ◌++◌, [], length, take, OnOk, OnErr, IsErrOf};
+ghost use Rattle.std.specs.Prelude.{◌≡◌, ◌<◌, ◌≤◌, ◌+◌, ◌^◌, ◌++◌, [], length, take, OnOk, OnErr, IsErrOf};
+ghost use Rattle.std.specs.List.{concat};
 ghost use Rattle.vg_io.specs.Streams.{Rose, Takes, TakesPart, TakesSome};
 ghost use Rattle.vg_journal.specs.Printing.{Printed, PrintedSome};
-ghost use Rattle.vg_journal.specs.Text.{numbered, entry_line, frame_text, front_text, text_of};
+ghost use Rattle.vg_text.specs.Text.{numbered};
+ghost use Rattle.vg_journal.specs.Text.{counts_text, entry_line, frame_line, frame_text, front_text, head_text, text_of};
 ghost use Rattle.vg_journal.specs.declared.printer.PrintError.TheVariants.{Memory, Fault};
 
 use crate::journal::Journal;
-use crate::lines::{put, put_counts, put_entry, put_frame, put_head};
+use crate::lines::{put_counts, put_entry, put_frame, put_head};
 use std::alloc::{AllocError, Global};
 use vg_io::{Failed, Sink, write_all};
-use vg_machine::{Entry, Frame};
+use vg_machine::{Entry, Frame, History, Setup};
 use vg_strips::Strips;
+use vg_text::{Log, Packed, Spelling};
 
 /// How many bytes are handed on at once, or a multiple of that.
 const PIECE: usize = 65_536;
@@ -85,9 +88,99 @@ fn front_of(bytes: &[u8], count: usize) -> &[u8]
     &bytes[..count]
 }
 
+// Adds bytes as they are.
+fn put(out: &mut Vec<u8>, bytes: &[u8]) -> Result<(), AllocError>
+    ensures { OnOk result (out.new.items ≡ out.old.items ++ bytes.now) }
+{
+    out.extend_from_slice(bytes)
+}
+
+// A packed text goes to the sink as it reads, through the buffer.
+fn print_spelling<K: Sink>(
+    sink: &mut K,
+    buffer: &mut Vec<u8>,
+    mut text: Spelling<'_>,
+) -> Result<(), PrintError>
+    ensures ok { OnOk result (
+        Printed (K.held sink.old) (K.held sink.new)
+        (buffer.old.items ++ text.entry) buffer.new.items) }
+    ensures some { OnErr result (
+        PrintedSome (K.held sink.old) (K.held sink.new) (buffer.old.items ++ text.entry)) }
+    ensures cause { IsErrOf result PrintError.Fault → Rose (K.faults sink.old) (K.faults sink.new) }
+    ensures same { OnOk result (K.faults sink.new ≡ K.faults sink.old) }
+    ensures same_memory { IsErrOf result PrintError.Memory → K.faults sink.new ≡ K.faults sink.old }
+    ensures count { K.faults sink.old ≤ K.faults sink.new }
+{
+    while !text.is_done() {
+        text.put_next(buffer)?;
+        hand_on_piece(sink, buffer)?;
+    }
+    Ok(())
+}
+
+// Packed text in pieces goes to the sink as it reads.
+fn print_log<K: Sink>(sink: &mut K, buffer: &mut Vec<u8>, text: &Log) -> Result<(), PrintError>
+    ensures ok { OnOk result (
+        Printed (K.held sink.old) (K.held sink.new) (buffer.old.items ++ text.now) buffer.new.items) }
+    ensures some { OnErr result (
+        PrintedSome (K.held sink.old) (K.held sink.new) (buffer.old.items ++ text.now)) }
+    ensures cause { IsErrOf result PrintError.Fault → Rose (K.faults sink.old) (K.faults sink.new) }
+    ensures same { OnOk result (K.faults sink.new ≡ K.faults sink.old) }
+    ensures same_memory { IsErrOf result PrintError.Memory → K.faults sink.new ≡ K.faults sink.old }
+    ensures count { K.faults sink.old ≤ K.faults sink.new }
+{
+    let (pieces, last) = text.pieces();
+    print_pieces(sink, buffer, pieces)?;
+    print_spelling(sink, buffer, last.spelling())
+}
+
+fn print_pieces<K: Sink>(
+    sink: &mut K,
+    buffer: &mut Vec<u8>,
+    pieces: &[Packed],
+) -> Result<(), PrintError>
+    ensures ok { OnOk result (
+        Printed (K.held sink.old) (K.held sink.new) (buffer.old.items ++ concat pieces.now) buffer.new.items) }
+    ensures some { OnErr result (
+        PrintedSome (K.held sink.old) (K.held sink.new) (buffer.old.items ++ concat pieces.now)) }
+    ensures cause { IsErrOf result PrintError.Fault → Rose (K.faults sink.old) (K.faults sink.new) }
+    ensures same { OnOk result (K.faults sink.new ≡ K.faults sink.old) }
+    ensures same_memory { IsErrOf result PrintError.Memory → K.faults sink.new ≡ K.faults sink.old }
+    ensures count { K.faults sink.old ≤ K.faults sink.new }
+{
+    for piece in pieces {
+        print_spelling(sink, buffer, piece.spelling())?;
+    }
+    Ok(())
+}
+
+// The lines before the entries.
+fn print_head<K: Sink>(
+    sink: &mut K,
+    buffer: &mut Vec<u8>,
+    line: &mut Packed,
+    setup: &Setup,
+) -> Result<(), PrintError>
+    ensures ok { OnOk result (
+        Printed (K.held sink.old) (K.held sink.new)
+        (buffer.old.items ++ head_text setup.now) buffer.new.items) }
+    ensures some { OnErr result (
+        PrintedSome (K.held sink.old) (K.held sink.new) (buffer.old.items ++ head_text setup.now)) }
+    ensures cause { IsErrOf result PrintError.Fault → Rose (K.faults sink.old) (K.faults sink.new) }
+    ensures same { OnOk result (K.faults sink.new ≡ K.faults sink.old) }
+    ensures same_memory { IsErrOf result PrintError.Memory → K.faults sink.new ≡ K.faults sink.old }
+    ensures count { K.faults sink.old ≤ K.faults sink.new }
+{
+    line.clear();
+    put_head(line, setup)?;
+    print_spelling(sink, buffer, line.spelling())
+}
+
+// The line of one entry.
 fn print_entry<K: Sink>(
     sink: &mut K,
     buffer: &mut Vec<u8>,
+    line: &mut Packed,
     number: u64,
     entry: &Entry,
 ) -> Result<(), PrintError>
@@ -102,15 +195,93 @@ fn print_entry<K: Sink>(
     ensures same_memory { IsErrOf result PrintError.Memory → K.faults sink.new ≡ K.faults sink.old }
     ensures count { K.faults sink.old ≤ K.faults sink.new }
 {
-    put_entry(buffer, number, entry)?;
-    hand_on_piece(sink, buffer)?;
+    line.clear();
+    put_entry(line, number, entry)?;
+    print_spelling(sink, buffer, line.spelling())
+}
+
+// The lines of entries that are held whole, behind so many.
+fn print_whole<K: Sink>(
+    sink: &mut K,
+    buffer: &mut Vec<u8>,
+    line: &mut Packed,
+    before: usize,
+    entries: &[Entry],
+) -> Result<(), PrintError>
+    requires { before + length entries.now < 2 ^ 64 }
+    ensures ok { OnOk result (
+        Printed (K.held sink.old) (K.held sink.new)
+        (buffer.old.items ++ numbered entry_line (before + 1) entries.now) buffer.new.items) }
+    ensures some { OnErr result (
+        PrintedSome (K.held sink.old) (K.held sink.new)
+        (buffer.old.items ++ numbered entry_line (before + 1) entries.now)) }
+    ensures cause { IsErrOf result PrintError.Fault → Rose (K.faults sink.old) (K.faults sink.new) }
+    ensures same { OnOk result (K.faults sink.new ≡ K.faults sink.old) }
+    ensures same_memory { IsErrOf result PrintError.Memory → K.faults sink.new ≡ K.faults sink.old }
+    ensures count { K.faults sink.old ≤ K.faults sink.new }
+{
+    for (at, entry) in entries.iter().enumerate() {
+        print_entry(sink, buffer, line, before as u64 + at as u64 + 1, entry)?;
+    }
     Ok(())
+}
+
+// The lines of a history: those that are held as such, and those of what is held whole.
+fn print_entries<K: Sink>(
+    sink: &mut K,
+    buffer: &mut Vec<u8>,
+    line: &mut Packed,
+    entries: &History,
+) -> Result<(), PrintError>
+    ensures ok { OnOk result (
+        Printed (K.held sink.old) (K.held sink.new)
+        (buffer.old.items ++ numbered entry_line 1 entries.now) buffer.new.items) }
+    ensures some { OnErr result (
+        PrintedSome (K.held sink.old) (K.held sink.new)
+        (buffer.old.items ++ numbered entry_line 1 entries.now)) }
+    ensures cause { IsErrOf result PrintError.Fault → Rose (K.faults sink.old) (K.faults sink.new) }
+    ensures same { OnOk result (K.faults sink.new ≡ K.faults sink.old) }
+    ensures same_memory { IsErrOf result PrintError.Memory → K.faults sink.new ≡ K.faults sink.old }
+    ensures count { K.faults sink.old ≤ K.faults sink.new }
+{
+    let (lines, whole) = entries.parts();
+    print_log(sink, buffer, lines)?;
+    print_whole(sink, buffer, line, entries.len() - whole.len(), whole)
+}
+
+// The lines that count the commands of each queue, and the frames.
+fn print_counts<K: Sink>(
+    sink: &mut K,
+    buffer: &mut Vec<u8>,
+    line: &mut Packed,
+    journal: &Journal,
+) -> Result<(), PrintError>
+    ensures ok { OnOk result (
+        Printed (K.held sink.old) (K.held sink.new)
+        (buffer.old.items ++ counts_text journal.now.control journal.now.cursor (length journal.now.frames)) buffer.new.items) }
+    ensures some { OnErr result (
+        PrintedSome (K.held sink.old) (K.held sink.new)
+        (buffer.old.items ++ counts_text journal.now.control journal.now.cursor (length journal.now.frames))) }
+    ensures cause { IsErrOf result PrintError.Fault → Rose (K.faults sink.old) (K.faults sink.new) }
+    ensures same { OnOk result (K.faults sink.new ≡ K.faults sink.old) }
+    ensures same_memory { IsErrOf result PrintError.Memory → K.faults sink.new ≡ K.faults sink.old }
+    ensures count { K.faults sink.old ≤ K.faults sink.new }
+{
+    line.clear();
+    put_counts(
+        line,
+        journal.control,
+        journal.cursor,
+        journal.frames.len() as u64,
+    )?;
+    print_spelling(sink, buffer, line.spelling())
 }
 
 // Bytes go to the sink through the buffer.
 fn print_bytes<K: Sink>(sink: &mut K, buffer: &mut Vec<u8>, bytes: &[u8]) -> Result<(), PrintError>
     ensures ok { OnOk result (
-        Printed (K.held sink.old) (K.held sink.new) (buffer.old.items ++ bytes.now) buffer.new.items) }
+        Printed (K.held sink.old) (K.held sink.new)
+        (buffer.old.items ++ bytes.now) buffer.new.items) }
     ensures some { OnErr result (
         PrintedSome (K.held sink.old) (K.held sink.new) (buffer.old.items ++ bytes.now)) }
     ensures cause { IsErrOf result PrintError.Fault → Rose (K.faults sink.old) (K.faults sink.new) }
@@ -130,7 +301,8 @@ fn print_pixels<K: Sink>(
     pixels: &Strips,
 ) -> Result<(), PrintError>
     ensures ok { OnOk result (
-        Printed (K.held sink.old) (K.held sink.new) (buffer.old.items ++ pixels.now) buffer.new.items) }
+        Printed (K.held sink.old) (K.held sink.new)
+        (buffer.old.items ++ pixels.now) buffer.new.items) }
     ensures some { OnErr result (
         PrintedSome (K.held sink.old) (K.held sink.new) (buffer.old.items ++ pixels.now)) }
     ensures cause { IsErrOf result PrintError.Fault → Rose (K.faults sink.old) (K.faults sink.new) }
@@ -147,9 +319,35 @@ fn print_pixels<K: Sink>(
     Ok(())
 }
 
+// The line in front of the pixels of a frame.
+fn print_frame_line<K: Sink>(
+    sink: &mut K,
+    buffer: &mut Vec<u8>,
+    line: &mut Packed,
+    number: u64,
+    frame: &Frame,
+) -> Result<(), PrintError>
+    ensures ok { OnOk result (
+        Printed (K.held sink.old) (K.held sink.new)
+        (buffer.old.items ++ frame_line number frame.now) buffer.new.items) }
+    ensures some { OnErr result (
+        PrintedSome (K.held sink.old) (K.held sink.new)
+        (buffer.old.items ++ frame_line number frame.now)) }
+    ensures cause { IsErrOf result PrintError.Fault → Rose (K.faults sink.old) (K.faults sink.new) }
+    ensures same { OnOk result (K.faults sink.new ≡ K.faults sink.old) }
+    ensures same_memory { IsErrOf result PrintError.Memory → K.faults sink.new ≡ K.faults sink.old }
+    ensures count { K.faults sink.old ≤ K.faults sink.new }
+{
+    line.clear();
+    put_frame(line, number, frame)?;
+    print_spelling(sink, buffer, line.spelling())
+}
+
+// A frame: its line, its pixels, and a line end.
 fn print_frame<K: Sink>(
     sink: &mut K,
     buffer: &mut Vec<u8>,
+    line: &mut Packed,
     number: u64,
     frame: &Frame,
 ) -> Result<(), PrintError>
@@ -164,37 +362,17 @@ fn print_frame<K: Sink>(
     ensures same_memory { IsErrOf result PrintError.Memory → K.faults sink.new ≡ K.faults sink.old }
     ensures count { K.faults sink.old ≤ K.faults sink.new }
 {
-    put_frame(buffer, number, frame)?;
+    print_frame_line(sink, buffer, line, number, frame)?;
     print_pixels(sink, buffer, &frame.pixels)?;
     put(buffer, b"\n")?;
     Ok(())
 }
 
-fn print_entries<K: Sink>(
-    sink: &mut K,
-    buffer: &mut Vec<u8>,
-    entries: &[Entry],
-) -> Result<(), PrintError>
-    ensures ok { OnOk result (
-        Printed (K.held sink.old) (K.held sink.new)
-        (buffer.old.items ++ numbered entry_line 1 entries.now) buffer.new.items) }
-    ensures some { OnErr result (
-        PrintedSome (K.held sink.old) (K.held sink.new)
-        (buffer.old.items ++ numbered entry_line 1 entries.now)) }
-    ensures cause { IsErrOf result PrintError.Fault → Rose (K.faults sink.old) (K.faults sink.new) }
-    ensures same { OnOk result (K.faults sink.new ≡ K.faults sink.old) }
-    ensures same_memory { IsErrOf result PrintError.Memory → K.faults sink.new ≡ K.faults sink.old }
-    ensures count { K.faults sink.old ≤ K.faults sink.new }
-{
-    for (at, entry) in entries.iter().enumerate() {
-        print_entry(sink, buffer, at as u64 + 1, entry)?;
-    }
-    Ok(())
-}
-
+// All frames.
 fn print_frames<K: Sink>(
     sink: &mut K,
     buffer: &mut Vec<u8>,
+    line: &mut Packed,
     frames: &[Frame],
 ) -> Result<(), PrintError>
     ensures ok { OnOk result (
@@ -209,13 +387,14 @@ fn print_frames<K: Sink>(
     ensures count { K.faults sink.old ≤ K.faults sink.new }
 {
     for (at, frame) in frames.iter().enumerate() {
-        print_frame(sink, buffer, at as u64 + 1, frame)?;
+        print_frame(sink, buffer, line, at as u64 + 1, frame)?;
     }
     Ok(())
 }
 
 // All of the text in front of its last line.
 fn print_front<K: Sink>(
+    alloc: Global,
     sink: &mut K,
     buffer: &mut Vec<u8>,
     journal: &Journal,
@@ -229,16 +408,11 @@ fn print_front<K: Sink>(
     ensures same_memory { IsErrOf result PrintError.Memory → K.faults sink.new ≡ K.faults sink.old }
     ensures count { K.faults sink.old ≤ K.faults sink.new }
 {
-    put_head(buffer, &journal.setup)?;
-    print_entries(sink, buffer, journal.entries.as_slice())?;
-    put_counts(
-        buffer,
-        journal.control,
-        journal.cursor,
-        journal.frames.len() as u64,
-    )?;
-    print_frames(sink, buffer, journal.frames.as_slice())?;
-    Ok(())
+    let mut line = Packed::new(alloc);
+    print_head(sink, buffer, &mut line, &journal.setup)?;
+    print_entries(sink, buffer, &mut line, &journal.entries)?;
+    print_counts(sink, buffer, &mut line, journal)?;
+    print_frames(sink, buffer, &mut line, journal.frames.as_slice())
 }
 
 /// Writes all of the journal's text. Where it fails, a front of the text is written; for want of memory never all of it.
@@ -257,7 +431,7 @@ pub(crate) fn print_text<K: Sink>(
     ensures count { K.faults sink.old ≤ K.faults sink.new }
 {
     let mut buffer = Vec::new(alloc);
-    print_front(sink, &mut buffer, journal)?;
+    print_front(alloc, sink, &mut buffer, journal)?;
     put(&mut buffer, b"end\n")?;
     hand_on(sink, &mut buffer)?;
     Ok(())

@@ -5,6 +5,7 @@ pub mod Uuids
 pub mod Fits
 pub mod State
 pub mod Entries
+pub mod Lines
 pub mod Step
 pub mod Change
 pub mod Pixels

@@ -15,6 +15,7 @@ use Rattle.vg_machine.specs.State.{State, counted, start}
 use Rattle.vg_machine.specs.ActStep.{act_step}
 use Rattle.vg_holds.specs.Holds.{denied_of, gives_up, update}
 use Rattle.vg_machine.specs.Step.{step}
+use Rattle.vg_machine.specs.Lines.{is_control, rest_of_act, rest_of_command}
 
 -- A request as its bytes say: the display after it, and the reply.
 abbrev pub plain_step : State → Request → State × Reply
@@ -44,6 +45,9 @@ display = record {
   allows = λ h request. is_none (denied_of h request.queue request.bytes);
   ends_hold = gives_up;
   tagged = λ request. (request.lane, request.ordinal);
+  is_first = λ request. is_control request.queue;
+  act_text = rest_of_act;
+  command_text = rest_of_command;
 }
 
 -- The display after one entry more.

@@ -13,12 +13,13 @@ mod laws;
 mod machine;
 mod others;
 mod receive;
+mod spelled;
 mod uuids;
 
 pub use display::Display;
 pub use history::{Reply, Request};
 pub use lane::lane_of;
-pub use machine::Entry;
+pub use machine::{Entry, History};
 pub use vg_holds::{
     Act, ActReply, Buffers, Holds, Setup, What, allowed, denied, denied_command, holds_only_grow,
 };

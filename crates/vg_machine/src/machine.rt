@@ -2,12 +2,18 @@
 
 use crate::display::Display;
 use crate::history::{Reply, Request};
+use crate::spelled::{put_rest_of_act, put_rest_of_command};
 use std::alloc::{AllocError, Global};
 use vg_history::Machine;
 use vg_holds::{Act, ActReply, Holds, allowed};
+use vg_text::Packed;
+use vg_wire::Queue;
 
 /// An entry of a display's history.
 pub type Entry = vg_history::Entry<Display>;
+
+/// A display's history.
+pub type History = vg_history::History<Display>;
 
 impl Machine for Display {
     type State = Display;
@@ -27,6 +33,7 @@ impl Machine for Display {
     ghost use Rattle.vg_holds.specs.Holds as holding;
     ghost use Rattle.vg_holds.specs.Holds.{denied_of};
     ghost use Rattle.vg_machine.specs.Replay.{request_step};
+    ghost use Rattle.vg_machine.specs.Lines.{is_control, rest_of_act, rest_of_command};
     ghost use Rattle.vg_machine.specs.Counted.{act-counts, keeps-allowed, request-counts};
 
     ghost state = { λ d. d };
@@ -48,6 +55,12 @@ impl Machine for Display {
     ghost ends_hold = { holding.gives_up };
 
     ghost tagged = { λ q. (q.lane, q.ordinal) };
+
+    ghost is_first = { λ q. is_control q.queue };
+
+    ghost act_text = { rest_of_act };
+
+    ghost command_text = { rest_of_command };
 
     fn act(
         &mut self,
@@ -76,6 +89,21 @@ impl Machine for Display {
 
     fn tag(request: &Request) -> (u32, u64) {
         (request.lane, request.ordinal)
+    }
+
+    fn by_first(request: &Request) -> bool {
+        match request.queue {
+            Queue::Control => true,
+            Queue::Cursor => false,
+        }
+    }
+
+    fn put_act(out: &mut Packed, act: &Act, reply: &ActReply) -> Result<(), AllocError> {
+        put_rest_of_act(out, act, reply)
+    }
+
+    fn put_command(out: &mut Packed, request: &Request, reply: &Reply) -> Result<(), AllocError> {
+        put_rest_of_command(out, request, reply)
     }
 
     ghost acts_count = { λ s c a. act-counts s c a };

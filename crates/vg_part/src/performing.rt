@@ -27,7 +27,7 @@ pub struct Performed<B: Naming> {
 }
 
 /// Performs the part of a script that has these lines, as the client of this token: it enters, makes the calls of its lines,
-/// and ends. A line's bytes move to its call, and its memory is given back once it was made.
+/// and ends. A line's bytes move to its call, and what lines took is given back as it goes.
 pub fn perform<B: Naming, N: Rings, R: Wait>(
     rt: &R,
     alloc: Global,
@@ -102,7 +102,7 @@ fn run_lines<B: Naming, N: Rings, R: Wait>(
 fn give_back(left: &mut Vec<Line>)
     ensures { left.new.items ≡ left.old.items }
 {
-    if left.len() % 4_096 == 0 {
+    if left.len() % 1_024 == 0 {
         left.shrink_to_fit();
     }
 }

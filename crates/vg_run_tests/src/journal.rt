@@ -6,7 +6,7 @@ use vg_chain::Shape;
 use vg_io::MemSink;
 use vg_journal::{Journal, print};
 use vg_list::Seq;
-use vg_machine::{Act, ActReply, Entry, Frame, Reply, Request, Setup, ShareRefusal, What};
+use vg_machine::{Act, ActReply, Entry, Frame, History, Reply, Request, Setup, ShareRefusal, What};
 use vg_strips::Strips;
 use vg_wire::Queue;
 
@@ -68,7 +68,7 @@ fn two_clients(alloc: Global) -> Result<Journal, AllocError> {
         8192,
         Vec::new(alloc),
     );
-    let mut entries = Vec::new(alloc);
+    let mut entries = History::new(alloc);
     entries.push(act(1, 1, Act::Enter))?;
     entries.push(act(2, 1, Act::Enter))?;
     entries.push(command(1, 2, info, vec![in alloc; 1u8, 17]?))?;
@@ -86,7 +86,7 @@ fn two_clients(alloc: Global) -> Result<Journal, AllocError> {
             accepted: 0x11000001f,
             clients: 2,
         },
-        entries: Seq::from_vec(entries),
+        entries,
         control: 1,
         cursor: 1,
         frames: Seq::from_vec(frames),
@@ -140,8 +140,8 @@ fn answered(call: u64, act: Act, reply: ActReply) -> Entry {
 }
 
 /// Acts and replies that no script has today, and each refusal.
-fn each_act(alloc: Global) -> Result<Vec<Entry>, AllocError> {
-    let mut entries = Vec::new(alloc);
+fn each_act(alloc: Global) -> Result<History, AllocError> {
+    let mut entries = History::new(alloc);
     let blank = Act::Reserve {
         width: 0,
         height: 0,
@@ -188,7 +188,7 @@ const EACH_ACT: &[u8] = b"vgpu-journal 1\n\
     end\n";
 
 /// A journal of one client without frames.
-fn journal_of(alloc: Global, entries: Vec<Entry>, control: u64) -> Result<Journal, AllocError> {
+fn journal_of(alloc: Global, entries: History, control: u64) -> Result<Journal, AllocError> {
     Ok(Journal {
         setup: Setup {
             displays: Seq::from_vec(vec![in alloc; (64u32, 48u32)]?),
@@ -196,7 +196,7 @@ fn journal_of(alloc: Global, entries: Vec<Entry>, control: u64) -> Result<Journa
             accepted: 0x11000001f,
             clients: 1,
         },
-        entries: Seq::from_vec(entries),
+        entries,
         control,
         cursor: 0,
         frames: Seq::from_vec(Vec::new(alloc)),
@@ -225,7 +225,7 @@ fn long_request(alloc: Global, call: u64, byte: u8) -> Result<Entry, AllocError>
 
 /// A client whose two requests are of 40,000 bytes.
 fn two_long_requests(alloc: Global) -> Result<Journal, AllocError> {
-    let mut entries = Vec::new(alloc);
+    let mut entries = History::new(alloc);
     entries.push(long_request(alloc, 1, 0xab)?)?;
     entries.push(long_request(alloc, 2, 0x01)?)?;
     journal_of(alloc, entries, 2)

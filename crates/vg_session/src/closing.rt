@@ -8,14 +8,14 @@ use std::sync::atomic::AtomicBool;
 use std::sync::{Mutex, Wait};
 use vg_book::{Book, Carried, LaneToken, Naming, NoMemory, Root};
 use vg_front::Front;
-use vg_machine::{Display, Entry, Frame};
+use vg_machine::{Display, Frame, History};
 use vg_ring::{ControlOf, CursorOf, DeviceEnd, Rings};
 use vg_worker::{Gate, serve};
 
 /// What is left of a book and a front once all have joined: the history, the display's frames, and the ends of both rings.
 #[derive(Drop)]
 pub struct Closed<B: Naming, N: Rings> {
-    pub entries: Vec<Entry>,
+    pub history: History,
     pub frames: Vec<Frame>,
     pub control: DeviceEnd<Carried<Display, B>, ControlOf<N>>,
     pub cursor: DeviceEnd<Carried<Display, B>, CursorOf<N>>,
@@ -63,8 +63,8 @@ pub fn close<B: Naming, N: Rings>(
 ) -> Result<Closed<B, N>, NoMemory>
     requires clients { (script : _) × HaveAllJoined script root }
     requires still { IsStill front }
-    ensures ended { IfOk result (λ closed. IsEnd root closed.entries.items closed.frames.items) }
-    ensures completed { IfOk result (λ closed. HaveCompleted closed.entries.items closed.control closed.cursor) }
+    ensures ended { IfOk result (λ closed. IsEnd root closed.history closed.frames.items) }
+    ensures completed { IfOk result (λ closed. HaveCompleted closed.history closed.control closed.cursor) }
 {
     if front.halted() {
         return Err(NoMemory);
@@ -72,9 +72,9 @@ pub fn close<B: Naming, N: Rings>(
     let mut root = root;
     let (tokens, control, cursor) = front.close();
     join_lanes(&book, &mut root, tokens);
-    let (display, entries) = book.close(root);
+    let (display, history) = book.close(root);
     Ok(Closed {
-        entries,
+        history,
         frames: display.into_frames(),
         control,
         cursor,

@@ -100,8 +100,8 @@ fn run<B: Naming, N: Rings, R: Wait + Abort>(
     for row in rows {
         backs.push(one(rt, alloc, &mut rig, queue, bytes, *row)?)?;
     }
-    let entries = rig.end().ok_or("it ended")?;
-    assert!(rt; agrees(entries.as_slice(), backs.as_slice()));
+    let history = rig.end().ok_or("it ended")?;
+    assert!(rt; agrees(alloc, &history, backs.as_slice())?);
     Ok(())
 }
 

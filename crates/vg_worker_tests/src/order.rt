@@ -71,8 +71,8 @@ fn run<B: Naming + Send + Sync, N: Rings + Send, R: Threads + Wait + Abort + Syn
     let (first, second) = two(rt, alloc, &mut rig, &gate)?;
     assert_eq!(rt; (first.lane, second.lane), (other, held));
     let backs = vec![in alloc; first, second]?;
-    let entries = rig.end().ok_or("it ended")?;
-    assert!(rt; agrees(entries.as_slice(), backs.as_slice()));
+    let history = rig.end().ok_or("it ended")?;
+    assert!(rt; agrees(alloc, &history, backs.as_slice())?);
     Ok(())
 }
 

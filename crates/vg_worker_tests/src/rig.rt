@@ -6,18 +6,22 @@ ghost use Rattle.vg_holds.specs.Setup.{IsSetup};
 ghost use Rattle.vg_worker_tests.specs.Joined.{Follows, HasLanes, IsAsBefore};
 
 use crate::guest::{Back, Guest, Way};
+use hex::encode;
 use std::alloc::{AllocError, Global};
 use std::marker::{Model, Send, Sync};
 use std::sync::atomic::AtomicBool;
 use std::sync::{Mutex, Wait};
+use std::test::Fail;
 use std::thread::Threads;
 use vg_book::{Book, Carried, ClientToken, LaneToken, Naming, Opened, Root};
+use vg_chain::ChainFault;
 use vg_crew::each;
 use vg_front::Front;
 use vg_history::{Machine, Tagged, Turn};
 use vg_list::Seq;
-use vg_machine::{Display, Entry, Holds, Reply, Setup};
+use vg_machine::{Display, History, Holds, Reply, Setup};
 use vg_ring::{ControlOf, CursorOf, Made, Rings};
+use vg_text::Packed;
 use vg_wire::Queue;
 use vg_worker::{FreeGate, Gate, Worker, serve};
 
@@ -109,7 +113,7 @@ impl<B: Naming, N: Rings> Rig<B, N> {
     }
 
     /// The whole history. None where something is still on its way.
-    pub fn end(self) -> Option<Vec<Entry>> {
+    pub fn end(self) -> Option<History> {
         let Rig {
             book,
             root,
@@ -183,7 +187,7 @@ fn close<B: Naming>(
     root: Root<Display, B>,
     client: ClientToken<Display, B>,
     lanes: Vec<LaneToken<Display, B>>,
-) -> Option<Vec<Entry>>
+) -> Option<History>
     requires root { (root.given ≡ 1) × (root.accounts ≡ []) × (root.lanes ≡ []) × (root.lanes_made ≡ 66) }
     requires number { client.account.number ≡ 1 }
 {
@@ -199,35 +203,69 @@ fn close<B: Naming>(
     Some(book.close(root).1)
 }
 
-/// Whether two replies are the same.
-fn is_same(one: &Reply, other: &Reply) -> bool {
-    match (one, other) {
-        (Reply::Response { bytes }, Reply::Response { bytes: others }) => {
-            bytes.as_slice() == others.as_slice()
+/// The lines of a history.
+fn lines_of(alloc: Global, history: &History) -> Result<String, Fail> {
+    let (lines, _) = history.parts();
+    let (pieces, last) = lines.pieces();
+    let mut text = Vec::new(alloc);
+    for piece in pieces {
+        put_spelled(&mut text, piece)?;
+    }
+    put_spelled(&mut text, last)?;
+    Ok(String::from_utf8(text).ok().ok_or("it is text")?)
+}
+
+fn put_spelled(out: &mut Vec<u8>, text: &Packed) -> Result<(), AllocError> {
+    let mut left = text.spelling();
+    while !left.is_done() {
+        left.put_next(out)?;
+    }
+    Ok(())
+}
+
+/// How a reply is spelled at the end of its line.
+fn spelled(alloc: Global, reply: &Reply) -> Result<String, AllocError> {
+    match reply {
+        Reply::Response { bytes } if bytes.is_empty() => format!(in alloc; " = -"),
+        Reply::Response { bytes } => {
+            format!(in alloc; " = {}", encode(alloc, bytes.as_slice())?)
         }
-        (Reply::Fault { fault }, Reply::Fault { fault: others }) => fault == others,
-        _ => false,
+        Reply::Fault { fault } => format!(in alloc; " = fault {}", name_of(*fault)),
     }
 }
 
-/// Whether the history has this reply at the entry of its number.
-fn has_reply(entries: &[Entry], back: &Back) -> bool {
-    let Some(place) = back.entry.checked_sub(1) else {
-        return false;
-    };
-    match entries.get(place as usize) {
-        Some(Entry::Command { reply, .. }) => is_same(reply, &back.reply),
-        _ => false,
+fn name_of(fault: ChainFault) -> &'static str {
+    match fault {
+        ChainFault::Index => "index",
+        ChainFault::Loop => "loop",
+        ChainFault::Nested => "nested",
+        ChainFault::NextWithIndirect => "nextindirect",
+        ChainFault::TableLength => "tablelength",
+        ChainFault::Order => "order",
+        ChainFault::Range => "range",
+    }
+}
+
+/// Whether the line of this number, from 1, ends so.
+fn ends_so(lines: &str, number: u64, end: &str) -> bool {
+    match number.checked_sub(1) {
+        Some(place) => lines
+            .lines()
+            .nth(place as usize)
+            .is_some_and(|line| line.ends_with(end)),
+        None => false,
     }
 }
 
 /// Whether the history has as many entries as came back, each with the reply that came back.
-pub fn agrees(entries: &[Entry], backs: &[Back]) -> bool {
-    let mut all = entries.len() == backs.len();
+pub fn agrees(alloc: Global, history: &History, backs: &[Back]) -> Result<bool, Fail> {
+    let lines = lines_of(alloc, history)?;
+    let mut all = history.len() == backs.len();
     for back in backs {
-        all &= has_reply(entries, back);
+        let end = spelled(alloc, &back.reply)?;
+        all &= ends_so(&lines, back.entry, &end);
     }
-    all
+    Ok(all)
 }
 
 /// Whether a response is what its reply says.

@@ -51,7 +51,7 @@ pub returns-clause-added : goal.returns-clause-added
 returns-clause-added g c =
     let start = c.in-Ok-adders.ensures in
     let all = c.in_ok-join_all.ensures in
-    have_all_added counter.ghosts (λ job. job.client) (λ job. job.times) c.args.times _ c.args.count c.in-Ok-adders.jobs.items all.taken.0 start.clients start.times c.in-Ok-each.clients.items c.in-Ok-each.ensures all.taken.1 c.join_all.new.root _ c.close.result.1.items
+    have_all_added counter.ghosts (λ job. job.client) (λ job. job.times) c.args.times _ c.args.count c.in-Ok-adders.jobs.items all.taken.0 start.clients start.times c.in-Ok-each.clients.items c.in-Ok-each.ensures all.taken.1 c.join_all.new.root _ c.close.result.1
     (all.given ∙ start.root.given)
     (all.taken.2 ∙ ap (λ l. l ++ map account_of all.taken.0) start.root.accounts)
     c.close.ensures

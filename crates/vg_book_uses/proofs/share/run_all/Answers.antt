@@ -89,7 +89,7 @@ returns-clause-shared g c =
     let all = c.in_ok-join_all.ensures in
     let end = c.join_lanes.ensures in
     have_shared counter.ghosts (λ job. job.client) (λ job. (job.rounds ≡ c.args.rounds) × (0 < length job.desks.now)) (λ job. 2 * job.rounds) (2 * c.args.rounds) (λ j f. ap (λ (k : ℕ). 2 * k) f.0)
-    _ c.args.clients c.in-Ok-askers.askers.items all.taken.0 asks.clients asks.rounds c.in-Ok-all.done.items c.in-Ok-all.ensures.0 all.taken.1 c.join_lanes.new.root _ c.close.result.1.items
+    _ c.args.clients c.in-Ok-askers.askers.items all.taken.0 asks.clients asks.rounds c.in-Ok-all.done.items c.in-Ok-all.ensures.0 all.taken.1 c.join_lanes.new.root _ c.close.result.1
     (end.given ∙ (all.given ∙ asks.root.given))
     (end.accounts ∙ (all.taken.2 ∙ ap (λ l. l ++ map account_of all.taken.0) asks.root.accounts))
     c.close.ensures

@@ -1,5 +1,5 @@
 use Rattle.std.proofs.Common.{arith, refl}
-use Rattle.vg_journal.proofs.NumberedLemmas.{written_more}
+use Rattle.vg_text.proofs.NumberedLemmas.{written_more}
 use Rattle.vg_journal.proofs.lines.put_displays.Goals as goal
 
 pub loop-number-preserved : goal.loop-number-preserved

@@ -1,25 +1,19 @@
-use Rattle.std.proofs.Common.{◌∙◌, arith, refl}
-use Rattle.vg_journal.specs.Text.{entry_line}
-use Rattle.vg_journal.proofs.PrintingLemmas.{all_printed, on_err, some_more, printed_more, printed_start}
+use Rattle.std.proofs.Common.{refl}
+use Rattle.vg_journal.proofs.LineLemmas.{all_lines}
+use Rattle.vg_journal.proofs.PrintingLemmas.{err_then, first_some, ok_then, on_err, second_some, two_printed}
 use Rattle.vg_journal.proofs.printer.print_entries.Goals as goal
 
-pub returns-in_err-print_entry-clause-some : goal.returns-in_err-print_entry-clause-some
-returns-in_err-print_entry-clause-some g c =
-    on_err _ (some_more entry_line 1 _ _ _ _ _ _ _ _ _ _ c.loop-at.invariant.printed c.in_err-print_entry.ensures.some (omega arith) c.loop-at-test.true c.index-entries-at.is)
-
-pub loop-at-preserved : goal.loop-at-preserved
-loop-at-preserved g c =
-    record {
-      printed = printed_more entry_line 1 _ _ _ _ _ _ _ _ _ _ _ c.loop-at.invariant.printed c.in_ok-print_entry.ensures.ok (omega arith) c.loop-at-test.true c.index-entries-at.is;
-      same = c.in_ok-print_entry.ensures.same ∙ c.loop-at.invariant.same;
-    }
-
-pub loop-at-init : goal.loop-at-init
-loop-at-init g c =
-    record {
-      printed = printed_start (g.K.Sink.held c.args.sink.now) c.args.buffer.now.items;
-      same = refl;
-    }
+pub returns-in_err-print_log-clause-some : goal.returns-in_err-print_log-clause-some
+returns-in_err-print_log-clause-some g c =
+    let (es, lines, joined) = c.parts.ensures in
+    on_err _ (first_some _ _ _ _ _ _ c.in_err-print_log.ensures.some (all_lines es _ _ _ _ lines joined refl))
 
 pub returns-clause-ok : goal.returns-clause-ok
-returns-clause-ok g c = all_printed entry_line 1 _ _ _ _ _ _ c.loop-at.invariant.printed (omega (arith, c.loop-at-test.false))
+returns-clause-ok g c =
+    let (es, lines, joined) = c.parts.ensures in
+    ok_then c.print_whole.result (two_printed _ _ _ c.args.buffer.now.items c.parts.result.0.now _ _ _ _ c.in_ok-print_log.ensures.ok (all_lines es _ _ _ _ lines joined c.len.ensures)) c.print_whole.ensures.ok
+
+pub returns-clause-some : goal.returns-clause-some
+returns-clause-some g c =
+    let (es, lines, joined) = c.parts.ensures in
+    err_then c.print_whole.result (second_some _ _ _ c.args.buffer.now.items c.parts.result.0.now _ _ _ c.in_ok-print_log.ensures.ok (all_lines es _ _ _ _ lines joined c.len.ensures)) c.print_whole.ensures.some

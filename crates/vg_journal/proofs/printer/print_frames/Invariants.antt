@@ -1,6 +1,7 @@
 use Rattle.std.proofs.Common.{◌≡◌, ◌++◌, take}
 use Rattle.vg_journal.specs.Printing.{Printed}
-use Rattle.vg_journal.specs.Text.{numbered, frame_text}
+use Rattle.vg_text.specs.Text.{numbered}
+use Rattle.vg_journal.specs.Text.{frame_text}
 use Rattle.vg_journal.proofs.printer.print_frames.Given as goal
 
 abbrev pub invariant-loop-at : goal.invariant-loop-at

@@ -11,5 +11,5 @@ pub returns-clause-completed : goal.returns-clause-completed
 returns-clause-completed g c =
     let joined = c.requires.clients in
     let on : c.args.front.control.halted ≡ false = search rules in
-    all-completed joined.0 c.args.root c.join_lanes.new.root c.args.front c.close-tokens.result.0.items c.close-tokens.result.1 c.close-tokens.result.2 c.close-display.result.0 c.close-display.result.1.items
+    all-completed joined.0 c.args.root c.join_lanes.new.root c.args.front c.close-tokens.result.0.items c.close-tokens.result.1 c.close-tokens.result.2 c.close-display.result.0 c.close-display.result.1
     joined.1 on c.close-tokens.ensures c.join_lanes.ensures c.close-display.ensures

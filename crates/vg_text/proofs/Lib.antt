@@ -1,0 +1,4 @@
+pub mod DigitLemmas
+pub mod NumberedLemmas
+pub mod PackingLemmas
+pub mod LogLemmas

@@ -1,0 +1,194 @@
+-- Packed text, a part behind another.
+use Rattle.std.proofs.Common.{◌≡◌, ◌≢◌, ℕ, zero, suc, ◌+◌, ◌-◌, ◌≤◌, ◌<◌, Bool, true, false, List, [], ◌∷◌, ◌++◌, length, take, drop, get_or, replicate, Result, Ok, Err, OnOk, refl, sym, ap, subst, ◌∙◌, arith, append_assoc, append-nil, add-one, length-append}
+use Rattle.std.specs.Prelude.{nat_lt, decimal, ◌^◌, ◌%◌, if◌then◌else◌, is_ok, OnErr}
+use Rattle.std.specs.declared.alloc.AllocError.{AllocError}
+use Rattle.std.proofs.lemmas.Bool.{and_parts}
+use Rattle.std.proofs.lemmas.Fmt.{decimal_by_steps}
+use Rattle.std.proofs.lemmas.List.{length-take-le, length-drop, length-replicate, get_or-drop, take-append-drop}
+use Rattle.std.proofs.lemmas.Grind.{replicate_next}
+use Rattle.hex.proofs.HexLemmas.{length-encode_with}
+use Rattle.std.proofs.Math.Seq.{take-add, take-suc}
+use Rattle.hex.specs.Hex.{encode_with, encode_lower, lower_digits}
+use Rattle.vg_text.specs.Text.{are_characters}
+use Rattle.vg_text.specs.Packing.{said, next, unpacked, left}
+
+pub unpacked_append : (n : ℕ) (xs ys : List ℕ) → unpacked n (xs ++ ys) ≡ unpacked n xs ++ unpacked (left n xs) ys
+unpacked_append n [] ys = refl
+unpacked_append n (x ∷ xs) ys = ap (λ t. said n x ++ t) (unpacked_append (next n x) xs ys) ∙ sym (append_assoc (said n x) _ _)
+
+pub left_append : (n : ℕ) (xs ys : List ℕ) → left n (xs ++ ys) ≡ left (left n xs) ys
+left_append n [] ys = refl
+left_append n (x ∷ xs) ys = left_append (next n x) xs ys
+
+-- What is whole stays whole, and says the one and then the other.
+pub whole_append : (xs ys : List ℕ) → left 0 xs ≡ 0 → left 0 ys ≡ 0 → left 0 (xs ++ ys) ≡ 0
+whole_append xs ys is also = left_append 0 xs ys ∙ ap (λ n. left n ys) is ∙ also
+
+pub text_append : (xs ys : List ℕ) → left 0 xs ≡ 0 → unpacked 0 (xs ++ ys) ≡ unpacked 0 xs ++ unpacked 0 ys
+text_append xs ys is = unpacked_append 0 xs ys ∙ ap (λ n. unpacked 0 xs ++ unpacked n ys) is
+
+-- Characters stand for themselves.
+pub characters_said : (xs : List ℕ) → are_characters xs ≡ true → (unpacked 0 xs ≡ xs) × (left 0 xs ≡ 0)
+characters_said [] are = (refl, refl)
+characters_said (x ∷ xs) are =
+    let is = and_parts (nat_lt x 128) (are_characters xs) are in
+    let more = characters_said xs is.1 in
+    (rw (is.0) (ap (λ l. x ∷ l) more.0), rw (is.0) (more.1))
+
+-- Bytes that are spelled, all of them.
+pub spelled_all : (xs : List ℕ) → (unpacked (length xs) xs ≡ encode_lower xs) × (left (length xs) xs ≡ 0)
+unfolding encode_with
+spelled_all [] = (refl, refl)
+spelled_all (x ∷ xs) =
+    let more = spelled_all xs in
+    (ap (λ l. encode_lower (x ∷ []) ++ l) more.0, more.1)
+
+pub encode_append : (xs ys : List ℕ) → encode_lower (xs ++ ys) ≡ encode_lower xs ++ encode_lower ys
+unfolding encode_with
+encode_append [] ys = refl
+encode_append (x ∷ xs) ys = ap (λ l. encode_lower (x ∷ []) ++ l) (encode_append xs ys)
+
+-- A word that is put, or for which there was no memory.
+pub put_whole : (r : Result (Unit {0}) AllocError) (xs ys zs : List ℕ) → zs ≡ (if is_ok r then xs ++ ys else xs) → left 0 xs ≡ 0 → left 0 ys ≡ 0 → left 0 zs ≡ 0
+put_whole (Ok x) xs ys zs is whole also = subst (λ l. left 0 l ≡ 0) (sym is) (whole_append xs ys whole also)
+put_whole (Err e) xs ys zs is whole also = subst (λ l. left 0 l ≡ 0) (sym is) whole
+
+pub put_text : (r : Result (Unit {0}) AllocError) (xs ys zs : List ℕ) → zs ≡ (if is_ok r then xs ++ ys else xs) → left 0 xs ≡ 0 → OnOk r (unpacked 0 zs ≡ unpacked 0 xs ++ unpacked 0 ys)
+put_text (Ok x) xs ys zs is whole = ap (unpacked 0) is ∙ text_append xs ys whole
+put_text (Err e) xs ys zs is whole = tt
+
+pub put_same : (r : Result (Unit {0}) AllocError) (xs ys zs : List ℕ) → zs ≡ (if is_ok r then xs ++ ys else xs) → OnErr r (unpacked 0 zs ≡ unpacked 0 xs)
+put_same (Ok x) xs ys zs is = tt
+put_same (Err e) xs ys zs is = ap (unpacked 0) is
+
+-- Bytes behind one that says how many.
+pub piece_said : (n : ℕ) (xs : List ℕ) → n ≡ length xs → 1 ≤ n → n ≤ 64 → (unpacked 0 ((127 + n) ∷ xs) ≡ encode_lower xs) × (left 0 ((127 + n) ∷ xs) ≡ 0)
+piece_said n xs is some few =
+    let large : nat_lt (127 + n) 128 ≡ false = search arith in
+    let small : nat_lt (127 + n) 192 ≡ true = search arith in
+    let back : 127 + n - 127 ≡ n = omega arith in
+    let all = spelled_all xs in
+    (rw (large, small, back, is) (all.0), rw (large, small, back, is) (all.1))
+
+-- Bytes of 0.
+pub zeros_said : (n : ℕ) → 1 ≤ n → (unpacked 0 ((191 + n) ∷ []) ≡ encode_lower (replicate n 0)) × (left 0 ((191 + n) ∷ []) ≡ 0)
+zeros_said n some =
+    let large : nat_lt (191 + n) 128 ≡ false = search arith in
+    let largest : nat_lt (191 + n) 192 ≡ false = search arith in
+    let back : 191 + n - 191 ≡ n = omega arith in
+    (rw (large, largest, back) (append-nil (encode_lower (replicate n 0))), rw (large, largest) refl)
+
+pub snoc_characters : (xs : List ℕ) (x : ℕ) → are_characters xs ≡ true → nat_lt x 128 ≡ true → are_characters (xs ++ x ∷ []) ≡ true
+snoc_characters [] x are is = rw is refl
+snoc_characters (y ∷ xs) x are is = let b = and_parts (nat_lt y 128) (are_characters xs) are in rw (b.0) (snoc_characters xs x b.1 is)
+
+pub decimal_characters : (n : ℕ) → n < 2 ^ 64 → are_characters (decimal n) ≡ true
+decimal_characters n fits = decimal_by_steps (λ n ds. are_characters ds ≡ true) (λ n small. search arith) (λ n ds large are. snoc_characters ds (48 + n % 10) are (search arith)) n fits
+
+-- Bytes that are spelled, put behind the one that says how many, for which there is room.
+pub piece_whole : (r : Result (Unit {0}) AllocError) (xs ps zs bs : List ℕ) (n : ℕ) → n ≡ length bs → 1 ≤ n → n ≤ 64 → ps ≡ xs ++ (127 + n) ∷ [] → zs ≡ (if is_ok r then ps ++ bs else ps) → is_ok r ≡ true → left 0 xs ≡ 0 → (unpacked 0 zs ≡ unpacked 0 xs ++ encode_lower bs) × (left 0 zs ≡ 0)
+piece_whole r xs ps zs bs n is some few pushed put ok whole =
+    let said = piece_said n bs is some few in
+    let all : zs ≡ xs ++ (127 + n) ∷ bs = put ∙ ap (λ b. if b then ps ++ bs else ps) ok ∙ ap (λ l. l ++ bs) pushed ∙ append_assoc xs ((127 + n) ∷ []) bs in (
+      ap (unpacked 0) all ∙ text_append xs ((127 + n) ∷ bs) whole ∙ ap (λ l. unpacked 0 xs ++ l) said.0,
+      subst (λ l. left 0 l ≡ 0) (sym all) (whole_append xs ((127 + n) ∷ bs) whole said.1),
+    )
+
+pub on_ok : {T E : Type 0} {P : Type 0} (r : Result T E) → P → OnOk r P
+on_ok (Ok x) p = p
+on_ok (Err e) p = tt
+
+-- A spelled part more.
+pub spelled_more : (at end : ℕ) (xs old before after : List ℕ) → before ≡ old ++ encode_lower (take at xs) → after ≡ before ++ encode_lower (take (end - at) (drop at xs)) → at < end → after ≡ old ++ encode_lower (take end xs)
+spelled_more at end xs old before after was is behind =
+    let whole : at + (end - at) ≡ end = omega (arith, behind) in
+    let part : take at xs ++ take (end - at) (drop at xs) ≡ take end xs = sym (take-add at (end - at) xs) ∙ ap (λ n. take n xs) whole in
+    is ∙ ap (λ l. l ++ encode_lower (take (end - at) (drop at xs))) was ∙ append_assoc old _ _
+    ∙ ap (λ l. old ++ l) (sym (encode_append (take at xs) (take (end - at) (drop at xs))) ∙ ap encode_lower part)
+
+-- A byte of 0 more.
+pub zeros_more : (at i : ℕ) (xs : List ℕ) → at + i < length xs → take i (drop at xs) ≡ replicate i 0 → get_or xs (at + i) 0 ≡ 0 → take (i + 1) (drop at xs) ≡ replicate (i + 1) 0
+zeros_more at i xs within are is =
+    let size : i < length (drop at xs) = (let d = length-drop at xs in omega (arith, d, within)) in
+    let front : take (i + 1) (drop at xs) ≡ take i (drop at xs) ++ (get_or (drop at xs) i 0 ∷ []) = rw add-one (take-suc (drop at xs) i 0 size) in
+    front ∙ ap (λ l. l ++ (get_or (drop at xs) i 0 ∷ [])) are ∙ ap (λ x. replicate i 0 ++ (x ∷ [])) (get_or-drop at xs i 0 ∙ is) ∙ sym (replicate_next i 0)
+
+pub are_more : (xs : List ℕ) (i : ℕ) (x d : ℕ) → i < length xs → are_characters (take i xs) ≡ true → x ≡ get_or xs i d → nat_lt x 128 ≡ true → are_characters (take (i + 1) xs) ≡ true
+are_more xs i x d within are is small =
+    let front : take (i + 1) xs ≡ take i xs ++ (x ∷ []) = rw add-one (take-suc xs i d within ∙ ap (λ y. take i xs ++ (y ∷ [])) (sym is)) in
+    subst (λ l. are_characters l ≡ true) (sym front) (snoc_characters (take i xs) x are small)
+
+pub nothing_spelled : (xs : List ℕ) → xs ≡ xs ++ encode_lower []
+unfolding encode_with
+nothing_spelled xs = sym (append-nil xs)
+
+-- The bytes that are to come are there.
+pub left_within : (n : ℕ) (xs : List ℕ) → left n xs ≡ 0 → n ≤ length xs
+left_within zero xs whole = omega arith
+left_within (suc n) [] whole = omega (arith, whole)
+left_within (suc n) (x ∷ xs) whole = let more = left_within n xs whole in omega (arith, more)
+
+-- What is whole and not empty says something.
+some_digits : (n : ℕ) (xs : List ℕ) → left (suc n) xs ≡ 0 → 0 < length (unpacked (suc n) xs)
+unfolding encode_with
+some_digits n [] whole = omega (arith, whole)
+some_digits n (x ∷ xs) whole = omega arith
+
+some_zeros : (n : ℕ) (xs : List ℕ) → 0 < n → 0 < length (encode_lower (replicate n 0) ++ xs)
+some_zeros n xs some =
+    let size = length-append (encode_lower (replicate n 0)) xs in
+    let two = length-encode_with lower_digits (replicate n 0) in
+    let count = length-replicate {A = ℕ} n 0 in
+    omega (arith, size, two, count, some)
+
+some_byte : (a b : Bool) (x : ℕ) (xs : List ℕ) → nat_lt x 128 ≡ a → nat_lt x 192 ≡ b → left 0 (x ∷ xs) ≡ 0 → 0 < length (unpacked 0 (x ∷ xs))
+some_byte true b x xs is also whole = rw is (omega arith)
+some_byte false true x xs is also whole =
+    let large : x - 127 ≡ suc (x - 128) = search (arith, is) in
+    rw (is, also, large) (some_digits (x - 128) xs (rw (is, also, large) at whole))
+some_byte false false x xs is also whole = rw (is, also) (some_zeros (x - 191) (unpacked 0 xs) (search (arith, also)))
+
+pub some_said : (xs : List ℕ) → left 0 xs ≡ 0 → 0 < length xs → 0 < length (unpacked 0 xs)
+some_said [] whole some = omega (arith, some)
+some_said (x ∷ xs) whole some = some_byte (nat_lt x 128) (nat_lt x 192) x xs refl refl whole
+
+-- What stands behind a whole part is whole, and what is left to say.
+pub rest_whole : (n : ℕ) (xs : List ℕ) → left 0 xs ≡ 0 → left 0 (take n xs) ≡ 0 → left 0 (drop n xs) ≡ 0
+rest_whole n xs whole part = ap (λ k. left k (drop n xs)) (sym part) ∙ sym (left_append 0 (take n xs) (drop n xs)) ∙ ap (left 0) (take-append-drop n xs) ∙ whole
+
+pub rest_said : (n : ℕ) (xs : List ℕ) → left 0 (take n xs) ≡ 0 → unpacked 0 (take n xs) ++ unpacked 0 (drop n xs) ≡ unpacked 0 xs
+rest_said n xs part = sym (text_append (take n xs) (drop n xs) part) ∙ ap (unpacked 0) (take-append-drop n xs)
+
+-- A part in digits.
+digits_at : (x n : ℕ) (xs : List ℕ) → 127 + n ≡ x → 1 ≤ n → n ≤ 64 → n ≤ length xs → (unpacked 0 (x ∷ take n xs) ≡ encode_lower (take n xs)) × (left 0 (x ∷ take n xs) ≡ 0)
+digits_at x n xs is some few within =
+    let size : n ≡ length (take n xs) = sym (length-take-le n xs within) in
+    subst (λ y. (unpacked 0 (y ∷ take n xs) ≡ encode_lower (take n xs)) × (left 0 (y ∷ take n xs) ≡ 0)) is (piece_said n (take n xs) size some few)
+
+pub digits_part : (packed : List ℕ) (first n : ℕ) → first ≡ get_or packed 0 0 → 127 + n ≡ first → 1 ≤ n → n ≤ 64 → 0 < length packed → left 0 packed ≡ 0 → (1 + n ≤ length packed) × (unpacked 0 (take (1 + n) packed) ≡ encode_lower (take n (drop 1 packed))) × (left 0 (take (1 + n) packed) ≡ 0)
+digits_part [] first n is count large few some whole = absurd (omega (arith, some))
+digits_part (x ∷ xs) first n is count large few some whole =
+    let no : nat_lt x 128 ≡ false = search (arith, is, count, large) in
+    let yes : nat_lt x 192 ≡ true = search (arith, is, count, few) in
+    let same : x - 127 ≡ n = omega (arith, is, count) in
+    let within : n ≤ length xs = left_within n xs (rw (no, yes, same) at whole) in
+    let at = digits_at x n xs (count ∙ is) large few within in
+    let one : 1 + n ≡ suc n = omega arith in (
+      omega (arith, within),
+      subst (λ e. unpacked 0 (take e (x ∷ xs)) ≡ encode_lower (take n (drop 1 (x ∷ xs)))) (sym one) at.0,
+      subst (λ e. left 0 (take e (x ∷ xs)) ≡ 0) (sym one) at.1,
+    )
+
+-- A part of bytes of 0.
+pub zeros_part : (packed : List ℕ) (first n : ℕ) → first ≡ get_or packed 0 0 → 191 + n ≡ first → 1 ≤ n → 0 < length packed → (unpacked 0 (take 1 packed) ≡ encode_lower (replicate n 0)) × (left 0 (take 1 packed) ≡ 0)
+zeros_part [] first n is count some size = absurd (omega (arith, size))
+zeros_part (x ∷ xs) first n is count some size =
+    subst (λ y. (unpacked 0 (y ∷ []) ≡ encode_lower (replicate n 0)) × (left 0 (y ∷ []) ≡ 0)) (count ∙ is) (zeros_said n some)
+
+pub rest_falls : (n : ℕ) (xs : List ℕ) → left 0 (take n xs) ≡ 0 → 0 < n → n ≤ length xs → length (unpacked 0 (drop n xs)) < length (unpacked 0 xs)
+rest_falls n xs part some within =
+    let size : length (take n xs) ≡ n = length-take-le n xs within in
+    let says = some_said (take n xs) part (omega (arith, size, some)) in
+    let all = ap length (rest_said n xs part) in
+    let sum = length-append (unpacked 0 (take n xs)) (unpacked 0 (drop n xs)) in
+    omega (arith, says, all, sum)

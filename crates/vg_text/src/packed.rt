@@ -1,0 +1,177 @@
+//! Packed text, as it is written.
+
+ghost use Rattle.std.specs.Prelude.{◌≡◌, ◌≤◌, ◌<◌, ◌+◌, ◌-◌, ◌++◌, [], true, length, take, drop, replicate, IfOk, OnOk, OnErr};
+ghost use Rattle.hex.specs.Hex.{encode_lower};
+ghost use Rattle.vg_text.specs.Text.{are_characters, hex_text};
+
+use crate::spelling::Spelling;
+use std::alloc::{AllocError, Global};
+use std::marker::Model;
+
+/// The most bytes that are told of at once.
+const MOST: usize = 64;
+
+/// Text, held packed. A clause sees it as the list of its characters.
+///
+/// A byte below 128 is a character. One from 128 says how many bytes follow that are spelled as two digits each, 127 less, and
+/// one from 192 stands for so many bytes of 0, 191 less.
+#[derive(Drop)]
+pub struct Packed {
+    bytes: Vec<u8>,
+}
+
+impl Model for Packed {
+    ghost use Rattle.std.specs.Prelude.{◌≡◌, ℕ, List};
+    ghost use Rattle.vg_text.specs.Packing.{left, unpacked};
+
+    ghost Value = { List ℕ };
+
+    ghost view = { λ p. unpacked 0 p.bytes.items };
+
+    ghost invariant = { λ p. left 0 p.bytes.items ≡ 0 };
+}
+
+impl Packed {
+    /// No text.
+    pub fn new(alloc: Global) -> Packed
+        ensures { result ≡ [] }
+    {
+        Packed {
+            bytes: Vec::new(alloc),
+        }
+    }
+
+    /// No text, with room for so many bytes.
+    pub(crate) fn with_room(alloc: Global, room: usize) -> Result<Packed, AllocError>
+        ensures { IfOk result (λ p. p ≡ []) }
+    {
+        let bytes = Vec::with_capacity(alloc, room)?;
+        Ok(Packed { bytes })
+    }
+
+    /// How many bytes it takes.
+    pub(crate) fn size(&self) -> usize {
+        self.bytes.len()
+    }
+
+    /// Takes all text away. What memory it took stays.
+    pub fn clear(&mut self)
+        ensures { self.new ≡ [] }
+    {
+        self.bytes.clear();
+    }
+
+    /// Adds characters.
+    pub fn put(&mut self, text: &[u8]) -> Result<(), AllocError>
+        requires { are_characters text.now ≡ true }
+        ensures { OnOk result (self.new ≡ self.old ++ text.now) }
+    {
+        self.bytes.extend_from_slice(text)
+    }
+
+    /// Adds bytes as lower-case hexadecimal digits, `-` for none.
+    pub fn put_hex(&mut self, bytes: &[u8]) -> Result<(), AllocError>
+        ensures { OnOk result (self.new ≡ self.old ++ hex_text bytes.now) }
+    {
+        if bytes.is_empty() {
+            return self.put(b"-");
+        }
+        let mut at = 0;
+        while at < bytes.len() {
+            at = self.put_part(bytes, at)?;
+        }
+        Ok(())
+    }
+
+    /// Adds some of these bytes as digits, from a place on, and tells the place behind them.
+    fn put_part(&mut self, bytes: &[u8], at: usize) -> Result<usize, AllocError>
+        requires { at < length bytes.now }
+        ensures text { IfOk result (λ end. self.new ≡ self.old ++ encode_lower (take (end - at) (drop at bytes.now))) }
+        ensures within { IfOk result (λ end. (at < end) × (end ≤ length bytes.now)) }
+    {
+        let zeros = zeros_at(bytes, at);
+        if zeros > 0 {
+            self.put_zeros(zeros)?;
+            Ok(at + zeros)
+        } else {
+            let count = others_at(bytes, at);
+            self.put_piece(&bytes[at..at + count])?;
+            Ok(at + count)
+        }
+    }
+
+    /// Adds so many bytes of 0 as digits.
+    fn put_zeros(&mut self, count: usize) -> Result<(), AllocError>
+        requires { (1 ≤ count) × (count ≤ 64) }
+        ensures { OnOk result (self.new ≡ self.old ++ encode_lower (replicate count 0)) }
+    {
+        self.bytes.push(191 + count as u8)?;
+        Ok(())
+    }
+
+    /// Adds at most 64 bytes as digits.
+    fn put_piece(&mut self, bytes: &[u8]) -> Result<(), AllocError>
+        requires { (1 ≤ length bytes.now) × (length bytes.now ≤ 64) }
+        ensures { OnOk result (self.new ≡ self.old ++ encode_lower bytes.now) }
+    {
+        self.bytes.reserve(1 + bytes.len())?;
+        self.bytes.push_reserved(127 + bytes.len() as u8);
+        self.bytes.extend_from_slice(bytes)
+    }
+
+    /// Adds the text of another. For want of memory nothing changes.
+    pub fn append(&mut self, more: &Packed) -> Result<(), AllocError>
+        ensures ok { OnOk result (self.new ≡ self.old ++ more.now) }
+        ensures err { OnErr result (self.new ≡ self.old) }
+    {
+        self.bytes.extend_from_slice(more.bytes.as_slice())
+    }
+
+    /// The text as it reads, to be had a part at a time.
+    pub fn spelling(&self) -> Spelling<'_>
+        ensures { result ≡ self.now }
+    {
+        Spelling::of(self.bytes.as_slice())
+    }
+}
+
+/// How many bytes there are from a place on, but for those past the most that are told of at once.
+fn most_at(bytes: &[u8], at: usize) -> usize
+    requires { at < length bytes.now }
+    ensures size { (1 ≤ result) × (result ≤ 64) }
+    ensures within { at + result ≤ length bytes.now }
+{
+    let rest = bytes.len() - at;
+    if rest < MOST { rest } else { MOST }
+}
+
+/// How many bytes of 0 there are from a place on, at most 64.
+fn zeros_at(bytes: &[u8], at: usize) -> usize
+    requires { at < length bytes.now }
+    ensures size { result ≤ 64 }
+    ensures within { at + result ≤ length bytes.now }
+    ensures zeros { take result (drop at bytes.now) ≡ replicate result 0 }
+{
+    let most = most_at(bytes, at);
+    for count in 0..most {
+        if bytes[at + count] != 0 {
+            return count;
+        }
+    }
+    most
+}
+
+/// How many bytes there are from a place on that are better told of as they are, at most 64: up to the next two of 0.
+fn others_at(bytes: &[u8], at: usize) -> usize
+    requires { at < length bytes.now }
+    ensures size { (1 ≤ result) × (result ≤ 64) }
+    ensures within { at + result ≤ length bytes.now }
+{
+    let most = most_at(bytes, at);
+    for count in 2..most {
+        if bytes[at + count] == 0 && bytes[at + count - 1] == 0 {
+            return count - 1;
+        }
+    }
+    most
+}
