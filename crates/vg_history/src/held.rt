@@ -136,22 +136,16 @@ impl<M: Machine> History<M> {
             return Err(request);
         };
         let place = self.len() as u64;
-        let first = M::by_first(&request);
-        enter(
-            &mut self.lines,
-            &mut self.whole,
-            Entry::Command {
-                client,
-                call,
-                request,
-                reply,
-            },
-        );
-        if first {
-            self.first += 1;
-        } else {
-            self.second += 1;
-        }
+        let entry = Entry::Command {
+            client,
+            call,
+            request,
+            reply,
+        };
+        let (first, second) = counts_of(&entry);
+        enter(&mut self.lines, &mut self.whole, entry);
+        self.first += first;
+        self.second += second;
         Ok((place, copy))
     }
 

@@ -1,10 +1,10 @@
 -- Packed text, a part behind another.
-use Rattle.std.proofs.Common.{◌≡◌, ◌≢◌, ℕ, zero, suc, ◌+◌, ◌-◌, ◌≤◌, ◌<◌, Bool, true, false, List, [], ◌∷◌, ◌++◌, length, take, drop, get_or, replicate, Result, Ok, Err, OnOk, refl, sym, ap, subst, ◌∙◌, arith, append_assoc, append-nil, add-one, length-append}
+use Rattle.std.proofs.Common.{◌≡◌, ℕ, zero, suc, ◌+◌, ◌-◌, ◌*◌, ◌≤◌, ◌<◌, Bool, true, false, List, [], ◌∷◌, ◌++◌, length, take, drop, get_or, replicate, Result, Ok, Err, OnOk, refl, sym, ap, subst, ◌∙◌, arith, append_assoc, append-nil, add-one, length-append}
 use Rattle.std.specs.Prelude.{nat_lt, decimal, ◌^◌, ◌%◌, if◌then◌else◌, is_ok, OnErr}
 use Rattle.std.specs.declared.alloc.AllocError.{AllocError}
 use Rattle.std.proofs.lemmas.Bool.{and_parts}
 use Rattle.std.proofs.lemmas.Fmt.{decimal_by_steps}
-use Rattle.std.proofs.lemmas.List.{length-take-le, length-drop, length-replicate, get_or-drop, take-append-drop}
+use Rattle.std.proofs.lemmas.List.{length-take-le, length-drop, length-replicate, get_or-drop, take-append-drop, take_all}
 use Rattle.std.proofs.lemmas.Grind.{replicate_next}
 use Rattle.hex.proofs.HexLemmas.{length-encode_with}
 use Rattle.std.proofs.Math.Seq.{take-add, take-suc}
@@ -62,21 +62,34 @@ put_same (Ok x) xs ys zs is = tt
 put_same (Err e) xs ys zs is = ap (unpacked 0) is
 
 -- Bytes behind one that says how many.
-pub piece_said : (n : ℕ) (xs : List ℕ) → n ≡ length xs → 1 ≤ n → n ≤ 64 → (unpacked 0 ((127 + n) ∷ xs) ≡ encode_lower xs) × (left 0 ((127 + n) ∷ xs) ≡ 0)
-piece_said n xs is some few =
-    let large : nat_lt (127 + n) 128 ≡ false = search arith in
-    let small : nat_lt (127 + n) 192 ≡ true = search arith in
-    let back : 127 + n - 127 ≡ n = omega arith in
+pub piece_said : (first : ℕ) (xs : List ℕ) → said 0 first ≡ [] → next 0 first ≡ length xs → (unpacked 0 (first ∷ xs) ≡ encode_lower xs) × (left 0 (first ∷ xs) ≡ 0)
+piece_said first xs says count =
     let all = spelled_all xs in
-    (rw (large, small, back, is) (all.0), rw (large, small, back, is) (all.1))
+    (ap (λ t. t ++ unpacked (next 0 first) xs) says ∙ ap (λ n. unpacked n xs) count ∙ all.0, ap (λ n. left n xs) count ∙ all.1)
 
 -- Bytes of 0.
-pub zeros_said : (n : ℕ) → 1 ≤ n → (unpacked 0 ((191 + n) ∷ []) ≡ encode_lower (replicate n 0)) × (left 0 ((191 + n) ∷ []) ≡ 0)
+pub zeros_said : (n : ℕ) → 1 ≤ n → (unpacked 0 ((223 + n) ∷ []) ≡ encode_lower (replicate n 0)) × (left 0 ((223 + n) ∷ []) ≡ 0)
 zeros_said n some =
-    let large : nat_lt (191 + n) 128 ≡ false = search arith in
-    let largest : nat_lt (191 + n) 192 ≡ false = search arith in
-    let back : 191 + n - 191 ≡ n = omega arith in
-    (rw (large, largest, back) (append-nil (encode_lower (replicate n 0))), rw (large, largest) refl)
+    let large : nat_lt (223 + n) 128 ≡ false = search arith in
+    let larger : nat_lt (223 + n) 192 ≡ false = search arith in
+    let largest : nat_lt (223 + n) 224 ≡ false = search arith in
+    let back : 223 + n - 223 ≡ n = omega arith in
+    (rw (large, largest, back) (append-nil (encode_lower (replicate n 0))), rw (large, larger, largest) refl)
+
+-- Bytes of 0 as digits.
+zeros_digits : (n : ℕ) → encode_lower (replicate n 0) ≡ replicate (2 * n) 48
+unfolding encode_with
+zeros_digits zero = refl
+zeros_digits (suc n) =
+    let two : 2 * suc n ≡ suc (suc (2 * n)) = omega arith in
+    rw two (ap (λ l. 48 ∷ 48 ∷ l) (zeros_digits n))
+
+pub zeros_put : (r : Result (Unit {0}) AllocError) (xs zs : List ℕ) (len end n : ℕ) → len ≡ length xs → end ≡ len + 2 * n → zs ≡ (if is_ok r then take end xs ++ replicate (end - len) 48 else xs) → OnOk r (zs ≡ xs ++ encode_lower (replicate n 0))
+zeros_put (Ok x) xs zs len end n size to is =
+    let all : take end xs ≡ xs = take_all end xs (omega (arith, size, to)) in
+    let rest : end - len ≡ 2 * n = omega (arith, to) in
+    is ∙ rw (all, rest, zeros_digits n) refl
+zeros_put (Err e) xs zs len end n size to is = tt
 
 pub snoc_characters : (xs : List ℕ) (x : ℕ) → are_characters xs ≡ true → nat_lt x 128 ≡ true → are_characters (xs ++ x ∷ []) ≡ true
 snoc_characters [] x are is = rw is refl
@@ -86,12 +99,12 @@ pub decimal_characters : (n : ℕ) → n < 2 ^ 64 → are_characters (decimal n)
 decimal_characters n fits = decimal_by_steps (λ n ds. are_characters ds ≡ true) (λ n small. search arith) (λ n ds large are. snoc_characters ds (48 + n % 10) are (search arith)) n fits
 
 -- Bytes that are spelled, put behind the one that says how many, for which there is room.
-pub piece_whole : (r : Result (Unit {0}) AllocError) (xs ps zs bs : List ℕ) (n : ℕ) → n ≡ length bs → 1 ≤ n → n ≤ 64 → ps ≡ xs ++ (127 + n) ∷ [] → zs ≡ (if is_ok r then ps ++ bs else ps) → is_ok r ≡ true → left 0 xs ≡ 0 → (unpacked 0 zs ≡ unpacked 0 xs ++ encode_lower bs) × (left 0 zs ≡ 0)
-piece_whole r xs ps zs bs n is some few pushed put ok whole =
-    let said = piece_said n bs is some few in
-    let all : zs ≡ xs ++ (127 + n) ∷ bs = put ∙ ap (λ b. if b then ps ++ bs else ps) ok ∙ ap (λ l. l ++ bs) pushed ∙ append_assoc xs ((127 + n) ∷ []) bs in (
-      ap (unpacked 0) all ∙ text_append xs ((127 + n) ∷ bs) whole ∙ ap (λ l. unpacked 0 xs ++ l) said.0,
-      subst (λ l. left 0 l ≡ 0) (sym all) (whole_append xs ((127 + n) ∷ bs) whole said.1),
+pub piece_whole : (r : Result (Unit {0}) AllocError) (xs ps zs bs : List ℕ) (first : ℕ) → said 0 first ≡ [] → next 0 first ≡ length bs → ps ≡ xs ++ first ∷ [] → zs ≡ (if is_ok r then ps ++ bs else ps) → is_ok r ≡ true → left 0 xs ≡ 0 → (unpacked 0 zs ≡ unpacked 0 xs ++ encode_lower bs) × (left 0 zs ≡ 0)
+piece_whole r xs ps zs bs first says count pushed put ok whole =
+    let piece = piece_said first bs says count in
+    let all : zs ≡ xs ++ first ∷ bs = put ∙ ap (λ b. if b then ps ++ bs else ps) ok ∙ ap (λ l. l ++ bs) pushed ∙ append_assoc xs (first ∷ []) bs in (
+      ap (unpacked 0) all ∙ text_append xs (first ∷ bs) whole ∙ ap (λ l. unpacked 0 xs ++ l) piece.0,
+      subst (λ l. left 0 l ≡ 0) (sym all) (whole_append xs (first ∷ bs) whole piece.1),
     )
 
 pub on_ok : {T E : Type 0} {P : Type 0} (r : Result T E) → P → OnOk r P
@@ -128,11 +141,20 @@ left_within zero xs whole = omega arith
 left_within (suc n) [] whole = omega (arith, whole)
 left_within (suc n) (x ∷ xs) whole = let more = left_within n xs whole in omega (arith, more)
 
+-- What a byte that tells of others says itself, and that there are some.
+some_next : (b : Bool) (x : ℕ) → nat_lt x 192 ≡ b → nat_lt x 128 ≡ false → nat_lt x 224 ≡ true → 0 < next 0 x
+some_next true x is large small = rw (large, is) (search (arith, large))
+some_next false x is large small = rw (large, is, small) (search (arith, is))
+
+pub tells : (x : ℕ) → nat_lt x 128 ≡ false → nat_lt x 224 ≡ true → (said 0 x ≡ []) × (0 < next 0 x)
+tells x large small = (rw (large, small) refl, some_next (nat_lt x 192) x refl large small)
+
 -- What is whole and not empty says something.
-some_digits : (n : ℕ) (xs : List ℕ) → left (suc n) xs ≡ 0 → 0 < length (unpacked (suc n) xs)
+some_digits : (n : ℕ) (xs : List ℕ) → 0 < n → left n xs ≡ 0 → 0 < length (unpacked n xs)
 unfolding encode_with
-some_digits n [] whole = omega (arith, whole)
-some_digits n (x ∷ xs) whole = omega arith
+some_digits zero xs some whole = absurd (omega (arith, some))
+some_digits (suc n) [] some whole = omega (arith, whole)
+some_digits (suc n) (x ∷ xs) some whole = omega arith
 
 some_zeros : (n : ℕ) (xs : List ℕ) → 0 < n → 0 < length (encode_lower (replicate n 0) ++ xs)
 some_zeros n xs some =
@@ -141,16 +163,14 @@ some_zeros n xs some =
     let count = length-replicate {A = ℕ} n 0 in
     omega (arith, size, two, count, some)
 
-some_byte : (a b : Bool) (x : ℕ) (xs : List ℕ) → nat_lt x 128 ≡ a → nat_lt x 192 ≡ b → left 0 (x ∷ xs) ≡ 0 → 0 < length (unpacked 0 (x ∷ xs))
+some_byte : (a b : Bool) (x : ℕ) (xs : List ℕ) → nat_lt x 128 ≡ a → nat_lt x 224 ≡ b → left 0 (x ∷ xs) ≡ 0 → 0 < length (unpacked 0 (x ∷ xs))
 some_byte true b x xs is also whole = rw is (omega arith)
-some_byte false true x xs is also whole =
-    let large : x - 127 ≡ suc (x - 128) = search (arith, is) in
-    rw (is, also, large) (some_digits (x - 128) xs (rw (is, also, large) at whole))
-some_byte false false x xs is also whole = rw (is, also) (some_zeros (x - 191) (unpacked 0 xs) (search (arith, also)))
+some_byte false true x xs is also whole = rw ((tells x is also).0) (some_digits (next 0 x) xs (tells x is also).1 whole)
+some_byte false false x xs is also whole = rw (is, also) (some_zeros (x - 223) _ (search (arith, also)))
 
 pub some_said : (xs : List ℕ) → left 0 xs ≡ 0 → 0 < length xs → 0 < length (unpacked 0 xs)
 some_said [] whole some = omega (arith, some)
-some_said (x ∷ xs) whole some = some_byte (nat_lt x 128) (nat_lt x 192) x xs refl refl whole
+some_said (x ∷ xs) whole some = some_byte (nat_lt x 128) (nat_lt x 224) x xs refl refl whole
 
 -- What stands behind a whole part is whole, and what is left to say.
 pub rest_whole : (n : ℕ) (xs : List ℕ) → left 0 xs ≡ 0 → left 0 (take n xs) ≡ 0 → left 0 (drop n xs) ≡ 0
@@ -160,19 +180,13 @@ pub rest_said : (n : ℕ) (xs : List ℕ) → left 0 (take n xs) ≡ 0 → unpac
 rest_said n xs part = sym (text_append (take n xs) (drop n xs) part) ∙ ap (unpacked 0) (take-append-drop n xs)
 
 -- A part in digits.
-digits_at : (x n : ℕ) (xs : List ℕ) → 127 + n ≡ x → 1 ≤ n → n ≤ 64 → n ≤ length xs → (unpacked 0 (x ∷ take n xs) ≡ encode_lower (take n xs)) × (left 0 (x ∷ take n xs) ≡ 0)
-digits_at x n xs is some few within =
-    let size : n ≡ length (take n xs) = sym (length-take-le n xs within) in
-    subst (λ y. (unpacked 0 (y ∷ take n xs) ≡ encode_lower (take n xs)) × (left 0 (y ∷ take n xs) ≡ 0)) is (piece_said n (take n xs) size some few)
-
-pub digits_part : (packed : List ℕ) (first n : ℕ) → first ≡ get_or packed 0 0 → 127 + n ≡ first → 1 ≤ n → n ≤ 64 → 0 < length packed → left 0 packed ≡ 0 → (1 + n ≤ length packed) × (unpacked 0 (take (1 + n) packed) ≡ encode_lower (take n (drop 1 packed))) × (left 0 (take (1 + n) packed) ≡ 0)
-digits_part [] first n is count large few some whole = absurd (omega (arith, some))
-digits_part (x ∷ xs) first n is count large few some whole =
-    let no : nat_lt x 128 ≡ false = search (arith, is, count, large) in
-    let yes : nat_lt x 192 ≡ true = search (arith, is, count, few) in
-    let same : x - 127 ≡ n = omega (arith, is, count) in
-    let within : n ≤ length xs = left_within n xs (rw (no, yes, same) at whole) in
-    let at = digits_at x n xs (count ∙ is) large few within in
+pub digits_part : (packed : List ℕ) (first n : ℕ) → first ≡ get_or packed 0 0 → n ≡ next 0 first → nat_lt first 128 ≡ false → nat_lt first 224 ≡ true → 0 < length packed → left 0 packed ≡ 0 → (1 + n ≤ length packed) × (unpacked 0 (take (1 + n) packed) ≡ encode_lower (take n (drop 1 packed))) × (left 0 (take (1 + n) packed) ≡ 0)
+digits_part [] first n is count large small some whole = absurd (omega (arith, some))
+digits_part (x ∷ xs) first n is count large small some whole =
+    let same : n ≡ next 0 x = count ∙ ap (next 0) is in
+    let within : n ≤ length xs = left_within n xs (ap (λ k. left k xs) same ∙ whole) in
+    let says : said 0 x ≡ [] = (tells x (ap (λ y. nat_lt y 128) (sym is) ∙ large) (ap (λ y. nat_lt y 224) (sym is) ∙ small)).0 in
+    let at = piece_said x (take n xs) says (sym same ∙ sym (length-take-le n xs within)) in
     let one : 1 + n ≡ suc n = omega arith in (
       omega (arith, within),
       subst (λ e. unpacked 0 (take e (x ∷ xs)) ≡ encode_lower (take n (drop 1 (x ∷ xs)))) (sym one) at.0,
@@ -180,7 +194,7 @@ digits_part (x ∷ xs) first n is count large few some whole =
     )
 
 -- A part of bytes of 0.
-pub zeros_part : (packed : List ℕ) (first n : ℕ) → first ≡ get_or packed 0 0 → 191 + n ≡ first → 1 ≤ n → 0 < length packed → (unpacked 0 (take 1 packed) ≡ encode_lower (replicate n 0)) × (left 0 (take 1 packed) ≡ 0)
+pub zeros_part : (packed : List ℕ) (first n : ℕ) → first ≡ get_or packed 0 0 → 223 + n ≡ first → 1 ≤ n → 0 < length packed → (unpacked 0 (take 1 packed) ≡ encode_lower (replicate n 0)) × (left 0 (take 1 packed) ≡ 0)
 zeros_part [] first n is count some size = absurd (omega (arith, size))
 zeros_part (x ∷ xs) first n is count some size =
     subst (λ y. (unpacked 0 (y ∷ []) ≡ encode_lower (replicate n 0)) × (left 0 (y ∷ []) ≡ 0)) (count ∙ is) (zeros_said n some)

@@ -6,6 +6,7 @@
 
 mod digits;
 mod log;
+mod marks;
 mod packed;
 mod spelling;
 mod words;

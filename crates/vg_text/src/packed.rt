@@ -2,19 +2,27 @@
 
 ghost use Rattle.std.specs.Prelude.{◌≡◌, ◌≤◌, ◌<◌, ◌+◌, ◌-◌, ◌++◌, [], true, length, take, drop, replicate, IfOk, OnOk, OnErr};
 ghost use Rattle.hex.specs.Hex.{encode_lower};
+ghost use Rattle.vg_text.specs.Packing.{said, next};
 ghost use Rattle.vg_text.specs.Text.{are_characters, hex_text};
 
+use crate::marks::tell;
 use crate::spelling::Spelling;
 use std::alloc::{AllocError, Global};
 use std::marker::Model;
 
-/// The most bytes that are told of at once.
-const MOST: usize = 64;
+/// The most bytes of 0 that one byte stands for.
+const ZEROS: usize = 32;
+
+/// So many bytes of 0 are told of as such where more bytes stand behind them, and fewer are not.
+const SOME_ZEROS: usize = 3;
+
+/// Up to how many bytes are searched for some of 0 among them.
+const SHORT: usize = 256;
 
 /// Text, held packed. A clause sees it as the list of its characters.
 ///
-/// A byte below 128 is a character. One from 128 says how many bytes follow that are spelled as two digits each, 127 less, and
-/// one from 192 stands for so many bytes of 0, 191 less.
+/// A byte below 128 is a character. One from 128 says how many bytes follow that are spelled as two digits each: 127 less from
+/// 128 to 191, and 64 times 191 less from 192 to 223. One from 224 stands for so many bytes of 0, 223 less.
 #[derive(Drop)]
 pub struct Packed {
     bytes: Vec<u8>,
@@ -90,32 +98,33 @@ impl Packed {
         ensures within { IfOk result (λ end. (at < end) × (end ≤ length bytes.now)) }
     {
         let zeros = zeros_at(bytes, at);
-        if zeros > 0 {
+        if zeros >= SOME_ZEROS || at + zeros == bytes.len() {
             self.put_zeros(zeros)?;
             Ok(at + zeros)
         } else {
-            let count = others_at(bytes, at);
-            self.put_piece(&bytes[at..at + count])?;
+            let (first, count) = tell(others_at(bytes, at));
+            self.put_piece(first, &bytes[at..at + count])?;
             Ok(at + count)
         }
     }
 
     /// Adds so many bytes of 0 as digits.
     fn put_zeros(&mut self, count: usize) -> Result<(), AllocError>
-        requires { (1 ≤ count) × (count ≤ 64) }
+        requires { (1 ≤ count) × (count ≤ 32) }
         ensures { OnOk result (self.new ≡ self.old ++ encode_lower (replicate count 0)) }
     {
-        self.bytes.push(191 + count as u8)?;
+        self.bytes.push(223 + count as u8)?;
         Ok(())
     }
 
-    /// Adds at most 64 bytes as digits.
-    fn put_piece(&mut self, bytes: &[u8]) -> Result<(), AllocError>
-        requires { (1 ≤ length bytes.now) × (length bytes.now ≤ 64) }
+    /// Adds bytes as digits, behind the byte that tells of them.
+    fn put_piece(&mut self, first: u8, bytes: &[u8]) -> Result<(), AllocError>
+        requires says { said 0 first ≡ [] }
+        requires next { next 0 first ≡ length bytes.now }
         ensures { OnOk result (self.new ≡ self.old ++ encode_lower bytes.now) }
     {
         self.bytes.reserve(1 + bytes.len())?;
-        self.bytes.push_reserved(127 + bytes.len() as u8);
+        self.bytes.push_reserved(first);
         self.bytes.extend_from_slice(bytes)
     }
 
@@ -135,24 +144,14 @@ impl Packed {
     }
 }
 
-/// How many bytes there are from a place on, but for those past the most that are told of at once.
-fn most_at(bytes: &[u8], at: usize) -> usize
-    requires { at < length bytes.now }
-    ensures size { (1 ≤ result) × (result ≤ 64) }
-    ensures within { at + result ≤ length bytes.now }
-{
-    let rest = bytes.len() - at;
-    if rest < MOST { rest } else { MOST }
-}
-
-/// How many bytes of 0 there are from a place on, at most 64.
+/// How many bytes of 0 there are from a place on, at most 32.
 fn zeros_at(bytes: &[u8], at: usize) -> usize
     requires { at < length bytes.now }
-    ensures size { result ≤ 64 }
+    ensures size { result ≤ 32 }
     ensures within { at + result ≤ length bytes.now }
     ensures zeros { take result (drop at bytes.now) ≡ replicate result 0 }
 {
-    let most = most_at(bytes, at);
+    let most = (bytes.len() - at).min(ZEROS);
     for count in 0..most {
         if bytes[at + count] != 0 {
             return count;
@@ -161,16 +160,20 @@ fn zeros_at(bytes: &[u8], at: usize) -> usize
     most
 }
 
-/// How many bytes there are from a place on that are better told of as they are, at most 64: up to the next two of 0.
+/// How many bytes there are from a place on that are better told of as they are: up to the next three of 0, where there are few.
 fn others_at(bytes: &[u8], at: usize) -> usize
     requires { at < length bytes.now }
-    ensures size { (1 ≤ result) × (result ≤ 64) }
+    ensures some { 1 ≤ result }
     ensures within { at + result ≤ length bytes.now }
 {
-    let most = most_at(bytes, at);
-    for count in 2..most {
-        if bytes[at + count] == 0 && bytes[at + count - 1] == 0 {
-            return count - 1;
+    let most = bytes.len() - at;
+    if most <= SHORT {
+        let mut zeros = 0;
+        for count in 0..most {
+            zeros = if bytes[at + count] == 0 { zeros + 1 } else { 0 };
+            if zeros == SOME_ZEROS && count >= SOME_ZEROS {
+                return count + 1 - SOME_ZEROS;
+            }
         }
     }
     most

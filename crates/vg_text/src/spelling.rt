@@ -6,6 +6,7 @@ ghost use Rattle.vg_text.specs.Text.{are_characters};
 ghost use Rattle.vg_text.specs.Packing.{left, unpacked};
 
 use crate::digits::spell;
+use crate::marks::told;
 use std::alloc::AllocError;
 use std::marker::Model;
 
@@ -46,8 +47,8 @@ impl<'a> Spelling<'a> {
         self.rest.is_empty()
     }
 
-    /// Moves the next of the text to the end of `out`: up to 4,096 characters, or up to 64 bytes as digits. For want of memory
-    /// nothing is read.
+    /// Moves the next of the text to the end of `out`: up to 4,096 characters, two of them for each byte in digits. For want of
+    /// memory nothing is read.
     pub fn put_next(&mut self, out: &mut Vec<u8>) -> Result<(), AllocError>
         requires { 0 < length self.old }
         ensures moved { OnOk result (out.new.items ++ self.new ≡ out.old.items ++ self.old) }
@@ -72,23 +73,14 @@ fn put_part(packed: &[u8], out: &mut Vec<u8>) -> Result<usize, AllocError>
         let end = characters(packed);
         out.extend_from_slice(&packed[..end])?;
         Ok(end)
-    } else if first < 192 {
-        let count = first as usize - 127;
+    } else if first < 224 {
+        let count = told(first);
         put_digits(out, part_of(packed, count))?;
         Ok(1 + count)
     } else {
-        put_digits(out, zeros(first as usize - 191))?;
+        put_zeros(out, first as usize - 223)?;
         Ok(1)
     }
-}
-
-/// So many bytes of 0.
-fn zeros(count: usize) -> &'static [u8]
-    requires { count ≤ 64 }
-    ensures { result.now ≡ replicate count 0 }
-{
-    static ZEROS: [u8; 64] = [0; 64];
-    &ZEROS[..count]
 }
 
 /// What stands behind the first of these bytes, so many.
@@ -130,4 +122,13 @@ fn put_digits(out: &mut Vec<u8>, bytes: &[u8]) -> Result<(), AllocError>
     out.resize(at.saturating_add(2 * bytes.len()), 0)?;
     spell(bytes, &mut out.as_mut_slice()[at..]);
     Ok(())
+}
+
+/// Adds the digits of so many bytes of 0.
+fn put_zeros(out: &mut Vec<u8>, count: usize) -> Result<(), AllocError>
+    requires { count ≤ 32 }
+    ensures { OnOk result (out.new.items ≡ out.old.items ++ encode_lower (replicate count 0)) }
+{
+    let at = out.len();
+    out.resize(at.saturating_add(2 * count), b'0')
 }

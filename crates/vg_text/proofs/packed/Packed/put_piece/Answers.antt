@@ -1,4 +1,4 @@
-use Rattle.std.proofs.Common.{◌≡◌, ◌+◌, ◌++◌, ◌∷◌, [], List, ℕ, length, refl, ap, ◌∙◌, arith}
+use Rattle.std.proofs.Common.{◌≡◌, ◌++◌, ◌∷◌, [], List, ℕ, ap, ◌∙◌, arith}
 use Rattle.hex.specs.Hex.{encode_lower}
 use Rattle.vg_text.specs.Packing.{left, unpacked}
 use Rattle.vg_text.proofs.PackingLemmas.{on_ok, piece_whole}
@@ -9,8 +9,8 @@ spelled c =
     let room = c.in_ok-reserve.ensures.ok in
     let kept = c.push_reserved.ensures.capacity in
     let more = c.push_reserved.ensures.len in
-    piece_whole c.extend_from_slice.result c.self.inside.bytes.items c.push_reserved.new.self.items c.extend_from_slice.new.self.items c.args.bytes.now (length c.args.bytes.now) refl c.requires.0 c.requires.1
-    (c.push_reserved.ensures.items ∙ ap (λ (l : List ℕ). l ++ (127 + length c.args.bytes.now) ∷ []) c.in_ok-reserve.ensures.items) c.extend_from_slice.ensures.items
+    piece_whole c.extend_from_slice.result c.self.inside.bytes.items c.push_reserved.new.self.items c.extend_from_slice.new.self.items c.args.bytes.now c.args.first c.requires.says c.requires.next
+    (c.push_reserved.ensures.items ∙ ap (λ (l : List ℕ). l ++ c.args.first ∷ []) c.in_ok-reserve.ensures.items) c.extend_from_slice.ensures.items
     (c.extend_from_slice.ensures.succeeds (omega (arith, room, kept, more))) c.self.invariant
 
 pub invariant_of-self-2 : goal.invariant_of-self-2

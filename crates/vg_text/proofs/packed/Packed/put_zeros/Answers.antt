@@ -6,10 +6,10 @@ use Rattle.vg_text.proofs.packed.Packed.put_zeros.Goals as goal
 pub invariant_of-self-2 : goal.invariant_of-self-2
 invariant_of-self-2 c =
     subst (λ (l : List ℕ). left 0 l ≡ 0) (sym c.in_ok-push.ensures.items)
-    (whole_append c.self.inside.bytes.items ((191 + c.args.count) ∷ []) c.self.invariant (zeros_said c.args.count c.requires.0).1)
+    (whole_append c.self.inside.bytes.items ((223 + c.args.count) ∷ []) c.self.invariant (zeros_said c.args.count c.requires.0).1)
 
 pub returns : goal.returns
 returns c =
     rw (← c.self.view_is)
-    (ap (unpacked 0) c.in_ok-push.ensures.items ∙ text_append c.self.inside.bytes.items ((191 + c.args.count) ∷ []) c.self.invariant
+    (ap (unpacked 0) c.in_ok-push.ensures.items ∙ text_append c.self.inside.bytes.items ((223 + c.args.count) ∷ []) c.self.invariant
     ∙ ap (λ (l : List ℕ). unpacked 0 c.self.inside.bytes.items ++ l) (zeros_said c.args.count c.requires.0).0)
