@@ -1,12 +1,10 @@
 -- What the code answers of a word, beside what is so.
-use Rattle.std.specs.Prelude.{◌≡◌, ℕ, ◌+◌, ◌*◌, ◌%◌, [], ◌∷◌, if◌then◌else◌, Bool, true, false, List, Result, Ok, Err}
+use Rattle.std.specs.Prelude.{◌≡◌, ℕ, Bool, true, false, List, Result, Ok, Err}
 use Rattle.std.specs.Bool.{⊤}
-use Rattle.std.specs.Char.{digit_value}
 use Rattle.vg_words.specs.declared.kind.Kind.{Kind}
 use Rattle.vg_words.specs.declared.kind.Kind.TheVariants.{Number}
 use Rattle.vg_words.specs.declared.kind.Stop.{Stop}
 use Rattle.vg_words.specs.declared.kind.Stop.TheVariants.{Memory, Fault}
-use Rattle.vg_words.specs.Words.{is_hex_digit}
 
 -- A test was passed, or the answer is a fault of this kind.
 abbrev pub Passes : {X : Type 0} → Bool → Kind → Result X Kind → Type 0
@@ -23,12 +21,3 @@ abbrev pub Decodes : Bool → List ℕ → Result (List ℕ) Stop → Type 0
 Decodes test bytes (Ok read) = (test ≡ true) × (read ≡ bytes)
 Decodes test bytes (Err Memory) = ⊤
 Decodes test bytes (Err (Fault kind)) = (kind ≡ Number) × (test ≡ false)
-
--- What a digit says, or 16; and the bytes of pairs of digits, whatever they are.
-abbrev pub digit_or_16 : ℕ → ℕ
-digit_or_16 b = if is_hex_digit b then digit_value b else 16
-
-unfoldable pub decoded : List ℕ → List ℕ
-decoded [] = []
-decoded (digit ∷ []) = []
-decoded (high ∷ low ∷ more) = (digit_or_16 high % 16 * 16 + digit_or_16 low % 16) ∷ decoded more

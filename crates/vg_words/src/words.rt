@@ -3,8 +3,8 @@
 ghost use Rattle.std.specs.List.{list_all, before_first, after_first, position_or_len};
 ghost use Rattle.std.specs.Int.{is_in_range};
 ghost use Rattle.std.specs.Char.{is_ascii_digit, is_ascii_alphanumeric};
-ghost use Rattle.std.specs.Prelude.{◌≡◌, ◌==◌, ◌+◌, ◌-◌, ◌*◌, ◌^◌, ◌<◌, ◌≤◌, ◌-ℤ◌, ◌&&◌, pos, min, true, false, length, map, bytes_eq, IfOk, OnOk, MatchResult};
-ghost use Rattle.vg_words.specs.Code.{Passes, Yields, Decodes, digit_or_16, decoded};
+ghost use Rattle.std.specs.Prelude.{◌≡◌, ◌==◌, [], ◌∷◌, ◌+◌, ◌-◌, ◌*◌, ◌^◌, ◌<◌, ◌≤◌, ◌-ℤ◌, ◌&&◌, pos, min, true, false, length, map, bytes_eq, IfOk, OnOk, MatchResult};
+ghost use Rattle.vg_words.specs.Code.{Passes, Yields, Decodes};
 ghost use Rattle.vg_words.specs.Words.{is_text, words_of, is_number, value, is_within, is_signed, signed_value, is_position, is_hex, is_hex_digit, hex_bytes, is_hex_or_none, bytes_or_none, is_name};
 
 use crate::kind::{Kind, Stop};
@@ -142,55 +142,58 @@ fn below_zero(digits: &[u8]) -> Result<i32, Kind>
 }
 
 /// The bytes of HEX: an even number of digits 0 to 9 and a to f, of which the first of two is the byte's upper half;
-/// of other words `Number`. The digits are looked at once.
-#[tactic(auto, using(crate::proofs::HexDigits::decoded_is))]
+/// of other words `Number`.
 pub fn hex_bytes(alloc: Global, word: &[u8]) -> Result<Seq<u8>, Stop>
     ensures { Decodes (is_hex word.now) (hex_bytes word.now) result }
 {
-    if word.len() % 2 != 0 {
+    if word.len() % 2 != 0 || !are_hex_digits(word) {
         return Err(Stop::Fault(Kind::Number));
     }
     let mut bytes = vec![in alloc; 0u8; word.len() / 2]?;
-    if !put_bytes(word, &mut bytes) {
-        return Err(Stop::Fault(Kind::Number));
-    }
+    decode(word, bytes.as_mut_slice());
     Ok(Seq::from_vec(bytes))
 }
 
-fn put_bytes(word: &[u8], bytes: &mut Vec<u8>) -> bool
-    requires { length word.now ≡ 2 * length bytes.old.items }
-    ensures all { result ≡ list_all is_hex_digit word.now }
-    ensures bytes { bytes.new.items ≡ decoded word.now }
-{
-    decode(word, bytes.as_mut_slice())
-}
-
-/// Writes the bytes of pairs of digits. Whether all were digits.
-fn decode(word: &[u8], bytes: &mut [u8]) -> bool
-    requires { length word.now ≡ 2 * length bytes.old }
-    ensures all { result ≡ list_all is_hex_digit word.now }
-    ensures bytes { bytes.new ≡ decoded word.now }
+fn are_hex_digits(word: &[u8]) -> bool
+    ensures { result ≡ list_all is_hex_digit word.now }
 {
     let mut all = true;
-    for i in 0..bytes.len() {
-        let high = digit(word[2 * i]);
-        let low = digit(word[2 * i + 1]);
-        all &= high < 16;
-        all &= low < 16;
-        bytes[i] = high % 16 * 16 + low % 16;
+    for b in word {
+        // As in `are_printable`, many bytes at once.
+        all &= is_hex_digit(*b);
     }
     all
 }
 
-/// What a digit says, or 16.
-fn digit(b: u8) -> u8
-    ensures { result ≡ digit_or_16 b }
+#[inline(always)]
+fn is_hex_digit(b: u8) -> bool
+    ensures { result ≡ is_hex_digit b }
 {
-    match b {
-        b'0'..=b'9' => b - b'0',
-        b'a'..=b'f' => b - b'a' + 10,
-        _ => 16,
+    (b >= b'0') & (b <= b'9') | (b >= b'a') & (b <= b'f')
+}
+
+/// Writes the bytes of pairs of digits. Each pair is read as one number, so that LLVM decodes many at once.
+fn decode(word: &[u8], bytes: &mut [u8])
+    requires size { length word.now ≡ 2 * length bytes.old }
+    requires digits { list_all is_hex_digit word.now ≡ true }
+    ensures { bytes.new ≡ hex_bytes word.now }
+{
+    let (pairs, _) = word.as_chunks::<2>();
+    for i in 0..bytes.len() {
+        bytes[i] = byte_of(pairs[i]);
     }
+}
+
+/// The byte of two digits.
+#[inline(always)]
+fn byte_of(pair: [u8; 2]) -> u8
+    requires { list_all is_hex_digit pair ≡ true }
+    ensures { hex_bytes pair ≡ result ∷ [] }
+{
+    let both = u16::from_le_bytes(pair);
+    // A digit's lowest four bits, and 9 more for a letter: what the first says stands in the lower half.
+    let digits = (both & 0x0f0f) + 9 * (both >> 6 & 0x0101);
+    (digits % 16 * 16 + digits / 256) as u8
 }
 
 /// Whether a word is a name: a letter, and at most 15 letters or digits behind it.
