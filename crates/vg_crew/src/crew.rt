@@ -60,8 +60,8 @@ pub fn each<D: Drop + Send, J: Job<D> + Send, R: Threads + Wait + Sync>(
     map_vec(rt, jobs, &run)
 }
 
-/// Runs both lots of jobs, the second on this thread and on others, and raises the flag once the first are done.
-/// Where the first get no thread beside this one, no job runs, and that is answered as want of memory.
+/// Runs both lots of jobs, the first on this thread and on others, the second on others, and raises the flag once the first are
+/// done. Where the second get no thread beside this one, no job runs, and that is answered as want of memory.
 pub fn all<
     D: Drop + Send,
     E: Drop + Send,
@@ -79,20 +79,17 @@ pub fn all<
             requires { IsSync R.row × IsSend D.row × IsSend A.row × IsSend E.row × IsSend W.row × All A.is_ready first.items × All W.is_ready second.items }
             ensures { IfOk result (λ r. AllGive A.gives first.items r.0.items × AllGive W.gives second.items r.1.items) }
         {
-            let jobs = Snapshot::of(&first);
+            let jobs = Snapshot::of(&second);
             let child = scope.spawn_with(
                 LotGives { jobs },
-                move || -> Result<Vec<D>, AllocError>
-                    requires { IsSync R.row × IsSend D.row × IsSend A.row × All A.is_ready first.items }
-                    ensures { IfOk result (λ v. AllGive A.gives first.items v.items) }
-                {
-                    let done = each(rt, first);
-                    stop.store(true, Ordering::SeqCst);
-                    done
-                },
+                move || -> Result<Vec<E>, AllocError>
+                    requires { IsSync R.row × IsSend E.row × IsSend W.row × All W.is_ready second.items }
+                    ensures { IfOk result (λ v. AllGive W.gives second.items v.items) }
+                { each_last_here(rt, second) },
             )?;
-            let served = each_last_here(rt, second);
-            let done = child.join(rt);
+            let done = each(rt, first);
+            stop.store(true, Ordering::SeqCst);
+            let served = child.join(rt);
             Ok((done?, served?))
         },
     )
