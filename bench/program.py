@@ -15,8 +15,9 @@ Run = collections.namedtuple("Run", "seconds processor memory status")
 
 
 def built():
-    """The program, after bin/vgpu has built it. Without words it ends with its usage, status 2."""
-    ran = subprocess.run([HERE / "bin" / "vgpu"], stdin=subprocess.DEVNULL, capture_output=True, text=True)
+    """The proved program, after bin/vgpu has built it. Without words it ends with its usage, status 2."""
+    proved = {**os.environ, "VGPU_PROVED": "1"}
+    ran = subprocess.run([HERE / "bin" / "vgpu"], stdin=subprocess.DEVNULL, capture_output=True, text=True, env=proved)
     if ran.returncode != 2:
         sys.exit(f"bin/vgpu isn't built: status {ran.returncode}\n{ran.stderr[-4000:]}")
     return HERE / "crates" / "vgpu" / "out" / "vgpu"

@@ -22,15 +22,15 @@ use Rattle.vg_book.proofs.Updates.{has_of_without, has_without, times_without}
 same_or_not : (a b : ℕ) → (a ≡ b) ⊎ (a ≢ b)
 same_or_not a b = dite (ℕ_discrete a b) (λ e. inl e) (λ ne. inr ne)
 
-module _ {M S A R Q P H : Type 0} (g : Ghosts M S A R Q P H) where
+module _ {M S A R Q P H W : Type 0} (g : Ghosts M S A R Q P H W) where
   abbrev E : Type 0
-  E = Entry M S A R Q P H
+  E = Entry M S A R Q P H W
 
   abbrev Acc : Type 0
-  Acc = Account M S A R Q P H
+  Acc = Account M S A R Q P H W
 
   abbrev Ord : Type 0
-  Ord = Order M S A R Q P H
+  Ord = Order M S A R Q P H W
 
   -- the entry is another client's, or the command of an order that is out
   abbrev pub Fits : E → Acc → Type 0
@@ -120,7 +120,7 @@ module _ {M S A R Q P H : Type 0} (g : Ghosts M S A R Q P H) where
   }
 
   -- the account after an order of it came back with its entry
-  pub settles : (log : List E) (a : Acc) (f : Finished M S A R Q P H) → Accounted g log a → EachOnce log → Has a.out f.order → f.order.client ≡ a.number → Has log (entry_of f) → Accounted g log (settled a f)
+  pub settles : (log : List E) (a : Acc) (f : Finished M S A R Q P H W) → Accounted g log a → EachOnce log → Has a.out f.order → f.order.client ≡ a.number → Has log (entry_of f) → Accounted g log (settled a f)
   settles log a f is once out own stands = let e : E = entry_of f in record {
     number = is.number;
     mine = λ x h. ⊎_elim (λ old. is.mine x old) (λ (same : e ≡ x). subst (λ (y : E). Has log y × (client_of y ≡ a.number)) same (stands, own)) (has_snoc a.mine e x h);

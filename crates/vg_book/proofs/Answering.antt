@@ -26,7 +26,7 @@ use Rattle.vg_book.specs.declared.board.View.{View}
 use Rattle.atomic_table.specs.Table.{put_back, rest}
 use Rattle.std.proofs.Common.{Option}
 use Rattle.vg_book.specs.Views.{Carries, ran, finished, counted_up, entries_in}
-use Rattle.vg_book.specs.Kept.{Plan, LaneOk, PassOk, DoneOk, Knows, Kept, Shown, IsCarried, IsKeptBy}
+use Rattle.vg_book.specs.Kept.{Plan, LaneOk, PassOk, DoneOk, Knows, Kept, Shown, IsCarried, IsKeptBy, lane_jobs}
 use Rattle.vg_book.specs.Tells as tells
 use Rattle.vg_book.proofs.Updates.{true_not_false, set_at}
 use Rattle.vg_book.proofs.Accounts.{Fits}
@@ -36,24 +36,24 @@ use Rattle.vg_book.proofs.Turns.{begun_is, gives_back, grown_plan, grow_others, 
 same_or_not : (a b : ℕ) → (a ≡ b) ⊎ (a ≢ b)
 same_or_not a b = dite (ℕ_discrete a b) (λ e. inl e) (λ ne. inr ne)
 
-module _ {M S A R Q P H : Type 0} (g : Ghosts M S A R Q P H) (first : S) where
+module _ {M S A R Q P H W : Type 0} (g : Ghosts M S A R Q P H W) (first : S) where
   abbrev E : Type 0
-  E = Entry M S A R Q P H
+  E = Entry M S A R Q P H W
 
   abbrev V : Type 0
-  V = View M S A R Q P H
+  V = View M S A R Q P H W
 
   abbrev Ord : Type 0
-  Ord = Order M S A R Q P H
+  Ord = Order M S A R Q P H W
 
   abbrev Fin : Type 0
-  Fin = Finished M S A R Q P H
+  Fin = Finished M S A R Q P H W
 
   abbrev Acc : Type 0
-  Acc = Account M S A R Q P H
+  Acc = Account M S A R Q P H W
 
   abbrev Sl : Type 0
-  Sl = Slot M S A R Q P H
+  Sl = Slot M S A R Q P H W
 
   abbrev St : Type 0
   St = State Sl V
@@ -62,8 +62,9 @@ module _ {M S A R Q P H : Type 0} (g : Ghosts M S A R Q P H) (first : S) where
   Rule = Kept g first
 
   -- a lane's seat that has the turn and a pass, whose request is the lane's next
-  module _ (s : St) (r : Rule s) (id : ℕ) (v : V) (l : Counted) (o : Ord) (p : P) (c : Core M S A R Q P H) (at : get_elem? s.views id ≡ some v) (holding : v.holding ≡ true)
-      (account : v.accounts ≡ []) (lanes : v.lanes ≡ l ∷ []) (passes : v.passes ≡ o ∷ []) (dones : v.dones ≡ []) (root : v.is_root ≡ false) (tag : g.tagged o.request ≡ (l.lane, l.count + 1)) where
+  module _ (s : St) (r : Rule s) (id : ℕ) (v : V) (l : Counted) (o : Ord) (p : P) (c : Core M S A R Q P H W) (at : get_elem? s.views id ≡ some v) (holding : v.holding ≡ true)
+      (account : v.accounts ≡ []) (lanes : v.lanes ≡ l ∷ []) (passes : v.passes ≡ o ∷ []) (dones : v.dones ≡ []) (root : v.is_root ≡ false) (tag : g.tagged o.request ≡ (l.lane, l.count + 1))
+      (own_lent : lane_jobs g l.lane (g.lent c.machine) ≡ []) (else_lent : (k : ℕ) → k ≢ l.lane → lane_jobs g k (g.lent c.machine) ≡ lane_jobs g k r.plan.lent) where
     abbrev command : E
     command = Command o.client o.call o.request p
 
@@ -71,10 +72,10 @@ module _ {M S A R Q P H : Type 0} (g : Ghosts M S A R Q P H) (first : S) where
     done = record { order = o; reply = p; place = length r.plan.log }
 
     abbrev run_view : V
-    run_view = record v { seen = r.plan.log ++ command ∷ []; holding = false; lanes = counted_up l ∷ []; passes = []; dones = done ∷ [] }
+    run_view = record v { seen = r.plan.log ++ command ∷ []; holding = false; outs = []; lanes = counted_up l ∷ []; passes = []; dones = done ∷ [] }
 
     abbrev run_plan : Plan g
-    run_plan = grown_plan g first s r id v run_view command c at holding
+    run_plan = grown_plan g first s r id v run_view command (g.lent c.machine) c at holding
 
     has_pass : Has v.passes o
     has_pass = subst (λ (os : List Ord). Has os o) (sym passes) (inl refl)
@@ -111,6 +112,7 @@ module _ {M S A R Q P H : Type 0} (g : Ghosts M S A R Q P H) (first : S) where
       root = λ e. absurd (true_not_false (sym e ∙ root));
       accounts = λ b h. absurd (subst (λ (as' : List Acc). Has as' b) account h);
       lanes = λ x h. ⊎_elim (λ (e : counted_up l ≡ x). subst (λ (y : Counted). LaneOk g run_plan id y) e (record { owned = lane_ok.owned; within = lane_ok.within; counts = own_ordinals })) (λ y. absurd y) h;
+      outs = λ x h. ⊎_elim (λ (e : counted_up l ≡ x). subst (λ (y : Counted). lane_jobs g y.lane (g.lent c.machine) ≡ []) e own_lent) (λ y. absurd y) h;
       passes = λ x h. absurd h;
       dones = λ f h. ⊎_elim (λ (e : done ≡ f). subst (λ (y : Fin). DoneOk g run_plan id y) e (record { owned = pass_ok.owned; stands = at_last log command (length log) refl })) (λ y. absurd y) h;
     }
@@ -121,11 +123,16 @@ module _ {M S A R Q P H : Type 0} (g : Ghosts M S A R Q P H) (first : S) where
     fits_any : (j : ℕ) (u : V) → get_elem? s.views j ≡ some u → (a : Acc) → Has u.accounts a → Fits g command a
     fits_any j u there a h = ⊎_elim (λ (e : o.client ≡ a.number). inr (o, r.linked o (id, v, at, inl has_pass) a (j, u, there, h) (sym e), (p, refl))) (λ ne. inl ne) (same_or_not o.client a.number)
 
+    -- another seat's lane is another lane
+    lane_else : (j : ℕ) (u : V) → j ≢ id → get_elem? s.views j ≡ some u → (x : Counted) → Has u.lanes x → x.lane ≢ l.lane
+    lane_else j u ne there x h e = ne (sym ((r.each j u there).lanes x h).owned ∙ (ap r.plan.lane_owner e ∙ lane_ok.owned))
+
     run_others : (j : ℕ) (u : V) → j ≢ id → get_elem? s.views j ≡ some u → Knows g first run_plan j u
-    run_others = grow_others g first s r id v run_view command c at holding
+    run_others = grow_others g first s r id v run_view command (g.lent c.machine) c at holding
         (λ j u ne there a h. fits_any j u there a h)
-        (λ j u ne there x h. else_ordinals x.lane (λ (e : x.lane ≡ l.lane). ne (sym ((r.each j u there).lanes x h).owned ∙ (ap r.plan.lane_owner e ∙ lane_ok.owned))))
+        (λ j u ne there x h. else_ordinals x.lane (lane_else j u ne there x h))
         (λ j u ne there x h client call. ne (sym ((r.each j u there).passes x h).owned ∙ ((λ i. r.plan.home ((sym client) i) ((sym call) i)) ∙ pass_ok.owned)))
+        (λ j u ne there x h. else_lent x.lane (lane_else j u ne there x h))
 
     run_linked : Linked g first (set s.views id run_view)
     run_linked x carried b k same =
@@ -148,24 +155,28 @@ module _ {M S A R Q P H : Type 0} (g : Ghosts M S A R Q P H) (first : S) where
     run_no_lanes : (k : ℕ) → r.plan.lanes_made ≤ k → ordinals g k (r.plan.log ++ command ∷ []) ≡ []
     run_no_lanes k h = let b = lane_ok.within in else_ordinals k (λ (e : k ≡ l.lane). omega arith) ∙ r.no_lanes k h
 
+    run_no_lent : (k : ℕ) → r.plan.lanes_made ≤ k → lane_jobs g k (g.lent c.machine) ≡ []
+    run_no_lent k h = let b = lane_ok.within in else_lent k (λ (e : k ≡ l.lane). omega arith) ∙ r.no_lent k h
+
     run_kept : (ws : List ℕ) → ws ≡ 0 ∷ [] → IsNext g first (Some first) r.plan.log command c → Rule record { words = ws; homes = set s.homes 0 (some (Held c)); views = set s.views id run_view }
-    run_kept ws words next = gives_back g first s r id v run_view (r.plan.log ++ command ∷ []) c at holding ws words (next_core g first (Some first) r.plan.log command c next) (entry_reply g first first r.plan.log command r.agrees (next.reply first refl))
+    run_kept ws words next = gives_back g first s r id v run_view (r.plan.log ++ command ∷ []) (g.lent c.machine) c at holding ws words (next_core g first (Some first) r.plan.log command c next) refl run_no_lent (entry_reply g first first r.plan.log command r.agrees (next.reply first refl))
         run_clients run_no_lanes run_ordered run_once run_own run_others run_linked
 
     run_shown : IsNext g first (Some first) r.plan.log command c → Shown g run_view (r.plan.log ++ command ∷ [])
     run_shown next = shown_by g first run_plan (set s.views id run_view) id run_view (entry_reply g first first r.plan.log command r.agrees (next.reply first refl)) run_ordered run_once run_clients (set_at s.views id v run_view at) run_own run_linked
 
-  pub answers : (slots id : ℕ) (me : Me Sl V) (l : Counted) (o : Ord) (p : P) (c : Core M S A R Q P H) → me.1 ≡ (0, Held c) ∷ [] → me.0.holding ≡ true → ((y : S) × (me.0.start ≡ Some y))
+  pub answers : (slots id : ℕ) (me : Me Sl V) (l : Counted) (o : Ord) (p : P) (c : Core M S A R Q P H W) → me.1 ≡ (0, Held c) ∷ [] → me.0.holding ≡ true → ((y : S) × (me.0.start ≡ Some y))
       → me.0.accounts ≡ [] → me.0.lanes ≡ l ∷ [] → me.0.passes ≡ o ∷ [] → me.0.dones ≡ [] → me.0.is_root ≡ false → g.tagged o.request ≡ (l.lane, l.count + 1) → IsNext g first me.0.start me.0.seen (Command o.client o.call o.request p) c
-      → Allows Rule slots id me 0 (λ _. 0) (λ _. tells.Answers g (step slots 0 0 0 none) me 0)
-  answers slots id me l o p c hand holding begun account lanes passes dones root tag next s r deep at small = let v = me.0 in let k = r.each id v at in let t = k.turn holding in
+      → lane_jobs g l.lane (g.lent c.machine) ≡ [] → ((k : ℕ) → k ≢ l.lane → lane_jobs g k (g.lent c.machine) ≡ lane_jobs g k me.0.outs) → Allows Rule slots id me 0 (λ _. 0) (λ _. tells.Answers g (step slots 0 0 0 none) me 0)
+  answers slots id me l o p c hand holding begun account lanes passes dones root tag next own_lent else_outs s r deep at small = let v = me.0 in let k = r.each id v at in let t = k.turn holding in
+      let else_lent : (n : ℕ) → n ≢ l.lane → lane_jobs g n (g.lent c.machine) ≡ lane_jobs g n r.plan.lent = λ n ne. else_outs n ne ∙ ap (lane_jobs g n) t.3 in
       let e : E = Command o.client o.call o.request p in
       let start = begun_is g first r.plan id v k begun in
       let next' : IsNext g first (Some first) r.plan.log e c = subst (λ (y : List E). IsNext g first (Some first) y e c) t.2 (subst (λ (y : Option S). IsNext g first y v.seen e c) start next) in
       let ws : List ℕ = set s.words 0 0 in
-      let w : V = run_view s r id v l o p c at holding account lanes passes dones root tag in
-      let same : w ≡ ran v e = (λ i. let z : V = record v { seen = (sym t.2) i ++ e ∷ []; holding = false; lanes = map counted_up ((sym lanes) i); passes = []; dones = finished ((sym passes) i) e (length ((sym t.2) i)) } in z) in
-      let kept : Rule record { words = ws; homes = set s.homes 0 (some (Held c)); views = set s.views id w } = run_kept s r id v l o p c at holding account lanes passes dones root tag ws (ap (λ (x : List ℕ). set x 0 0) r.words) next' in
+      let w : V = run_view s r id v l o p c at holding account lanes passes dones root tag own_lent else_lent in
+      let same : w ≡ ran v e = (λ i. let z : V = record v { seen = (sym t.2) i ++ e ∷ []; holding = false; outs = []; lanes = map counted_up ((sym lanes) i); passes = []; dones = finished ((sym passes) i) e (length ((sym t.2) i)) } in z) in
+      let kept : Rule record { words = ws; homes = set s.homes 0 (some (Held c)); views = set s.views id w } = run_kept s r id v l o p c at holding account lanes passes dones root tag own_lent else_lent ws (ap (λ (x : List ℕ). set x 0 0) r.words) next' in
       let kept' : Rule record { words = ws; homes = put_back s.homes me.1; views = set s.views id (ran v e) } = subst (λ (y : V × List (ℕ × Sl)). Rule record { words = ws; homes = put_back s.homes y.1; views = set s.views id y.0 }) (λ i. (same i, (sym hand) i)) kept in
-      let told : Shown g (ran v e) (v.seen ++ e ∷ []) = subst (λ (y : V × List E). Shown g y.0 (y.1 ++ e ∷ [])) (λ i. (same i, (sym t.2) i)) (run_shown s r id v l o p c at holding account lanes passes dones root tag next') in
+      let told : Shown g (ran v e) (v.seen ++ e ∷ []) = subst (λ (y : V × List E). Shown g y.0 (y.1 ++ e ∷ [])) (λ i. (same i, (sym t.2) i)) (run_shown s r id v l o p c at holding account lanes passes dones root tag own_lent else_lent next') in
       (ran v e, gives, tt, kept', (e, ap entries_in hand ∙ next.entries, ap (λ (x : List (ℕ × Sl)). (ran v e, rest x)) hand, told))

@@ -17,28 +17,28 @@ use Rattle.vg_book.specs.declared.board.Counted.{Counted}
 use Rattle.vg_book.specs.declared.board.View.{View}
 use Rattle.std.proofs.Common.{Option}
 use Rattle.vg_book.specs.Views.{Carries, entry_of, emptied, handed, noted, with_client, client_made, accounts_told, newborn, with_lane, lane_made}
-use Rattle.vg_book.specs.Kept.{Plan, AccountOk, LaneOk, PassOk, Knows, Kept, IsCarried, IsKeptBy}
+use Rattle.vg_book.specs.Kept.{Plan, AccountOk, LaneOk, PassOk, Knows, Kept, IsCarried, IsKeptBy, lane_jobs}
 use Rattle.vg_book.proofs.Updates.{true_not_false, at_end, put, put_here, put_else, moved, moved_here, moved_else}
 use Rattle.vg_book.proofs.SeatLemmas.{cut_cases, rebuilt, replanned, holder_set, holder_more, carried_set, kept_set, Linked, Holder}
 
-module _ {M S A R Q P H : Type 0} (g : Ghosts M S A R Q P H) (first : S) where
+module _ {M S A R Q P H W : Type 0} (g : Ghosts M S A R Q P H W) (first : S) where
   abbrev E : Type 0
-  E = Entry M S A R Q P H
+  E = Entry M S A R Q P H W
 
   abbrev V : Type 0
-  V = View M S A R Q P H
+  V = View M S A R Q P H W
 
   abbrev Ord : Type 0
-  Ord = Order M S A R Q P H
+  Ord = Order M S A R Q P H W
 
   abbrev Fin : Type 0
-  Fin = Finished M S A R Q P H
+  Fin = Finished M S A R Q P H W
 
   abbrev Acc : Type 0
-  Acc = Account M S A R Q P H
+  Acc = Account M S A R Q P H W
 
   abbrev Sl : Type 0
-  Sl = Slot M S A R Q P H
+  Sl = Slot M S A R Q P H W
 
   abbrev St : Type 0
   St = State Sl V
@@ -77,6 +77,7 @@ module _ {M S A R Q P H : Type 0} (g : Ghosts M S A R Q P H) (first : S) where
     root = λ h. absurd (true_not_false (sym h));
     accounts = λ a h. absurd h;
     lanes = λ l h. absurd h;
+    outs = λ l h. absurd h;
     passes = λ o h. absurd h;
     dones = λ f h. absurd h;
   }
@@ -106,6 +107,7 @@ module _ {M S A R Q P H : Type 0} (g : Ghosts M S A R Q P H) (first : S) where
       root = k.root;
       accounts = λ a h. let t = k.accounts a h in record { owned = t.owned; within = t.within; is = t.is };
       lanes = λ l h. let t = k.lanes l h in record { owned = t.owned; within = t.within; counts = t.counts };
+      outs = k.outs;
       passes = λ o h. absurd h;
       dones = λ f h. absurd h;
     }
@@ -120,6 +122,7 @@ module _ {M S A R Q P H : Type 0} (g : Ghosts M S A R Q P H) (first : S) where
       root = λ h. absurd (true_not_false (sym h));
       accounts = λ a h. absurd h;
       lanes = λ l h. absurd h;
+      outs = λ l h. absurd h;
       passes = λ o h. let t = k.passes o h in record { owned = moved_here id (length s.views) (r.plan.home o.client) o.call t.owned; made = t.made; fresh = t.fresh };
       dones = λ f h. let t = k.dones f h in record { owned = moved_here id (length s.views) (r.plan.home f.order.client) f.order.call t.owned; stands = t.stands };
     }
@@ -134,6 +137,7 @@ module _ {M S A R Q P H : Type 0} (g : Ghosts M S A R Q P H) (first : S) where
       root = k.root;
       accounts = λ a h. let t = k.accounts a h in record { owned = t.owned; within = t.within; is = t.is };
       lanes = λ l h. let t = k.lanes l h in record { owned = t.owned; within = t.within; counts = t.counts };
+      outs = k.outs;
       passes = λ o h. let t = k.passes o h in record { owned = moved_else id (length s.views) (r.plan.home o.client) o.call (λ e. ne (sym t.owned ∙ e)) ∙ t.owned; made = t.made; fresh = t.fresh };
       dones = λ f h. let t = k.dones f h in record { owned = moved_else id (length s.views) (r.plan.home f.order.client) f.order.call (λ e. ne (sym t.owned ∙ e)) ∙ t.owned; stands = t.stands };
     }
@@ -162,6 +166,7 @@ module _ {M S A R Q P H : Type 0} (g : Ghosts M S A R Q P H) (first : S) where
         root = λ _. (own.0, own.1, ap (λ (x : ℕ). x + 1) own.2);
         accounts = λ a h. let t = k.accounts a h in record { owned = t.owned; within = t.within; is = t.is };
         lanes = λ x h. lane_else id x (k.lanes x h);
+        outs = k.outs;
         passes = λ o h. let t = k.passes o h in record { owned = t.owned; made = t.made; fresh = t.fresh };
         dones = λ f h. let t = k.dones f h in record { owned = t.owned; stands = t.stands };
       })
@@ -178,6 +183,7 @@ module _ {M S A R Q P H : Type 0} (g : Ghosts M S A R Q P H) (first : S) where
           within = let b = own.2 in omega arith;
           counts = r.no_lanes v.lanes_made (let b = own.2 in omega arith);
         })) (λ y. absurd y) h;
+        outs = λ x h. ⊎_elim (λ (e : record { lane = v.lanes_made; count = 0 } ≡ x). subst (λ (y : Counted). lane_jobs g y.lane p.lent ≡ []) e (r.no_lent v.lanes_made (let b = own.2 in omega arith))) (λ y. absurd y) h;
         passes = λ o h. absurd h;
         dones = λ f h. absurd h;
       })
@@ -190,6 +196,7 @@ module _ {M S A R Q P H : Type 0} (g : Ghosts M S A R Q P H) (first : S) where
         root = λ h. absurd (ne ((q.root h).0 ∙ sym own.0));
         accounts = λ a h. let t = q.accounts a h in record { owned = t.owned; within = t.within; is = t.is };
         lanes = λ x h. lane_else j x (q.lanes x h);
+        outs = q.outs;
         passes = λ o h. let t = q.passes o h in record { owned = t.owned; made = t.made; fresh = t.fresh };
         dones = λ f h. let t = q.dones f h in record { owned = t.owned; stands = t.stands };
       }))
@@ -220,6 +227,7 @@ module _ {M S A R Q P H : Type 0} (g : Ghosts M S A R Q P H) (first : S) where
         root = λ _. (own.0, ap (λ (x : ℕ). x + 1) given_is, own.2);
         accounts = λ a x. else_ok id a (k.accounts a x);
         lanes = λ l x. let t = k.lanes l x in record { owned = t.owned; within = t.within; counts = t.counts };
+        outs = k.outs;
         passes = λ o x. pass_ok id o (k.passes o x);
         dones = λ f x. let t = k.dones f x in record { owned = t.owned; stands = t.stands };
       })
@@ -244,6 +252,7 @@ module _ {M S A R Q P H : Type 0} (g : Ghosts M S A R Q P H) (first : S) where
           };
         });
         lanes = λ l x. absurd x;
+        outs = λ l x. absurd x;
         passes = λ o x. absurd x;
         dones = λ f x. absurd x;
       })
@@ -256,6 +265,7 @@ module _ {M S A R Q P H : Type 0} (g : Ghosts M S A R Q P H) (first : S) where
         root = λ x. absurd (ne ((q.root x).0 ∙ sym own.0));
         accounts = λ a x. else_ok j a (q.accounts a x);
         lanes = λ l x. let t = q.lanes l x in record { owned = t.owned; within = t.within; counts = t.counts };
+        outs = q.outs;
         passes = λ o x. pass_ok j o (q.passes o x);
         dones = λ f x. let t = q.dones f x in record { owned = t.owned; stands = t.stands };
       }))

@@ -1,5 +1,5 @@
 -- Seats that are joined, the beginning, and the end.
-use Rattle.std.proofs.Common.{◌≡◌, ◌≢◌, inl, inr, ⊎_elim, ℕ, zero, suc, ◌<◌, ◌≤◌, true, false, List, [], ◌∷◌, ◌++◌, set, refl, ap, sym, subst, ◌∙◌, arith, Some}
+use Rattle.std.proofs.Common.{◌≡◌, ◌≢◌, inl, inr, ⊎_elim, ℕ, zero, suc, ◌<◌, ◌≤◌, true, false, List, [], ◌∷◌, ◌++◌, length, set, refl, ap, sym, subst, ◌∙◌, arith, Some}
 use mathlib.Core.Option as maybe
 use mathlib.Core.Logic.{dite}
 use mathlib.Core.Option.{some, none, some-ne-none, some-injective}
@@ -10,7 +10,10 @@ use Rattle.atomic_table.proofs.Lists.{set_else}
 use Rattle.vg_history.specs.declared.machine.Machine.{Ghosts}
 use Rattle.vg_history.specs.declared.entry.Entry.{Entry}
 use Rattle.vg_history.specs.Lists.{Has}
+use Rattle.std.proofs.lemmas.Bool.{cases_lt}
+use Rattle.vg_history.specs.Jobs.{lane_by}
 use Rattle.vg_history.proofs.ListLemmas.{has_left, has_append, prefix_none}
+use Rattle.vg_history.proofs.JobLemmas.{none_at_all}
 use Rattle.vg_book.specs.declared.board.Core.{Core}
 use Rattle.vg_book.specs.declared.board.Slot.{Slot}
 use Rattle.vg_book.specs.declared.board.Slot.TheVariants.{Held}
@@ -22,28 +25,28 @@ use Rattle.vg_book.specs.declared.board.View.{View}
 use Rattle.atomic_table.specs.Table.{opening, Final, Seen}
 use Rattle.std.proofs.Common.{Option, zero, suc}
 use Rattle.vg_book.specs.Views.{Carries, joined, nothing, first_view}
-use Rattle.vg_book.specs.Kept.{Plan, AccountOk, LaneOk, PassOk, DoneOk, Knows, Kept, Shown, IsCarried, IsKeptBy, IsCoreOf}
+use Rattle.vg_book.specs.Kept.{Plan, AccountOk, LaneOk, PassOk, DoneOk, Knows, Kept, Shown, IsCarried, IsKeptBy, IsCoreOf, lane_jobs}
 use Rattle.vg_book.proofs.Updates.{true_not_false, moved, moved_here, moved_else}
 use Rattle.vg_book.proofs.SeatLemmas.{set_cases, shown, rebuilt, replanned, holder_set, carried_set, kept_set, Holder}
 
-module _ {M S A R Q P H : Type 0} (g : Ghosts M S A R Q P H) (first : S) where
+module _ {M S A R Q P H W : Type 0} (g : Ghosts M S A R Q P H W) (first : S) where
   abbrev E : Type 0
-  E = Entry M S A R Q P H
+  E = Entry M S A R Q P H W
 
   abbrev V : Type 0
-  V = View M S A R Q P H
+  V = View M S A R Q P H W
 
   abbrev Ord : Type 0
-  Ord = Order M S A R Q P H
+  Ord = Order M S A R Q P H W
 
   abbrev Fin : Type 0
-  Fin = Finished M S A R Q P H
+  Fin = Finished M S A R Q P H W
 
   abbrev Acc : Type 0
-  Acc = Account M S A R Q P H
+  Acc = Account M S A R Q P H W
 
   abbrev Sl : Type 0
-  Sl = Slot M S A R Q P H
+  Sl = Slot M S A R Q P H W
 
   abbrev St : Type 0
   St = State Sl V
@@ -52,7 +55,7 @@ module _ {M S A R Q P H : Type 0} (g : Ghosts M S A R Q P H) (first : S) where
   Rule = Kept g first
 
   -- the seat `other` gives all that it has to the seat `id`
-  module _ (s : St) (r : Rule s) (id other : ℕ) (v w : V) (at : get_elem? s.views id ≡ some v) (apart : ¬ (other ≡ id)) (there : get_elem? s.views other ≡ some w) where
+  module _ (s : St) (r : Rule s) (id other : ℕ) (v w : V) (at : get_elem? s.views id ≡ some v) (apart : ¬ (other ≡ id)) (there : get_elem? s.views other ≡ some w) (clear : (v.outs ≡ []) × (w.outs ≡ [])) where
     abbrev to : (ℕ → ℕ) → ℕ → ℕ
     to f = moved other id f
 
@@ -84,6 +87,7 @@ module _ {M S A R Q P H : Type 0} (g : Ghosts M S A R Q P H) (first : S) where
       root = k.root;
       accounts = λ a h. ⊎_elim (λ x. account_stays id ne a (k.accounts a x)) (λ x. let t = q.accounts a x in record { owned = moved_here other id r.plan.owner a.number t.owned; within = t.within; is = t.is }) (has_append v.accounts w.accounts a h);
       lanes = λ l h. ⊎_elim (λ x. lane_stays id ne l (k.lanes l x)) (λ x. let t = q.lanes l x in record { owned = moved_here other id r.plan.lane_owner l.lane t.owned; within = t.within; counts = t.counts }) (has_append v.lanes w.lanes l h);
+      outs = λ l h. ⊎_elim (λ x. k.outs l x) (λ x. q.outs l x ∙ ap (lane_jobs g l.lane) (clear.1 ∙ sym clear.0)) (has_append v.lanes w.lanes l h);
       passes = λ o h. ⊎_elim (λ x. pass_stays id ne o (k.passes o x)) (λ x. let t = q.passes o x in record { owned = moved_here other id (r.plan.home o.client) o.call t.owned; made = t.made; fresh = t.fresh }) (has_append v.passes w.passes o h);
       dones = λ f h. ⊎_elim (λ x. done_stays id ne f (k.dones f x)) (λ x. let t = q.dones f x in record { owned = moved_here other id (r.plan.home f.order.client) f.order.call t.owned; stands = t.stands }) (has_append v.dones w.dones f h);
     }
@@ -98,6 +102,7 @@ module _ {M S A R Q P H : Type 0} (g : Ghosts M S A R Q P H) (first : S) where
       root = λ h. absurd (true_not_false (sym h));
       accounts = λ a h. absurd h;
       lanes = λ l h. absurd h;
+      outs = λ l h. absurd h;
       passes = λ o h. absurd h;
       dones = λ f h. absurd h;
     }
@@ -112,6 +117,7 @@ module _ {M S A R Q P H : Type 0} (g : Ghosts M S A R Q P H) (first : S) where
       root = k.root;
       accounts = λ a h. account_stays j ne a (k.accounts a h);
       lanes = λ l h. lane_stays j ne l (k.lanes l h);
+      outs = k.outs;
       passes = λ o h. pass_stays j ne o (k.passes o h);
       dones = λ f h. done_stays j ne f (k.dones f h);
     }
@@ -130,7 +136,7 @@ module _ {M S A R Q P H : Type 0} (g : Ghosts M S A R Q P H) (first : S) where
 
     join_carried : (o : Ord) → IsCarried g after o → IsCarried g s.views o
     join_carried o c = ⊎_elim
-        (λ (z : Carries nothing o). ⊎_elim (λ x. absurd x) (λ (t : (f : Fin) × Has (nothing {M = M} {S = S} {A = A} {R = R} {Q = Q} {P = P} {H = H}).dones f × (f.order ≡ o)). absurd t.1) z)
+        (λ (z : Carries nothing o). ⊎_elim (λ x. absurd x) (λ (t : (f : Fin) × Has (nothing {M = M} {S = S} {A = A} {R = R} {Q = Q} {P = P} {H = H} {W = W}).dones f × (f.order ≡ o)). absurd t.1) z)
         (λ (t : (j : ℕ) × (u : V) × (j ≢ other) × (get_elem? (set s.views id (joined v w)) j ≡ some u) × Carries u o). ⊎_elim
         (λ (cw : Carries (joined v w) o). ⊎_elim (λ x. ⊎_elim (λ y. (id, v, at, inl y)) (λ y. (other, w, there, inl y)) (has_append v.passes w.passes o x))
         (λ (f : (f : Fin) × Has (joined v w).dones f × (f.order ≡ o)). ⊎_elim (λ y. (id, v, at, inr (f.0, y, f.2))) (λ y. (other, w, there, inr (f.0, y, f.2))) (has_append v.dones w.dones f.0 f.1)) cw)
@@ -146,20 +152,20 @@ module _ {M S A R Q P H : Type 0} (g : Ghosts M S A R Q P H) (first : S) where
         (kept_set g first s.views id (joined v w) a (t.0, t.1, t.3, t.4)))
         (kept_set g first (set s.views id (joined v w)) other nothing a c)
 
-  pub joins : (id other : ℕ) (v w : V) → w.holding ≡ false → Joins Rule id v other w (joined v w) nothing
-  joins id other v w idle s r at apart found = let there : get_elem? s.views other ≡ some w = sym (set_else s.views id other (joined v w) apart) ∙ found in let p = r.plan in
-      rebuilt g first s r (after s r id other v w at apart there) s.words p.given p.lanes_made (to s r id other v w at apart there p.owner) (λ c. to s r id other v w at apart there (p.home c)) (to s r id other v w at apart there p.lane_owner) r.words (omega arith) (omega arith)
-      (join_holder s r id other v w at apart there idle) (join_each s r id other v w at apart there)
-      (λ o c a k same. r.linked o (join_carried s r id other v w at apart there o c) a (join_kept s r id other v w at apart there a k) same)
+  pub joins : (id other : ℕ) (v w : V) → w.holding ≡ false → (v.outs ≡ []) × (w.outs ≡ []) → Joins Rule id v other w (joined v w) nothing
+  joins id other v w idle clear s r at apart found = let there : get_elem? s.views other ≡ some w = sym (set_else s.views id other (joined v w) apart) ∙ found in let p = r.plan in
+      rebuilt g first s r (after s r id other v w at apart there clear) s.words p.given p.lanes_made (to s r id other v w at apart there clear p.owner) (λ c. to s r id other v w at apart there clear (p.home c)) (to s r id other v w at apart there clear p.lane_owner) r.words (omega arith) (omega arith)
+      (join_holder s r id other v w at apart there clear idle) (join_each s r id other v w at apart there clear)
+      (λ o c a k same. r.linked o (join_carried s r id other v w at apart there clear o c) a (join_kept s r id other v w at apart there clear a k) same)
 
   first_only : (v u : V) (j : ℕ) → get_elem? (v ∷ []) j ≡ some u → (j ≡ 0) × (v ≡ u)
   first_only v u zero e = (refl, some-injective v u e)
   first_only v u (suc j) e = absurd (some-ne-none u (sym e))
 
   -- the table as it is made
-  pub opens : (c : Core M S A R Q P H) → c.history ≡ [] → g.state c.machine ≡ first → g.count first ≡ 0 → Rule (opening (0 ∷ []) (Held c ∷ []) (first_view first))
-  opens c empty state count =
-      let p : Plan g = record { log = []; given = 0; lanes_made = 0; owner = λ _. 0; home = λ _ _. 0; lane_owner = λ _. 0; word = 0; taker = 0 } in
+  pub opens : (c : Core M S A R Q P H W) → (c.history.entries ≡ []) × (c.history.kept ≡ 0) → g.lent c.machine ≡ [] → g.state c.machine ≡ first → g.count first ≡ 0 → Rule (opening (0 ∷ []) (Held c ∷ []) (first_view first))
+  opens c empty none_out state count =
+      let p : Plan g = record { log = []; given = 0; lanes_made = 0; owner = λ _. 0; home = λ _ _. 0; lane_owner = λ _. 0; word = 0; taker = 0; lent = [] } in
       let own : Knows g first p 0 (first_view first) = record {
         start = λ x e. cc e;
         seen = prefix_none [];
@@ -169,6 +175,7 @@ module _ {M S A R Q P H : Type 0} (g : Ghosts M S A R Q P H) (first : S) where
         root = λ _. (refl, refl, refl);
         accounts = λ a h. absurd h;
         lanes = λ l h. absurd h;
+        outs = λ l h. absurd h;
         passes = λ o h. absurd h;
         dones = λ f h. absurd h;
       } in record {
@@ -176,11 +183,12 @@ module _ {M S A R Q P H : Type 0} (g : Ghosts M S A R Q P H) (first : S) where
         at_home = some (Held c);
         words = refl;
         homes = refl;
-        free = λ _. (c, refl, record { entries = empty; state = λ x e. state ∙ cc e; counted = ap g.count state ∙ count });
+        free = λ _. (c, refl, record { entries = empty.0; places = empty.1 ∙ ap length (sym none_out); state = λ x e. state ∙ cc e; counted = ap g.count state ∙ count }, none_out);
         taken = λ ne. absurd (ne refl);
         agrees = tt;
         clients = λ e h. absurd h;
         no_lanes = λ l h. refl;
+        no_lent = λ l h. refl;
         ordered = λ l. (0, refl);
         once = tt;
         each = λ j u at. let t = first_only (first_view first) u j at in subst (λ (x : ℕ × V). Knows g first p x.0 x.1) (λ i. ((sym t.0) i, t.1 i)) own;
@@ -193,12 +201,14 @@ module _ {M S A R Q P H : Type 0} (g : Ghosts M S A R Q P H) (first : S) where
     pub clients : (n : ℕ) → 0 < n → n ≤ v.given → (a : Acc) × Has v.accounts a × (a.number ≡ n)
     pub lanes : (l : ℕ) → l < v.lanes_made → (x : Counted) × Has v.lanes x × (x.lane ≡ l)
 
-  pub ends : (ws : List ℕ) (xs : List Sl) (id : ℕ) (v : V) → Final (Seen Rule id v) ws xs → v.is_root ≡ true → v.holding ≡ false → ((x : S) × (v.start ≡ Some x)) → HasAll v
-      → (log : List E) × (c : Core M S A R Q P H) × (get_elem? xs 0 ≡ some (Held c)) × IsCoreOf g v.start log c × Shown g v log
-  ends ws xs id v end root idle begun all = let s = end.0 in let r = end.1.0 in let at = end.1.1 in let p = r.plan in let k = r.each id v at in let own = k.root root in
+  pub ends : (ws : List ℕ) (xs : List Sl) (id : ℕ) (v : V) → Final (Seen Rule id v) ws xs → v.is_root ≡ true → v.holding ≡ false → v.outs ≡ [] → ((x : S) × (v.start ≡ Some x)) → HasAll v
+      → (log : List E) × (c : Core M S A R Q P H W) × (get_elem? xs 0 ≡ some (Held c)) × IsCoreOf g v.start log c × Shown g v log × (g.lent c.machine ≡ [])
+  ends ws xs id v end root idle clear begun all = let s = end.0 in let r = end.1.0 in let at = end.1.1 in let p = r.plan in let k = r.each id v at in let own = k.root root in
       dite (ℕ_discrete p.word 0)
       (λ z. let c = r.free z in
-      (p.log, c.0, end.4 0 (Held c.0) (ap (λ (l : List (maybe.Option Sl)). get_elem? l 0) r.homes ∙ ap some c.1), subst (λ (x : Option S). IsCoreOf g x p.log c.0) (sym (begun.1 ∙ ap (λ (x : S). Some x) (k.start begun.0 begun.1))) c.2, shown g first s r id v at))
+      let none_of : (l : ℕ) → lane_jobs g l p.lent ≡ [] = λ l. ⊎_elim (λ (h : l < v.lanes_made). let x = all.lanes l h in ap (λ (n : ℕ). lane_jobs g n p.lent) (sym x.2) ∙ (k.outs x.0 x.1 ∙ ap (lane_jobs g x.0.lane) clear))
+      (λ (h : v.lanes_made ≤ l). r.no_lent l (let y = own.2 in omega arith)) (cases_lt l v.lanes_made) in
+      (p.log, c.0, end.4 0 (Held c.0) (ap (λ (l : List (maybe.Option Sl)). get_elem? l 0) r.homes ∙ ap some c.1), subst (λ (x : Option S). IsCoreOf g x p.log c.0) (sym (begun.1 ∙ ap (λ (x : S). Some x) (k.start begun.0 begun.1))) c.2, shown g first s r id v at, c.3 ∙ none_at_all (lane_by g.asked g.tagged) p.lent none_of))
       (λ ne. let t = r.taken ne in let q = r.each p.taker t.0 t.1 in
       let here : ¬ (p.taker ≡ id) = λ (e : p.taker ≡ id). let same : t.0 ≡ v = some-injective t.0 v (sym t.1 ∙ (ap (λ (j : ℕ). get_elem? s.views j) e ∙ at)) in true_not_false (sym t.2 ∙ (ap (λ (u : V). u.holding) same ∙ idle)) in
       ⊎_elim
@@ -209,5 +219,5 @@ module _ {M S A R Q P H : Type 0} (g : Ghosts M S A R Q P H) (first : S) where
       (q.busy t.2))
 
   -- the table as it is made, with the slot that was pushed
-  pub opens_pushed : (c : Core M S A R Q P H) (l xs : List Sl) → xs ≡ l ++ Held c ∷ [] → l ≡ [] → c.history ≡ [] → g.state c.machine ≡ first → g.count first ≡ 0 → Rule (opening (0 ∷ []) xs (first_view first))
-  opens_pushed c l xs pushed none_before empty state count = subst (λ (x : List Sl). Rule (opening (0 ∷ []) x (first_view first))) (sym (pushed ∙ ap (λ (y : List Sl). y ++ Held c ∷ []) none_before)) (opens c empty state count)
+  pub opens_pushed : (c : Core M S A R Q P H W) (l xs : List Sl) → xs ≡ l ++ Held c ∷ [] → l ≡ [] → (c.history.entries ≡ []) × (c.history.kept ≡ 0) → g.lent c.machine ≡ [] → g.state c.machine ≡ first → g.count first ≡ 0 → Rule (opening (0 ∷ []) xs (first_view first))
+  opens_pushed c l xs pushed none_before empty none_out state count = subst (λ (x : List Sl). Rule (opening (0 ∷ []) x (first_view first))) (sym (pushed ∙ ap (λ (y : List Sl). y ++ Held c ∷ []) none_before)) (opens c empty none_out state count)

@@ -5,6 +5,7 @@ pub mod Looks
 pub mod Settling
 pub mod Turns
 pub mod Answering
+pub mod Lending
 pub mod Cuts
 pub mod Ends
 pub mod HandLemmas

@@ -24,21 +24,21 @@ use Rattle.vg_book.proofs.Updates.{true_not_false, put, put_here, put_else, eith
 use Rattle.vg_book.proofs.Accounts.{draws, out_below, call_below}
 use Rattle.vg_book.proofs.SeatLemmas.{set_cases, shown, words_to, rebuilt, replanned, holder_set, linked_set, carried_set, kept_set, Linked}
 
-module _ {M S A R Q P H : Type 0} (g : Ghosts M S A R Q P H) (first : S) where
+module _ {M S A R Q P H W : Type 0} (g : Ghosts M S A R Q P H W) (first : S) where
   abbrev E : Type 0
-  E = Entry M S A R Q P H
+  E = Entry M S A R Q P H W
 
   abbrev V : Type 0
-  V = View M S A R Q P H
+  V = View M S A R Q P H W
 
   abbrev Ord : Type 0
-  Ord = Order M S A R Q P H
+  Ord = Order M S A R Q P H W
 
   abbrev Acc : Type 0
-  Acc = Account M S A R Q P H
+  Acc = Account M S A R Q P H W
 
   abbrev Sl : Type 0
-  Sl = Slot M S A R Q P H
+  Sl = Slot M S A R Q P H W
 
   abbrev St : Type 0
   St = State Sl V
@@ -51,11 +51,12 @@ module _ {M S A R Q P H : Type 0} (g : Ghosts M S A R Q P H) (first : S) where
     start = k.start;
     seen = prefix_self p.log;
     heard = prefix_none p.log;
-    turn = λ h. ((k.turn h).0, (k.turn h).1, refl);
+    turn = λ h. ((k.turn h).0, (k.turn h).1, refl, (k.turn h).3);
     busy = k.busy;
     root = k.root;
     accounts = k.accounts;
     lanes = k.lanes;
+    outs = k.outs;
     passes = k.passes;
     dones = k.dones;
   }
@@ -65,11 +66,12 @@ module _ {M S A R Q P H : Type 0} (g : Ghosts M S A R Q P H) (first : S) where
     start = k.start;
     seen = prefix_self p.log;
     heard = prefix_none p.log;
-    turn = λ h. ((k.turn h).0, (k.turn h).1, refl);
+    turn = λ h. ((k.turn h).0, (k.turn h).1, refl, (k.turn h).3);
     busy = k.busy;
     root = k.root;
     accounts = k.accounts;
     lanes = k.lanes;
+    outs = k.outs;
     passes = k.passes;
     dones = k.dones;
   }
@@ -151,6 +153,7 @@ module _ {M S A R Q P H : Type 0} (g : Ghosts M S A R Q P H) (first : S) where
       root = k.root;
       accounts = λ b h. let t = k.accounts b h in record { owned = t.owned; within = t.within; is = t.is };
       lanes = λ l h. let t = k.lanes l h in record { owned = t.owned; within = t.within; counts = t.counts };
+      outs = k.outs;
       passes = λ o h. let t = k.passes o h in record { owned = home_else r.plan id a o.client o.call (not_carried o (j, u, there, inl h)) ∙ t.owned; made = t.made; fresh = t.fresh };
       dones = λ f h. let t = k.dones f h in record { owned = home_else r.plan id a f.order.client f.order.call (not_carried f.order (j, u, there, inr (f, h, refl))) ∙ t.owned; stands = t.stands };
     }
@@ -165,6 +168,7 @@ module _ {M S A R Q P H : Type 0} (g : Ghosts M S A R Q P H) (first : S) where
       root = λ e. absurd (true_not_false (sym e ∙ is.root));
       accounts = λ b h. ⊎_elim (λ (e : drawn a q ≡ b). subst (λ (x : Acc). AccountOk g plan' id x) e (record { owned = ok.owned; within = ok.within; is = draws g r.plan.log a q ok.is may })) (λ x. absurd x) h;
       lanes = λ l h. absurd (subst (λ ls. Has ls l) is.lanes h);
+      outs = λ l h. absurd (subst (λ ls. Has ls l) is.lanes h);
       passes = λ o h. ⊎_elim (λ (e : ordered_of a q ≡ o). subst (λ (x : Ord). PassOk g plan' id x) e (record {
         owned = home_here r.plan id a;
         made = (ok.is.number, ok.within);
@@ -185,7 +189,7 @@ module _ {M S A R Q P H : Type 0} (g : Ghosts M S A R Q P H) (first : S) where
         absurd (t.2 (sym ((r.each t.0 t.1 t.3).accounts b t.4).owned ∙ mine)))
         (kept_set g first s.views id new b k))
         (λ x. absurd x) ho)
-        (λ (hd : (f : Finished M S A R Q P H) × Has new.dones f × (f.order ≡ o)). absurd (subst (λ l. Has l hd.0) is.dones hd.1)) cw)
+        (λ (hd : (f : Finished M S A R Q P H W) × Has new.dones f × (f.order ≡ o)). absurd (subst (λ l. Has l hd.0) is.dones hd.1)) cw)
         (λ (t : (j : ℕ) × (u : V) × (j ≢ id) × (get_elem? s.views j ≡ some u) × Carries u o).
         let co : IsCarried g s.views o = (t.0, t.1, t.3, t.4) in
         ⊎_elim

@@ -28,21 +28,21 @@ module _ {X : Type 0} where
   cut_cases K vs id l r mine new others j u at = ⊎_elim (λ old. set_cases K vs id l mine others j u old)
       (λ (t : (j ≡ length (set vs id l)) × (r ≡ u)). subst (λ (x : ℕ × X). K x.0 x.1) (λ i. (sym (t.0 ∙ length-set vs id l) i, t.1 i)) new) (at_end (set vs id l) r u j at)
 
-module _ {M S A R Q P H : Type 0} (g : Ghosts M S A R Q P H) (first : S) where
+module _ {M S A R Q P H W : Type 0} (g : Ghosts M S A R Q P H W) (first : S) where
   abbrev E : Type 0
-  E = Entry M S A R Q P H
+  E = Entry M S A R Q P H W
 
   abbrev V : Type 0
-  V = View M S A R Q P H
+  V = View M S A R Q P H W
 
   abbrev Ord : Type 0
-  Ord = Order M S A R Q P H
+  Ord = Order M S A R Q P H W
 
   abbrev Acc : Type 0
-  Acc = Account M S A R Q P H
+  Acc = Account M S A R Q P H W
 
   abbrev St : Type 0
-  St = State (Slot M S A R Q P H) V
+  St = State (Slot M S A R Q P H W) V
 
   abbrev Rule : St → Type 0
   Rule = Kept g first
@@ -78,7 +78,7 @@ module _ {M S A R Q P H : Type 0} (g : Ghosts M S A R Q P H) (first : S) where
   Holder vs j = (v : V) × (get_elem? vs j ≡ some v) × (v.holding ≡ true)
 
   abbrev pub replanned : Plan g → ℕ → ℕ → (ℕ → ℕ) → (ℕ → ℕ → ℕ) → (ℕ → ℕ) → Plan g
-  replanned p given lanes_made owner home lane_owner = record { log = p.log; given = given; lanes_made = lanes_made; owner = owner; home = home; lane_owner = lane_owner; word = p.word; taker = p.taker }
+  replanned p given lanes_made owner home lane_owner = record { log = p.log; given = given; lanes_made = lanes_made; owner = owner; home = home; lane_owner = lane_owner; word = p.word; taker = p.taker; lent = p.lent }
 
   -- a step that leaves the history, the word and the slot as they are
   pub rebuilt : (s : St) (r : Rule s) (vs : List V) (ws : List ℕ) (given lanes_made : ℕ) (owner : ℕ → ℕ) (home : ℕ → ℕ → ℕ) (lane_owner : ℕ → ℕ) → ws ≡ r.plan.word ∷ []
@@ -95,6 +95,7 @@ module _ {M S A R Q P H : Type 0} (g : Ghosts M S A R Q P H) (first : S) where
     agrees = r.agrees;
     clients = λ e h. let t = r.clients e h in let u : client_of e ≤ r.plan.given = t.1 in (t.0, omega arith);
     no_lanes = λ l h. r.no_lanes l (omega arith);
+    no_lent = λ l h. r.no_lent l (omega arith);
     ordered = r.ordered;
     once = r.once;
     each = each;

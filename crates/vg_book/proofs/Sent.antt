@@ -18,7 +18,7 @@ use Rattle.vg_book.specs.contracts.board.LawTableRuleSlotViewSnapshot.TheImpl as
 use Rattle.atomic_table.specs.contracts.shared.Shared as shared
 use Rattle.atomic_table.specs.declared.shared.TableRule as TableRule
 use Rattle.atomic_table.proofs.Sent.{seat_keyless, shares_keyless}
-use Rattle.vg_history.proofs.Sent.{history_send}
+use Rattle.vg_history.proofs.Sent.{growing_send}
 use Rattle.vg_book.specs.contracts.client.ClientToken as client
 use Rattle.vg_book.specs.contracts.book.Book as book
 use Rattle.vg_book.specs.contracts.client.ClientToken.TheInside as client_in
@@ -56,39 +56,39 @@ table_sync X V K T Z gt ga s y f = let O = table.the_type X V K T Z gt ga in
 field_sync : (X V K T Z : RattleType) (gt : TableRule.Ghosts T.Denot X.Denot V.Denot K.Denot) (ga : Allocator.Ghosts Z.Denot) → IsSend X → IsSync Z → Frees ga ga.dealloc_token → IsSync (table.the_field X V K T Z gt ga).row
 field_sync X V K T Z gt ga s y f = struct_sync (shape (table.the_type X V K T Z gt ga)) (shared_sync X V K T gt s, (search sendable, (search sendable, (lease_sync _ Z ga f, (lease_sync X Z ga f, (y, tt))))))
 
-module _ (M S A R Q P H : RattleType) (m : IsSend M) (a : IsSend A) (r : IsSend R) (q : IsSend Q) (p : IsSend P) where
-  module _ (gm : Machine.Ghosts M.Denot S.Denot A.Denot R.Denot Q.Denot P.Denot H.Denot) where
-    core_send : IsSend (core.the_field M S A R Q P H gm).row
-    core_send = struct_send (shape (core.the_type M S A R Q P H gm)) (m, (history_send M S A R Q P H m a r q p gm, tt))
+module _ (M S A R Q P H W : RattleType) (m : IsSend M) (a : IsSend A) (r : IsSend R) (q : IsSend Q) (p : IsSend P) where
+  module _ (gm : Machine.Ghosts M.Denot S.Denot A.Denot R.Denot Q.Denot P.Denot H.Denot W.Denot) where
+    core_send : IsSend (core.the_field M S A R Q P H W gm).row
+    core_send = struct_send (shape (core.the_type M S A R Q P H W gm)) (m, (growing_send M S A R Q P H W m a r q p gm, tt))
 
-    pub slot_send : IsSend (slot.the_row M S A R Q P H gm)
-    slot_send = let T = slot.the_type M S A R Q P H gm in
+    pub slot_send : IsSend (slot.the_row M S A R Q P H W gm)
+    slot_send = let T = slot.the_type M S A R Q P H W gm in
         recorded_send _ _ _ T.to_one (enum_send (enum_shape T) ((core_send, tt), ((snapshot_send H, tt), ((snapshot_send Q, tt), tt))))
 
-    place_send : IsSend (seat.the_row (slot.the_row M S A R Q P H gm) (view.the_row M S A R Q P H))
-    place_send = seat_send (slot.the_row M S A R Q P H gm) (view.the_row M S A R Q P H) slot_send
+    place_send : IsSend (seat.the_row (slot.the_row M S A R Q P H W gm) (view.the_row M S A R Q P H W))
+    place_send = seat_send (slot.the_row M S A R Q P H W gm) (view.the_row M S A R Q P H W) slot_send
 
-  module _ (B : RattleType) (gm : Machine.Ghosts M.Denot S.Denot A.Denot R.Denot Q.Denot P.Denot H.Denot) (gb : Naming.Ghosts B.Denot) where
-    pub lane_send : IsSend (lane.the_row M B S A R Q P H gm gb)
+  module _ (B : RattleType) (gm : Machine.Ghosts M.Denot S.Denot A.Denot R.Denot Q.Denot P.Denot H.Denot W.Denot) (gb : Naming.Ghosts B.Denot) where
+    pub lane_send : IsSend (lane.the_row M B S A R Q P H W gm gb)
     lane_send = search (sendable, crosses, place_send) depth 20
 
-    pub note_send : IsSend (note.the_row M B S A R Q P H gm gb)
+    pub note_send : IsSend (note.the_row M B S A R Q P H W gm gb)
     note_send = search (sendable, crosses, place_send) depth 20
 
-    pub root_send : IsSend (root.the_row M B S A R Q P H gm gb)
+    pub root_send : IsSend (root.the_row M B S A R Q P H W gm gb)
     root_send = search (sendable, crosses, place_send) depth 20
 
-    pub pass_send : IsSend (pass.the_row M B S A R Q P H gm gb)
-    pass_send = let T = pass_in.the_type M B S A R Q P H gm gb in
-        view_send _ _ _ _ _ (recorded_send _ _ _ T.to_one (struct_send (shape T) (search sendable, (search sendable, (q, ((place_send gm), (search sendable depth 20, tt)))))))
+    pub pass_send : IsSend (pass.the_row M B S A R Q P H W gm gb)
+    pass_send = let T = pass_in.the_type M B S A R Q P H W gm gb in
+        view_send _ _ _ _ _ (recorded_send _ _ _ T.to_one (struct_send (shape T) (search sendable, (search sendable, (snapshot_send Q, (search sendable, (search sendable, ((place_send gm), (search sendable depth 20, tt)))))))))
 
-    pub done_send : IsSend (done.the_row M B S A R Q P H gm gb)
-    done_send = let T = done_in.the_type M B S A R Q P H gm gb in
-        view_send _ _ _ _ _ (recorded_send _ _ _ T.to_one (struct_send (shape T) (search sendable, (search sendable, (snapshot_send Q, (search sendable, (search sendable, (p, (search sendable, ((place_send gm), (search sendable depth 20, tt)))))))))))
+    pub done_send : IsSend (done.the_row M B S A R Q P H W gm gb)
+    done_send = let T = done_in.the_type M B S A R Q P H W gm gb in
+        view_send _ _ _ _ _ (recorded_send _ _ _ T.to_one (struct_send (shape T) (search sendable, (search sendable, (snapshot_send Q, (search sendable, (search sendable, (snapshot_send P, (search sendable, ((place_send gm), (search sendable depth 20, tt)))))))))))
 
-    pub client_send : IsSend H → IsSend (client.the_row M B S A R Q P H gm gb)
-    client_send h = let T = client_in.the_type M B S A R Q P H gm gb in
+    pub client_send : IsSend H → IsSend (client.the_row M B S A R Q P H W gm gb)
+    client_send h = let T = client_in.the_type M B S A R Q P H W gm gb in
         view_send _ _ _ _ _ (recorded_send _ _ _ T.to_one (struct_send (shape T) (search sendable, (search sendable, (search sendable, (h, ((place_send gm), (search sendable depth 20, tt))))))))
 
-    pub book_sync : IsSync (book.the_row M B S A R Q P H gb gm)
-    book_sync = let T = book.the_type M B S A R Q P H gb gm in recorded_sync _ _ _ T.to_one (struct_sync (shape T) (field_sync (slot.the_row M S A R Q P H gm) (view.the_row M S A R Q P H) (snapshot.the_row M) (law.the_row M) Heap.the_row (rule.ghosts M S A R Q P H gm rule.no_dict rule.no_dict rule.no_dict rule.no_dict rule.no_dict rule.no_dict rule.no_dict) heap.ghosts (slot_send gm) heap_sync (record { frees = heap_frees.frees }), (search sendable depth 20, tt)))
+    pub book_sync : IsSync (book.the_row M B S A R Q P H W gb gm)
+    book_sync = let T = book.the_type M B S A R Q P H W gb gm in recorded_sync _ _ _ T.to_one (struct_sync (shape T) (field_sync (slot.the_row M S A R Q P H W gm) (view.the_row M S A R Q P H W) (snapshot.the_row M) (law.the_row M) Heap.the_row (rule.ghosts M S A R Q P H W gm rule.no_dict rule.no_dict rule.no_dict rule.no_dict rule.no_dict rule.no_dict rule.no_dict rule.no_dict) heap.ghosts (slot_send gm) heap_sync (record { frees = heap_frees.frees }), (search sendable depth 20, tt)))

@@ -25,24 +25,24 @@ use Rattle.vg_book.proofs.SeatLemmas.{set_cases, shown, shown_by, words_to, rebu
 same_or_not : (a b : ℕ) → (a ≡ b) ⊎ (a ≢ b)
 same_or_not a b = dite (ℕ_discrete a b) (λ e. inl e) (λ ne. inr ne)
 
-module _ {M S A R Q P H : Type 0} (g : Ghosts M S A R Q P H) (first : S) where
+module _ {M S A R Q P H W : Type 0} (g : Ghosts M S A R Q P H W) (first : S) where
   abbrev E : Type 0
-  E = Entry M S A R Q P H
+  E = Entry M S A R Q P H W
 
   abbrev V : Type 0
-  V = View M S A R Q P H
+  V = View M S A R Q P H W
 
   abbrev Ord : Type 0
-  Ord = Order M S A R Q P H
+  Ord = Order M S A R Q P H W
 
   abbrev Fin : Type 0
-  Fin = Finished M S A R Q P H
+  Fin = Finished M S A R Q P H W
 
   abbrev Acc : Type 0
-  Acc = Account M S A R Q P H
+  Acc = Account M S A R Q P H W
 
   abbrev Sl : Type 0
-  Sl = Slot M S A R Q P H
+  Sl = Slot M S A R Q P H W
 
   abbrev St : Type 0
   St = State Sl V
@@ -67,11 +67,12 @@ module _ {M S A R Q P H : Type 0} (g : Ghosts M S A R Q P H) (first : S) where
       start = k.start;
       seen = prefix_self r.plan.log;
       heard = prefix_none r.plan.log;
-      turn = λ h. ((k.turn h).0, (k.turn h).1, refl);
+      turn = λ h. ((k.turn h).0, (k.turn h).1, refl, (k.turn h).3);
       busy = λ _. inl (a', inl refl);
       root = λ e. absurd (true_not_false (sym e ∙ root));
       accounts = λ b h. ⊎_elim (λ (e : a' ≡ b). subst (λ (x : Acc). AccountOk g r.plan id x) e ok) (λ x. absurd x) h;
       lanes = λ l h. absurd (subst (λ (ls : List Counted). Has ls l) lanes h);
+      outs = λ l h. absurd (subst (λ (ls : List Counted). Has ls l) lanes h);
       passes = λ x h. absurd h;
       dones = λ x h. absurd h;
     }

@@ -18,28 +18,28 @@ use Rattle.vg_book.specs.Views.{entry_of, joined, emptied, handed, noted, settle
 use Rattle.vg_book.specs.Kept.{Shown, IsHistory, Accounted}
 use Rattle.vg_book.specs.Tells.{HasLooked, HasSettled, HasReturned}
 use Rattle.vg_book.specs.Turns.{Sits, IsClientSeat, EntersAct, own, order}
-use Rattle.vg_book.specs.Tokens.{Done, Passed, Noted, client_value, pass_value, ClientOk, Acted, Watched, Drawn, TakesBack, TakesUnrun, Meets, finished_of}
+use Rattle.vg_book.specs.Tokens.{Done, Passed, Noted, client_value, pass_value, ClientOk, Acted, Watched, Drawn, TakesBack, TakesUnrun, Meets, MeetsNote, note_value, finished_of}
 use Rattle.vg_book.specs.Kept as tokens
 use Rattle.vg_book.proofs.Updates.{length_without}
 
-module _ {M S A R Q P H : Type 0} (g : Ghosts M S A R Q P H) where
+module _ {M S A R Q P H W : Type 0} (g : Ghosts M S A R Q P H W) where
   abbrev E : Type 0
-  E = Entry M S A R Q P H
+  E = Entry M S A R Q P H W
 
   abbrev V : Type 0
-  V = View M S A R Q P H
+  V = View M S A R Q P H W
 
   abbrev Acc : Type 0
-  Acc = Account M S A R Q P H
+  Acc = Account M S A R Q P H W
 
   abbrev Ord : Type 0
-  Ord = Order M S A R Q P H
+  Ord = Order M S A R Q P H W
 
   abbrev Fin : Type 0
-  Fin = Finished M S A R Q P H
+  Fin = Finished M S A R Q P H W
 
   abbrev Sat : Type 0
-  Sat = Me (Slot M S A R Q P H) V
+  Sat = Me (Slot M S A R Q P H W) V
 
   -- a seat that has joined another has what the two had
   pub joined_sits : (m w : Sat) (as' bs : List Acc) (ls ks : List Counted) (os ps : List Ord) (fs es : List Fin) (b c : Bool) → Sits m as' ls os fs b → Sits w bs ks ps es c → Sits (joined m.0 w.0, m.1) (as' ++ bs) (ls ++ ks) (os ++ ps) (fs ++ es) b
@@ -51,6 +51,7 @@ module _ {M S A R Q P H : Type 0} (g : Ghosts M S A R Q P H) where
     root_is = s.root_is;
     idle = s.idle;
     hand = s.hand;
+    clear = s.clear;
     begun = s.begun;
   }
 
@@ -72,7 +73,7 @@ module _ {M S A R Q P H : Type 0} (g : Ghosts M S A R Q P H) where
   -- an act
   entered_sits : (a : Acc) (act : A) (m p : Sat) (held : H) (number : ℕ) (reply : R) → Sits m (a ∷ []) [] [] [] false → EntersAct g a act m p held number reply → Sits p (entered g.update a (Act a.number (a.used + 1) act reply) ∷ []) [] [] [] false
   entered_sits a act m p held number reply s t = subst (λ (x : Sat). Sits x (entered g.update a (Act a.number (a.used + 1) act reply) ∷ []) [] [] [] false) (sym t.after)
-      (record { accounts = refl; lanes = s.lanes; passes = s.passes; dones = s.dones; root_is = s.root_is; idle = s.idle; hand = refl; begun = s.begun })
+      (record { accounts = refl; lanes = s.lanes; passes = s.passes; dones = s.dones; root_is = s.root_is; idle = s.idle; hand = refl; clear = s.clear; begun = s.begun })
 
   pub acts_ok : (number used outstanding : ℕ) (holds held : H) (act : A) (m p : Sat) (at : ℕ) (reply : R) → ClientOk g number used outstanding holds m → EntersAct g (own g number holds m) act m p held at reply → ClientOk g number (used + 1) outstanding held p
   acts_ok number used outstanding holds held act m p at reply ok t = let a = own g number holds m in let x : Acc = entered g.update a (Act a.number (a.used + 1) act reply) in
@@ -98,7 +99,7 @@ module _ {M S A R Q P H : Type 0} (g : Ghosts M S A R Q P H) where
 
   -- a look
   looked_sits : (m p : Sat) (as' : List Acc) (ls : List Counted) (os : List Ord) (fs : List Fin) (b : Bool) → Sits m as' ls os fs b → HasLooked g m p → Sits p as' ls os fs b
-  looked_sits m p as' ls os fs b s t = subst (λ (x : Sat). Sits x as' ls os fs b) (sym t.1) (record { accounts = s.accounts; lanes = s.lanes; passes = s.passes; dones = s.dones; root_is = s.root_is; idle = s.idle; hand = s.hand; begun = s.begun })
+  looked_sits m p as' ls os fs b s t = subst (λ (x : Sat). Sits x as' ls os fs b) (sym t.1) (record { accounts = s.accounts; lanes = s.lanes; passes = s.passes; dones = s.dones; root_is = s.root_is; idle = s.idle; hand = s.hand; clear = s.clear; begun = s.begun })
 
   pub looks_ok : (number used outstanding : ℕ) (holds : H) (m n p : Sat) → ClientOk g number used outstanding holds m → Sits n (own g number holds m ∷ []) [] [] [] false → HasLooked g n p → ClientOk g number used outstanding holds p
   looks_ok number used outstanding holds m n p ok s t = let a = own g number holds m in let s' = looked_sits n p (a ∷ []) [] [] [] false s t in record {
@@ -123,7 +124,7 @@ module _ {M S A R Q P H : Type 0} (g : Ghosts M S A R Q P H) where
 
   settled_sits : (n p : Sat) (a : Acc) (f : Fin) → Sits n (a ∷ []) [] [] (f ∷ []) false → HasSettled g n p → Sits p (settled a f ∷ []) [] [] [] false
   settled_sits n p a f s t = subst (λ (x : Sat). Sits x (settled a f ∷ []) [] [] [] false) (sym t.1)
-      (record { accounts = (λ i. settle_first (s.accounts i) (s.dones i)); lanes = s.lanes; passes = s.passes; dones = refl; root_is = s.root_is; idle = s.idle; hand = s.hand; begun = s.begun })
+      (record { accounts = (λ i. settle_first (s.accounts i) (s.dones i)); lanes = s.lanes; passes = s.passes; dones = refl; root_is = s.root_is; idle = s.idle; hand = s.hand; clear = s.clear; begun = s.begun })
 
   pub settled_out : (n p : Sat) (a : Acc) (f : Fin) → Sits n (a ∷ []) [] [] (f ∷ []) false → HasSettled g n p → f.order.client ≡ a.number → Has a.out f.order
   settled_out n p a f s t mine = t.2.outs f.order (inr (f, has_one n.0.dones f s.dones, refl)) a (has_one n.0.accounts a s.accounts) (sym mine)
@@ -138,7 +139,7 @@ module _ {M S A R Q P H : Type 0} (g : Ghosts M S A R Q P H) where
     within = omega arith;
   }
 
-  pub settles_told : (number used outstanding : ℕ) (holds : H) (m w n p : Sat) (f : Done M S A R Q P H) → ClientOk g number used outstanding holds m → n ≡ (joined m.0 w.0, m.1) → f.seen ≡ w.0.seen → Sits n (own g number holds m ∷ []) [] [] (finished_of g f ∷ []) false → HasSettled g n p → f.order.client ≡ (own g number holds m).number
+  pub settles_told : (number used outstanding : ℕ) (holds : H) (m w n p : Sat) (f : Done M S A R Q P H W) → ClientOk g number used outstanding holds m → n ≡ (joined m.0 w.0, m.1) → f.seen ≡ w.0.seen → Sits n (own g number holds m ∷ []) [] [] (finished_of g f ∷ []) false → HasSettled g n p → f.order.client ≡ (own g number holds m).number
       → TakesBack g (client_value g number holds m) f (client_value g number holds p)
   settles_told number used outstanding holds m w n p f ok is seen s t mine = let a = own g number holds m in let fin : Fin = finished_of g f in let s' = settled_sits n p a fin s t in
       let log : p.0.seen ≡ t.0 = ap (λ (y : Sat). y.0.seen) t.1 in let e = own_is p number holds (settled a fin) s'.accounts in
@@ -159,7 +160,7 @@ module _ {M S A R Q P H : Type 0} (g : Ghosts M S A R Q P H) where
 
   returned_sits : (n p : Sat) (a : Acc) (o : Ord) → Sits n (a ∷ []) [] (o ∷ []) [] false → HasReturned g n p → Sits p (given_up a o ∷ []) [] [] [] false
   returned_sits n p a o s t = subst (λ (x : Sat). Sits x (given_up a o ∷ []) [] [] [] false) (sym t.1)
-      (record { accounts = (λ i. give_up_first (s.accounts i) (s.passes i)); lanes = s.lanes; passes = refl; dones = s.dones; root_is = s.root_is; idle = s.idle; hand = s.hand; begun = s.begun })
+      (record { accounts = (λ i. give_up_first (s.accounts i) (s.passes i)); lanes = s.lanes; passes = refl; dones = s.dones; root_is = s.root_is; idle = s.idle; hand = s.hand; clear = s.clear; begun = s.begun })
 
   pub returned_out : (n p : Sat) (a : Acc) (o : Ord) → Sits n (a ∷ []) [] (o ∷ []) [] false → HasReturned g n p → o.client ≡ a.number → Has a.out o
   returned_out n p a o s t mine = t.2.outs o (inl (has_one n.0.passes o s.passes)) a (has_one n.0.accounts a s.accounts) (sym mine)
@@ -171,7 +172,7 @@ module _ {M S A R Q P H : Type 0} (g : Ghosts M S A R Q P H) where
     within = omega arith;
   }
 
-  pub returns_told : (number used outstanding : ℕ) (holds : H) (m w n p : Sat) (f : Passed M S A R Q P H) → ClientOk g number used outstanding holds m → n ≡ (joined m.0 w.0, m.1) → f.seen ≡ w.0.seen → Sits n (own g number holds m ∷ []) [] (f.order ∷ []) [] false → HasReturned g n p → f.order.client ≡ (own g number holds m).number
+  pub returns_told : (number used outstanding : ℕ) (holds : H) (m w n p : Sat) (f : Passed M S A R Q P H W) → ClientOk g number used outstanding holds m → n ≡ (joined m.0 w.0, m.1) → f.seen ≡ w.0.seen → Sits n (own g number holds m ∷ []) [] (f.order ∷ []) [] false → HasReturned g n p → f.order.client ≡ (own g number holds m).number
       → TakesUnrun g (client_value g number holds m) f (client_value g number holds p)
   returns_told number used outstanding holds m w n p f ok is seen s t mine = let a = own g number holds m in let o : Ord = f.order in let s' = returned_sits n p a o s t in
       let log : p.0.seen ≡ t.0 = ap (λ (y : Sat). y.0.seen) t.1 in let e = own_is p number holds (given_up a o) s'.accounts in
@@ -187,7 +188,7 @@ module _ {M S A R Q P H : Type 0} (g : Ghosts M S A R Q P H) where
       }
 
   -- a note that was met
-  pub meets_told : (number used outstanding : ℕ) (holds : H) (m w n p : Sat) (f : Noted M S A R Q P H) → ClientOk g number used outstanding holds m → n ≡ (joined m.0 w.0, m.1) → f.seen ≡ w.0.seen → Sits w [] [] [] [] false → HasLooked g n p → Meets g (client_value g number holds m) f (client_value g number holds p)
+  pub meets_told : (number used outstanding : ℕ) (holds : H) (m w n p : Sat) (f : Noted M S A R Q P H W) → ClientOk g number used outstanding holds m → n ≡ (joined m.0 w.0, m.1) → f.seen ≡ w.0.seen → Sits w [] [] [] [] false → HasLooked g n p → Meets g (client_value g number holds m) f (client_value g number holds p)
   meets_told number used outstanding holds m w n p f ok is seen sw t =
       let s : Sits n (own g number holds m ∷ []) [] [] [] false = subst (λ (x : Sat). Sits x (own g number holds m ∷ []) [] [] [] false) (sym is) (joined_sits m w (own g number holds m ∷ []) [] [] [] [] [] [] [] false false ok.seat.sits sw) in
       let log : p.0.seen ≡ t.0 = ap (λ (y : Sat). y.0.seen) t.1 in record {
@@ -197,6 +198,23 @@ module _ {M S A R Q P H : Type 0} (g : Ghosts M S A R Q P H) where
 
   pub note_joined : (number used outstanding : ℕ) (holds : H) (m w n : Sat) → ClientOk g number used outstanding holds m → n ≡ (joined m.0 w.0, m.1) → Sits w [] [] [] [] false → Sits n (own g number holds m ∷ []) [] [] [] false
   note_joined number used outstanding holds m w n ok is sw = subst (λ (x : Sat). Sits x (own g number holds m ∷ []) [] [] [] false) (sym is) (joined_sits m w (own g number holds m ∷ []) [] [] [] [] [] [] [] false false ok.seat.sits sw)
+
+  -- a note that met another
+  pub notes_joined : (m w n : Sat) → Sits m [] [] [] [] false → Sits w [] [] [] [] false → n ≡ (joined m.0 w.0, m.1) → Sits n [] [] [] [] false
+  notes_joined m w n sm sw is = subst (λ (x : Sat). Sits x [] [] [] [] false) (sym is) (joined_sits m w [] [] [] [] [] [] [] [] false false sm sw)
+
+  pub note_looks : (n p : Sat) → Sits n [] [] [] [] false → HasLooked g n p → Sits p [] [] [] [] false
+  note_looks n p s t = looked_sits n p [] [] [] [] false s t
+
+  pub notes_told : (m w n p : Sat) (f : Noted M S A R Q P H W) → n ≡ (joined m.0 w.0, m.1) → f.seen ≡ w.0.seen → HasLooked g n p → MeetsNote g (note_value g m) f (note_value g p)
+  notes_told m w n p f is seen t =
+      let log : p.0.seen ≡ t.0 = ap (λ (y : Sat). y.0.seen) t.1 in
+      let start : p.0.start ≡ n.0.start = ap (λ (y : Sat). y.0.start) t.1 in record {
+        more = subst (λ (x : List E × List E). IsPrefix x.0 x.1) (λ i. ((ap (λ (y : Sat). y.0.seen) is) i, (sym log) i)) t.2.seen;
+        more_note = subst (λ (x : List E × List E). IsPrefix x.0 x.1) (λ i. ((ap (λ (y : Sat). y.0.heard) is ∙ sym seen) i, (sym log) i)) t.2.heard;
+        start = start ∙ ap (λ (y : Sat). y.0.start) is;
+        history = subst (λ (x : Option S × List E). IsHistory g x.0 x.1) (λ i. ((sym start) i, (sym log) i)) t.2.told;
+      }
 
   -- a request drawn, and handed to a pass
   drawn_is : (m n : Sat) (a : Acc) (q : Q) → m.0.accounts ≡ a ∷ [] → n ≡ (drawing m.0 q, m.1) → (n.0.accounts ≡ drawn a q ∷ []) × (n.0.passes ≡ ordered_of a q ∷ [])
@@ -213,6 +231,7 @@ module _ {M S A R Q P H : Type 0} (g : Ghosts M S A R Q P H) where
         root_is = ap (λ (x : Sat). x.0.is_root) left ∙ (ap (λ (x : Sat). x.0.is_root) is ∙ s.root_is);
         idle = ap (λ (x : Sat). x.0.holding) left ∙ (ap (λ (x : Sat). x.0.holding) is ∙ s.idle);
         hand = ap (λ (x : Sat). x.1) left ∙ (ap (λ (x : Sat). x.1) is ∙ s.hand);
+        clear = ap (λ (x : Sat). x.0.outs) left ∙ (ap (λ (x : Sat). x.0.outs) is ∙ s.clear);
         begun = (s.begun.0, ap (λ (x : Sat). x.0.start) left ∙ (ap (λ (x : Sat). x.0.start) is ∙ s.begun.1));
       } in record {
         seat = client_seat p number (used + 1) holds (drawn a q) s' ok.seat.number_is (ap (λ (k : ℕ). k + 1) ok.seat.used_is) ok.seat.holds_are;
@@ -229,10 +248,11 @@ module _ {M S A R Q P H : Type 0} (g : Ghosts M S A R Q P H) where
     root_is = ap (λ (x : Sat). x.0.is_root) right;
     idle = ap (λ (x : Sat). x.0.holding) right;
     hand = ap (λ (x : Sat). x.1) right;
+    clear = ap (λ (x : Sat). x.0.outs) right;
     begun = (s.begun.0, ap (λ (x : Sat). x.0.start) right ∙ (ap (λ (x : Sat). x.0.start) is ∙ s.begun.1));
   }
 
-  pub draws_told : (number used outstanding : ℕ) (holds : H) (m n p r : Sat) (q : Q) → ClientOk g number used outstanding holds m → n ≡ (drawing m.0 q, m.1) → p ≡ (emptied n.0, n.1) → r ≡ (handed n.0, []) → (x : Passed M S A R Q P H) → x ≡ pass_value g number (used + 1) q r
+  pub draws_told : (number used outstanding : ℕ) (holds : H) (m n p r : Sat) (q : Q) → ClientOk g number used outstanding holds m → n ≡ (drawing m.0 q, m.1) → p ≡ (emptied n.0, n.1) → r ≡ (handed n.0, []) → (x : Passed M S A R Q P H W) → x ≡ pass_value g number (used + 1) q r
       → Drawn g (client_value g number holds m) q (client_value g number holds p) x
   draws_told number used outstanding holds m n p r q ok is left right x e = let a = own g number holds m in let s = ok.seat.sits in let d = drawn_is m n a q s.accounts is in record {
     account = own_is p number holds (drawn a q) (ap (λ (y : Sat). y.0.accounts) left ∙ d.0);
@@ -242,4 +262,4 @@ module _ {M S A R Q P H : Type 0} (g : Ghosts M S A R Q P H) where
   }
 
   pub noted_sits : (m r : Sat) (as' : List Acc) (ls : List Counted) (os : List Ord) (fs : List Fin) (b : Bool) → Sits m as' ls os fs b → r ≡ (noted m.0, []) → Sits r [] [] [] [] false
-  noted_sits m r as' ls os fs b s e = subst (λ (x : Sat). Sits x [] [] [] [] false) (sym e) (record { accounts = refl; lanes = refl; passes = refl; dones = refl; root_is = refl; idle = refl; hand = refl; begun = s.begun })
+  noted_sits m r as' ls os fs b s e = subst (λ (x : Sat). Sits x [] [] [] [] false) (sym e) (record { accounts = refl; lanes = refl; passes = refl; dones = refl; root_is = refl; idle = refl; hand = refl; clear = refl; begun = s.begun })

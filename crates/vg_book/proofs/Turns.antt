@@ -26,30 +26,30 @@ use Rattle.vg_book.specs.declared.board.Account.{Account}
 use Rattle.vg_book.specs.declared.board.Counted.{Counted}
 use Rattle.vg_book.specs.declared.board.View.{View}
 use Rattle.vg_book.specs.Views.{Carries, entry_of, taking, giving, wrote, entered, entries_in}
-use Rattle.vg_book.specs.Kept.{Plan, AccountOk, Knows, Kept, Shown, IsCoreOf}
+use Rattle.vg_book.specs.Kept.{Plan, AccountOk, Knows, Kept, Shown, IsCoreOf, lane_jobs}
 use Rattle.vg_book.specs.Tells as tells
 use Rattle.vg_book.proofs.Updates.{true_not_false, set_at}
 use Rattle.vg_book.proofs.Accounts.{Fits, grown, acted, call_below, out_below}
 use Rattle.vg_book.proofs.SeatLemmas.{set_cases, shown, shown_by, words_to, found_word, rebuilt, holder_set, linked_set, carried_set, kept_set, Linked}
 
-module _ {M S A R Q P H : Type 0} (g : Ghosts M S A R Q P H) (first : S) where
+module _ {M S A R Q P H W : Type 0} (g : Ghosts M S A R Q P H W) (first : S) where
   abbrev E : Type 0
-  E = Entry M S A R Q P H
+  E = Entry M S A R Q P H W
 
   abbrev V : Type 0
-  V = View M S A R Q P H
+  V = View M S A R Q P H W
 
   abbrev Ord : Type 0
-  Ord = Order M S A R Q P H
+  Ord = Order M S A R Q P H W
 
   abbrev Fin : Type 0
-  Fin = Finished M S A R Q P H
+  Fin = Finished M S A R Q P H W
 
   abbrev Acc : Type 0
-  Acc = Account M S A R Q P H
+  Acc = Account M S A R Q P H W
 
   abbrev Sl : Type 0
-  Sl = Slot M S A R Q P H
+  Sl = Slot M S A R Q P H W
 
   abbrev St : Type 0
   St = State Sl V
@@ -58,20 +58,21 @@ module _ {M S A R Q P H : Type 0} (g : Ghosts M S A R Q P H) (first : S) where
   Rule = Kept g first
 
   -- what the rule says once the turn was taken
-  module _ (s : St) (r : Rule s) (id : ℕ) (v : V) (at : get_elem? s.views id ≡ some v) (zero_word : r.plan.word ≡ 0) (begun : v.start ≡ Some first) (busy : ((a : Acc) × Has v.accounts a) ⊎ ((l : Counted) × Has v.lanes l)) where
+  module _ (s : St) (r : Rule s) (id : ℕ) (v : V) (at : get_elem? s.views id ≡ some v) (zero_word : r.plan.word ≡ 0) (begun : v.start ≡ Some first) (busy : ((a : Acc) × Has v.accounts a) ⊎ ((l : Counted) × Has v.lanes l)) (js : List W) (all : js ≡ r.plan.lent) where
     abbrev held_plan : Plan g
-    held_plan = record { log = r.plan.log; given = r.plan.given; lanes_made = r.plan.lanes_made; owner = r.plan.owner; home = r.plan.home; lane_owner = r.plan.lane_owner; word = 1; taker = id }
+    held_plan = record { log = r.plan.log; given = r.plan.given; lanes_made = r.plan.lanes_made; owner = r.plan.owner; home = r.plan.home; lane_owner = r.plan.lane_owner; word = 1; taker = id; lent = r.plan.lent }
 
-    take_own : Knows g first held_plan id (taking v r.plan.log)
+    take_own : Knows g first held_plan id (taking v r.plan.log js)
     take_own = let k = r.each id v at in record {
       start = k.start;
       seen = prefix_self r.plan.log;
       heard = prefix_none r.plan.log;
-      turn = λ _. ((λ (e : 1 ≡ 0). omega arith), refl, refl);
+      turn = λ _. ((λ (e : 1 ≡ 0). omega arith), refl, refl, all);
       busy = λ _. busy;
       root = k.root;
       accounts = λ a h. let t = k.accounts a h in record { owned = t.owned; within = t.within; is = t.is };
       lanes = λ l h. let t = k.lanes l h in record { owned = t.owned; within = t.within; counts = t.counts };
+      outs = λ l h. ap (lane_jobs g l.lane) (sym all);
       passes = λ o h. let t = k.passes o h in record { owned = t.owned; made = t.made; fresh = t.fresh };
       dones = λ f h. let t = k.dones f h in record { owned = t.owned; stands = t.stands };
     }
@@ -86,25 +87,27 @@ module _ {M S A R Q P H : Type 0} (g : Ghosts M S A R Q P H) (first : S) where
       root = k.root;
       accounts = λ a h. let t = k.accounts a h in record { owned = t.owned; within = t.within; is = t.is };
       lanes = λ l h. let t = k.lanes l h in record { owned = t.owned; within = t.within; counts = t.counts };
+      outs = k.outs;
       passes = λ o h. let t = k.passes o h in record { owned = t.owned; made = t.made; fresh = t.fresh };
       dones = λ f h. let t = k.dones f h in record { owned = t.owned; stands = t.stands };
     }
 
-    take_kept : (ws : List ℕ) → ws ≡ 1 ∷ [] → Rule record { words = ws; homes = set s.homes 0 none; views = set s.views id (taking v r.plan.log) }
+    take_kept : (ws : List ℕ) → ws ≡ 1 ∷ [] → Rule record { words = ws; homes = set s.homes 0 none; views = set s.views id (taking v r.plan.log js) }
     take_kept ws words = record {
       plan = held_plan;
       at_home = none;
       words = words;
       homes = ap (λ l. set l 0 none) r.homes;
       free = λ (e : 1 ≡ 0). absurd (omega arith);
-      taken = λ _. (taking v r.plan.log, set_at s.views id v (taking v r.plan.log) at, refl);
+      taken = λ _. (taking v r.plan.log js, set_at s.views id v (taking v r.plan.log js) at, refl);
       agrees = r.agrees;
       clients = r.clients;
       no_lanes = r.no_lanes;
+      no_lent = r.no_lent;
       ordered = r.ordered;
       once = r.once;
-      each = set_cases (Knows g first held_plan) s.views id (taking v r.plan.log) take_own (λ j u ne there. take_others j u there);
-      linked = linked_set g first s r id v (taking v r.plan.log) at (λ o c. c) (λ a h. h);
+      each = set_cases (Knows g first held_plan) s.views id (taking v r.plan.log js) take_own (λ j u ne there. take_others j u there);
+      linked = linked_set g first s r id v (taking v r.plan.log js) at (λ o c. c) (λ a h. h);
     }
 
   pub begun_is : (p : Plan g) (j : ℕ) (v : V) → Knows g first p j v → ((x : S) × (v.start ≡ Some x)) → v.start ≡ Some first
@@ -121,12 +124,22 @@ module _ {M S A R Q P H : Type 0} (g : Ghosts M S A R Q P H) (first : S) where
   takes_turn slots id me begun busy empty s r deep at small = let v = me.0 in let p = r.plan in
       let found = found_word g first s r in
       dite (ℕ_discrete p.word 0)
-      (λ (z : p.word ≡ 0). let c = r.free z in let start = begun_is p id v (r.each id v at) begun in (
-        taking v p.log,
+      (λ (z : p.word ≡ 0). let c = r.free z in let start = begun_is p id v (r.each id v at) begun in let js : List W = g.lent c.0.machine in (
+        taking v p.log js,
         takes 0 (Held c.0),
         ap (λ (l : List (maybe.Option Sl)). get_elem? l 0) r.homes ∙ ap some c.1,
-        take_kept s r id v at z start busy (set s.words 0 (either (get_or s.words 0 0 == 0) 1 (get_or s.words 0 0))) (words_to g first s r (λ n. either (n == 0) 1 n) ∙ ap (λ (n : ℕ). n ∷ []) (taken_word p.word z)),
-        ((λ _. (p.log, c.0, ap (λ (l : List (ℕ × Sl)). (taking v p.log, (0, Held c.0) ∷ l)) empty, subst (λ (x : Option S). IsCoreOf g x p.log c.0) (sym start) c.2, shown g first s r id v at)), λ ne. absurd (ne (found ∙ z))),
+        take_kept s r id v at z start busy js c.3 (set s.words 0 (either (get_or s.words 0 0 == 0) 1 (get_or s.words 0 0))) (words_to g first s r (λ n. either (n == 0) 1 n) ∙ ap (λ (n : ℕ). n ∷ []) (taken_word p.word z)),
+        (
+          (λ _. record {
+            log = p.log;
+            core = c.0;
+            after = ap (λ (l : List (ℕ × Sl)). (taking v p.log js, (0, Held c.0) ∷ l)) empty;
+            is = subst (λ (x : Option S). IsCoreOf g x p.log c.0) (sym start) c.2;
+            shown = shown g first s r id v at;
+            outs = λ l h. ap (lane_jobs g l.lane) c.3 ∙ (r.each id v at).outs l h;
+          }),
+          λ ne. absurd (ne (found ∙ z)),
+        ),
       ))
       (λ (ne : p.word ≢ 0).
       let ws : List ℕ = set s.words 0 (either (get_or s.words 0 0 == 0) 1 (get_or s.words 0 0)) in
@@ -140,40 +153,41 @@ module _ {M S A R Q P H : Type 0} (g : Ghosts M S A R Q P H) (first : S) where
       ))
 
   -- the turn is given back with the history `log`, by the seat that has it
-  module _ (s : St) (r : Rule s) (id : ℕ) (v w : V) (log : List E) (c : Core M S A R Q P H) (at : get_elem? s.views id ≡ some v) (holding : v.holding ≡ true) where
+  module _ (s : St) (r : Rule s) (id : ℕ) (v w : V) (log : List E) (js : List W) (c : Core M S A R Q P H W) (at : get_elem? s.views id ≡ some v) (holding : v.holding ≡ true) where
     abbrev pub free_plan : Plan g
-    free_plan = record { log = log; given = r.plan.given; lanes_made = r.plan.lanes_made; owner = r.plan.owner; home = r.plan.home; lane_owner = r.plan.lane_owner; word = 0; taker = r.plan.taker }
+    free_plan = record { log = log; given = r.plan.given; lanes_made = r.plan.lanes_made; owner = r.plan.owner; home = r.plan.home; lane_owner = r.plan.lane_owner; word = 0; taker = r.plan.taker; lent = js }
 
     -- nobody else has the turn
     pub other_is_free : (j : ℕ) (u : V) → j ≢ id → get_elem? s.views j ≡ some u → u.holding ≡ true → ⊥
     other_is_free j u ne there h = ne (((r.each j u there).turn h).1 ∙ sym ((r.each id v at).turn holding).1)
 
-    pub gives_back : (ws : List ℕ) → ws ≡ 0 ∷ [] → IsCoreOf g (Some first) log c → AgreesFrom g first log → ((e : E) → Has log e → (0 < client_of e) × (client_of e ≤ r.plan.given)) → ((l : ℕ) → r.plan.lanes_made ≤ l → ordinals g l log ≡ [])
+    pub gives_back : (ws : List ℕ) → ws ≡ 0 ∷ [] → IsCoreOf g (Some first) log c → g.lent c.machine ≡ js → ((l : ℕ) → r.plan.lanes_made ≤ l → lane_jobs g l js ≡ []) → AgreesFrom g first log → ((e : E) → Has log e → (0 < client_of e) × (client_of e ≤ r.plan.given)) → ((l : ℕ) → r.plan.lanes_made ≤ l → ordinals g l log ≡ [])
         → Ordered g log → EachOnce log → Knows g first free_plan id w → ((j : ℕ) (u : V) → j ≢ id → get_elem? s.views j ≡ some u → Knows g first free_plan j u) → Linked g first (set s.views id w)
         → Rule record { words = ws; homes = set s.homes 0 (some (Held c)); views = set s.views id w }
-    gives_back ws words core agrees clients no_lanes ordered once mine others linked = record {
+    gives_back ws words core all no_lent agrees clients no_lanes ordered once mine others linked = record {
       plan = free_plan;
       at_home = some (Held c);
       words = words;
       homes = ap (λ l. set l 0 (some (Held c))) r.homes;
-      free = λ _. (c, refl, core);
+      free = λ _. (c, refl, core, all);
       taken = λ ne. absurd (ne refl);
       agrees = agrees;
       clients = clients;
       no_lanes = no_lanes;
+      no_lent = no_lent;
       ordered = ordered;
       once = once;
       each = set_cases (Knows g first free_plan) s.views id w mine others;
       linked = linked;
     }
 
-  pub gives_turn : (slots id : ℕ) (me : Me Sl V) (c : Core M S A R Q P H) → me.1 ≡ (0, Held c) ∷ [] → me.0.holding ≡ true → ((x : S) × (me.0.start ≡ Some x)) → IsCoreOf g me.0.start me.0.seen c
-      → Allows Rule slots id me 0 (λ _. 0) (λ _. tells.Gives g (step slots 0 0 0 none) me 0)
-  gives_turn slots id me c hand holding begun core s r deep at small = let v = me.0 in let p = r.plan in let k = r.each id v at in let t = k.turn holding in
+  pub gives_turn : (slots id : ℕ) (me : Me Sl V) (c : Core M S A R Q P H W) → me.1 ≡ (0, Held c) ∷ [] → me.0.holding ≡ true → ((x : S) × (me.0.start ≡ Some x)) → IsCoreOf g me.0.start me.0.seen c
+      → g.lent c.machine ≡ me.0.outs → ((l : Counted) → Has me.0.lanes l → lane_jobs g l.lane me.0.outs ≡ []) → Allows Rule slots id me 0 (λ _. 0) (λ _. tells.Gives g (step slots 0 0 0 none) me 0)
+  gives_turn slots id me c hand holding begun core all clear s r deep at small = let v = me.0 in let p = r.plan in let k = r.each id v at in let t = k.turn holding in
       let start = begun_is p id v k begun in
       let core' : IsCoreOf g (Some first) p.log c = subst (λ (x : List E). IsCoreOf g (Some first) x c) t.2 (subst (λ (x : Option S). IsCoreOf g x v.seen c) start core) in
       let ws : List ℕ = set s.words 0 0 in
-      let own : Knows g first (free_plan s r id v (giving v) p.log c at holding) id (giving v) = record {
+      let own : Knows g first (free_plan s r id v (giving v) p.log p.lent c at holding) id (giving v) = record {
         start = k.start;
         seen = k.seen;
         heard = k.heard;
@@ -182,42 +196,46 @@ module _ {M S A R Q P H : Type 0} (g : Ghosts M S A R Q P H) (first : S) where
         root = k.root;
         accounts = λ a h. let z = k.accounts a h in record { owned = z.owned; within = z.within; is = z.is };
         lanes = λ l h. let z = k.lanes l h in record { owned = z.owned; within = z.within; counts = z.counts };
+        outs = λ l h. ap (lane_jobs g l.lane) (sym t.3) ∙ clear l h;
         passes = λ o h. let z = k.passes o h in record { owned = z.owned; made = z.made; fresh = z.fresh };
         dones = λ f h. let z = k.dones f h in record { owned = z.owned; stands = z.stands };
       } in
-      let others : (j : ℕ) (u : V) → j ≢ id → get_elem? s.views j ≡ some u → Knows g first (free_plan s r id v (giving v) p.log c at holding) j u = λ j u ne there. let q = r.each j u there in record {
+      let others : (j : ℕ) (u : V) → j ≢ id → get_elem? s.views j ≡ some u → Knows g first (free_plan s r id v (giving v) p.log p.lent c at holding) j u = λ j u ne there. let q = r.each j u there in record {
         start = q.start;
         seen = q.seen;
         heard = q.heard;
-        turn = λ h. absurd (other_is_free s r id v (giving v) p.log c at holding j u ne there h);
+        turn = λ h. absurd (other_is_free s r id v (giving v) p.log p.lent c at holding j u ne there h);
         busy = q.busy;
         root = q.root;
         accounts = λ a h. let z = q.accounts a h in record { owned = z.owned; within = z.within; is = z.is };
         lanes = λ l h. let z = q.lanes l h in record { owned = z.owned; within = z.within; counts = z.counts };
+        outs = q.outs;
         passes = λ o h. let z = q.passes o h in record { owned = z.owned; made = z.made; fresh = z.fresh };
         dones = λ f h. let z = q.dones f h in record { owned = z.owned; stands = z.stands };
       } in
-      let kept = gives_back s r id v (giving v) p.log c at holding ws (ap (λ (l : List ℕ). set l 0 0) r.words) core' r.agrees r.clients r.no_lanes r.ordered r.once own others (linked_set g first s r id v (giving v) at (λ o x. x) (λ a h. h)) in
+      let kept = gives_back s r id v (giving v) p.log p.lent c at holding ws (ap (λ (l : List ℕ). set l 0 0) r.words) core' (all ∙ t.3) r.no_lent r.agrees r.clients r.no_lanes r.ordered r.once own others (linked_set g first s r id v (giving v) at (λ o x. x) (λ a h. h)) in
       (giving v, gives, tt, subst (λ (hand : List (ℕ × Sl)). Rule record { words = ws; homes = put_back s.homes hand; views = set s.views id (giving v) }) (sym hand) kept, ap (λ (l : List (ℕ × Sl)). (giving v, rest l)) hand)
 
   -- the turn is given back with one entry more
-  module _ (s : St) (r : Rule s) (id : ℕ) (v w : V) (e : E) (c : Core M S A R Q P H) (at : get_elem? s.views id ≡ some v) (holding : v.holding ≡ true) where
+  module _ (s : St) (r : Rule s) (id : ℕ) (v w : V) (e : E) (js : List W) (c : Core M S A R Q P H W) (at : get_elem? s.views id ≡ some v) (holding : v.holding ≡ true) where
     abbrev pub grown_plan : Plan g
-    grown_plan = free_plan s r id v w (r.plan.log ++ e ∷ []) c at holding
+    grown_plan = free_plan s r id v w (r.plan.log ++ e ∷ []) js c at holding
 
     pub grow_others : ((j : ℕ) (u : V) → j ≢ id → get_elem? s.views j ≡ some u → (a : Acc) → Has u.accounts a → Fits g e a)
         → ((j : ℕ) (u : V) → j ≢ id → get_elem? s.views j ≡ some u → (l : Counted) → Has u.lanes l → ordinals g l.lane (r.plan.log ++ e ∷ []) ≡ ordinals g l.lane r.plan.log)
         → ((j : ℕ) (u : V) → j ≢ id → get_elem? s.views j ≡ some u → (o : Ord) → Has u.passes o → client_of e ≡ o.client → call_of e ≡ o.call → ⊥)
+        → ((j : ℕ) (u : V) → j ≢ id → get_elem? s.views j ≡ some u → (l : Counted) → Has u.lanes l → lane_jobs g l.lane js ≡ lane_jobs g l.lane r.plan.lent)
         → (j : ℕ) (u : V) → j ≢ id → get_elem? s.views j ≡ some u → Knows g first grown_plan j u
-    grow_others fits lanes apart j u ne there = let k = r.each j u there in let log = r.plan.log in record {
+    grow_others fits lanes apart lent j u ne there = let k = r.each j u there in let log = r.plan.log in record {
       start = k.start;
       seen = prefix_more u.seen log (e ∷ []) k.seen;
       heard = prefix_more u.heard log (e ∷ []) k.heard;
-      turn = λ h. absurd (other_is_free s r id v w (log ++ e ∷ []) c at holding j u ne there h);
+      turn = λ h. absurd (other_is_free s r id v w (log ++ e ∷ []) js c at holding j u ne there h);
       busy = k.busy;
       root = k.root;
       accounts = λ a h. let z = k.accounts a h in record { owned = z.owned; within = z.within; is = grown g log a e z.is (fits j u ne there a h) };
       lanes = λ l h. let z = k.lanes l h in record { owned = z.owned; within = z.within; counts = lanes j u ne there l h ∙ z.counts };
+      outs = λ l h. lent j u ne there l h ∙ k.outs l h;
       passes = λ o h. let z = k.passes o h in record { owned = z.owned; made = z.made; fresh = λ f hf cl ca. ⊎_elim (λ old. z.fresh f old cl ca) (λ (same : e ≡ f). apart j u ne there o h (ap client_of same ∙ cl) (ap call_of same ∙ ca)) (has_snoc log e f hf) };
       dones = λ f h. let z = k.dones f h in record { owned = z.owned; stands = at_longer log (e ∷ []) f.place (entry_of f) z.stands };
     }
@@ -226,26 +244,27 @@ module _ {M S A R Q P H : Type 0} (g : Ghosts M S A R Q P H) (first : S) where
   entry_reply x log e agrees reply = agrees_append g x log (e ∷ []) agrees (reply, tt)
 
   -- what the slot in hand has, after an entry more
-  pub record IsNext (start : Option S) (log : List E) (e : E) (c : Core M S A R Q P H) : Type 0 where
-    pub entries : c.history ≡ log ++ e ∷ []
+  pub record IsNext (start : Option S) (log : List E) (e : E) (c : Core M S A R Q P H W) : Type 0 where
+    pub entries : c.history.entries ≡ log ++ e ∷ []
+    pub places : c.history.kept ≡ length (g.lent c.machine)
     pub reply : (x : S) → start ≡ Some x → HasReply g (replay g x log) e
     pub state : (x : S) → start ≡ Some x → g.state c.machine ≡ replay g x (log ++ e ∷ [])
     pub counted : g.count (g.state c.machine) ≡ length log + 1
 
-  pub next_core : (start : Option S) (log : List E) (e : E) (c : Core M S A R Q P H) → IsNext start log e c → IsCoreOf g start (log ++ e ∷ []) c
-  next_core start log e c n = record { entries = n.entries; state = n.state; counted = n.counted ∙ sym (length-append log (e ∷ [])) }
+  pub next_core : (start : Option S) (log : List E) (e : E) (c : Core M S A R Q P H W) → IsNext start log e c → IsCoreOf g start (log ++ e ∷ []) c
+  next_core start log e c n = record { entries = n.entries; places = n.places; state = n.state; counted = n.counted ∙ sym (length-append log (e ∷ [])) }
 
   -- a client's seat that has the turn
-  module _ (laws : (h : H) (a : A) (x : R) (q : Q) → g.ends_hold a ≡ false → g.allows h q ≡ true → g.allows (g.update h a x) q ≡ true) (s : St) (r : Rule s) (id : ℕ) (v : V) (a : Acc) (act : A) (x : R) (c : Core M S A R Q P H) (at : get_elem? s.views id ≡ some v) (holding : v.holding ≡ true)
+  module _ (laws : (h : H) (a : A) (x : R) (q : Q) → g.ends_hold a ≡ false → g.allows h q ≡ true → g.allows (g.update h a x) q ≡ true) (s : St) (r : Rule s) (id : ℕ) (v : V) (a : Acc) (act : A) (x : R) (c : Core M S A R Q P H W) (at : get_elem? s.views id ≡ some v) (holding : v.holding ≡ true)
       (account : v.accounts ≡ a ∷ []) (lanes : v.lanes ≡ []) (passes : v.passes ≡ []) (dones : v.dones ≡ []) (root : v.is_root ≡ false) (may : (g.ends_hold act ≡ false) ⊎ (a.out ≡ [])) where
     abbrev own_act : E
     own_act = Act a.number (a.used + 1) act x
 
     abbrev act_view : V
-    act_view = record v { seen = r.plan.log ++ own_act ∷ []; holding = false; accounts = entered g.update a own_act ∷ [] }
+    act_view = record v { seen = r.plan.log ++ own_act ∷ []; holding = false; outs = []; accounts = entered g.update a own_act ∷ [] }
 
     abbrev act_plan : Plan g
-    act_plan = grown_plan s r id v act_view own_act c at holding
+    act_plan = grown_plan s r id v act_view own_act r.plan.lent c at holding
 
     act_has : Has v.accounts a
     act_has = subst (λ (l : List Acc). Has l a) (sym account) (inl refl)
@@ -263,15 +282,17 @@ module _ {M S A R Q P H : Type 0} (g : Ghosts M S A R Q P H) (first : S) where
       root = λ e. absurd (true_not_false (sym e ∙ root));
       accounts = λ b h. ⊎_elim (λ (e : entered g.update a own_act ≡ b). subst (λ (y : Acc). AccountOk g act_plan id y) e (record { owned = ok.owned; within = ok.within; is = acted g laws log a act x ok.is may })) (λ y. absurd y) h;
       lanes = λ l h. absurd (subst (λ (ls : List Counted). Has ls l) lanes h);
+      outs = λ l h. absurd (subst (λ (ls : List Counted). Has ls l) lanes h);
       passes = λ o h. absurd (subst (λ (os : List Ord). Has os o) passes h);
       dones = λ f h. absurd (subst (λ (fs : List Fin). Has fs f) dones h);
     }
 
     act_others : (j : ℕ) (u : V) → j ≢ id → get_elem? s.views j ≡ some u → Knows g first act_plan j u
-    act_others = grow_others s r id v act_view own_act c at holding
+    act_others = grow_others s r id v act_view own_act r.plan.lent c at holding
         (λ j u ne there b h. inl (λ (same : a.number ≡ b.number). ne (sym ((r.each j u there).accounts b h).owned ∙ (ap r.plan.owner (sym same) ∙ act_ok.owned))))
         (λ j u ne there l h. ordinals_act g l.lane a.number (a.used + 1) act x r.plan.log)
         (λ j u ne there o h client call. let out = r.linked o (j, u, there, inl h) a (id, v, at, act_has) client in let b = out_below g a act_ok.is.numbers o out in omega (arith, call, b))
+        (λ j u ne there l h. refl)
 
     act_linked : Linked g first (set s.views id act_view)
     act_linked o carried b k same = ⊎_elim
@@ -292,24 +313,24 @@ module _ {M S A R Q P H : Type 0} (g : Ghosts M S A R Q P H) (first : S) where
     act_ordered : Ordered g (r.plan.log ++ own_act ∷ [])
     act_ordered l = let t = r.ordered l in (t.0, ordinals_act g l a.number (a.used + 1) act x r.plan.log ∙ t.1)
 
-    act_kept : (ws : List ℕ) → ws ≡ 0 ∷ [] → IsNext (Some first) r.plan.log own_act c → Rule record { words = ws; homes = set s.homes 0 (some (Held c)); views = set s.views id act_view }
-    act_kept ws words next = gives_back s r id v act_view (r.plan.log ++ own_act ∷ []) c at holding ws words (next_core (Some first) r.plan.log own_act c next) (entry_reply first r.plan.log own_act r.agrees (next.reply first refl))
+    act_kept : (ws : List ℕ) → ws ≡ 0 ∷ [] → IsNext (Some first) r.plan.log own_act c → g.lent c.machine ≡ r.plan.lent → Rule record { words = ws; homes = set s.homes 0 (some (Held c)); views = set s.views id act_view }
+    act_kept ws words next all = gives_back s r id v act_view (r.plan.log ++ own_act ∷ []) r.plan.lent c at holding ws words (next_core (Some first) r.plan.log own_act c next) all r.no_lent (entry_reply first r.plan.log own_act r.agrees (next.reply first refl))
         act_clients (λ l h. ordinals_act g l a.number (a.used + 1) act x r.plan.log ∙ r.no_lanes l h) act_ordered act_once act_own act_others act_linked
 
     act_shown : IsNext (Some first) r.plan.log own_act c → Shown g act_view (r.plan.log ++ own_act ∷ [])
     act_shown next = shown_by g first act_plan (set s.views id act_view) id act_view (entry_reply first r.plan.log own_act r.agrees (next.reply first refl)) act_ordered act_once act_clients (set_at s.views id v act_view at) act_own act_linked
 
-  pub enters : (laws : (h : H) (a : A) (x : R) (q : Q) → g.ends_hold a ≡ false → g.allows h q ≡ true → g.allows (g.update h a x) q ≡ true) (slots id : ℕ) (me : Me Sl V) (a : Acc) (act : A) (x : R) (c : Core M S A R Q P H) → me.1 ≡ (0, Held c) ∷ [] → me.0.holding ≡ true → ((y : S) × (me.0.start ≡ Some y))
+  pub enters : (laws : (h : H) (a : A) (x : R) (q : Q) → g.ends_hold a ≡ false → g.allows h q ≡ true → g.allows (g.update h a x) q ≡ true) (slots id : ℕ) (me : Me Sl V) (a : Acc) (act : A) (x : R) (c : Core M S A R Q P H W) → me.1 ≡ (0, Held c) ∷ [] → me.0.holding ≡ true → ((y : S) × (me.0.start ≡ Some y))
       → me.0.accounts ≡ a ∷ [] → me.0.lanes ≡ [] → me.0.passes ≡ [] → me.0.dones ≡ [] → me.0.is_root ≡ false → (g.ends_hold act ≡ false) ⊎ (a.out ≡ []) → IsNext me.0.start me.0.seen (Act a.number (a.used + 1) act x) c
-      → Allows Rule slots id me 0 (λ _. 0) (λ _. tells.Enters g (step slots 0 0 0 none) me 0)
-  enters laws slots id me a act x c hand holding begun account lanes passes dones root may next s r deep at small = let v = me.0 in let p = r.plan in let k = r.each id v at in let t = k.turn holding in
+      → g.lent c.machine ≡ me.0.outs → Allows Rule slots id me 0 (λ _. 0) (λ _. tells.Enters g (step slots 0 0 0 none) me 0)
+  enters laws slots id me a act x c hand holding begun account lanes passes dones root may next all s r deep at small = let v = me.0 in let p = r.plan in let k = r.each id v at in let t = k.turn holding in
       let e : E = Act a.number (a.used + 1) act x in
       let start = begun_is p id v k begun in
       let next' : IsNext (Some first) p.log e c = subst (λ (y : List E). IsNext (Some first) y e c) t.2 (subst (λ (y : Option S). IsNext y v.seen e c) start next) in
       let ws : List ℕ = set s.words 0 0 in
       let w : V = act_view laws s r id v a act x c at holding account lanes passes dones root may in
-      let same : w ≡ wrote g.update v e = (λ i. let z : V = record v { seen = (sym t.2) i ++ e ∷ []; holding = false; accounts = map (λ (b : Acc). entered g.update b e) ((sym account) i) } in z) in
-      let kept : Rule record { words = ws; homes = set s.homes 0 (some (Held c)); views = set s.views id w } = act_kept laws s r id v a act x c at holding account lanes passes dones root may ws (ap (λ (l : List ℕ). set l 0 0) r.words) next' in
+      let same : w ≡ wrote g.update v e = (λ i. let z : V = record v { seen = (sym t.2) i ++ e ∷ []; holding = false; outs = []; accounts = map (λ (b : Acc). entered g.update b e) ((sym account) i) } in z) in
+      let kept : Rule record { words = ws; homes = set s.homes 0 (some (Held c)); views = set s.views id w } = act_kept laws s r id v a act x c at holding account lanes passes dones root may ws (ap (λ (l : List ℕ). set l 0 0) r.words) next' (all ∙ t.3) in
       let kept' : Rule record { words = ws; homes = put_back s.homes me.1; views = set s.views id (wrote g.update v e) } = subst (λ (y : V × List (ℕ × Sl)). Rule record { words = ws; homes = put_back s.homes y.1; views = set s.views id y.0 }) (λ i. (same i, (sym hand) i)) kept in
       let told : Shown g (wrote g.update v e) (v.seen ++ e ∷ []) = subst (λ (y : V × List E). Shown g y.0 (y.1 ++ e ∷ [])) (λ i. (same i, (sym t.2) i)) (act_shown laws s r id v a act x c at holding account lanes passes dones root may next') in
       (wrote g.update v e, gives, tt, kept', (e, ap entries_in hand ∙ next.entries, ap (λ (l : List (ℕ × Sl)). (wrote g.update v e, rest l)) hand, told))

@@ -47,39 +47,39 @@ moved_else from to f n ne = ap (λ (b : Bool). cond b to (f n)) (ne_eqb (f n) fr
 pub either_same : (n : ℕ) → either (n == 0) 0 n ≡ n
 either_same n = dite (ℕ_discrete n 0) (λ e. ap (λ (b : Bool). either b 0 n) (eq-eqb n 0 e) ∙ sym e) (λ ne. ap (λ (b : Bool). either b 0 n) (ne_eqb n 0 ne))
 
-module _ {M S A R Q P H : Type 0} where
-  without_here : (n : ℕ) (o : Order M S A R Q P H) (os : List (Order M S A R Q P H)) → o.call ≡ n → without n (o ∷ os) ≡ os
+module _ {M S A R Q P H W : Type 0} where
+  without_here : (n : ℕ) (o : Order M S A R Q P H W) (os : List (Order M S A R Q P H W)) → o.call ≡ n → without n (o ∷ os) ≡ os
   without_here n o os e = ap (λ (b : Bool). cond b os (o ∷ without n os)) (eq-eqb o.call n e)
 
-  without_else : (n : ℕ) (o : Order M S A R Q P H) (os : List (Order M S A R Q P H)) → o.call ≢ n → without n (o ∷ os) ≡ o ∷ without n os
+  without_else : (n : ℕ) (o : Order M S A R Q P H W) (os : List (Order M S A R Q P H W)) → o.call ≢ n → without n (o ∷ os) ≡ o ∷ without n os
   without_else n o os ne = ap (λ (b : Bool). cond b os (o ∷ without n os)) (ne_eqb o.call n ne)
 
-  pub has_of_without : (n : ℕ) (os : List (Order M S A R Q P H)) (o : Order M S A R Q P H) → Has (without n os) o → Has os o
+  pub has_of_without : (n : ℕ) (os : List (Order M S A R Q P H W)) (o : Order M S A R Q P H W) → Has (without n os) o → Has os o
   has_of_without n [] o h = h
   has_of_without n (x ∷ os) o h = dite (ℕ_discrete x.call n)
-      (λ e. inr (subst (λ (l : List (Order M S A R Q P H)). Has l o) (without_here n x os e) h))
-      (λ ne. ⊎_elim (λ is. inl is) (λ r. inr (has_of_without n os o r)) (subst (λ (l : List (Order M S A R Q P H)). Has l o) (without_else n x os ne) h))
+      (λ e. inr (subst (λ (l : List (Order M S A R Q P H W)). Has l o) (without_here n x os e) h))
+      (λ ne. ⊎_elim (λ is. inl is) (λ r. inr (has_of_without n os o r)) (subst (λ (l : List (Order M S A R Q P H W)). Has l o) (without_else n x os ne) h))
 
-  pub has_without : (n : ℕ) (os : List (Order M S A R Q P H)) (o : Order M S A R Q P H) → Has os o → o.call ≢ n → Has (without n os) o
+  pub has_without : (n : ℕ) (os : List (Order M S A R Q P H W)) (o : Order M S A R Q P H W) → Has os o → o.call ≢ n → Has (without n os) o
   has_without n [] o h ne = h
-  has_without n (x ∷ os) o (inl is) ne = subst (λ (l : List (Order M S A R Q P H)). Has l o) (sym (without_else n x os (λ e. ne (ap order_call (sym is) ∙ e)))) (inl is)
+  has_without n (x ∷ os) o (inl is) ne = subst (λ (l : List (Order M S A R Q P H W)). Has l o) (sym (without_else n x os (λ e. ne (ap order_call (sym is) ∙ e)))) (inl is)
   has_without n (x ∷ os) o (inr h) ne = dite (ℕ_discrete x.call n)
-      (λ e. subst (λ (l : List (Order M S A R Q P H)). Has l o) (sym (without_here n x os e)) h)
-      (λ no. subst (λ (l : List (Order M S A R Q P H)). Has l o) (sym (without_else n x os no)) (inr (has_without n os o h ne)))
+      (λ e. subst (λ (l : List (Order M S A R Q P H W)). Has l o) (sym (without_here n x os e)) h)
+      (λ no. subst (λ (l : List (Order M S A R Q P H W)). Has l o) (sym (without_else n x os no)) (inr (has_without n os o h ne)))
 
-  pub times_without : (k : ℕ) (os : List (Order M S A R Q P H)) (o : Order M S A R Q P H) → Has os o
+  pub times_without : (k : ℕ) (os : List (Order M S A R Q P H W)) (o : Order M S A R Q P H W) → Has os o
       → times k (map order_call os) ≡ times k (map order_call (without o.call os)) + bit (o.call == k)
   times_without k [] o h = absurd h
   times_without k (x ∷ os) o (inl is) = let e : x.call ≡ o.call = ap order_call is in let w = without_here o.call x os e in
       let b : bit (x.call == k) ≡ bit (o.call == k) = ap (λ (n : ℕ). bit (n == k)) e in
-      let t : times k (map order_call (without o.call (x ∷ os))) ≡ times k (map order_call os) = ap (λ (l : List (Order M S A R Q P H)). times k (map order_call l)) w in omega arith
+      let t : times k (map order_call (without o.call (x ∷ os))) ≡ times k (map order_call os) = ap (λ (l : List (Order M S A R Q P H W)). times k (map order_call l)) w in omega arith
   times_without k (x ∷ os) o (inr h) = dite (ℕ_discrete x.call o.call)
       (λ e. let b : bit (x.call == k) ≡ bit (o.call == k) = ap (λ (n : ℕ). bit (n == k)) e in
-      let t : times k (map order_call (without o.call (x ∷ os))) ≡ times k (map order_call os) = ap (λ (l : List (Order M S A R Q P H)). times k (map order_call l)) (without_here o.call x os e) in omega arith)
+      let t : times k (map order_call (without o.call (x ∷ os))) ≡ times k (map order_call os) = ap (λ (l : List (Order M S A R Q P H W)). times k (map order_call l)) (without_here o.call x os e) in omega arith)
       (λ ne. let r = times_without k os o h in
-      let t : times k (map order_call (without o.call (x ∷ os))) ≡ bit (x.call == k) + times k (map order_call (without o.call os)) = ap (λ (l : List (Order M S A R Q P H)). times k (map order_call l)) (without_else o.call x os ne) in omega arith)
+      let t : times k (map order_call (without o.call (x ∷ os))) ≡ bit (x.call == k) + times k (map order_call (without o.call os)) = ap (λ (l : List (Order M S A R Q P H W)). times k (map order_call l)) (without_else o.call x os ne) in omega arith)
 
-  pub length_without : (os : List (Order M S A R Q P H)) (o : Order M S A R Q P H) → Has os o → length os ≡ length (without o.call os) + 1
+  pub length_without : (os : List (Order M S A R Q P H W)) (o : Order M S A R Q P H W) → Has os o → length os ≡ length (without o.call os) + 1
   length_without [] o h = absurd h
   length_without (x ∷ os) o (inl is) = let t : length (without o.call (x ∷ os)) ≡ length os = ap length (without_here o.call x os (ap order_call is)) in omega arith
   length_without (x ∷ os) o (inr h) = dite (ℕ_discrete x.call o.call)

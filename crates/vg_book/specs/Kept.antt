@@ -8,6 +8,7 @@ use Rattle.atomic_table.specs.Table.{State}
 use Rattle.vg_history.specs.declared.machine.Machine.{Ghosts}
 use Rattle.vg_history.specs.declared.entry.Entry.{Entry}
 use Rattle.vg_history.specs.Lists.{Has, times, upto}
+use Rattle.vg_history.specs.Jobs.{of_lane, lane_by}
 use Rattle.vg_history.specs.Entries.{client_of, call_of, EachOnce}
 use Rattle.vg_history.specs.History.{replay, AgreesFrom, holds_after, AllowedBy, ordinals, Ordered}
 use Rattle.vg_book.specs.declared.board.Core.{Core}
@@ -20,18 +21,18 @@ use Rattle.vg_book.specs.declared.board.Counted.{Counted}
 use Rattle.vg_book.specs.declared.board.View.{View}
 use Rattle.vg_book.specs.Views.{entry_of, IsEntryOf, calls, Carries}
 
-module _ {M S A R Q P H : Type 0} (g : Ghosts M S A R Q P H) where
+module _ {M S A R Q P H W : Type 0} (g : Ghosts M S A R Q P H W) where
   abbrev E : Type 0
-  E = Entry M S A R Q P H
+  E = Entry M S A R Q P H W
 
   abbrev V : Type 0
-  V = View M S A R Q P H
+  V = View M S A R Q P H W
 
   abbrev Acc : Type 0
-  Acc = Account M S A R Q P H
+  Acc = Account M S A R Q P H W
 
   abbrev Ord : Type 0
-  Ord = Order M S A R Q P H
+  Ord = Order M S A R Q P H W
 
   -- The history agrees with the replay from this state.
   abbrev pub Agrees : Option S → List E → Type 0
@@ -65,14 +66,19 @@ module _ {M S A R Q P H : Type 0} (g : Ghosts M S A R Q P H) where
   abbrev pub IsFresh : List E → Ord → Type 0
   IsFresh log o = (e : E) → Has log e → client_of e ≡ o.client → call_of e ≡ o.call → ⊥
 
-  -- The machine and entries of this history.
-  pub record IsCoreOf (start : Option S) (log : List E) (c : Core M S A R Q P H) : Type 0 where
-    pub entries : c.history ≡ log
+  -- Those of these jobs that are of the lane.
+  abbrev pub lane_jobs : ℕ → List W → List W
+  lane_jobs l jobs = of_lane (lane_by g.asked g.tagged) l jobs
+
+  -- The machine and entries of this history, with a place kept for each job that is lent.
+  pub record IsCoreOf (start : Option S) (log : List E) (c : Core M S A R Q P H W) : Type 0 where
+    pub entries : c.history.entries ≡ log
+    pub places : c.history.kept ≡ length (g.lent c.machine)
     pub state : (s : S) → start ≡ Some s → g.state c.machine ≡ replay g s log
     pub counted : g.count (g.state c.machine) ≡ length log
 
-  -- The history; how many clients and lanes were made; in which seat each client, each order and each lane is; the word, and
-  -- who took the turn last.
+  -- The history; how many clients and lanes were made; in which seat each client, each order and each lane is; the word,
+  -- who took the turn last, and the jobs that are lent while the turn is free, or were when it was taken.
   pub record Plan : Type 0 where
     pub log : List E
     pub given : ℕ
@@ -82,6 +88,7 @@ module _ {M S A R Q P H : Type 0} (g : Ghosts M S A R Q P H) where
     pub lane_owner : ℕ → ℕ
     pub word : ℕ
     pub taker : ℕ
+    pub lent : List W
 
   pub record AccountOk (p : Plan) (at : ℕ) (a : Acc) : Type 0 where
     pub owned : p.owner a.number ≡ at
@@ -98,7 +105,7 @@ module _ {M S A R Q P H : Type 0} (g : Ghosts M S A R Q P H) where
     pub made : (0 < o.client) × (o.client ≤ p.given)
     pub fresh : IsFresh p.log o
 
-  pub record DoneOk (p : Plan) (at : ℕ) (f : Finished M S A R Q P H) : Type 0 where
+  pub record DoneOk (p : Plan) (at : ℕ) (f : Finished M S A R Q P H W) : Type 0 where
     pub owned : p.home f.order.client f.order.call ≡ at
     pub stands : get_elem? p.log f.place ≡ some (entry_of f)
 
@@ -107,13 +114,14 @@ module _ {M S A R Q P H : Type 0} (g : Ghosts M S A R Q P H) where
     pub start : (s : S) → v.start ≡ Some s → s ≡ first
     pub seen : IsPrefix v.seen p.log
     pub heard : IsPrefix v.heard p.log
-    pub turn : v.holding ≡ true → (p.word ≢ 0) × (at ≡ p.taker) × (v.seen ≡ p.log)
+    pub turn : v.holding ≡ true → (p.word ≢ 0) × (at ≡ p.taker) × (v.seen ≡ p.log) × (v.outs ≡ p.lent)
     pub busy : v.holding ≡ true → ((a : Acc) × Has v.accounts a) ⊎ ((l : Counted) × Has v.lanes l)
     pub root : v.is_root ≡ true → (at ≡ 0) × (v.given ≡ p.given) × (v.lanes_made ≡ p.lanes_made)
     pub accounts : (a : Acc) → Has v.accounts a → AccountOk p at a
     pub lanes : (l : Counted) → Has v.lanes l → LaneOk p at l
+    pub outs : (l : Counted) → Has v.lanes l → lane_jobs l.lane p.lent ≡ lane_jobs l.lane v.outs
     pub passes : (o : Ord) → Has v.passes o → PassOk p at o
-    pub dones : (f : Finished M S A R Q P H) → Has v.dones f → DoneOk p at f
+    pub dones : (f : Finished M S A R Q P H W) → Has v.dones f → DoneOk p at f
 
   -- Some seat carries the order; some seat has the account.
   abbrev pub IsCarried : List V → Ord → Type 0
@@ -122,16 +130,17 @@ module _ {M S A R Q P H : Type 0} (g : Ghosts M S A R Q P H) where
   abbrev pub IsKeptBy : List V → Acc → Type 0
   IsKeptBy vs a = (j : ℕ) × (v : V) × (get_elem? vs j ≡ some v) × Has v.accounts a
 
-  pub record Kept (first : S) (s : State (Slot M S A R Q P H) V) : Type 0 where
+  pub record Kept (first : S) (s : State (Slot M S A R Q P H W) V) : Type 0 where
     pub plan : Plan
-    pub at_home : maybe.Option (Slot M S A R Q P H)
+    pub at_home : maybe.Option (Slot M S A R Q P H W)
     pub words : s.words ≡ plan.word ∷ []
     pub homes : s.homes ≡ at_home ∷ []
-    pub free : plan.word ≡ 0 → (c : Core M S A R Q P H) × (at_home ≡ some (Held c)) × IsCoreOf (Some first) plan.log c
+    pub free : plan.word ≡ 0 → (c : Core M S A R Q P H W) × (at_home ≡ some (Held c)) × IsCoreOf (Some first) plan.log c × (g.lent c.machine ≡ plan.lent)
     pub taken : plan.word ≢ 0 → (v : V) × (get_elem? s.views plan.taker ≡ some v) × (v.holding ≡ true)
     pub agrees : AgreesFrom g first plan.log
     pub clients : (e : E) → Has plan.log e → (0 < client_of e) × (client_of e ≤ plan.given)
     pub no_lanes : (l : ℕ) → plan.lanes_made ≤ l → ordinals g l plan.log ≡ []
+    pub no_lent : (l : ℕ) → plan.lanes_made ≤ l → lane_jobs l plan.lent ≡ []
     pub ordered : Ordered g plan.log
     pub once : EachOnce plan.log
     pub each : (j : ℕ) (v : V) → get_elem? s.views j ≡ some v → Knows first plan j v
@@ -146,5 +155,5 @@ module _ {M S A R Q P H : Type 0} (g : Ghosts M S A R Q P H) where
     pub accounts : (a : Acc) → Has v.accounts a → Accounted log a
     pub lanes : (l : Counted) → Has v.lanes l → ordinals g l.lane log ≡ upto l.count
     pub passes : (o : Ord) → Has v.passes o → IsFresh log o
-    pub dones : (f : Finished M S A R Q P H) → Has v.dones f → get_elem? log f.place ≡ some (entry_of f)
+    pub dones : (f : Finished M S A R Q P H W) → Has v.dones f → get_elem? log f.place ≡ some (entry_of f)
     pub outs : (o : Ord) → Carries v o → (a : Acc) → Has v.accounts a → a.number ≡ o.client → Has a.out o

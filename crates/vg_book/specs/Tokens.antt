@@ -21,69 +21,69 @@ use Rattle.vg_book.specs.Kept.{IsHistory, Accounted, IsFresh}
 use Rattle.vg_book.specs.Turns.{Sits, IsClientSeat, own, order}
 
 -- A client: its account, the beginning of the history that it has seen, and the state before the history.
-pub record Client (M S A R Q P H : Type 0) : Type 0 where
-  pub account : Account M S A R Q P H
-  pub seen : List (Entry M S A R Q P H)
+pub record Client (M S A R Q P H W : Type 0) : Type 0 where
+  pub account : Account M S A R Q P H W
+  pub seen : List (Entry M S A R Q P H W)
   pub start : Option S
 
 -- A lane, and how many of its commands were run.
-pub record Lane (M S A R Q P H : Type 0) : Type 0 where
+pub record Lane (M S A R Q P H W : Type 0) : Type 0 where
   pub lane : ℕ
   pub count : ℕ
-  pub seen : List (Entry M S A R Q P H)
+  pub seen : List (Entry M S A R Q P H W)
   pub start : Option S
 
 -- A pass, for this order.
-pub record Passed (M S A R Q P H : Type 0) : Type 0 where
-  pub order : Order M S A R Q P H
-  pub seen : List (Entry M S A R Q P H)
+pub record Passed (M S A R Q P H W : Type 0) : Type 0 where
+  pub order : Order M S A R Q P H W
+  pub seen : List (Entry M S A R Q P H W)
   pub start : Option S
 
 -- A pass that was run, with the reply and the place of its entry, from 0.
-pub record Done (M S A R Q P H : Type 0) : Type 0 where
-  pub order : Order M S A R Q P H
+pub record Done (M S A R Q P H W : Type 0) : Type 0 where
+  pub order : Order M S A R Q P H W
   pub reply : P
   pub place : ℕ
-  pub seen : List (Entry M S A R Q P H)
+  pub seen : List (Entry M S A R Q P H W)
   pub start : Option S
 
-pub record Noted (M S A R Q P H : Type 0) : Type 0 where
-  pub seen : List (Entry M S A R Q P H)
+pub record Noted (M S A R Q P H W : Type 0) : Type 0 where
+  pub seen : List (Entry M S A R Q P H W)
   pub start : Option S
 
 -- The root: how many clients and lanes it has made, and what has joined it.
-pub record Rooted (M S A R Q P H : Type 0) : Type 0 where
+pub record Rooted (M S A R Q P H W : Type 0) : Type 0 where
   pub given : ℕ
   pub lanes_made : ℕ
-  pub accounts : List (Account M S A R Q P H)
+  pub accounts : List (Account M S A R Q P H W)
   pub lanes : List Counted
-  pub seen : List (Entry M S A R Q P H)
+  pub seen : List (Entry M S A R Q P H W)
   pub start : Option S
 
-module _ {M S A R Q P H : Type 0} (g : Ghosts M S A R Q P H) where
+module _ {M S A R Q P H W : Type 0} (g : Ghosts M S A R Q P H W) where
   abbrev E : Type 0
-  E = Entry M S A R Q P H
+  E = Entry M S A R Q P H W
 
   abbrev Sat : Type 0
-  Sat = Me (Slot M S A R Q P H) (View M S A R Q P H)
+  Sat = Me (Slot M S A R Q P H W) (View M S A R Q P H W)
 
   abbrev Cl : Type 0
-  Cl = Client M S A R Q P H
+  Cl = Client M S A R Q P H W
 
   abbrev La : Type 0
-  La = Lane M S A R Q P H
+  La = Lane M S A R Q P H W
 
   abbrev Pa : Type 0
-  Pa = Passed M S A R Q P H
+  Pa = Passed M S A R Q P H W
 
   abbrev Do : Type 0
-  Do = Done M S A R Q P H
+  Do = Done M S A R Q P H W
 
   abbrev No : Type 0
-  No = Noted M S A R Q P H
+  No = Noted M S A R Q P H W
 
   abbrev Ro : Type 0
-  Ro = Rooted M S A R Q P H
+  Ro = Rooted M S A R Q P H W
 
   -- Each token's value, by its seat.
   abbrev pub client_value : ℕ → H → Sat → Cl
@@ -116,12 +116,13 @@ module _ {M S A R Q P H : Type 0} (g : Ghosts M S A R Q P H) where
     pub stands : get_elem? me.0.seen place ≡ some (Command client call request reply)
     pub fence : HasFence g lane ordinal me.0.seen
     pub room : place < 2 ^ 31 - 1
+    pub readable : g.read request (g.written request reply) ≡ reply
 
   pub record RootOk (given lanes_made : ℕ) (me : Sat) : Type 0 where
     pub seat : Sits me me.0.accounts me.0.lanes [] [] true
     pub given_is : me.0.given ≡ given
     pub lanes_are : me.0.lanes_made ≡ lanes_made
-    pub outs : (a : Account M S A R Q P H) → Has me.0.accounts a → a.out ≡ []
+    pub outs : (a : Account M S A R Q P H W) → Has me.0.accounts a → a.out ≡ []
 
   -- The act is the client's next entry, behind all that it had seen, and what it has seen ends with it.
   pub record Acted (c : Cl) (act : A) (d : Cl) (number : ℕ) (reply : R) : Type 0 where
@@ -149,7 +150,7 @@ module _ {M S A R Q P H : Type 0} (g : Ghosts M S A R Q P H) where
     pub start : d.start ≡ c.start
     pub pass : p ≡ record { order = ordered_of c.account request; seen = c.seen; start = c.start }
 
-  abbrev pub finished_of : Do → Finished M S A R Q P H
+  abbrev pub finished_of : Do → Finished M S A R Q P H W
   finished_of f = record { order = f.order; reply = f.reply; place = f.place }
 
   -- The order of a done pass came back: it was out, and its entry is the client's now.
@@ -178,6 +179,13 @@ module _ {M S A R Q P H : Type 0} (g : Ghosts M S A R Q P H) where
   pub record Meets (c : Cl) (n : No) (d : Cl) : Type 0 where
     pub watched : Watched c d
     pub more_note : IsPrefix n.seen d.seen
+
+  -- The note has seen all that it and the other note had.
+  pub record MeetsNote (n w o : No) : Type 0 where
+    pub more : IsPrefix n.seen o.seen
+    pub more_note : IsPrefix w.seen o.seen
+    pub start : o.start ≡ n.start
+    pub history : IsHistory g o.start o.seen
 
   -- The pass is the next command of the lane, behind all that the two had seen, and the done pass knows its fence.
   pub record Ran (l : La) (p : Pa) (m : La) (f : Do) : Type 0 where
@@ -233,7 +241,7 @@ module _ {M S A R Q P H : Type 0} (g : Ghosts M S A R Q P H) where
 
   -- All clients and lanes that the root has made have joined it.
   pub record AllJoined (r : Ro) : Type 0 where
-    pub clients : (n : ℕ) → 0 < n → n ≤ r.given → (a : Account M S A R Q P H) × Has r.accounts a × (a.number ≡ n)
+    pub clients : (n : ℕ) → 0 < n → n ≤ r.given → (a : Account M S A R Q P H W) × Has r.accounts a × (a.number ≡ n)
     pub lanes : (l : ℕ) → l < r.lanes_made → (x : Counted) × Has r.lanes x × (x.lane ≡ l)
 
   -- The end: the machine is in the state of the replay, each account's entries are exactly that client's, and each lane's
@@ -243,7 +251,7 @@ module _ {M S A R Q P H : Type 0} (g : Ghosts M S A R Q P H) where
     pub state : (s : S) → r.start ≡ Some s → g.state machine ≡ replay g s H'
     pub history : IsHistory g r.start H'
     pub clients : (e : E) → Has H' e → (0 < client_of e) × (client_of e ≤ r.given)
-    pub known : (a : Account M S A R Q P H) → Has r.accounts a → Accounted g H' a
-    pub mine : (a : Account M S A R Q P H) → Has r.accounts a → (e : E) → Has H' e → client_of e ≡ a.number → Has a.mine e
-    pub settled_all : (a : Account M S A R Q P H) → Has r.accounts a → a.out ≡ []
+    pub known : (a : Account M S A R Q P H W) → Has r.accounts a → Accounted g H' a
+    pub mine : (a : Account M S A R Q P H W) → Has r.accounts a → (e : E) → Has H' e → client_of e ≡ a.number → Has a.mine e
+    pub settled_all : (a : Account M S A R Q P H W) → Has r.accounts a → a.out ≡ []
     pub lanes : (l : Counted) → Has r.lanes l → ordinals g l.lane H' ≡ upto l.count

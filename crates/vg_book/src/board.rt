@@ -11,13 +11,13 @@ use std::alloc::Global;
 use std::collections::LinkedList;
 use std::marker::{Brand, PhantomData};
 use std::snapshot::Snapshot;
-use vg_history::{Entry, History, Machine};
+use vg_history::{Entry, Growing, Machine};
 
 /// The machine, and its history so far.
 #[derive(Drop)]
 pub struct Core<M: Machine> {
     pub machine: M,
-    pub history: History<M>,
+    pub history: Growing<M>,
 }
 
 /// What the slot holds, or what a step is told. At home it is always `Held`.
@@ -82,6 +82,8 @@ pub struct View<M: Machine> {
     pub told: Option<M::Holds>,
     /// It has the turn.
     pub holding: bool,
+    /// The jobs that it has out; while it has the turn, all that are out of the machine.
+    pub outs: LinkedList<M::Job>,
 }
 
 /// The rule of the table.

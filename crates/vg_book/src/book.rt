@@ -11,7 +11,7 @@ use atomic_table::Table;
 use std::alloc::{AllocError, Global};
 use std::marker::{Model, PhantomData};
 use std::snapshot::Snapshot;
-use vg_history::{History, Machine};
+use vg_history::{Growing, History, Machine};
 
 /// A book with no entry, which has no name yet.
 #[derive(Drop)]
@@ -42,15 +42,16 @@ pub struct Book<M: Machine, B: Naming> {
 }
 
 impl<M: Machine> Opened<M> {
-    /// A book over a machine that has no entry, which will have so many lanes.
+    /// A book over a machine that has no entry and has lent nothing, which will have so many lanes.
     pub fn new(alloc: Global, machine: M, lanes: u32) -> Result<Opened<M>, AllocError>
-        requires { M.count (M.state machine) ≡ 0 }
+        requires count { M.count (M.state machine) ≡ 0 }
+        requires lent { M.lent machine ≡ [] }
         ensures { IfOk result (λ o. Begins o (M.state machine) lanes) }
     {
         let about = Snapshot::of(&machine);
         let core = Core {
             machine,
-            history: History::new(alloc),
+            history: Growing::new(alloc),
         };
         let mut slots = Vec::new(alloc);
         slots.push(Slot::Held(core))?;
@@ -81,16 +82,17 @@ impl<M: Machine> Opened<M> {
 }
 
 impl<M: Machine, B: Naming> Book<M, B> {
-    /// The machine, and the whole history, once all clients and lanes have joined the root.
+    /// The machine, from which nothing is lent, and the whole history, once all clients and lanes have joined the root.
     pub fn close(self, root: Root<M, B>) -> (M, History<M>)
         requires { AllJoined M.Machine root }
-        ensures { IsClosed M.Machine root result.0 result.1 }
+        ensures closed { IsClosed M.Machine root result.0 result.1 }
+        ensures lent { M.lent result.0 ≡ [] }
     {
         let Book { table, of: _ } = self;
         let mut closed = table.close_with(root.into_seat());
         let slot = closed.take(0);
         closed.free();
         let Core { machine, history } = slot.into_core();
-        (machine, history)
+        (machine, history.finish())
     }
 }

@@ -15,6 +15,7 @@ use crate::turn::look;
 use crossbeam_utils::Backoff;
 use std::alloc::Global;
 use std::marker::{Model, PhantomData};
+use std::snapshot::Snapshot;
 use std::sync::Wait;
 use vg_history::Machine;
 
@@ -36,7 +37,7 @@ impl<M: Machine, B: Naming> Model for ClientToken<M, B> {
     ghost use Rattle.std.specs.Prelude.{◌≡◌};
     ghost use Rattle.vg_book.specs.Tokens.{Client, client_value, ClientOk};
 
-    ghost Value = { Client M M.State M.Act M.ActReply M.Request M.Reply M.Holds };
+    ghost Value = { Client M M.State M.Act M.ActReply M.Request M.Reply M.Holds M.Job };
 
     ghost view = { λ t. client_value M.Machine t.number t.holds t.seat.me };
 
@@ -119,29 +120,44 @@ impl<M: Machine, B: Naming> ClientToken<M, B> {
     }
 
     /// Makes a pass for a request that the client's holds allow, under its next number. It waits for nobody.
-    pub fn pass(&mut self, book: &Book<M, B>, request: M::Request) -> Pass<M, B>
-        requires allowed { M.allows self.old.account.holds request ≡ true }
+    pub fn pass(&mut self, book: &Book<M, B>, request: &M::Request) -> Pass<M, B>
+        requires allowed { M.allows self.old.account.holds request.now ≡ true }
         requires last { self.old.account.used < 2 ^ 63 - 1 }
-        ensures { Drawn M.Machine self.old request self.new result }
+        ensures { Drawn M.Machine self.old request.now self.new result }
     {
-        draw(&book.table, &mut self.seat, &request);
+        self.pass_of(book, Snapshot::of(request), M::tag(request))
+    }
+
+    /// The same for a request of this tag that need not be at hand: it may stand elsewhere already.
+    pub fn pass_of(
+        &mut self,
+        book: &Book<M, B>,
+        request: Snapshot<M::Request>,
+        tag: (u32, u64),
+    ) -> Pass<M, B>
+        requires tag { M.tagged request.value ≡ tag }
+        requires allowed { M.allows self.old.account.holds request.value ≡ true }
+        requires last { self.old.account.used < 2 ^ 63 - 1 }
+        ensures { Drawn M.Machine self.old request.value self.new result }
+    {
+        let request = draw(&book.table, &mut self.seat, request);
         let seat = hand(&book.table, &mut self.seat);
         self.used += 1;
         self.outstanding += 1;
-        Pass::of(self.number, self.used, request, seat)
+        Pass::of(self.number, self.used, request, tag, seat)
     }
 
-    /// Takes back a pass of this client that was run, and gives the entry's number, from 1, and the reply.
-    pub fn take_back(&mut self, book: &Book<M, B>, done: DonePass<M, B>) -> (u64, M::Reply)
+    /// Takes back a pass of this client that was run, and gives the entry's number, from 1.
+    pub fn take_back(&mut self, book: &Book<M, B>, done: DonePass<M, B>) -> u64
         requires { done.order.client ≡ self.old.account.number }
         ensures back { TakesBack M.Machine self.old done self.new }
-        ensures answer { (result.0 ≡ done.place + 1) × (result.1 ≡ done.reply) }
+        ensures number { result ≡ done.place + 1 }
     {
-        let (place, reply, seat) = done.into_parts();
+        let (place, seat) = done.into_parts();
         join(&book.table, &mut self.seat, seat);
         settle(&book.table, &mut self.seat);
         self.outstanding -= 1;
-        (place + 1, reply)
+        place + 1
     }
 
     /// Takes back a pass of this client that wasn't run. Its number is spent.

@@ -1,13 +1,11 @@
 //! A lane: it runs passes, one after another.
 
-ghost use Rattle.std.specs.Prelude.{◌≡◌, ℕ, ◌+◌, false, [], ◌∷◌};
+ghost use Rattle.std.specs.Prelude.{◌≡◌, ℕ, ◌+◌, false, [], ◌∷◌, MatchResult};
 ghost use Rattle.vg_book.specs.Turns.{Sits, counted};
-ghost use Rattle.vg_book.specs.Tokens.{lane_value};
-ghost use Rattle.vg_book.specs.Outcomes.{HasRun};
+ghost use Rattle.vg_book.specs.Tokens.{lane_value, Ran, Stays};
 
 use crate::board::{Naming, Place};
 use crate::book::Book;
-use crate::outcome::Ran;
 use crate::pass::{DonePass, Pass};
 use crate::seats::{hand, join};
 use crate::steps::answer;
@@ -31,7 +29,7 @@ impl<M: Machine, B: Naming> Model for LaneToken<M, B> {
     ghost use Rattle.vg_book.specs.Turns.{Sits, counted};
     ghost use Rattle.vg_book.specs.Tokens.{Lane, lane_value};
 
-    ghost Value = { Lane M M.State M.Act M.ActReply M.Request M.Reply M.Holds };
+    ghost Value = { Lane M M.State M.Act M.ActReply M.Request M.Reply M.Holds M.Job };
 
     ghost view = { λ t. lane_value M.Machine t.lane t.count t.seat.me };
 
@@ -53,19 +51,21 @@ impl<M: Machine, B: Naming> LaneToken<M, B> {
         self.count
     }
 
-    /// Runs a pass of this lane, whose ordinal is the next. It waits for the turn. For want of memory the pass comes back,
-    /// and no entry is added.
+    /// Runs the request of a pass of this lane, whose ordinal is the next, and gives its reply beside the pass. It waits for the
+    /// turn. For want of memory the pass comes back, and no entry is added.
     pub fn run<R: Wait>(
         &mut self,
         rt: &R,
         alloc: Global,
         book: &Book<M, B>,
         pass: Pass<M, B>,
-    ) -> Ran<M, B>
-        requires { M.tagged pass.order.request ≡ (self.old.lane, self.old.count + 1) }
-        ensures { HasRun M.Machine self.old pass self.new result }
+        request: M::Request,
+    ) -> Result<(DonePass<M, B>, M::Reply), Pass<M, B>>
+        requires request { request ≡ pass.order.request }
+        requires tag { M.tagged pass.order.request ≡ (self.old.lane, self.old.count + 1) }
+        ensures { MatchResult result (λ r. Ran M.Machine self.old pass self.new r.0 × (r.1 ≡ r.0.reply)) (λ back. Stays M.Machine self.old pass self.new back) }
     {
-        let (client, call, request, seat) = pass.into_parts();
+        let (client, call, request, seat) = pass.into_parts(request);
         let asked = Snapshot::of(&request);
         let tag = M::tag(&request);
         join(&book.table, &mut self.seat, seat);
@@ -83,11 +83,12 @@ impl<M: Machine, B: Naming> LaneToken<M, B> {
             Ok((place, reply)) => {
                 self.count += 1;
                 let seat = hand(&book.table, &mut self.seat);
-                Ran::Done(DonePass::of(client, call, asked, tag, reply, place, seat))
+                let done = DonePass::of(client, call, asked, tag, &reply, place, seat);
+                Ok((done, reply))
             }
-            Err(request) => {
+            Err(_request) => {
                 let seat = hand(&book.table, &mut self.seat);
-                Ran::Unrun(Pass::of(client, call, request, seat))
+                Err(Pass::of(client, call, asked, tag, seat))
             }
         }
     }

@@ -2,11 +2,12 @@
 
 ghost use Rattle.std.specs.Prelude.{◌≡◌, false, []};
 ghost use Rattle.vg_book.specs.Turns.{Sits};
-ghost use Rattle.vg_book.specs.Tokens.{note_value};
+ghost use Rattle.vg_book.specs.Tokens.{MeetsNote, note_value};
 
 use crate::board::{Naming, Place};
 use crate::book::Book;
-use crate::seats::twin;
+use crate::seats::{join, twin};
+use crate::turn::look;
 use std::marker::{Model, PhantomData};
 use vg_history::Machine;
 
@@ -22,7 +23,7 @@ impl<M: Machine, B: Naming> Model for Note<M, B> {
     ghost use Rattle.vg_book.specs.Turns.{Sits};
     ghost use Rattle.vg_book.specs.Tokens.{Noted, note_value};
 
-    ghost Value = { Noted M M.State M.Act M.ActReply M.Request M.Reply M.Holds };
+    ghost Value = { Noted M M.State M.Act M.ActReply M.Request M.Reply M.Holds M.Job };
 
     ghost view = { λ t. note_value M.Machine t.seat.me };
 
@@ -36,6 +37,14 @@ impl<M: Machine, B: Naming> Note<M, B> {
         ensures note { result ≡ self.old }
     {
         Note::of(twin(&book.table, &mut self.seat))
+    }
+
+    /// Sees all that the other note has seen.
+    pub fn meet(&mut self, book: &Book<M, B>, note: Note<M, B>)
+        ensures { MeetsNote M.Machine self.old note self.new }
+    {
+        join(&book.table, &mut self.seat, note.into_seat());
+        look(&book.table, &mut self.seat);
     }
 
     pub(crate) fn of(seat: Place<M>) -> Note<M, B>

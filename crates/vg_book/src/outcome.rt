@@ -20,11 +20,15 @@ pub enum Carried<M: Machine, B: Naming> {
 }
 
 impl<M: Machine, B: Naming> Tagged for Carried<M, B> {
-    ghost use Rattle.vg_book.specs.Outcomes.{tag_of, is_wanted_pass};
+    ghost use Rattle.vg_book.specs.Outcomes.{tag_of, is_wanted_pass, asks_of, told_by};
 
     ghost tagged = { tag_of M.Machine };
 
     ghost is_wanted = { is_wanted_pass M.Machine };
+
+    ghost asks = { asks_of M.Machine };
+
+    ghost told = { told_by M.Machine };
 
     fn tag(&self) -> (u32, u64) {
         match self {

@@ -49,6 +49,15 @@ impl<M: Machine> Play<Slot<M>, View<M>> for Answer {
     ghost then = { Answers M.Machine };
 }
 
+/// The turn given back with a job lent.
+pub(crate) struct Lend;
+
+impl<M: Machine> Play<Slot<M>, View<M>> for Lend {
+    ghost use Rattle.vg_book.specs.Tells.{Lends};
+
+    ghost then = { Lends M.Machine };
+}
+
 /// What the next client holds is told.
 pub(crate) struct Tell;
 

@@ -30,7 +30,7 @@ impl<M: Machine, B: Naming> Model for Root<M, B> {
     ghost use Rattle.std.specs.Prelude.{◌≡◌};
     ghost use Rattle.vg_book.specs.Tokens.{Rooted, root_value, RootOk};
 
-    ghost Value = { Rooted M M.State M.Act M.ActReply M.Request M.Reply M.Holds };
+    ghost Value = { Rooted M M.State M.Act M.ActReply M.Request M.Reply M.Holds M.Job };
 
     ghost view = { λ t. root_value M.Machine t.given t.lanes_made t.seat.me };
 

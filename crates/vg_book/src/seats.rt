@@ -1,7 +1,7 @@
 //! The steps of a seat that need no turn.
 
 ghost use Rattle.std.specs.Prelude.{◌≡◌, true, false, [], ◌∷◌};
-ghost use Rattle.vg_book.specs.Views.{emptied, handed, noted, joined, with_client, client_made, with_lane, lane_made, telling, drawing};
+ghost use Rattle.vg_book.specs.Views.{emptied, handed, noted, joined, with_client, client_made, with_lane, lane_made, telling, drawing, IsAsked};
 ghost use Rattle.vg_book.specs.Kept.{Shown};
 ghost use Rattle.vg_book.specs.Tells.{HasSettled, HasReturned};
 ghost use Rattle.vg_book.specs.Turns.{IsAt, Sits};
@@ -59,22 +59,42 @@ pub(crate) fn make_client<M: Machine>(
     table.shared.split_seat::<MakeClient>(seat)
 }
 
-/// A client's seat draws its next number for the request, and carries the order.
-pub(crate) fn draw<M: Machine>(table: &Board<M>, seat: &mut Place<M>, request: &M::Request)
+/// A client's seat draws its next number for the request, and carries the order. The request comes back.
+pub(crate) fn draw<M: Machine>(
+    table: &Board<M>,
+    seat: &mut Place<M>,
+    request: Snapshot<M::Request>,
+) -> Snapshot<M::Request>
     requires table { IsAt table.now.shared.table_id seat.old.table_id }
-    requires client { (a : _) × Sits seat.old.me (a ∷ []) [] [] [] false × (M.allows a.holds request.now ≡ true) }
+    requires client { (a : _) × Sits seat.old.me (a ∷ []) [] [] [] false × (M.allows a.holds request.value ≡ true) }
     ensures id { seat.new.table_id ≡ seat.old.table_id }
-    ensures drawn { seat.new.me ≡ (drawing seat.old.me.0 request.now, seat.old.me.1) }
+    ensures drawn { seat.new.me ≡ (drawing seat.old.me.0 request.value, seat.old.me.1) }
+    ensures same { result.value ≡ request.value }
 {
+    let asked = Slot::Asked(request);
     table
         .shared
-        .compare_exchange_with::<Draw>(seat, 0, 0, 0, &Slot::Asked(Snapshot::of(request)));
+        .compare_exchange_with::<Draw>(seat, 0, 0, 0, &asked);
+    asked_in(asked)
+}
+
+/// The request that is asked for.
+fn asked_in<M: Machine>(slot: Slot<M>) -> Snapshot<M::Request>
+    requires { (request : M.Request) × IsAsked request slot }
+    ensures { IsAsked result.value slot }
+{
+    match slot {
+        Slot::Asked(request) => request,
+        Slot::Held(_core) => unreachable!(),
+        Slot::Told(_holds) => unreachable!(),
+    }
 }
 
 /// All that the other seat has goes to this one, which hears what the other has seen.
 pub(crate) fn join<M: Machine>(table: &Board<M>, seat: &mut Place<M>, other: Place<M>)
     requires table { IsAt table.now.shared.table_id seat.old.table_id }
     requires other { (other.table_id ≡ seat.old.table_id) × (other.me.1 ≡ []) × (other.me.0.holding ≡ false) }
+    requires clear { (seat.old.me.0.outs ≡ []) × (other.me.0.outs ≡ []) }
     ensures id { seat.new.table_id ≡ seat.old.table_id }
     ensures both { seat.new.me ≡ (joined seat.old.me.0 other.me.0, seat.old.me.1) }
 {

@@ -22,7 +22,7 @@ adds_snoc client used k reply [] h e = (refl, e ∙ omega arith, refl, tt)
 adds_snoc client used k reply (entries.Act c j act r ∷ es) h e = (h.0, h.1, h.2, adds_snoc client (used + 1) k reply es h.3 (e ∙ omega arith))
 adds_snoc client used k reply (entries.Command c j request r ∷ es) h e = absurd h
 
-module _ (g : Ghosts Counter Counter Act ℕ Request ℕ ℕ) where
+module _ (g : Ghosts Counter Counter Act ℕ Request ℕ ℕ Request) where
   pub added_none : (c : Cl) → IsKnown g c → HasAdded g c 0 c
   added_none c known = record {
     number = refl;

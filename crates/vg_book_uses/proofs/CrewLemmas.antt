@@ -1,6 +1,6 @@
 -- Clients that are made for jobs, one each, and what the jobs give is taken in.
 use Rattle.std.proofs.Common.{◌≡◌, ℕ, zero, suc, ◌+◌, ◌<◌, ◌≤◌, inl, inr, List, [], ◌∷◌, ◌++◌, map, refl, ap, sym, subst, ◌∙◌, arith, append_assoc, add-one, Option}
-use Rattle.std.specs.Prelude.{All, Result, Ok, Err, IfOk}
+use Rattle.std.specs.Prelude.{All, Result, Ok, IfOk}
 use Rattle.std.proofs.lemmas.List.{map-append}
 use Rattle.std.proofs.lemmas.List.Elements.{All-append, All-nil}
 use Rattle.std.proofs.lemmas.Simd.{map-map}
@@ -25,7 +25,7 @@ all_one P x h (suc k) d lt = absurd (omega arith)
 upto_more : (n : ℕ) → upto n ++ (n + 1) ∷ [] ≡ upto (n + 1)
 upto_more n = rw add-one refl
 
-module _ (g : Ghosts Counter Counter Act ℕ Request ℕ ℕ) where
+module _ (g : Ghosts Counter Counter Act ℕ Request ℕ ℕ Request) where
   module _ {X : Type 0} (client : X → Cl) (held : ℕ) (Fits : X → Type 0) where
     -- So many new clients were made, for jobs that have them.
     abbrev pub IsMade : ℕ → Ro → Ro → List X → Type 0

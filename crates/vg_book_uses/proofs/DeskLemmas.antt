@@ -7,7 +7,7 @@ use Rattle.vg_book_uses.specs.declared.counter.Counter.{Counter}
 use Rattle.vg_book_uses.specs.declared.counter.Request.{Request}
 use Rattle.vg_book_uses.specs.Desks.{La, HasServed, IsLaneKnown}
 
-module _ (g : Ghosts Counter Counter Act ℕ Request ℕ ℕ) where
+module _ (g : Ghosts Counter Counter Act ℕ Request ℕ ℕ Request) where
   pub served_none : (l : La) → IsLaneKnown g l → HasServed g l l
   served_none l known = record { lane = refl; start = refl; more = prefix_self l.seen; count = omega arith; is_known = known }
 

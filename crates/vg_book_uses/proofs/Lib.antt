@@ -3,3 +3,4 @@ pub mod AddLemmas
 pub mod DeskLemmas
 pub mod ShareLemmas
 pub mod MeetLemmas
+pub mod Crossings

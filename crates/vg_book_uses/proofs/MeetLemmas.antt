@@ -21,7 +21,7 @@ use Rattle.vg_book_uses.proofs.ShareLemmas.{talked_none, talked_act}
 pub call_more : (client call : ℕ) (xs ys : List E) → IsPrefix xs ys → HasCall client call xs → HasCall client call ys
 call_more client call xs ys p h = (h.0, has_prefix xs ys h.0 p h.1, h.2, h.3)
 
-module _ (g : Ghosts Counter Counter Act ℕ Request ℕ ℕ) where
+module _ (g : Ghosts Counter Counter Act ℕ Request ℕ ℕ Request) where
   pub acted_call : (c d : Cl) (act : Act) (number reply : ℕ) → Acted g c act d number reply → HasCall d.account.number d.account.used d.seen
   acted_call c d act number reply h =
       let e = entries.Act c.account.number (c.account.used + 1) act reply in

@@ -44,7 +44,7 @@ lane_there start (suc n) l lt =
     (dite (ℕ_discrete l n) (λ e. subst (λ k. Has (map lane_of ls ++ n ∷ []) k) (sym e) (has_last (map lane_of ls) n))
     (λ ne. has_left (map lane_of ls) (n ∷ []) l (lane_there start n l (omega arith))))
 
-module _ (g : Ghosts Counter Counter Act ℕ Request ℕ ℕ) where
+module _ (g : Ghosts Counter Counter Act ℕ Request ℕ ℕ Request) where
   pub talked_none : (c : Cl) → MayTalk g c → HasTalked g c 0 c
   talked_none c may = record { number = refl; opening = refl; holds = refl; used = omega arith; out = may.out; more = prefix_self c.seen; start = refl; is_known = may.is_known }
 

@@ -17,15 +17,15 @@ use Rattle.vg_book_uses.specs.declared.counter.Act.TheVariants.{Add}
 use Rattle.vg_book_uses.specs.declared.counter.Request.{Request}
 
 abbrev pub E : Type 0
-E = Entry Counter Counter Act ℕ Request ℕ ℕ
+E = Entry Counter Counter Act ℕ Request ℕ ℕ Request
 
 abbrev pub Cl : Type 0
-Cl = Client Counter Counter Act ℕ Request ℕ ℕ
+Cl = Client Counter Counter Act ℕ Request ℕ ℕ Request
 
 abbrev pub Ro : Type 0
-Ro = Rooted Counter Counter Act ℕ Request ℕ ℕ
+Ro = Rooted Counter Counter Act ℕ Request ℕ ℕ Request
 
-abbrev pub account_of : Cl → Account Counter Counter Act ℕ Request ℕ ℕ
+abbrev pub account_of : Cl → Account Counter Counter Act ℕ Request ℕ ℕ Request
 account_of c = c.account
 
 abbrev pub number_of : Cl → ℕ
@@ -62,7 +62,7 @@ pub record HaveAllAdded (count n : ℕ) (H : List E) : Type 0 where
   pub each : (client : ℕ) → 0 < client → client ≤ count → IsAddedBy client n H
   pub only : (e : E) → Has H e → (0 < client_of e) × (client_of e ≤ count)
 
-module _ (g : Ghosts Counter Counter Act ℕ Request ℕ ℕ) where
+module _ (g : Ghosts Counter Counter Act ℕ Request ℕ ℕ Request) where
   -- What the client has seen is a history, and what it knows of its own calls is so there.
   pub record IsKnown (c : Cl) : Type 0 where
     pub history : IsHistory g c.start c.seen

@@ -1,5 +1,9 @@
 -- What a counter does.
-use Rattle.std.specs.Prelude.{◌≡◌, ℕ, ◌+◌, ◌%◌, ◌^◌, Bool, true, false, nat_le, refl}
+use Rattle.std.specs.Prelude.{◌≡◌, ℕ, ◌+◌, ◌%◌, ◌^◌, Bool, true, false, nat_le, [], refl}
+use Rattle.vg_wire.specs.declared.request.Queue.TheVariants.{Control}
+use Rattle.vg_chain.specs.declared.shape.Shape.TheVariants.{Plain}
+use Rattle.vg_asks.specs.declared.asked.Asked.{Asked}
+use Rattle.vg_asks.specs.Asks.{asked}
 use Rattle.vg_book_uses.specs.declared.counter.Counter.{Counter}
 use Rattle.vg_book_uses.specs.declared.counter.Act.{Act}
 use Rattle.vg_book_uses.specs.declared.counter.Act.TheVariants.{Add, Stop}
@@ -19,6 +23,10 @@ is_stop Stop = true
 
 abbrev pub plus : Counter → ℕ → Counter
 plus s n = record { entries = s.entries + 1; total = (s.total + n) % 2 ^ 64 }
+
+-- A counter has no bytes: its requests ask for nothing, and a reply is written as the one number that it is.
+abbrev pub asks_of : Request → Asked
+asks_of q = asked Control [] 0 Plain
 
 pub adds_one : (s : Counter) (n : ℕ) → (plus s n).entries ≡ s.entries + 1
 adds_one s n = refl

@@ -7,22 +7,20 @@ use Rattle.vg_history.specs.declared.machine.Machine.{Ghosts}
 use Rattle.vg_history.specs.declared.entry.Entry.TheVariants as entries
 use Rattle.vg_history.specs.Lists.{upto}
 use Rattle.vg_history.specs.History.{ordinals}
-use Rattle.vg_book.specs.declared.outcome.Ran.{Ran}
-use Rattle.vg_book.specs.declared.outcome.Ran.TheVariants as outcomes
+use Rattle.vg_book_uses.specs.declared.crossing.Came.{Came}
+use Rattle.vg_book_uses.specs.declared.crossing.Came.TheVariants as outcomes
 use Rattle.vg_book.specs.Kept.{IsHistory}
 use Rattle.vg_book.specs.Views.{drawn, given_up, ordered_of, settled}
 use Rattle.vg_book.specs.Tokens as tokens
-use Rattle.vg_book.specs.Tokens.{Client, Lane, Passed, TakesBack, TakesUnrun}
+use Rattle.vg_book.specs.Tokens.{Client, Lane, TakesBack, TakesUnrun}
 use Rattle.vg_book_uses.specs.declared.counter.Act.{Act}
 use Rattle.vg_book_uses.specs.declared.counter.Counter.{Counter}
 use Rattle.vg_book_uses.specs.declared.counter.Request.{Request}
+use Rattle.vg_book_uses.specs.Passes.{Pa}
 use Rattle.vg_book_uses.specs.Adding.{Cl, IsKnown}
 
 abbrev pub La : Type 0
-La = Lane Counter Counter Act ℕ Request ℕ ℕ
-
-abbrev pub Pa : Type 0
-Pa = Passed Counter Counter Act ℕ Request ℕ ℕ
+La = Lane Counter Counter Act ℕ Request ℕ ℕ Request
 
 abbrev pub asked : ℕ → ℕ → ℕ → Request
 asked lane ordinal n = record { lane = lane; ordinal = ordinal; n = n }
@@ -37,19 +35,19 @@ pub record HandsIn (c : Cl) (lane n : ℕ) (d : Cl) (call : ℕ) : Type 0 where
 
 module _ {B : Type 0} where
   -- What came back is of this call of this client.
-  abbrev pub IsOf : ℕ → ℕ → Ran Counter B Counter Act ℕ Request ℕ ℕ → Type 0
+  abbrev pub IsOf : ℕ → ℕ → Came B → Type 0
   IsOf client call (outcomes.Done f) = (f.order.client ≡ client) × (f.order.call ≡ call)
   IsOf client call (outcomes.Unrun p) = (p.order.client ≡ client) × (p.order.call ≡ call)
 
-module _ (g : Ghosts Counter Counter Act ℕ Request ℕ ℕ) where
+module _ (g : Ghosts Counter Counter Act ℕ Request ℕ ℕ Request) where
   module _ {B : Type 0} where
     -- The client has taken back what came of its call, and this is the reply.
-    abbrev pub Settles : Cl → Ran Counter B Counter Act ℕ Request ℕ ℕ → Cl → Option ℕ → Type 0
+    abbrev pub Settles : Cl → Came B → Cl → Option ℕ → Type 0
     Settles c (outcomes.Done f) d reply = TakesBack g c f d × (reply ≡ Some f.reply)
     Settles c (outcomes.Unrun p) d reply = TakesUnrun g c p d × (reply ≡ None)
 
     -- The lane has run the pass, which was its next, or has given it back.
-    abbrev pub Works : La → Pa → La → Ran Counter B Counter Act ℕ Request ℕ ℕ → Type 0
+    abbrev pub Works : La → Pa → La → Came B → Type 0
     Works l p m (outcomes.Done f) = tokens.Ran g l p m f
     Works l p m (outcomes.Unrun w) = (w.order ≡ p.order) × (m.count ≡ l.count)
 

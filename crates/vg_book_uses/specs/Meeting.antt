@@ -23,7 +23,7 @@ abbrev pub HasCall : ℕ → ℕ → List E → Type 0
 HasCall client call es = (e : E) × Has es e × (client_of e ≡ client) × (call_of e ≡ call)
 
 -- The client has drawn two numbers, and has seen a call of another client.
-pub record HasMet (g : Ghosts Counter Counter Act ℕ Request ℕ ℕ) (c d : Cl) : Type 0 where
+pub record HasMet (g : Ghosts Counter Counter Act ℕ Request ℕ ℕ Request) (c d : Cl) : Type 0 where
   pub talked : HasTalked g c 2 d
   pub other : ℕ
   pub call : ℕ

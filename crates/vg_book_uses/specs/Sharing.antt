@@ -24,7 +24,7 @@ pub record HasTakenLanes (r : Ro) (ls : List La) (s : Ro) : Type 0 where
   pub start : s.start ≡ r.start
   pub taken : s.lanes ≡ r.lanes ++ map counted_of ls
 
-module _ (g : Ghosts Counter Counter Act ℕ Request ℕ ℕ) where
+module _ (g : Ghosts Counter Counter Act ℕ Request ℕ ℕ Request) where
   -- A client that has drawn no number, has nothing outstanding, and may ask for 1.
   pub record MayTalk (c : Cl) : Type 0 where
     pub used : c.account.used ≡ 0
@@ -45,7 +45,7 @@ module _ (g : Ghosts Counter Counter Act ℕ Request ℕ ℕ) where
 
   -- Each of the client's numbers 1 to n is that of one of its entries, or was spent on a command that came back unrun.
   pub record IsSettled (client n : ℕ) (H : List E) : Type 0 where
-    pub account : Account Counter Counter Act ℕ Request ℕ ℕ
+    pub account : Account Counter Counter Act ℕ Request ℕ ℕ Request
     pub number : account.number ≡ client
     pub used : account.used ≡ n
     pub out : account.out ≡ []

@@ -4,7 +4,7 @@ ghost use Rattle.std.specs.Prelude.{◌≡◌, ◌+◌, ◌-◌, ◌^◌, ◌<�
 ghost use Rattle.vg_book_uses.specs.Counting.{amount_of, held_of, plus};
 
 use std::alloc::{AllocError, Global};
-use vg_history::Machine;
+use vg_history::{Begun, Machine};
 use vg_text::Packed;
 
 #[derive(Debug, Drop)]
@@ -82,8 +82,10 @@ impl Machine for Counter {
 
     type Holds = u64;
 
-    ghost use Rattle.std.specs.Prelude.{true, nat_le, []};
-    ghost use Rattle.vg_book_uses.specs.Counting.{amount_of, held_of, plus, is_stop, adds_one, keeps};
+    type Job = Request;
+
+    ghost use Rattle.std.specs.Prelude.{true, false, nat_le, slice_index, [], ◌∷◌, refl};
+    ghost use Rattle.vg_book_uses.specs.Counting.{amount_of, asks_of, held_of, plus, is_stop, adds_one, keeps};
 
     ghost state = { λ c. c };
 
@@ -105,6 +107,22 @@ impl Machine for Counter {
 
     ghost tagged = { λ q. (q.lane, q.ordinal) };
 
+    ghost asks = { asks_of };
+
+    ghost written = { λ q r. r ∷ [] };
+
+    ghost read = { λ q bytes. slice_index bytes 0 };
+
+    ghost lent = { λ c. [] };
+
+    ghost asked = { λ j. j };
+
+    ghost worked = { λ j. j };
+
+    ghost blocks = { λ c q. false };
+
+    ghost blocks_act = { λ c a. false };
+
     ghost is_first = { λ q. true };
 
     ghost act_text = { λ a r. [] };
@@ -123,13 +141,29 @@ impl Machine for Counter {
         Ok((self.total, self.total))
     }
 
-    fn request(&mut self, _alloc: Global, request: &Request) -> Result<(u64, u64), AllocError> {
+    // Each request is run as a whole.
+    fn begin(
+        &mut self,
+        _alloc: Global,
+        request: &Request,
+    ) -> Result<Begun<Request, (u64, u64)>, AllocError> {
         self.add(request.n);
-        Ok((self.total, self.total))
+        Ok(Begun::Whole((self.total, self.total)))
     }
 
-    fn allowed(holds: &u64, request: &Request) -> bool {
-        request.n <= *holds
+    fn work(_job: &mut Request) {}
+
+    fn end(&mut self, job: Request) -> (u64, u64) {
+        self.add(job.n);
+        (self.total, self.total)
+    }
+
+    fn blocked(&self, _request: &Request) -> bool {
+        false
+    }
+
+    fn act_blocked(&self, _act: &Act) -> bool {
+        false
     }
 
     fn gives_up(act: &Act) -> bool {
@@ -158,4 +192,8 @@ impl Machine for Counter {
     ghost requests_count = { λ s q. adds_one s q.n };
 
     ghost keeps_holds = { λ h a r q. keeps h a q };
+
+    ghost work_asks = { λ j. refl };
+
+    ghost reads = { λ s q. λ i. (plus s q.n).total };
 }

@@ -4,12 +4,13 @@ ghost use Rattle.std.specs.Prelude.{true, ◌≡◌, ◌+◌, ◌-◌, ◌^◌, 
 ghost use Rattle.vg_book_uses.specs.Desks.{IsOf, HasAsked, HasServed, HandsIn, IsLaneKnown, Settles, Works};
 
 use crate::counter::{Counter, Request};
+use crate::crossing::{Answered, Came, Sent};
 use crossbeam_utils::Backoff;
 use std::alloc::Global;
 use std::collections::VecDeque;
 use std::sync::atomic::{AtomicBool, Ordering};
 use std::sync::{Mutex, Wait};
-use vg_book::{Book, ClientToken, LaneToken, Naming, NoMemory, Pass, Ran};
+use vg_book::{Book, ClientToken, LaneToken, Naming, NoMemory};
 use vg_history::Machine;
 
 /// What lies between the clients and the worker of a lane.
@@ -17,8 +18,8 @@ use vg_history::Machine;
 pub struct Desk<B: Naming> {
     /// The last ordinal that was drawn.
     drawn: u64,
-    waiting: VecDeque<Pass<Counter, B>>,
-    back: Vec<Ran<Counter, B>>,
+    waiting: VecDeque<Sent<B>>,
+    back: Vec<Came<B>>,
     /// Whether passes go back unrun.
     halted: bool,
 }
@@ -56,43 +57,44 @@ impl<B: Naming> Desk<B> {
         if self.waiting.reserve(1).is_err() {
             return Err(NoMemory);
         }
-        let pass = client.pass(book, Request { lane, ordinal, n });
+        let request = Request { lane, ordinal, n };
+        let pass = client.pass(book, &request);
         let call = pass.call();
         self.drawn = ordinal;
-        self.waiting.push_back_reserved(pass);
+        self.waiting.push_back_reserved(Sent::of(pass, request));
         Ok(call)
     }
 
     /// What came back of a client's call.
-    fn take_out(&mut self, client: u32, call: u64) -> Option<Ran<Counter, B>>
+    fn take_out(&mut self, client: u32, call: u64) -> Option<Came<B>>
         ensures { IfSome result (IsOf client call) }
     {
-        let place = self.back.iter().position(|ran| is_of(ran, client, call))?;
-        let ran = self.back.swap_remove(place);
-        if is_of(&ran, client, call) {
-            Some(ran)
+        let place = self.back.iter().position(|came| is_of(came, client, call))?;
+        let came = self.back.swap_remove(place);
+        if is_of(&came, client, call) {
+            Some(came)
         } else {
             None
         }
     }
 
     /// Puts down what came of a pass. Where there is no room it comes back.
-    fn put_down(&mut self, ran: Ran<Counter, B>) -> Result<(), Ran<Counter, B>> {
+    fn put_down(&mut self, came: Came<B>) -> Result<(), Came<B>> {
         if self.back.reserve(1).is_err() {
-            return Err(ran);
+            return Err(came);
         }
-        self.back.push_reserved(ran);
+        self.back.push_reserved(came);
         Ok(())
     }
 }
 
 /// Whether this came of the client's call.
-fn is_of<B: Naming>(ran: &Ran<Counter, B>, client: u32, call: u64) -> bool
-    ensures { result ≡ true → IsOf client call ran.now }
+fn is_of<B: Naming>(came: &Came<B>, client: u32, call: u64) -> bool
+    ensures { result ≡ true → IsOf client call came.now }
 {
-    match ran {
-        Ran::Done(done) => done.client() == client && done.call() == call,
-        Ran::Unrun(pass) => pass.client() == client && pass.call() == call,
+    match came {
+        Came::Done(answered) => answered.client() == client && answered.call() == call,
+        Came::Unrun(pass) => pass.client() == client && pass.call() == call,
     }
 }
 
@@ -113,23 +115,18 @@ pub fn ask<B: Naming, R: Wait>(
     ensures out { client.new.account.out ≡ [] }
 {
     let call = desk.lock(rt).hand_in(book, client, lane, n)?;
-    let ran = wait_for(rt, desk, client.number(), call);
-    Ok(settle(book, client, ran))
+    let came = wait_for(rt, desk, client.number(), call);
+    Ok(settle(book, client, came))
 }
 
 /// Waits for what comes back of a client's call.
-fn wait_for<B: Naming, R: Wait>(
-    rt: &R,
-    desk: &Mutex<Desk<B>>,
-    client: u32,
-    call: u64,
-) -> Ran<Counter, B>
+fn wait_for<B: Naming, R: Wait>(rt: &R, desk: &Mutex<Desk<B>>, client: u32, call: u64) -> Came<B>
     ensures { IsOf client call result }
 {
     let backoff = Backoff::new();
     for _ in rt.forever() {
-        if let Some(ran) = desk.lock(rt).take_out(client, call) {
-            return ran;
+        if let Some(came) = desk.lock(rt).take_out(client, call) {
+            return came;
         }
         backoff.snooze();
     }
@@ -140,14 +137,18 @@ fn wait_for<B: Naming, R: Wait>(
 fn settle<B: Naming>(
     book: &Book<Counter, B>,
     client: &mut ClientToken<Counter, B>,
-    ran: Ran<Counter, B>,
+    came: Came<B>,
 ) -> Option<u64>
-    requires { (call : _) × IsOf client.old.account.number call ran }
-    ensures { Settles ⟦<Counter as Machine>⟧ client.old ran client.new result }
+    requires { (call : _) × IsOf client.old.account.number call came }
+    ensures { Settles ⟦<Counter as Machine>⟧ client.old came client.new result }
 {
-    match ran {
-        Ran::Done(done) => Some(client.take_back(book, done).1),
-        Ran::Unrun(pass) => {
+    match came {
+        Came::Done(answered) => {
+            let (done, reply) = answered.apart();
+            client.take_back(book, done);
+            Some(reply)
+        }
+        Came::Unrun(pass) => {
             client.take_unrun(book, pass);
             None
         }
@@ -171,9 +172,9 @@ pub fn serve<B: Naming, R: Wait>(
     for _ in rt.forever() {
         let stopped = stop.load(Ordering::SeqCst);
         match next(rt, desk) {
-            Some((pass, halted)) => {
-                let ran = work(rt, alloc, book, &mut lane, pass, halted);
-                give_back(rt, desk, ran);
+            Some((sent, halted)) => {
+                let came = work(rt, alloc, book, &mut lane, sent, halted);
+                give_back(rt, desk, came);
                 backoff.reset();
             }
             None => {
@@ -188,11 +189,11 @@ pub fn serve<B: Naming, R: Wait>(
 }
 
 /// The pass that waits longest, and whether it is to go back unrun.
-fn next<B: Naming, R: Wait>(rt: &R, desk: &Mutex<Desk<B>>) -> Option<(Pass<Counter, B>, bool)> {
+fn next<B: Naming, R: Wait>(rt: &R, desk: &Mutex<Desk<B>>) -> Option<(Sent<B>, bool)> {
     let mut desk = desk.lock(rt);
     let halted = desk.halted;
-    let pass = desk.waiting.pop_front()?;
-    Some((pass, halted))
+    let sent = desk.waiting.pop_front()?;
+    Some((sent, halted))
 }
 
 /// Runs a pass, if it is the lane's next and isn't to go back unrun.
@@ -201,35 +202,40 @@ fn work<B: Naming, R: Wait>(
     alloc: Global,
     book: &Book<Counter, B>,
     lane: &mut LaneToken<Counter, B>,
-    pass: Pass<Counter, B>,
+    sent: Sent<B>,
     halted: bool,
-) -> Ran<Counter, B>
+) -> Came<B>
     requires { IsLaneKnown ⟦<Counter as Machine>⟧ lane.old }
-    ensures works { Works ⟦<Counter as Machine>⟧ lane.old pass lane.new result }
+    ensures works { Works ⟦<Counter as Machine>⟧ lane.old sent lane.new result }
     ensures served { HasServed ⟦<Counter as Machine>⟧ lane.old lane.new }
 {
-    if halted || !is_next(lane, &pass) {
-        return Ran::Unrun(pass);
+    let next = is_next(lane, &sent);
+    let (pass, request) = sent.apart();
+    if halted || !next {
+        return Came::Unrun(pass);
     }
-    lane.run(rt, alloc, book, pass)
+    match lane.run(rt, alloc, book, pass, request) {
+        Ok((done, reply)) => Came::Done(Answered::of(done, reply)),
+        Err(pass) => Came::Unrun(pass),
+    }
 }
 
 /// Whether the pass is the lane's next.
-fn is_next<B: Naming>(lane: &LaneToken<Counter, B>, pass: &Pass<Counter, B>) -> bool
-    ensures { result ≡ true → ⟦<Counter as Machine>⟧.tagged pass.now.order.request ≡ (lane.now.lane, lane.now.count + 1) }
+fn is_next<B: Naming>(lane: &LaneToken<Counter, B>, sent: &Sent<B>) -> bool
+    ensures { result ≡ true → ⟦<Counter as Machine>⟧.tagged sent.now.order.request ≡ (lane.now.lane, lane.now.count + 1) }
 {
-    let (at, ordinal) = pass.tag();
+    let (at, ordinal) = sent.tag();
     at == lane.lane() && ordinal != 0 && ordinal - 1 == lane.count()
 }
 
 /// Puts down what came of a pass. It waits for room.
-fn give_back<B: Naming, R: Wait>(rt: &R, desk: &Mutex<Desk<B>>, ran: Ran<Counter, B>) {
-    let mut left = ran;
+fn give_back<B: Naming, R: Wait>(rt: &R, desk: &Mutex<Desk<B>>, came: Came<B>) {
+    let mut left = came;
     let backoff = Backoff::new();
     for _ in rt.forever() {
         match desk.lock(rt).put_down(left) {
             Ok(()) => return,
-            Err(ran) => left = ran,
+            Err(came) => left = came,
         }
         backoff.snooze();
     }

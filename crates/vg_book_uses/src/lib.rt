@@ -3,6 +3,7 @@
 
 mod add;
 mod counter;
+mod crossing;
 mod desk;
 mod meet;
 mod share;

@@ -6,7 +6,7 @@ ghost use Rattle.vg_book_uses.specs.Desks.{HasAsked, HasWorked};
 use crate::counter::{Counter, Request};
 use std::alloc::Global;
 use std::sync::Wait;
-use vg_book::{Book, ClientToken, LaneToken, Naming, Ran};
+use vg_book::{Book, ClientToken, LaneToken, Naming};
 use vg_history::Machine;
 
 /// A command that goes out, is run, and comes back: its reply, or none where there was no memory to run it.
@@ -29,10 +29,13 @@ pub fn command<B: Naming, R: Wait>(
         ordinal: lane.count() + 1,
         n,
     };
-    let pass = client.pass(book, request);
-    match lane.run(rt, alloc, book, pass) {
-        Ran::Done(done) => Some(client.take_back(book, done).1),
-        Ran::Unrun(pass) => {
+    let pass = client.pass(book, &request);
+    match lane.run(rt, alloc, book, pass, request) {
+        Ok((done, reply)) => {
+            client.take_back(book, done);
+            Some(reply)
+        }
+        Err(pass) => {
             client.take_unrun(book, pass);
             None
         }

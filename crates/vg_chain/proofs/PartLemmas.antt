@@ -11,7 +11,7 @@ use Rattle.vg_chain.specs.Memory.{Memory, lies_in, is_in_range}
 use Rattle.vg_chain.specs.Fault.{fault_of, is_bad_length}
 use Rattle.vg_chain.specs.Walk.{Visit, there, goes_on, visit_after, Visits, was_met, read_of, written_of, all_read, all_written, fault_at, AreClean, IsChain}
 use Rattle.vg_chain.specs.declared.part.Part.{Part}
-use Rattle.vg_chain.specs.Made.{flags_of, last_of, joined, linked, Stands, AreOther, AreApart}
+use Rattle.vg_chain.specs.Made.{flags_of, last_of, joined, linked, Stands, AreOther, AreApart, segment_in, reads, writes}
 
 bit_indirect : (writes more : Bool) → eqb (flags_of writes more / 4 % 2) 1 ≡ false
 bit_indirect true true = refl
@@ -60,18 +60,6 @@ pub sound_part : (m : Memory) (size : ℕ) (inside met wrote : Bool) (d : Descri
 sound_part m size inside met wrote d p is unmet order range =
     let there : is_in_range m d ≡ true = rw (is.plain, is.writes, is.addr, is.len) range in
     none_found met (is_indirect d) inside (has_next d) (is_bad_length size d) (is_writable d) wrote (is_in_range m d) unmet is.plain (λ e. order (sym is.writes ∙ e)) there
-
-abbrev pub segment_in : Part → Segment
-segment_in p = record { addr = p.addr; len = p.len }
-
--- the segments of parts
-abbrev pub reads : List Part → List Segment
-reads [] = []
-reads (p ∷ more) = cond p.writes [] (segment_in p ∷ []) ++ reads more
-
-abbrev pub writes : List Part → List Segment
-writes [] = []
-writes (p ∷ more) = cond p.writes (segment_in p ∷ []) [] ++ writes more
 
 read_choice : (w : Bool) (s : Segment) → cond (not false && not w) (s ∷ []) [] ≡ cond w [] (s ∷ [])
 read_choice true s = refl

@@ -4,8 +4,8 @@ use Rattle.std.proofs.lemmas.Bool.Decides.{nat_tests, eqb_tells}
 use Rattle.std.proofs.Math.Nat.{div-add-mod, mod-lt}
 use Rattle.vg_chain.specs.Memory.{Memory, lies_in}
 use Rattle.vg_chain.specs.declared.part.Part.{Part}
-use Rattle.vg_chain.specs.Made.{pieces, room_of, or_empty, Covers}
-use Rattle.vg_chain.proofs.PartLemmas.{reads, writes, AreFine}
+use Rattle.vg_chain.specs.Made.{pieces, room_of, or_empty, Covers, reads, writes}
+use Rattle.vg_chain.proofs.PartLemmas.{AreFine}
 
 pub lies : (start size addr len : ℕ) → start ≤ addr → addr + len ≤ start + size → lies_in start size addr len ≡ true
 lies start size addr len low high = grind (arith, nat_tests)

@@ -13,8 +13,8 @@ use Rattle.vg_chain.specs.Descriptor.{is_indirect}
 use Rattle.vg_chain.specs.Memory.{Memory, memory, lies_in, table_of}
 use Rattle.vg_chain.specs.Walk.{Visit, start, there, goes_on, visit_after, Visits, was_met, all_read, all_written, fault_at, AreClean, IsChain, Walks}
 use Rattle.vg_chain.specs.declared.part.Part.{Part}
-use Rattle.vg_chain.specs.Made.{joined, linked, pieces, room_of, or_empty, parts_of, rest_of, in_table, table_bytes, referring, made, mixed, flat, in_parts, by_table, Stands, AreApart, IsRequest, IsLaid, memory_of, Covers, GivesAll, GivesIts}
-use Rattle.vg_chain.proofs.PartLemmas.{walks_linked, AreFine, Unmet, reads, writes, joined_is, sound_part}
+use Rattle.vg_chain.specs.Made.{joined, linked, pieces, room_of, or_empty, parts_of, rest_of, in_table, table_bytes, referring, made, mixed, flat, in_parts, by_table, Stands, AreApart, IsRequest, IsLaid, memory_of, Covers, reads, writes, chain_of, mixed_parts, GivesAll, GivesIts}
+use Rattle.vg_chain.proofs.PartLemmas.{walks_linked, AreFine, Unmet, joined_is, sound_part}
 use Rattle.vg_chain.proofs.PieceLemmas.{lies, fine_pieces, fine_or_empty, covers_read, covers_written, covers_or_empty, writes_or_empty, enough, length_parts, length_or_empty, reads_room}
 use Rattle.vg_chain.proofs.TableLemmas.{table_is, refers_sound, apart_range, stands_in, length-linked, placed, fits_in, length-table_bytes}
 
@@ -25,9 +25,6 @@ unmet_none inside (place ∷ places) = (refl, unmet_none inside places)
 unmet_all : (before : List Visit) (places : List ℕ) → ((k : ℕ) → was_met true k before ≡ false) → Unmet true before places
 unmet_all before [] h = tt
 unmet_all before (place ∷ places) h = (h place, unmet_all before places h)
-
-abbrev chain_of : List Part → Chain
-chain_of parts = record { readable = reads parts; writable = writes parts }
 
 -- a walk of parts that all stand in the ring
 flat_walk : (m : Memory) (table : List Descriptor) (head : ℕ) (others : List ℕ) (parts : List Part) → AreFine m false parts → 1 ≤ length parts
@@ -74,12 +71,12 @@ parts_written : (k n r b : ℕ) → Covers (b + 49152) r (writes (parts_of k n r
 parts_written k n r b = rw (writes_or_empty b (pieces k ((n + (k - 1)) / k) b n ++ room_of r b)) (covers_written k ((n + (k - 1)) / k) b n r b)
 
 pub flat_gives : (k n r b : ℕ) (tables : List ℕ) (table : List Descriptor) (head : ℕ) (others : List ℕ) → 1 ≤ k
-    → AreApart (head ∷ others) → Stands table (head ∷ others) (linked (parts_of k n r b) others) → GivesAll (memory b n r tables) table head n r b
+    → AreApart (head ∷ others) → Stands table (head ∷ others) (linked (parts_of k n r b) others) → GivesAll (chain_of (parts_of k n r b)) (memory b n r tables) table head n r b
 flat_gives k n r b tables table head others some apart stands =
-    (chain_of (parts_of k n r b), flat_walk (memory b n r tables) table head others (parts_of k n r b) (fine_parts (memory b n r tables) k n r refl refl) (some_parts k n r b) apart stands, parts_read k n r b some, parts_written k n r b)
+    (flat_walk (memory b n r tables) table head others (parts_of k n r b) (fine_parts (memory b n r tables) k n r refl refl) (some_parts k n r b) apart stands, parts_read k n r b some, parts_written k n r b)
 
 pub indirect_gives : (n r b q : ℕ) (table : List Descriptor) (head : ℕ) (others : List ℕ) → n ≤ 49152 → r ≤ 8192 → b + 65536 ≤ 2 ^ 64 → 2 ≤ q → length table ≡ q
-    → Stands table (head ∷ others) (by_table b (parts_of 1 n r b) 4 0).ring → GivesAll (memory b n r (by_table b (parts_of 1 n r b) 4 0).tables) table head n r b
+    → Stands table (head ∷ others) (by_table b (parts_of 1 n r b) 4 0).ring → GivesAll (chain_of (parts_of 1 n r b)) (memory b n r (by_table b (parts_of 1 n r b) 4 0).tables) table head n r b
 indirect_gives n r b q table head others request room base queue size stands =
     let parts = parts_of 1 n r b in
     let m = memory b n r (table_bytes (in_table parts)) in
@@ -91,7 +88,6 @@ indirect_gives n r b q table head others request room base queue size stands =
     let x = start table head in
     let sound : fault_at m (length table) [] x ≡ None = rw stands.0 (refers_sound m (length table) (length (in_table parts)) false (ltb 0 0) 0 refl (omega arith) (omega arith) (length-table_bytes (in_table parts))) in
     let inner : table_of m d ≡ in_table parts = table_is m (in_table parts) 4 0 refl (fits_in parts few (placed m false parts base request room fine)) in (
-      chain_of parts,
       table_walk m table head x [] d parts (chain_of parts) refl (sound, tt) stands.0 refl inner (λ k. refl) fine some (rw stands.0 refl) (rw stands.0 refl) refl,
       parts_read 1 n r b (omega arith),
       parts_written 1 n r b,
@@ -102,7 +98,7 @@ pub parts_give : (n r b q : ℕ) (rest : List Part) (table : List Descriptor) (h
     → AreApart (head ∷ others) → 1 ≤ length rest → length rest ≤ 2
     → AreFine (memory b n r (table_bytes (in_table rest))) false rest → Covers (b + min 24 n) (n - min 24 n) (reads rest) → Covers (b + 49152) r (writes rest)
     → Stands table (head ∷ others) (in_parts (record { addr = b; len = min 24 n; writes = false }) rest b (get_or others 0 0)).ring
-    → GivesAll (memory b n r (table_bytes (in_table rest))) table head n r b
+    → GivesAll (chain_of (record { addr = b; len = min 24 n; writes = false } ∷ rest)) (memory b n r (table_bytes (in_table rest))) table head n r b
 parts_give n r b q rest table head [] request room base queue size apart some few fine read written stands = absurd stands.1
 parts_give n r b q rest table head (other ∷ others) request room base queue size apart some few fine read written stands =
     let m = memory b n r (table_bytes (in_table rest)) in
@@ -117,7 +113,6 @@ parts_give n r b q rest table head (other ∷ others) request room base queue si
     let sound' : fault_at m (length table) (x ∷ []) y ≡ None = rw stands.1.0 (refers_sound m (length table) (length (in_table rest)) (was_met false other (x ∷ [])) (ltb 0 (length (all_written (x ∷ [])))) 0 unmet (omega arith) (omega arith) (length-table_bytes (in_table rest))) in
     let inner : table_of m e ≡ in_table rest = table_is m (in_table rest) 4 0 refl (fits_in rest few (placed m false rest base request room fine)) in
     let chain : Chain = record { readable = record { addr = b; len = min 24 n } ∷ reads rest; writable = writes rest } in (
-      chain,
       table_walk m table head y (x ∷ []) e rest chain ((d, stands.0, refl, refl), refl) (sound', (sound, tt)) stands.1.0 refl inner (λ k. refl) fine some (rw (stands.0, stands.1.0) refl) (rw (stands.0, stands.1.0) refl) refl,
       (refl, omega arith, read),
       written,
@@ -138,7 +133,7 @@ mixed_choice : (n r b q : ℕ) (p : Part) (rest : List Part) (none : Bool) (tabl
     → AreApart (head ∷ others) → length (p ∷ rest) ≤ 2
     → ((tables : List ℕ) → AreFine (memory b n r tables) false (p ∷ rest)) → Covers (b + min 24 n) (n - min 24 n) (reads (p ∷ rest)) → Covers (b + 49152) r (writes (p ∷ rest))
     → Stands table (head ∷ others) (cond none (flat (parts_of 1 n r b) (head ∷ others)) (in_parts (record { addr = b; len = min 24 n; writes = false }) (p ∷ rest) b (get_or others 0 0))).ring
-    → GivesAll (memory b n r (cond none (flat (parts_of 1 n r b) (head ∷ others)) (in_parts (record { addr = b; len = min 24 n; writes = false }) (p ∷ rest) b (get_or others 0 0))).tables) table head n r b
+    → GivesAll (chain_of (cond none (parts_of 1 n r b) (record { addr = b; len = min 24 n; writes = false } ∷ p ∷ rest))) (memory b n r (cond none (flat (parts_of 1 n r b) (head ∷ others)) (in_parts (record { addr = b; len = min 24 n; writes = false }) (p ∷ rest) b (get_or others 0 0))).tables) table head n r b
 mixed_choice n r b q p rest true table head others request room base queue size apart few fine read written stands = flat_gives 1 n r b [] table head others (omega arith) apart stands
 mixed_choice n r b q p rest false table head others request room base queue size apart few fine read written stands =
     parts_give n r b q (p ∷ rest) table head others request room base queue size apart (omega arith) few (fine (table_bytes (in_table (p ∷ rest)))) read written stands
@@ -146,7 +141,7 @@ mixed_choice n r b q p rest false table head others request room base queue size
 mixed_gives : (n r b q : ℕ) (rest : List Part) (table : List Descriptor) (head : ℕ) (others : List ℕ) → n ≤ 49152 → r ≤ 8192 → b + 65536 ≤ 2 ^ 64 → 2 ≤ q → length table ≡ q
     → AreApart (head ∷ others) → length rest ≤ 2
     → ((tables : List ℕ) → AreFine (memory b n r tables) false rest) → Covers (b + min 24 n) (n - min 24 n) (reads rest) → Covers (b + 49152) r (writes rest)
-    → Stands table (head ∷ others) (mixed n r b rest (head ∷ others)).ring → GivesAll (memory b n r (mixed n r b rest (head ∷ others)).tables) table head n r b
+    → Stands table (head ∷ others) (mixed n r b rest (head ∷ others)).ring → GivesAll (chain_of (mixed_parts n r b rest)) (memory b n r (mixed n r b rest (head ∷ others)).tables) table head n r b
 mixed_gives n r b q [] table head others request room base queue size apart few fine read written stands = flat_gives 1 n r b [] table head others (omega arith) apart stands
 mixed_gives n r b q (p ∷ rest) table head others request room base queue size apart few fine read written stands =
     mixed_choice n r b q p rest (eqb n 0) table head others request room base queue size apart few fine read written stands

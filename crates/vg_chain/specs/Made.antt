@@ -159,16 +159,48 @@ abbrev pub Covers : ℕ → ℕ → List Segment → Type 0
 Covers addr len [] = len ≡ 0
 Covers addr len (segment ∷ more) = (segment.addr ≡ addr) × (segment.len ≤ len) × Covers (addr + segment.len) (len - segment.len) more
 
-abbrev pub GivesAll : Memory → List Descriptor → ℕ → ℕ → ℕ → ℕ → Type 0
-GivesAll m table head n r b = (chain : Chain) × Walks m table head (Ok chain) × Covers b n chain.readable × Covers (b + 49152) r chain.writable
+-- The segments of parts: those that the device reads, and those that it writes.
+abbrev pub segment_in : Part → Segment
+segment_in part = record { addr = part.addr; len = part.len }
 
--- What the walk of a shape's layout comes to: the fault of a bad one, else a chain that is the request's bytes and the room's.
+abbrev pub reads : List Part → List Segment
+reads [] = []
+reads (part ∷ more) = (if part.writes then [] else (segment_in part ∷ [])) ++ reads more
+
+abbrev pub writes : List Part → List Segment
+writes [] = []
+writes (part ∷ more) = (if part.writes then (segment_in part ∷ []) else []) ++ writes more
+
+abbrev pub chain_of : List Part → Chain
+chain_of parts = record { readable = reads parts; writable = writes parts }
+
+-- The parts to which a shape's descriptors refer, in order, wherever the descriptors stand. A bad chain has none.
+abbrev pub mixed_parts : ℕ → ℕ → ℕ → List Part → List Part
+mixed_parts n r b [] = parts_of 1 n r b
+mixed_parts n r b (part ∷ more) = if n == 0 then parts_of 1 n r b else (record { addr = b; len = min 24 n; writes = false } ∷ part ∷ more)
+
+abbrev pub parts_in : Shape → ℕ → ℕ → ℕ → List Part
+parts_in Plain n r b = parts_of 1 n r b
+parts_in (Pieces k) n r b = parts_of k n r b
+parts_in Indirect n r b = parts_of 1 n r b
+parts_in Mixed n r b = mixed_parts n r b (rest_of n r b)
+parts_in (Bad fault) n r b = []
+
+-- The chain that a shape makes of a request of n bytes and its room for r bytes, at base b.
+abbrev pub chain_in : Shape → ℕ → ℕ → ℕ → Chain
+chain_in shape n r b = chain_of (parts_in shape n r b)
+
+-- The walk comes to this chain, which is the request's bytes and the room's.
+abbrev pub GivesAll : Chain → Memory → List Descriptor → ℕ → ℕ → ℕ → ℕ → Type 0
+GivesAll chain m table head n r b = Walks m table head (Ok chain) × Covers b n chain.readable × Covers (b + 49152) r chain.writable
+
+-- What the walk of a shape's layout comes to: the fault of a bad one, else the shape's own segments, one by one.
 abbrev pub GivesIts : Shape → Memory → List Descriptor → ℕ → ℕ → ℕ → ℕ → Type 0
 GivesIts (Bad fault) m table head n r b = Walks m table head (Err fault)
-GivesIts Plain m table head n r b = GivesAll m table head n r b
-GivesIts (Pieces k) m table head n r b = GivesAll m table head n r b
-GivesIts Indirect m table head n r b = GivesAll m table head n r b
-GivesIts Mixed m table head n r b = GivesAll m table head n r b
+GivesIts Plain m table head n r b = GivesAll (chain_in Plain n r b) m table head n r b
+GivesIts (Pieces k) m table head n r b = GivesAll (chain_in (Pieces k) n r b) m table head n r b
+GivesIts Indirect m table head n r b = GivesAll (chain_in Indirect n r b) m table head n r b
+GivesIts Mixed m table head n r b = GivesAll (chain_in Mixed n r b) m table head n r b
 
 -- So many descriptors of the ring does the shape use, wherever they stand.
 abbrev pub IsNeeded : Shape → ℕ → ℕ → ℕ → Type 0

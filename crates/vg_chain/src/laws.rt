@@ -15,7 +15,8 @@ pub fn a_walk_has_one_result()
 {}
 
 /// Where a shape's layout stands in the ring's table, whatever stands elsewhere in it, the walk from the
-/// head comes to the shape's fault, or to all bytes of the request and of the room, in order.
+/// head comes to the shape's fault, or to its segments, one by one, which are all bytes of the request
+/// and of the room, in order.
 pub fn a_layout_is_walked()
     ensures { (shape : Shapes) (n r b q : ℕ) (table : List Descriptors) (head : ℕ) (others : List ℕ) → IsRequest shape n r b q → IsLaid shape n r b q table head others
         → GivesIts shape (memory_of shape n r b q (head ∷ others)) table head n r b }

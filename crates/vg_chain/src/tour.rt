@@ -11,6 +11,7 @@ use crate::descriptor::{
     Descriptor, Segment, has_next, is_indirect, is_writable, read_descriptors,
 };
 use crate::fault::fault_of;
+use smallvec::SmallVec;
 use std::alloc::{AllocError, Global};
 use vg_list::Seq;
 
@@ -23,7 +24,7 @@ struct Tour {
     /// The place that is visited now.
     at: usize,
     /// Which places of the table were visited before.
-    marks: Vec<bool>,
+    marks: SmallVec<bool, 64>,
     readable: Vec<Segment>,
     writable: Vec<Segment>,
 }
@@ -39,7 +40,7 @@ impl Tour {
             inner: Vec::new(alloc),
             inside: false,
             at: head as usize,
-            marks: vec![in alloc; false; size]?,
+            marks: SmallVec::from_elem(alloc, false, size)?,
             readable: Vec::new(alloc),
             writable: Vec::new(alloc),
         })
@@ -60,7 +61,7 @@ impl Tour {
     fn is_met(&self) -> bool
         ensures { result ≡ slice_index_or self.now.marks.items self.now.at false }
     {
-        self.marks.get(self.at).copied().unwrap_or(false)
+        self.marks.as_slice().get(self.at).copied().unwrap_or(false)
     }
 
     /// Whether a writable segment was visited before.
@@ -101,7 +102,7 @@ impl Tour {
     {
         self.add(descriptor)?;
         let at = self.at;
-        self.marks[at] = true;
+        self.marks.as_mut_slice()[at] = true;
         self.at = descriptor.next as usize;
         Ok(())
     }
@@ -123,7 +124,7 @@ impl Tour {
         let count = (descriptor.len / 16) as usize;
         let from = (descriptor.addr - parts.base - 57344) as usize;
         self.inner = read_descriptors(alloc, &parts.tables[from..], count)?;
-        self.marks = vec![in alloc; false; count]?;
+        self.marks = SmallVec::from_elem(alloc, false, count)?;
         self.inside = true;
         self.at = 0;
         Ok(())

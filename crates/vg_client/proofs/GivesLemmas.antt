@@ -5,9 +5,9 @@ use Rattle.vg_holds.specs.declared.act.What.TheVariants.{Scanout}
 use Rattle.vg_holds.specs.declared.holds.Holds.{Holds}
 use Rattle.vg_machine.specs.Entries.{Entry}
 use Rattle.vg_holds.specs.Holds.{has_number}
-use Rattle.vg_tasks.specs.declared.call.Call.{Call}
-use Rattle.vg_tasks.specs.declared.call.Call.TheVariants as calls
-use Rattle.vg_names.specs.declared.names.NameRef.{NameRef}
+use Rattle.vg_calls.specs.declared.call.Call.{Call}
+use Rattle.vg_calls.specs.declared.call.Call.TheVariants as calls
+use Rattle.vg_calls.specs.declared.call.NameRef.{NameRef}
 use Rattle.vg_client.specs.Calls.{Gives, GivesTasks}
 use Rattle.vg_tasks.specs.Known.{Known}
 use Rattle.vg_names.specs.Names.{NamesState, found}
@@ -27,7 +27,7 @@ held-tasks (Some one) tasks each = each one
 
 has-cursor_tasks : (names : NamesState) (scanout : ℕ) (name : Option NameRef) (x y : ℤ) (hot_x hot_y : ℕ) → HasTasks (cursor_tasks names scanout name x y hot_x hot_y)
 has-cursor_tasks names scanout None x y hot_x hot_y = omega arith
-has-cursor_tasks names scanout (Some name) x y hot_x hot_y = held-tasks (found name.generation names) _ (λ one. omega arith)
+has-cursor_tasks names scanout (Some name) x y hot_x hot_y = held-tasks (found name.number names) _ (λ one. omega arith)
 
 has-drop_tasks : (holds : Holds) (scanout : ℕ) → HasTasks (drop_tasks holds scanout)
 has-drop_tasks holds scanout = by_test (has_number scanout holds.scanouts)
@@ -40,21 +40,21 @@ has-tasks : (known : Known) (call : Call) → HasTasks (tasks_of known call)
 has-tasks known calls.Info = omega arith
 has-tasks known (calls.Edid scanout) = omega arith
 has-tasks known (calls.Buffer width height format) = omega arith
-has-tasks known (calls.Store name offset bytes times) = held-tasks (found name.generation known.names) _ (λ one. omega arith)
-has-tasks known (calls.Load name offset n) = held-tasks (found name.generation known.names) _ (λ one. omega arith)
-has-tasks known (calls.Send name rect) = held-tasks (found name.generation known.names) _ (λ one. omega arith)
-has-tasks known (calls.Flush name rect) = held-tasks (found name.generation known.names) _ (λ one. omega arith)
+has-tasks known (calls.Store name offset bytes times) = held-tasks (found name.number known.names) _ (λ one. omega arith)
+has-tasks known (calls.Load name offset n) = held-tasks (found name.number known.names) _ (λ one. omega arith)
+has-tasks known (calls.Send name rect) = held-tasks (found name.number known.names) _ (λ one. omega arith)
+has-tasks known (calls.Flush name rect) = held-tasks (found name.number known.names) _ (λ one. omega arith)
 has-tasks known (calls.Take scanout) = omega arith
 has-tasks known (calls.Drop scanout) = has-drop_tasks known.holds scanout
 has-tasks known (calls.Hide scanout) = omega arith
-has-tasks known (calls.Show scanout name rect) = held-tasks (found name.generation known.names) _ (λ one. omega arith)
-has-tasks known (calls.Flip scanout name) = held-tasks (found name.generation known.names) _ (λ one. omega arith)
+has-tasks known (calls.Show scanout name rect) = held-tasks (found name.number known.names) _ (λ one. omega arith)
+has-tasks known (calls.Flip scanout name) = held-tasks (found name.number known.names) _ (λ one. omega arith)
 has-tasks known (calls.Cursor scanout name x y hot_x hot_y) = has-cursor_tasks known.names scanout name x y hot_x hot_y
 has-tasks known (calls.Move scanout x y) = omega arith
-has-tasks known (calls.Uuid name) = held-tasks (found name.generation known.names) _ (λ one. omega arith)
+has-tasks known (calls.Uuid name) = held-tasks (found name.number known.names) _ (λ one. omega arith)
 has-tasks known (calls.Raw queue room shape bytes) = omega arith
 has-tasks known (calls.Close name) =
-    held-tasks (found name.generation known.names) (close_tasks known.shows) (λ one. let longer = length-append (clear_tasks one.key 0 known.shows) (release_task one ∷ []) in omega (arith, longer))
+    held-tasks (found name.number known.names) (close_tasks known.shows) (λ one. let longer = length-append (clear_tasks one.key 0 known.shows) (release_task one ∷ []) in omega (arith, longer))
 
 -- so it gives an entry
 gives-tasks : (client : ℕ) (known known' : Known) (plan : Result (List Task) What) → HasTasks plan → GivesTasks client known plan [] known' → ⊥

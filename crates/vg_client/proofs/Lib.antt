@@ -6,3 +6,4 @@ pub mod OutcomeLemmas
 pub mod AccountLemmas
 pub mod ReplyLemmas
 pub mod PlayLemmas
+pub mod NumberLemmas

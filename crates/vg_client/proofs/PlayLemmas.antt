@@ -1,5 +1,5 @@
 -- What the tasks of a call give, one entry after another.
-use Rattle.std.proofs.Common.{◌≡◌, ◌⊎◌, ◌+◌, ◌<◌, ◌≤◌, ◌∙◌, sym, ap, refl, subst, arith, inl, inr, ℕ, Bool, true, false, cond, not, ◌||◌, List, [], ◌∷◌, ◌++◌, length, map, drop, filter, slice_set, append_assoc, append-nil, length-append, Option, Some, None, Result, Ok, Err, Vec}
+use Rattle.std.proofs.Common.{◌≡◌, ◌⊎◌, ◌+◌, ◌<◌, ◌≤◌, ◌∙◌, sym, ap, refl, subst, arith, inl, inr, ℕ, Bool, true, false, cond, not, ◌||◌, List, [], ◌∷◌, ◌++◌, length, map, filter, slice_set, append_assoc, append-nil, length-append, Option, Some, None, Result, Ok, Err}
 use Rattle.std.specs.Prelude.{IfErr, IfOk, OnErr, OnOk}
 use Rattle.std.specs.List.{AllByRecursion}
 use mathlib.Core.List.{IsPrefix}
@@ -16,7 +16,7 @@ use Rattle.vg_machine.specs.Entries.{Entry}
 use Rattle.vg_holds.specs.declared.holds.Holds.{Holds}
 use Rattle.vg_holds.specs.Holds.{Deniable}
 use Rattle.vg_machine.specs.Order.{is_leave, updated}
-use Rattle.vg_tasks.specs.declared.call.Call.{Call}
+use Rattle.vg_calls.specs.declared.call.Call.{Call}
 use Rattle.vg_client.specs.declared.caller.Caller.{Caller}
 use Rattle.vg_client.specs.declared.given.Added.{Added}
 use Rattle.vg_client.specs.declared.given.Given.{Given}
@@ -28,11 +28,11 @@ use Rattle.vg_tasks.specs.declared.task.Change.TheVariants.{NewBuffer, EndOfName
 use Rattle.vg_tasks.specs.declared.task.Task.{Task}
 use Rattle.vg_client.specs.Calls.{Begins, BeginsTasks, Gives, GivesTasks, IsAsked, IsDenial, IsDone, IsEntryOf, IsFrontOf, Plays, learned, names_after, names_reserved, shows_after}
 use Rattle.vg_tasks.specs.Tasks.{end_tasks, tasks_of}
-use Rattle.vg_client.specs.Callers.{HasAdded, HasDone, HasEnded, HasGoneOn, HasLeftBy, IsFewPages, IsReady, IsSmall, known}
-use Rattle.vg_tasks.specs.Plans.{IsFitPlan, IsPlanOf, planned, weight_of, weights}
+use Rattle.vg_client.specs.Callers.{BeginsEnd, HasAdded, HasDone, HasEnded, HasGoneOn, HasLeftBy, HasMade, IsFewPages, IsReady, IsSmall, known}
+use Rattle.vg_tasks.specs.Plans.{IsFitPlan, IsPlanOf, weight_of, weights}
 use Rattle.vg_client.specs.Given.{follow_ups, given_of, goes_on, is_accepted, left_after, tells_denial}
 use Rattle.vg_tasks.specs.Known.{Known}
-use Rattle.vg_names.specs.Names.{NamesState, is_generation, without_name}
+use Rattle.vg_names.specs.Names.{NamesState, is_numbered, without_name}
 use Rattle.vg_tasks.specs.Fits.{IsFit}
 use Rattle.vg_client.specs.Outcomes.{HasPlayed, IsNumbered, last_given}
 use Rattle.vg_tasks.specs.Table.{page_entry}
@@ -65,8 +65,8 @@ plays-more client stops known0 (first ∷ tasks) (e ∷ mine) known task left en
 follow-few : (change : Change) (given : Given) → weights (follow_ups change given) + 1 ≤ weight_of change
 follow-few (NewBuffer width height format) (givens.Act (act_replies.Reserved key pages)) = omega arith
 follow-few (NewBuffer width height format) given = omega arith
-follow-few (EndOfName generation key) (givens.Act act_replies.Last) = omega arith
-follow-few (EndOfName generation key) given = omega arith
+follow-few (EndOfName number key) (givens.Act act_replies.Last) = omega arith
+follow-few (EndOfName number key) given = omega arith
 follow-few change given = omega arith
 
 follow-fit : (change : Change) (given : Given) → IsFewPages given → AllByRecursion IsFit (follow_ups change given)
@@ -74,13 +74,13 @@ follow-fit (NewBuffer width height format) (givens.Act (act_replies.Reserved key
     let same : length (map page_entry pages) ≡ length pages = simp length-map in
     ((((tt, tt, refl), tt), tt), ((((tt, omega (arith, same, few), refl), omega (arith, same, few)), tt), tt))
 follow-fit (NewBuffer width height format) given few = tt
-follow-fit (EndOfName generation key) (givens.Act act_replies.Last) few = ((((tt, tt, refl), tt), tt), ((tt, tt), tt))
-follow-fit (EndOfName generation key) given few = tt
+follow-fit (EndOfName number key) (givens.Act act_replies.Last) few = ((((tt, tt, refl), tt), tt), ((tt, tt), tt))
+follow-fit (EndOfName number key) given few = tt
 follow-fit change given few = tt
 
 weight-some : (change : Change) → 1 ≤ weight_of change
 weight-some (NewBuffer width height format) = omega arith
-weight-some (EndOfName generation key) = omega arith
+weight-some (EndOfName number key) = omega arith
 weight-some change = omega arith
 
 left-few : (stops : Bool) (task : Task) (given : Given) (left : List Task) → weights (left_after stops task.change given left) + 1 ≤ weights (task ∷ left)
@@ -113,15 +113,15 @@ GrowLittle old new = (length new.current ≤ new.made) × (new.made ≤ old.made
 
 reserved-little : (width height : ℕ) (given : Given) (names : NamesState) → length names.current ≤ names.made → GrowLittle names (names_reserved width height given names)
 reserved-little width height (givens.Act (act_replies.Reserved key pages)) names small =
-    let longer = length-append names.current (record { generation = names.made + 1; key = key; width = width; height = height } ∷ []) in
+    let longer = length-append names.current (record { number = names.made + 1; key = key; width = width; height = height } ∷ []) in
     (omega (arith, longer, small), omega arith, omega arith)
-reserved-little width height given names small = (small, omega arith, omega arith)
+reserved-little width height given names small = (omega (arith, small), omega arith, omega arith)
 
 names-little : (change : Change) (given : Given) (names : NamesState) → length names.current ≤ names.made → GrowLittle names (names_after change given names)
 names-little (NewBuffer width height format) given names small = reserved-little width height given names small
-names-little (EndOfName generation key) given names small = by_test (is_accepted given) (filter-fewer (λ held. not (is_generation generation held)) names.current)
+names-little (EndOfName number key) given names small = by_test (is_accepted given) (filter-fewer (λ held. not (is_numbered number held)) names.current)
   where
-    by_test : (b : Bool) → length (filter (λ held. not (is_generation generation held)) names.current) ≤ length names.current → GrowLittle names (cond b (without_name generation names) names)
+    by_test : (b : Bool) → length (filter (λ held. not (is_numbered number held)) names.current) ≤ length names.current → GrowLittle names (cond b (without_name number names) names)
     by_test true fewer = (omega (arith, fewer, small), omega arith, omega arith)
     by_test false fewer = (small, omega arith, omega arith)
 names-little change given names small = (small, omega arith, omega arith)
@@ -157,6 +157,13 @@ pub record IsPlaying {B : Type 0} (stops : Bool) (tasks0 : List Task) (client0 :
 -- nothing is added
 pub added-none : {B : Type 0} (client : Caller B) → client.token.account.out ≡ [] → HasAdded client [] client
 added-none client idle = record { start = refl; number = refl; idle = idle; own = sym (append-nil _); more = prefix_self client.token.seen }
+
+-- the same of its token alone
+pub made-by : {B : Type 0} {client client' : Caller B} {mine : List Entry} → HasAdded client mine client' → HasMade client.token mine client'.token
+made-by added = record { start = added.start; number = added.number; idle = added.idle; own = added.own; more = added.more }
+
+pub made-none : (token : Token) → token.account.out ≡ [] → HasMade token [] token
+made-none token idle = record { start = refl; number = refl; idle = idle; own = sym (append-nil _); more = prefix_self token.seen }
 
 pub added-length : {B : Type 0} {client client' : Caller B} {mine : List Entry} → HasAdded client mine client' → length (mine_of client'.token) ≡ length (mine_of client.token) + length mine
 added-length {client = client} {mine = mine} added = ap (λ (xs : List Entry). length xs) added.own ∙ length-append (mine_of client.token) mine
@@ -289,20 +296,16 @@ left-smaller stops task given left left1 left' first leaves =
     let other : weights left' ≡ weights (left_after stops task.change given left1) = ap weights leaves in
     omega (arith, few, one, other)
 
-pub none-left : (left : List Task) → left ≡ drop 1 left → left ≡ []
-none-left [] e = refl
-none-left (task ∷ left) e = let longer : length (task ∷ left) ≡ length left = ap length e in absurd (omega (arith, longer))
-
 -- what was planned of a call is its tasks, few and fit
-pub plan-is : {A : Type 0} (plan : Result (List Task) What) (made : Result (Vec Task A) What) → IsPlanOf plan made → plan ≡ planned made
+pub plan-is : (plan made : Result (List Task) What) → IsPlanOf plan made → plan ≡ made
 plan-is plan (Ok tasks) plans = plans.0
 plan-is plan (Err what) plans = plans
 
-pub plan-fits : {A : Type 0} (holds : Holds) (plan : Result (List Task) What) (made : Result (Vec Task A) What) → IsPlanOf plan made → IfErr made (Deniable holds) → IsFitPlan holds made
+pub plan-fits : (holds : Holds) (plan made : Result (List Task) What) → IsPlanOf plan made → IfErr made (Deniable holds) → IsFitPlan holds made
 plan-fits holds plan (Ok tasks) plans may = (plans.1, plans.2)
 plan-fits holds plan (Err what) plans may = may
 
-pub gives-planned : {A : Type 0} (client : ℕ) (known known' : Known) (call : Call) (made : Result (Vec Task A) What) (mine : List Entry) → IsPlanOf (tasks_of known call) made → GivesTasks client known (planned made) mine known' → Gives client known call mine known'
+pub gives-planned : (client : ℕ) (known known' : Known) (call : Call) (made : Result (List Task) What) (mine : List Entry) → IsPlanOf (tasks_of known call) made → GivesTasks client known made mine known' → Gives client known call mine known'
 gives-planned client known known' call made mine plans gives = subst (λ (plan : Result (List Task) What). GivesTasks client known plan mine known') (sym (plan-is (tasks_of known call) made plans)) gives
 
 -- a call that hasn't begun
@@ -451,3 +454,35 @@ ended-by client client' tasks ending token are plays added is left =
 pub both-ok : {T E : Type 0} {P Q R : Type 0} (r : Result T E) → (P → Q → R) → OnOk r P → OnOk r Q → OnOk r R
 both-ok (Ok x) f p q = f p q
 both-ok (Err e) f p q = tt
+
+-- a client that was to end, and whose token is this
+abbrev pub StoodEnd : {B : Type 0} → Caller B → Token → Type 0
+StoodEnd client token = (mine : List Entry) × BeginsEnd client.token.account.number (known client) mine × HasMade client.token mine token
+
+pub end-unbegun : {B : Type 0} (client : Caller B) → IsReady client → StoodEnd client client.token
+end-unbegun client ready = ([], (known client, end_tasks (known client), (refl, refl)), made-none client.token ready.active.account_is.in_step.idle)
+
+pub end-stood : {B : Type 0} (client client' : Caller B) (tasks : List Task) → tasks ≡ end_tasks (known client) → Stood false tasks client client' → StoodEnd client client'.token
+end-stood client client' tasks are (mine, (known', left, plays), added) =
+    let P : List Task → Type 0 = λ ts. Plays client.token.account.number false (known client) ts mine known' left in
+    (mine, (known', left, subst P are plays), made-by added)
+
+-- all is given up, and it couldn't leave
+pub end-unleft : {B : Type 0} (client client' : Caller B) (tasks : List Task) (mine : List Entry) (token : Token) → tasks ≡ end_tasks (known client) → Plays client.token.account.number false (known client) tasks mine (known client') []
+    → HasAdded client mine client' → IsUnadded client'.token token → StoodEnd client token
+end-unleft client client' tasks mine token are plays added un =
+    let P : List Task → Type 0 = λ ts. Plays client.token.account.number false (known client) ts mine (known client') [] in (
+      mine,
+      (known client', [], subst P are plays),
+      record {
+        start = un.start ∙ added.start;
+        number = un.number ∙ added.number;
+        idle = un.idle;
+        own = un.mine ∙ added.own;
+        more = prefix_trans client.token.seen client'.token.seen token.seen added.more un.more;
+      },
+    )
+
+pub err-then : {T E : Type 0} {P Q : Type 0} (r : Result T E) → (P → Q) → OnErr r P → OnErr r Q
+err-then (Ok x) f p = tt
+err-then (Err e) f p = f p

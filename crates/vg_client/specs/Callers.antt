@@ -1,5 +1,5 @@
 -- A client, and how its calls go on.
-use Rattle.std.specs.Prelude.{◌≡◌, ◌≤◌, ◌<◌, ◌+◌, ℕ, Bool, false, Option, Some, None, List, [], ◌∷◌, ◌++◌, length}
+use Rattle.std.specs.Prelude.{◌≡◌, ◌≤◌, ◌<◌, ◌+◌, ℕ, Bool, false, List, [], ◌∷◌, ◌++◌, length}
 use mathlib.Core.List.{IsPrefix}
 use Rattle.vg_machine.specs.Entries.{Entry}
 use Rattle.vg_holds.specs.declared.act.ActReply.{ActReply}
@@ -15,10 +15,9 @@ use Rattle.vg_client.specs.declared.given.Added.{Added}
 use Rattle.vg_client.specs.declared.given.Given.{Given}
 use Rattle.vg_client.specs.declared.given.Given.TheVariants as givens
 use Rattle.vg_client.specs.Given.{given_of}
-use Rattle.vg_names.specs.declared.names.NameRef.{NameRef}
 use Rattle.vg_tasks.specs.Known.{Known, first_known}
 use Rattle.vg_client.specs.Accounts.{IsAccount, IsActive, IsNew, mine_of}
-use Rattle.vg_client.specs.Calls.{Plays}
+use Rattle.vg_client.specs.Calls.{IsFrontOf, Plays}
 use Rattle.vg_client.specs.Outcomes.{IsNumbered}
 use Rattle.vg_tasks.specs.Tasks.{end_tasks}
 
@@ -51,6 +50,14 @@ pub record HasAdded {B : Type 0} (client : Caller B) (mine : List Entry) (client
   pub own : mine_of client'.token ≡ mine_of client.token ++ mine
   pub more : IsPrefix client.token.seen client'.token.seen
 
+-- The same of its token alone.
+pub record HasMade (token : Token) (mine : List Entry) (token' : Token) : Type 0 where
+  pub start : token'.start ≡ token.start
+  pub number : token'.account.number ≡ token.account.number
+  pub idle : token'.account.out ≡ []
+  pub own : mine_of token' ≡ mine_of token ++ mine
+  pub more : IsPrefix token.seen token'.seen
+
 -- The same of a client that goes on: it can make more calls.
 pub record HasGoneOn {B : Type 0} (client : Caller B) (mine : List Entry) (client' : Caller B) : Type 0 where
   pub added : HasAdded client mine client'
@@ -80,11 +87,6 @@ abbrev pub IsFewPages : Given → Type 0
 IsFewPages (givens.Act reply) = HasFewPages reply
 IsFewPages given = Unit {0}
 
--- The generation of the name that a call gave; 0 where it gave none.
-abbrev pub generation_of : Option NameRef → ℕ
-generation_of (Some name) = name.generation
-generation_of None = 0
-
 -- A client has entered, and knows what a client knows before its first call.
 pub record HasEntered {B : Type 0} (token : Token) (client : Caller B) : Type 0 where
   pub start : client.token.start ≡ token.start
@@ -101,6 +103,10 @@ pub record HasEnded {B : Type 0} (client : Caller B) (token : Token) : Type 0 wh
   pub last : ℕ
   pub plays : Plays client.token.account.number false (known client) (end_tasks (known client)) ending after []
   pub own : mine_of token ≡ mine_of client.token ++ (ending ++ Act client.token.account.number last Leave act_replies.Ok ∷ [])
+
+-- These are the first entries of a client's end, in front of the one with which it leaves: all of them, or fewer where memory lacked.
+abbrev pub BeginsEnd : ℕ → Known → List Entry → Type 0
+BeginsEnd client known mine = IsFrontOf client false known (end_tasks known) mine
 
 -- The client's last entry is that it left, and has this number in the history.
 abbrev pub HasLeftBy : Token → ℕ → Type 0

@@ -1,5 +1,5 @@
 -- The entries that a client's calls give.
-use Rattle.std.specs.Prelude.{◌≡◌, ◌⊎◌, ◌==◌, ℕ, Bool, true, List, [], ◌∷◌, slice_set, if◌then◌else◌, Option, Some, None, Result, Ok, Err}
+use Rattle.std.specs.Prelude.{◌≡◌, ◌⊎◌, ◌+◌, ℕ, Bool, true, List, [], ◌∷◌, slice_set, if◌then◌else◌, Option, Some, None, Result, Ok, Err}
 use Rattle.vg_holds.specs.declared.act.Act.TheVariants.{Denied}
 use Rattle.vg_holds.specs.declared.act.ActReply.{ActReply}
 use Rattle.vg_holds.specs.declared.act.ActReply.TheVariants as act_replies
@@ -11,7 +11,8 @@ use Rattle.vg_machine.specs.declared.history.Request.{Request}
 use Rattle.vg_holds.specs.declared.holds.Holds.{Holds}
 use Rattle.vg_holds.specs.Holds.{denied_of}
 use Rattle.vg_machine.specs.Order.{updated}
-use Rattle.vg_tasks.specs.declared.call.Call.{Call}
+use Rattle.vg_calls.specs.declared.call.Call.{Call}
+use Rattle.vg_calls.specs.declared.call.NameRef.{NameRef}
 use Rattle.vg_client.specs.declared.given.Given.{Given}
 use Rattle.vg_client.specs.declared.given.Given.TheVariants as givens
 use Rattle.vg_tasks.specs.declared.task.Change.{Change}
@@ -21,7 +22,8 @@ use Rattle.vg_tasks.specs.declared.task.Deed.TheVariants as deeds
 use Rattle.vg_tasks.specs.declared.task.Task.{Task}
 use Rattle.vg_client.specs.Given.{given_of, is_accepted, left_after}
 use Rattle.vg_tasks.specs.Known.{Known}
-use Rattle.vg_names.specs.Names.{NamesState, with_name, without_name}
+use Rattle.vg_names.specs.declared.names.Held.{Held}
+use Rattle.vg_names.specs.Names.{NamesState, found, with_name, with_none, without_name}
 use Rattle.vg_driver.specs.Requests.{denied_by, raw_request, request_by}
 use Rattle.vg_tasks.specs.Tasks.{tasks_of}
 
@@ -40,15 +42,15 @@ IsDone client holds (deeds.Raw queue room shape bytes) entry = IsAsked client (d
 abbrev pub IsEntryOf : ℕ → Holds → Task → Entry → Type 0
 IsEntryOf client holds task entry = IsDone client holds task.deed entry
 
--- The names after a buffer was reserved.
+-- The names after a buffer was to be reserved: where it wasn't, the next name never is current.
 abbrev pub names_reserved : ℕ → ℕ → Given → NamesState → NamesState
 names_reserved width height (givens.Act (act_replies.Reserved key pages)) names = with_name key width height names
-names_reserved width height given names = names
+names_reserved width height given names = with_none names
 
 -- A name is current from the reserve of its buffer until the release of it, where these are accepted.
 abbrev pub names_after : Change → Given → NamesState → NamesState
 names_after (NewBuffer width height format) given names = names_reserved width height given names
-names_after (EndOfName generation key) given names = if is_accepted given then without_name generation names else names
+names_after (EndOfName number key) given names = if is_accepted given then without_name number names else names
 names_after change given names = names
 
 -- What the scanouts show: a task changes it where it is accepted.
@@ -97,6 +99,15 @@ BeginsTasks client known (Err what) mine = (mine ≡ []) ⊎ IsDenial client wha
 abbrev pub Begins : ℕ → Known → Call → List Entry → Type 0
 Begins client known call mine = BeginsTasks client known (tasks_of known call) mine
 
--- The generation of the name that a call made, if it made one.
-abbrev pub newest : Known → Known → ℕ
-newest before known = if known.names.made == before.names.made then 0 else known.names.made
+-- A name of a client, by what it stands for, where it is current.
+abbrev pub ref_of : Option Held → Option NameRef
+ref_of None = None
+ref_of (Some held) = Some (record { number = held.number })
+
+-- The name behind so many others, where it is current.
+abbrev pub name_behind : ℕ → NamesState → Option NameRef
+name_behind made names = ref_of (found (made + 1) names)
+
+-- The name that a call gave: that behind those of before it.
+abbrev pub newest : Known → Known → Option NameRef
+newest before known = name_behind before.names.made known.names

@@ -70,7 +70,7 @@ after_release key given = []
 
 abbrev pub follow_ups : Change → Given → List Task
 follow_ups (NewBuffer width height format) given = after_reserve width height format given
-follow_ups (EndOfName generation key) given = after_release key given
+follow_ups (EndOfName number key) given = after_release key given
 follow_ups change given = []
 
 -- What is left to do after a task that was answered so. A call that stops does so after its first task that isn't accepted.

@@ -4,3 +4,4 @@ pub mod Given
 pub mod Outcomes
 pub mod Calls
 pub mod Callers
+pub mod Numbers

@@ -1,29 +1,29 @@
 //! What a client is between its calls, and how it makes one.
 
-ghost use Rattle.std.specs.Prelude.{◌≡◌, ◌==◌, ◌<◌, ◌≤◌, ◌-◌, ◌+◌, ◌^◌, ◌++◌, ◌∷◌, if◌then◌else◌, [], ℕ, false, List, length, replicate, None, IfOk, MatchResult, OnOk, OnErr};
+ghost use Rattle.std.specs.Prelude.{◌≡◌, ◌<◌, ◌≤◌, ◌-◌, ◌+◌, ◌^◌, ◌++◌, ◌∷◌, [], ℕ, false, List, length, replicate, None, IfOk, MatchResult, OnOk, OnErr};
 ghost use Rattle.vg_history.specs.declared.entry.Entry.TheVariants as entries;
 ghost use Rattle.vg_holds.specs.declared.act.Act.TheVariants as acts;
 ghost use Rattle.vg_holds.specs.declared.act.ActReply.TheVariants as act_replies;
 ghost use Rattle.vg_holds.specs.declared.setup.Setup.{Setup as Setups};
 ghost use Rattle.vg_machine.specs.Entries.{Entry as Entries};
 ghost use Rattle.vg_client.specs.Accounts.{IsAccount, IsActive, IsNew, IsUnadded, mine_of};
-ghost use Rattle.vg_client.specs.Callers.{HasAdded, HasGoneOn, HasEnded, HasEntered, HasLeftBy, IsReady, generation_of, known};
-ghost use Rattle.vg_tasks.specs.Plans.{IsCallFit, IsFitPlan, planned};
-ghost use Rattle.vg_client.specs.Calls.{Begins, BeginsTasks, Gives, GivesTasks, newest};
+ghost use Rattle.vg_client.specs.Callers.{BeginsEnd, HasAdded, HasGoneOn, HasEnded, HasEntered, HasLeftBy, HasMade, IsReady, known};
+ghost use Rattle.vg_tasks.specs.Plans.{IsCallFit, IsFitPlan};
+ghost use Rattle.vg_client.specs.Calls.{Begins, BeginsTasks, Gives, GivesTasks, name_behind, newest};
 ghost use Rattle.vg_client.specs.Outcomes.{HasPlayed, IsOutcome};
 
 use crate::outcome::{Outcome, Played};
 use crate::play::{deny, play};
 use crate::tokens::{Token, act};
 use std::alloc::{AllocError, Global};
-use std::collections::VecDeque;
 use std::sync::Wait;
 use vg_book::{Book, Naming};
+use vg_calls::{Call, NameRef};
 use vg_driver::Driver;
 use vg_machine::{Act, Display, What};
-use vg_names::{NameRef, Names};
+use vg_names::Names;
 use vg_ring::Rings;
-use vg_tasks::{Call, Task, end_tasks, tasks_of};
+use vg_tasks::{Tasks, end_tasks, tasks_of};
 
 /// A client, which draws its own call numbers from 1.
 #[derive(Drop)]
@@ -83,7 +83,7 @@ pub(crate) fn make_call<B: Naming, N: Rings, R: Wait>(
         × HasGoneOn client.old mine client.new
         × (length mine ≤ 19)
         × IsOutcome client.old.token.seen mine client.new.token.seen outcome) }
-    ensures name { IfOk result (λ outcome. generation_of outcome.name ≡ newest (known client.old) (known client.new)) }
+    ensures name { IfOk result (λ outcome. outcome.name ≡ newest (known client.old) (known client.new)) }
     ensures begun { OnErr result ((mine : List Entries)
         × Begins client.old.token.account.number (known client.old) call mine
         × HasAdded client.old mine client.new) }
@@ -107,37 +107,35 @@ fn follow<B: Naming, N: Rings, R: Wait>(
     book: &Book<Display, B>,
     driver: &Driver<B, N>,
     client: &mut Caller<B>,
-    plan: Result<Vec<Task>, What>,
+    plan: Result<Tasks, What>,
 ) -> Result<Played, AllocError>
     requires ready { IsReady client.old }
     requires plan { IsFitPlan client.old.token.account.holds plan }
     requires room { length (mine_of client.old.token) + 20 < 2 ^ 31 - 1 }
     ensures done { IfOk result (λ played. (mine : List Entries)
-        × GivesTasks client.old.token.account.number (known client.old) (planned plan) mine (known client.new)
+        × GivesTasks client.old.token.account.number (known client.old) plan mine (known client.new)
         × HasGoneOn client.old mine client.new
         × (length mine ≤ 19)
         × HasPlayed client.old.token.seen mine client.new.token.seen played) }
     ensures begun { OnErr result ((mine : List Entries)
-        × BeginsTasks client.old.token.account.number (known client.old) (planned plan) mine
+        × BeginsTasks client.old.token.account.number (known client.old) plan mine
         × HasAdded client.old mine client.new) }
 {
     match plan {
-        Ok(tasks) => play(rt, alloc, book, driver, client, true, VecDeque::from(tasks)),
+        Ok(tasks) => play(rt, alloc, book, driver, client, true, tasks),
         Err(what) => deny(rt, alloc, book, client, what),
     }
 }
 
-/// The name that was made, where so many were made before.
+/// The name that a call defined, where it is current and so many were defined before.
 fn name_made(names: &Names, before: u32) -> Option<NameRef>
-    requires room { names.now.made < 2 ^ 32 }
-    requires rising { before ≤ names.now.made }
-    ensures { generation_of result ≡ (if names.now.made == before then 0 else names.now.made) }
+    requires { before < 2 ^ 31 }
+    ensures { result ≡ name_behind before names.now }
 {
-    if names.made() == before {
-        None
-    } else {
-        Some(names.newest())
-    }
+    let held = names.find(before + 1)?;
+    Some(NameRef {
+        number: held.number,
+    })
 }
 
 /// Ends the client: it gives up all that it has, and leaves. It gives the number of the entry with which it left.
@@ -155,17 +153,12 @@ pub(crate) fn end<B: Naming, N: Rings, R: Wait>(
     ensures idle { client.new.token.account.out ≡ [] }
     ensures ended { OnOk result (HasEnded client.old client.new.token) }
     ensures entry { IfOk result (HasLeftBy client.new.token) }
+    ensures begun { OnErr result ((mine : List Entries)
+        × BeginsEnd client.old.token.account.number (known client.old) mine
+        × HasMade client.old.token mine client.new.token) }
 {
     let tasks = end_tasks(alloc, client.token.holds(), &client.names)?;
-    play(
-        rt,
-        alloc,
-        book,
-        driver,
-        client,
-        false,
-        VecDeque::from(tasks),
-    )?;
+    play(rt, alloc, book, driver, client, false, tasks)?;
     leave(rt, alloc, book, &mut client.token)
 }
 
@@ -181,6 +174,7 @@ fn leave<B: Naming, R: Wait>(
         ≡ mine_of token.old ++ entries.Act token.old.account.number (token.old.account.used + 1) acts.Leave act_replies.Ok ∷ []) }
     ensures account { OnOk result (IsAccount token.new) }
     ensures left { IfOk result (HasLeftBy token.new) }
+    ensures err { OnErr result (IsUnadded token.old token.new) }
     ensures number { token.new.account.number ≡ token.old.account.number }
     ensures start { token.new.start ≡ token.old.start }
     ensures idle { token.new.account.out ≡ [] }

@@ -5,7 +5,7 @@ ghost use mathlib.Core.List.{IsPrefix};
 ghost use Rattle.vg_holds.specs.declared.setup.Setup.{Setup as Setups};
 ghost use Rattle.vg_machine.specs.Entries.{Entry as Entries};
 ghost use Rattle.vg_client.specs.Accounts.{IsNew, IsUnadded, mine_of};
-ghost use Rattle.vg_client.specs.Callers.{HasAdded, HasEnded, HasEntered, HasGoneOn, HasLeftBy, generation_of, known};
+ghost use Rattle.vg_client.specs.Callers.{BeginsEnd, HasAdded, HasEnded, HasEntered, HasGoneOn, HasLeftBy, HasMade, known};
 ghost use Rattle.vg_tasks.specs.Plans.{IsCallFit};
 ghost use Rattle.vg_client.specs.Calls.{Begins, Gives, newest};
 ghost use Rattle.vg_client.specs.Outcomes.{IsOutcome};
@@ -16,10 +16,10 @@ use std::alloc::Global;
 use std::marker::Model;
 use std::sync::Wait;
 use vg_book::{Book, ClientToken, Naming, NoMemory, Note, entries_in_step};
+use vg_calls::Call;
 use vg_driver::Driver;
 use vg_machine::Display;
 use vg_ring::Rings;
-use vg_tasks::Call;
 
 /// A client of a display, which submits its commands by a driver and makes one call at a time.
 ///
@@ -79,7 +79,7 @@ impl<B: Naming> Client<B> {
             × HasGoneOn self.old.caller mine self.new.caller
             × (length mine ≤ 19)
             × IsOutcome self.old.caller.token.seen mine self.new.caller.token.seen outcome) }
-        ensures name { IfOk result (λ outcome. generation_of outcome.name ≡ newest (known self.old.caller) (known self.new.caller)) }
+        ensures name { IfOk result (λ outcome. outcome.name ≡ newest (known self.old.caller) (known self.new.caller)) }
         ensures goes_on { OnOk result ((self.old.stopped ≡ false) × (self.new.stopped ≡ false)) }
         ensures begun { OnErr result ((mine : List Entries)
             × Begins self.old.caller.token.account.number (known self.old.caller) call mine
@@ -100,7 +100,8 @@ impl<B: Naming> Client<B> {
     }
 
     /// Ends the client: it gives up all that it has, and leaves. Its token comes back with nothing outstanding, beside the number
-    /// in the history of the entry with which it left. A client that has stopped gives nothing up.
+    /// in the history of the entry with which it left. For want of memory the entries that were made stand, and it hasn't left. A
+    /// client that has stopped gives nothing up.
     pub fn end<N: Rings, R: Wait>(
         self,
         rt: &R,
@@ -114,6 +115,10 @@ impl<B: Naming> Client<B> {
         ensures idle { result.0.account.out ≡ [] }
         ensures ended { OnOk result.1 ((self.stopped ≡ false) × HasEnded self.caller result.0) }
         ensures entry { IfOk result.1 (HasLeftBy result.0) }
+        ensures begun { OnErr result.1 ((mine : List Entries)
+            × BeginsEnd self.caller.token.account.number (known self.caller) mine
+            × HasMade self.caller.token mine result.0) }
+        ensures nothing { self.stopped ≡ true → result.0 ≡ self.caller.token }
     {
         let Client { caller, stopped } = self;
         if stopped {

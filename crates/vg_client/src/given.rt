@@ -5,9 +5,8 @@ ghost use Rattle.vg_tasks.specs.Table.{attach_task, create_task, free_task, unre
 ghost use Rattle.vg_client.specs.Given as answers;
 
 use std::alloc::{AllocError, Global};
-use std::collections::VecDeque;
 use vg_machine::{Act, ActReply, Reply};
-use vg_tasks::{Change, Task, act_task, attach_task, create_task, unref_task};
+use vg_tasks::{Change, Tasks, act_task, attach_task, create_task, unref_task};
 use vg_wire::kinds::{OK_DISPLAY_INFO, OK_EDID, OK_NODATA, OK_RESOURCE_UUID};
 use vg_wire::{Queue, read_header};
 
@@ -92,9 +91,9 @@ pub(crate) fn leave_tasks(
     stops: bool,
     change: Change,
     given: &Given,
-    left: &mut VecDeque<Task>,
+    left: &mut Tasks,
 ) -> Result<(), AllocError>
-    ensures { OnOk result (left.new.items ≡ answers.left_after stops change given.now left.old.items) }
+    ensures { OnOk result (left.new ≡ answers.left_after stops change given.now left.old) }
 {
     if stops && !goes_on(&change, given) && !is_accepted(given) {
         left.clear();
@@ -118,9 +117,9 @@ fn follow_reserve(
     height: u32,
     format: u32,
     given: &Given,
-    left: &mut VecDeque<Task>,
+    left: &mut Tasks,
 ) -> Result<(), AllocError>
-    ensures { OnOk result (left.new.items ≡ answers.after_reserve width height format given.now ++ left.old.items) }
+    ensures { OnOk result (left.new ≡ answers.after_reserve width height format given.now ++ left.old) }
 {
     match given {
         Given::Act {
@@ -137,9 +136,9 @@ fn attach_pages(
     format: u32,
     key: u32,
     pages: &[u32],
-    left: &mut VecDeque<Task>,
+    left: &mut Tasks,
 ) -> Result<(), AllocError>
-    ensures { OnOk result (left.new.items ≡ create_task key width height format ∷ attach_task key pages.now ∷ left.old.items) }
+    ensures { OnOk result (left.new ≡ create_task key width height format ∷ attach_task key pages.now ∷ left.old) }
 {
     left.push_front(attach_task(alloc, key, pages)?)?;
     left.push_front(create_task(key, width, height, format))?;
@@ -147,8 +146,8 @@ fn attach_pages(
 }
 
 /// The resource and the pages of a buffer that no one holds are given back.
-fn follow_release(key: u32, given: &Given, left: &mut VecDeque<Task>) -> Result<(), AllocError>
-    ensures { OnOk result (left.new.items ≡ answers.after_release key given.now ++ left.old.items) }
+fn follow_release(key: u32, given: &Given, left: &mut Tasks) -> Result<(), AllocError>
+    ensures { OnOk result (left.new ≡ answers.after_release key given.now ++ left.old) }
 {
     match given {
         Given::Act {
@@ -158,8 +157,8 @@ fn follow_release(key: u32, given: &Given, left: &mut VecDeque<Task>) -> Result<
     }
 }
 
-fn take_down(key: u32, left: &mut VecDeque<Task>) -> Result<(), AllocError>
-    ensures { OnOk result (left.new.items ≡ unref_task key ∷ free_task key ∷ left.old.items) }
+fn take_down(key: u32, left: &mut Tasks) -> Result<(), AllocError>
+    ensures { OnOk result (left.new ≡ unref_task key ∷ free_task key ∷ left.old) }
 {
     left.push_front(act_task(Act::Free { key }))?;
     left.push_front(unref_task(key))?;

@@ -29,9 +29,9 @@ pub(crate) fn learn<B: Naming>(
         Change::NewBuffer { width, height, .. } => {
             name_reserved(&mut client.names, width, height, given)
         }
-        Change::EndOfName { generation, .. } => {
+        Change::EndOfName { number, .. } => {
             if is_accepted(given) {
-                client.names.end(generation);
+                client.names.end(number);
             }
             Ok(())
         }
@@ -43,7 +43,7 @@ pub(crate) fn learn<B: Naming>(
     }
 }
 
-/// The name of a buffer that was reserved.
+/// The next name: that of a buffer that was reserved, or one that never is current.
 fn name_reserved(
     names: &mut Names,
     width: u32,
@@ -59,7 +59,7 @@ fn name_reserved(
         Given::Act {
             reply: ActReply::Reserved { key, .. },
         } => names.make(*key, width, height),
-        _ => Ok(()),
+        _ => names.make_none(),
     }
 }
 

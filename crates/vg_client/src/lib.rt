@@ -5,12 +5,14 @@
 mod caller;
 mod client;
 mod given;
+mod laws;
 mod learn;
 mod outcome;
 mod play;
 mod tokens;
 
 pub use client::Client;
-pub use outcome::{Last, Outcome};
-pub use vg_names::NameRef;
-pub use vg_tasks::{Call, Change, Deed, Task};
+pub use laws::a_call_numbers_its_name;
+pub use outcome::{Last, Numbers, Outcome};
+pub use vg_calls::{Call, NameRef};
+pub use vg_tasks::{Change, Deed, Task};

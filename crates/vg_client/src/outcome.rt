@@ -4,11 +4,12 @@ ghost use Rattle.std.specs.Prelude.{◌≡◌, ◌++◌, ◌∷◌, [], IfOk, Is
 ghost use Rattle.vg_client.specs.Outcomes as outcomes;
 
 use crate::given::{Added, Given};
+use smallvec::SmallVec;
 use std::alloc::{AllocError, Global};
+use std::marker::Model;
+use vg_calls::NameRef;
 use vg_driver::Answer;
-use vg_list::Seq;
 use vg_machine::ActReply;
-use vg_names::NameRef;
 
 /// What the last entry of a call was answered.
 #[derive(Drop)]
@@ -19,11 +20,34 @@ pub enum Last {
     Command { answer: Answer },
 }
 
+/// The numbers of a call's entries. A clause sees the list of them. Up to four take no memory.
+#[derive(Drop)]
+pub struct Numbers {
+    numbers: SmallVec<u64, 4>,
+}
+
+impl Model for Numbers {
+    ghost use Rattle.std.specs.Prelude.{ℕ, List};
+
+    ghost Value = { List ℕ };
+
+    ghost view = { λ n. n.numbers.items };
+}
+
+impl Numbers {
+    /// The numbers.
+    pub fn as_slice(&self) -> &[u64]
+        ensures { result.now ≡ self.now }
+    {
+        self.numbers.as_slice()
+    }
+}
+
 /// What a call made: the numbers of its entries in the history, from 1 and rising, what the last of them was answered, and the
 /// name of the buffer that it made, if it made one.
 #[derive(Drop)]
 pub struct Outcome {
-    pub entries: Seq<u64>,
+    pub entries: Numbers,
     pub last: Last,
     pub name: Option<NameRef>,
 }
@@ -31,7 +55,7 @@ pub struct Outcome {
 /// What tasks have given so far: the numbers of their entries, and what the last of them was answered.
 #[derive(Drop)]
 pub(crate) struct Played {
-    pub(crate) entries: Vec<u64>,
+    pub(crate) entries: SmallVec<u64, 4>,
     pub(crate) last: Option<Last>,
 }
 
@@ -41,7 +65,7 @@ impl Played {
         ensures { IfOk result (λ played. (played.entries.items ≡ []) × (played.last ≡ None)) }
     {
         Ok(Played {
-            entries: Vec::with_capacity(alloc, room)?,
+            entries: SmallVec::with_capacity(alloc, room)?,
             last: None,
         })
     }
@@ -66,7 +90,7 @@ impl Played {
     {
         let Played { entries, last } = self;
         Outcome {
-            entries: Seq::from_vec(entries),
+            entries: Numbers { numbers: entries },
             last: last.unwrap(),
             name,
         }

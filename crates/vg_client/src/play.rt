@@ -25,14 +25,13 @@ use crate::learn::learn;
 use crate::outcome::Played;
 use crate::tokens::{act as add_act, command as ask, raw_command};
 use std::alloc::{AllocError, Global};
-use std::collections::VecDeque;
 use std::sync::Wait;
 use vg_book::{Book, Naming};
 use vg_chain::Shape;
 use vg_driver::{Driver, Way, denied_by, queue_by};
 use vg_machine::{Act, ActReply, Display, What, denied};
 use vg_ring::Rings;
-use vg_tasks::{Deed, Task};
+use vg_tasks::{Deed, Task, Tasks};
 use vg_wire::Queue;
 use vg_wire_ext::Command;
 
@@ -45,18 +44,18 @@ pub(crate) fn play<B: Naming, N: Rings, R: Wait>(
     driver: &Driver<B, N>,
     client: &mut Caller<B>,
     stops: bool,
-    tasks: VecDeque<Task>,
+    tasks: Tasks,
 ) -> Result<Played, AllocError>
     requires ready { IsReady client.old }
-    requires fit { AllByRecursion IsFit tasks.items }
-    requires room { length (mine_of client.old.token) + weights tasks.items < 2 ^ 31 - 1 }
+    requires fit { AllByRecursion IsFit tasks }
+    requires room { length (mine_of client.old.token) + weights tasks < 2 ^ 31 - 1 }
     ensures done { IfOk result (λ played. (mine : List Entries)
-        × Plays client.old.token.account.number stops (known client.old) tasks.items mine (known client.new) []
+        × Plays client.old.token.account.number stops (known client.old) tasks mine (known client.new) []
         × HasGoneOn client.old mine client.new
-        × (length mine ≤ weights tasks.items)
+        × (length mine ≤ weights tasks)
         × HasPlayed client.old.token.seen mine client.new.token.seen played) }
     ensures begun { OnErr result ((mine : List Entries)
-        × IsFrontOf client.old.token.account.number stops (known client.old) tasks.items mine
+        × IsFrontOf client.old.token.account.number stops (known client.old) tasks mine
         × HasAdded client.old mine client.new) }
 {
     let mut played = Played::with_room(alloc, tasks.len())?;

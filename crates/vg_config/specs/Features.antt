@@ -1,7 +1,27 @@
 use Rattle.std.specs.Prelude.{◌≡◌, ◌<◌, ◌/◌, ◌%◌, ◌^◌, ◌==◌, ◌&&◌, ℕ, Bool, false, not, ◌||◌}
 
--- The features that the device offers (VIRTIO 1.2, 5.7.3 and 6): VIRTIO_GPU_F_VIRGL 0, EDID 1, RESOURCE_UUID 2,
--- RESOURCE_BLOB 3 and CONTEXT_INIT 4, VIRTIO_F_INDIRECT_DESC 28, VIRTIO_F_VERSION_1 32.
+-- The features that commands need (VIRTIO 1.2, 5.7.3), each by the value of its bit: VIRTIO_GPU_F_VIRGL is bit 0.
+abbrev pub VIRGL : ℕ
+VIRGL = 1
+
+-- bit 1
+abbrev pub EDID : ℕ
+EDID = 2
+
+-- bit 2
+abbrev pub RESOURCE_UUID : ℕ
+RESOURCE_UUID = 4
+
+-- bit 3
+abbrev pub RESOURCE_BLOB : ℕ
+RESOURCE_BLOB = 8
+
+-- bit 4
+abbrev pub CONTEXT_INIT : ℕ
+CONTEXT_INIT = 16
+
+-- The features that the device offers (VIRTIO 1.2, 5.7.3 and 6): these, VIRTIO_F_INDIRECT_DESC (bit 28) and VIRTIO_F_VERSION_1
+-- (bit 32).
 abbrev pub offered : ℕ
 offered = 0x11000001f
 

@@ -2,6 +2,7 @@
 #![tactic(auto)]
 
 mod config;
+pub mod features;
 mod negotiation;
 
 pub use config::Config;

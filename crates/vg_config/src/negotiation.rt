@@ -5,12 +5,10 @@ ghost use Rattle.vg_config.specs.Features.{AreFaulty, IsFaultless, lacks_virgl};
 ghost use Rattle.vg_config.specs.Features as set;
 ghost use Rattle.vg_config.specs.Status.{first_stage, with_accepted, with_bit};
 
+use crate::features::OFFERED;
 use std::marker::Model;
 
-/// VIRTIO_GPU_F_VIRGL, EDID, RESOURCE_UUID, RESOURCE_BLOB and CONTEXT_INIT, VIRTIO_F_INDIRECT_DESC and
-/// VIRTIO_F_VERSION_1.
-const OFFERED: u64 = 0x1_1000_001f;
-
+/// The number of a feature, as those below.
 const VIRGL: u32 = 0;
 
 const CONTEXT_INIT: u32 = 4;

@@ -39,8 +39,8 @@ use Rattle.vg_drive.proofs.LegalLemmas.{legal-journal}
 -- the lanes of a book that was just opened are those that a front begins with
 pub lanes-new : (first : Option State) (n : ℕ) (lanes : List Lane) → n ≡ 66 → lanes ≡ first_lanes first n → (length lanes ≡ 66) × desks.AreNew (λ (l : Lane). l.lane) (λ (l : Lane). l.count) 0 lanes
 lanes-new first n lanes is are = subst (λ (ls : List Lane). (length ls ≡ 66) × desks.AreNew (λ (l : Lane). l.lane) (λ (l : Lane). l.count) 0 ls) (sym are) (
-  lanes_long State State Act ActReply Request Reply Holds first n ∙ is,
-  lanes_are_new State State Act ActReply Request Reply Holds first n,
+  lanes_long State State Act ActReply Request Reply Holds Request first n ∙ is,
+  lanes_are_new State State Act ActReply Request Reply Holds Request first n,
 )
 
 -- the laws of the book and of clients' own entries

@@ -20,8 +20,8 @@ use Rattle.vg_script.specs.declared.types.Line.{Line}
 use Rattle.vg_tasks.specs.declared.task.Deed.{Deed}
 use Rattle.vg_tasks.specs.declared.task.Deed.TheVariants as deeds
 use Rattle.vg_tasks.specs.declared.task.Task.{Task}
-use Rattle.vg_part.specs.Follows.{AreInPlace, Follows, GivesAll, GivesCalls, call_of_step, no_refs, refs_after}
-use Rattle.vg_client.specs.Calls.{GivesTasks, IsAsked, IsDone, Plays, learned, newest}
+use Rattle.vg_part.specs.Follows.{AreInPlace, Follows, GivesAll, GivesCalls}
+use Rattle.vg_client.specs.Calls.{GivesTasks, IsAsked, IsDone, Plays, learned}
 use Rattle.vg_tasks.specs.Known.{Known, first_known}
 use Rattle.vg_drive.specs.Legal.{FollowAll}
 use Rattle.vg_client.specs.Given.{given_of, left_after}
@@ -175,9 +175,9 @@ same_tasks client (Err what) f f' r r' known K K' state before k gives gives' le
     }
 
 -- what lines give is determined
-same_lines : (client : ℕ) (lines : List Line) (refs : List ℕ → ℕ) (f f' r r' : List Entry) (known K K' : Known) (state : State) (before : List Entry) (k : ℕ)
-    → GivesAll client refs known lines f K → GivesAll client refs known lines f' K' → Left state before k (f ++ r) → Left state before k (f' ++ r') → Same f f' K K' r r'
-same_lines client [] refs f f' r r' known K K' state before k gives gives' left left' =
+same_lines : (client : ℕ) (lines : List Line) (f f' r r' : List Entry) (known K K' : Known) (state : State) (before : List Entry) (k : ℕ)
+    → GivesAll client known lines f K → GivesAll client known lines f' K' → Left state before k (f ++ r) → Left state before k (f' ++ r') → Same f f' K K' r r'
+same_lines client [] f f' r r' known K K' state before k gives gives' left left' =
     let One : List Entry → Type 0 = λ xs. Left state before k (xs ++ r) in
     let Other : List Entry → Type 0 = λ xs. Left state before k (xs ++ r') in
     record {
@@ -189,14 +189,14 @@ same_lines client [] refs f f' r r' known K K' state before k gives gives' left 
       left = subst One gives.0 left;
       right = subst Other gives'.0 left';
     }
-same_lines client (line ∷ lines) refs f f' r r' known K K' state before k gives gives' left left' =
+same_lines client (line ∷ lines) f f' r r' known K K' state before k gives gives' left left' =
     let Whole : List Entry → Type 0 = λ xs. Left state before k xs in
     let split : f ++ r ≡ gives.0 ++ (gives.1 ++ r) = ap (λ (xs : List Entry). xs ++ r) gives.3 ∙ append_assoc gives.0 gives.1 r in
     let split' : f' ++ r' ≡ gives'.0 ++ (gives'.1 ++ r') = ap (λ (xs : List Entry). xs ++ r') gives'.3 ∙ append_assoc gives'.0 gives'.1 r' in
-    let here = same_tasks client (tasks_of known (call_of_step refs line.step)) gives.0 gives'.0 (gives.1 ++ r) (gives'.1 ++ r') known gives.2 gives'.2 state before k
+    let here = same_tasks client (tasks_of known line.call) gives.0 gives'.0 (gives.1 ++ r) (gives'.1 ++ r') known gives.2 gives'.2 state before k
     gives.4 gives'.4 (subst Whole split left) (subst Whole split' left') in
-    let Next : Known → Type 0 = λ next. GivesAll client (refs_after line.step (newest known next) refs) next lines gives'.1 K' in
-    let rest = same_lines client lines (refs_after line.step (newest known gives.2) refs) gives.1 gives'.1 r r' gives.2 K K' here.state here.before here.k
+    let Next : Known → Type 0 = λ next. GivesAll client next lines gives'.1 K' in
+    let rest = same_lines client lines gives.1 gives'.1 r r' gives.2 K K' here.state here.before here.k
     gives.5 (subst Next (sym here.known) gives'.5) here.left here.right in
     record {
       front = gives.3 ∙ ap (λ (xs : List Entry). xs ++ gives.1) here.front ∙ ap (λ (xs : List Entry). gives'.0 ++ xs) rest.front ∙ sym gives'.3;
@@ -223,7 +223,7 @@ same_calls setup client lines G H state before k calls calls' left left' =
     let other = begun state before k enter' (calls'.middle ++ tail') (subst Whole calls'.whole left') in
     let entered : enter ≡ enter' = same_act state before k client Enter calls.first calls'.first act_replies.Ok act_replies.Ok one.here other.here in
     let Behind : Entry → Type 0 = λ x. Left (after state x) (before ++ x ∷ []) (k + 1) (calls'.middle ++ tail') in
-    let given = same_lines client lines no_refs calls.middle calls'.middle tail tail' (first_known setup client) calls.known calls'.known (after state enter) (before ++ enter ∷ []) (k + 1)
+    let given = same_lines client lines calls.middle calls'.middle tail tail' (first_known setup client) calls.known calls'.known (after state enter) (before ++ enter ∷ []) (k + 1)
     calls.lines_give calls'.lines_give one.left (subst Behind (sym entered) other.left) in
     let Ending : Known → Type 0 = λ known. Plays client false known (end_tasks known) calls'.ending calls'.at_end [] in
     let ended = same_plays client false calls.ending calls'.ending (leave ∷ []) (leave' ∷ []) (end_tasks calls.known) calls.known calls.at_end calls'.at_end given.state given.before given.k

@@ -7,19 +7,19 @@ use Rattle.vg_machine.specs.Replay.{replay}
 use Rattle.vg_machine.specs.Order.{Sound, client_of}
 use Rattle.vg_script.specs.declared.types.Line.{Line}
 use Rattle.vg_script.specs.declared.types.Script.{Script}
-use Rattle.vg_steps.specs.declared.types.Step.{Step}
+use Rattle.vg_calls.specs.declared.call.Call.{Call}
 use Rattle.vg_journal.specs.declared.journal.Journal.{Journal}
 use Rattle.vg_holds.specs.declared.setup.Setup.{Setup}
 use Rattle.vg_part.specs.Setup.{setup_of}
 use Rattle.vg_part.specs.Follows.{Follows}
 
--- Whether a step leaves its command unfinished, for a later line to wait for. None does yet.
-abbrev pub is_left : Step → Bool
-is_left step = false
+-- Whether a call leaves its command unfinished, for a later line to wait for. None does yet.
+abbrev pub is_left : Call → Bool
+is_left call = false
 
 -- No client leaves a command unfinished.
 abbrev pub AreFinished : List (List Line) → Type 0
-AreFinished clients = All (λ lines. All (λ line. is_left line.step ≡ false) lines) clients
+AreFinished clients = All (λ lines. All (λ line. is_left line.call ≡ false) lines) clients
 
 -- Each client follows its lines, from this client on.
 abbrev pub FollowAll : Setup → ℕ → List (List Line) → List Entry → Type 0

@@ -29,7 +29,7 @@ lane_small Control lane is = omega (arith, is)
 lane_small Cursor lane is = omega (arith, is)
 
 -- a note of what came back run knows the lane up to it
-pub fence_at : {M B S A R Q P H : Type 0} (g : Ghosts M S A R Q P H) (ran : Ran M B S A R Q P H) (f : Done M S A R Q P H) (lane ordinal : ℕ) (seen : List (Entry M S A R Q P H)) → ran ≡ outcomes.Done f → tag_of g ran ≡ (lane, ordinal)
+pub fence_at : {M B S A R Q P H W : Type 0} (g : Ghosts M S A R Q P H W) (ran : Ran M B S A R Q P H W) (f : Done M S A R Q P H W) (lane ordinal : ℕ) (seen : List (Entry M S A R Q P H W)) → ran ≡ outcomes.Done f → tag_of g ran ≡ (lane, ordinal)
     → HasFence g (g.tagged f.order.request).0 (g.tagged f.order.request).1 seen → HasFence g lane ordinal seen
 fence_at g ran f lane ordinal seen is tag fence = subst (λ (t : ℕ × ℕ). HasFence g t.0 t.1 seen) (ap (tag_of g) (sym is) ∙ tag) fence
 

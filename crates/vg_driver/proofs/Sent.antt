@@ -6,13 +6,14 @@ use Rattle.std.proofs.Crossing.{crosses}
 use Rattle.std.proofs.MapsCrossing.{BTreeMap-send}
 use Rattle.vg_history.specs.declared.machine.Machine as Machine
 use Rattle.vg_book.specs.declared.board.Naming as Naming
-use Rattle.vg_book.specs.contracts.outcome.Ran as ran
 use Rattle.vg_book.specs.contracts.outcome.Carried as carried
 use Rattle.vg_book.proofs.Sent.{done_send, note_send, pass_send}
 use Rattle.vg_list.specs.contracts.seq.Seq as seq
 use Rattle.vg_ring.specs.declared.naming.Naming as ring
 use Rattle.vg_ring.specs.declared.rings.OfQueue as OfQueue
 use Rattle.vg_ring.proofs.Sent.{driver_send}
+use Rattle.vg_driver.specs.contracts.back.Back as back
+use Rattle.vg_driver.specs.contracts.back.Back.TheInside as back_in
 use Rattle.vg_driver.specs.contracts.heard.Heard as heard
 use Rattle.vg_driver.specs.contracts.half.Half as half
 use Rattle.vg_driver.specs.contracts.half.Half.TheInside as half_in
@@ -71,17 +72,20 @@ display_send = let T = display_in.the_type in
       ),
     )))
 
-module _ (M S A R Q P H : RattleType) (m : IsSend M) (a : IsSend A) (r : IsSend R) (q : IsSend Q) (p : IsSend P) (B : RattleType) (gm : Machine.Ghosts M.Denot S.Denot A.Denot R.Denot Q.Denot P.Denot H.Denot) (gb : Naming.Ghosts B.Denot) where
-  heard_send : IsSend (heard.the_row M B S A R Q P H gm gb)
-  heard_send = let n = note_send M S A R Q P H m a r q p B gm gb in search (sendable, crosses) depth 20
+module _ (M S A R Q P H W : RattleType) (m : IsSend M) (a : IsSend A) (r : IsSend R) (q : IsSend Q) (p : IsSend P) (B : RattleType) (gm : Machine.Ghosts M.Denot S.Denot A.Denot R.Denot Q.Denot P.Denot H.Denot W.Denot) (gb : Naming.Ghosts B.Denot) where
+  heard_send : IsSend (heard.the_row M B S A R Q P H W gm gb)
+  heard_send = let n = note_send M S A R Q P H W m a r q p B gm gb in search (sendable, crosses) depth 20
 
-  ran_send : IsSend (ran.the_row M B S A R Q P H gm gb)
-  ran_send = let d = done_send M S A R Q P H m a r q p B gm gb in let w = pass_send M S A R Q P H m a r q p B gm gb in search (sendable, crosses) depth 20
+  back_send : IsSend (back.the_row M B S A R Q P H W gm gb)
+  back_send = let T = back_in.the_type M B S A R Q P H W gm gb in
+      let d = done_send M S A R Q P H W m a r q p B gm gb in
+      let w = pass_send M S A R Q P H W m a r q p B gm gb in
+      view_send _ _ _ _ _ (recorded_send _ _ _ T.to_one (struct_send (shape T) (search (sendable, crosses) depth 20, (search (sendable, crosses) depth 40, (search (sendable, crosses) depth 20, tt)))))
 
-  carried_send : IsSend (carried.the_row M B S A R Q P H gm gb)
-  carried_send = let d = done_send M S A R Q P H m a r q p B gm gb in let w = pass_send M S A R Q P H m a r q p B gm gb in search (sendable, crosses) depth 20
+  carried_send : IsSend (carried.the_row M B S A R Q P H W gm gb)
+  carried_send = let d = done_send M S A R Q P H W m a r q p B gm gb in let w = pass_send M S A R Q P H W m a r q p B gm gb in search (sendable, crosses) depth 20
 
   module _ (N : RattleType) (gn : ring.Ghosts N.Denot) (gq : OfQueue.Ghosts N.Denot) (n : IsSend N) where
-    pub half_send : IsSend (half.the_row M B N S A R Q P H gm gb gn gq)
-    half_send = let T = half_in.the_type M B N S A R Q P H gm gb gn gq in
-        view_send _ _ _ _ _ (recorded_send _ _ _ T.to_one (struct_send (shape T) (driver_send _ N _ gn carried_send n, (search (sendable, crosses, ran_send) depth 20, (search (sendable, crosses, heard_send) depth 20, tt)))))
+    pub half_send : IsSend (half.the_row M B N S A R Q P H W gm gb gn gq)
+    half_send = let T = half_in.the_type M B N S A R Q P H W gm gb gn gq in
+        view_send _ _ _ _ _ (recorded_send _ _ _ T.to_one (struct_send (shape T) (driver_send _ N _ gn carried_send n, (search (sendable, crosses, back_send) depth 20, (search (sendable, crosses, heard_send) depth 20, tt)))))

@@ -1,12 +1,12 @@
 -- How long the requests of commands are.
-use Rattle.std.proofs.Common.{◌≡◌, ℕ, ℤ, ◌+◌, ◌*◌, ◌≤◌, List, ◌++◌, length, w32, arith, length-append}
+use Rattle.std.proofs.Common.{◌≡◌, ℕ, ℤ, ◌≤◌, length, w32, arith, length-append}
 use Rattle.std.specs.Int.{cast_unsigned}
 use Rattle.vg_wire.specs.declared.two_d.Command2d.{Command2d}
 use Rattle.vg_wire.specs.declared.two_d.Command2d.TheVariants as two_d
 use Rattle.vg_wire.specs.TwoD.{body_of_2d}
 use Rattle.vg_wire.proofs.HeaderLemmas.{length-le32, length-le64}
 use Rattle.vg_wire.proofs.EntryLemmas.{length-entries_bytes}
-use Rattle.vg_wire.proofs.TwoDLemmas.{length-attach, length-body_of_2d, length-four, length-rect_bytes, length-two, size_of_2d}
+use Rattle.vg_wire.proofs.TwoDLemmas.{length-attach, length-body_of_2d, length-four, length-rect_bytes, length-two}
 use Rattle.vg_wire_ext.specs.declared.command.Command.{Command}
 use Rattle.vg_wire_ext.specs.declared.command.Command.TheVariants.{TwoD, CapsetInfo, Capset, Edid, AssignUuid, CreateBlob, SetScanoutBlob, CtxCreate, CtxDestroy, CtxAttach, CtxDetach, Submit, UpdateCursor, MoveCursor}
 use Rattle.vg_wire_ext.specs.Commands.{command_body}

@@ -15,10 +15,18 @@ use Rattle.vg_holds.specs.declared.holds.Holds.{Holds}
 use Rattle.vg_machine.specs.State.{State}
 use Rattle.vg_machine.specs.Replay.{display}
 use Rattle.vg_driver.specs.declared.ticket.Ticket.{Ticket}
+use Rattle.vg_chain.specs.declared.shape.Shape.{Shape}
+use Rattle.vg_book.specs.declared.outcome.Ran.{Ran}
+use Rattle.vg_book.specs.declared.outcome.Ran.TheVariants as outcomes
+use Rattle.vg_machine.specs.Written.{read_by, written_in}
+use Rattle.vg_driver.specs.Halves.{IsTold, asked_of}
 use Rattle.vg_driver.specs.Tickets.{Account, DonePass, IsOf, IsOut, Order, Pass, Token}
 
+abbrev Back : Type 0 → Type 0
+Back B = Ran State B State Act ActReply Request Reply Holds Request
+
 abbrev En : Type 0
-En = Entry State State Act ActReply Request Reply Holds
+En = Entry State State Act ActReply Request Reply Holds Request
 
 -- an order stands alone among those with its number, where none is left without the first of them
 alone : (n : ℕ) (os : List Order) (o p : Order) → Has os o → Has os p → o.call ≡ n → p.call ≡ n → times n (map order_call (without n os)) ≡ 0 → o ≡ p
@@ -67,3 +75,11 @@ ticket_unrun old ticket p new (order, has, is) call t =
     let none = none_spent n old.account.mine (without n old.account.out) old.account.spent old.account.used numbers in
     let same : p.order ≡ order = alone n old.account.out p.order order t.out has refl (is.call ∙ sym call) none in
     subst (IsOf ticket) (sym same) is
+
+-- what is read in the room of a command that was run is its entry's reply
+pub reply_done : {B : Type 0} (f : DonePass) (ran : Back B) (shape : Shape) (bytes : List ℕ) → ran ≡ outcomes.Done f → (asked_of display ran).shape ≡ shape → IsTold display ran bytes
+    → read_by f.order.request.shape (written_in f.order.request.room f.reply) ≡ f.reply → read_by shape bytes ≡ f.reply
+reply_done f ran shape bytes is shape_is told read =
+    let same : f.order.request.shape ≡ shape = subst (λ (r : Back _). (asked_of display r).shape ≡ shape) is shape_is in
+    let bytes_are : bytes ≡ written_in f.order.request.room f.reply = subst (λ (r : Back _). IsTold display r bytes) is told in
+    ap (λ (s : Shape). read_by s bytes) (sym same) ∙ ap (read_by f.order.request.shape) bytes_are ∙ read

@@ -1,5 +1,5 @@
 -- A queue's driver end with what came back over it: what is kept, and what the calls tell.
-use Rattle.std.specs.Prelude.{◌≡◌, ℕ, ◌+◌, ◌==◌, ◌^◌, ◌-◌, ◌<◌, ◌≤◌, ◌%◌, true, false, Bool, List, [], ◌∷◌, length, max, get_or, Option, Some, None, if◌then◌else◌}
+use Rattle.std.specs.Prelude.{◌≡◌, ℕ, ◌+◌, ◌==◌, ◌&&◌, ◌^◌, ◌-◌, ◌<◌, ◌≤◌, ◌%◌, true, false, Bool, List, [], ◌∷◌, length, max, get_or, Option, Some, None, if◌then◌else◌}
 use Rattle.vg_history.specs.declared.machine.Machine.{Ghosts}
 use Rattle.vg_history.specs.History.{HasFence}
 use Rattle.vg_book.specs.declared.outcome.Ran.{Ran}
@@ -9,7 +9,8 @@ use Rattle.vg_chain.specs.declared.shape.Shape.{Shape}
 use Rattle.vg_chain.specs.Made.{IsCount, IsNeeded}
 use Rattle.vg_wire.specs.declared.request.Queue.{Queue}
 use Rattle.vg_ring.specs.declared.views.Answer.{Answer}
-use Rattle.vg_ring.specs.Cargo.{ParcelData}
+use Rattle.vg_asks.specs.declared.asked.Asked.{Asked}
+use Rattle.vg_ring.specs.Cargo.{ParcelData, Tells}
 use Rattle.vg_ring.specs.Ends.{DriverLists, HasRoom}
 use Rattle.vg_ring.specs.Entries.{lane_count}
 
@@ -62,23 +63,40 @@ pub record IsOffered (lists : DriverLists) (shape : Shape) (parcel : ParcelData)
   pub ordinal : parcel.ordinal ≡ lane_count parcel.lane lists.published + 1
   pub last : length lists.published < 2 ^ 63 - 1
 
-module _ {M B S A R Q P H : Type 0} where
+module _ {M B S A R Q P H W : Type 0} where
   -- What came back is of this call of this client.
-  abbrev pub IsOf : ℕ → ℕ → Ran M B S A R Q P H → Type 0
+  abbrev pub IsOf : ℕ → ℕ → Ran M B S A R Q P H W → Type 0
   IsOf client call (outcomes.Done f) = (f.order.client ≡ client) × (f.order.call ≡ call)
   IsOf client call (outcomes.Unrun p) = (p.order.client ≡ client) × (p.order.call ≡ call)
 
-module _ {M S A R Q P H : Type 0} (g : Ghosts M S A R Q P H) where
+  abbrev pub is_of : ℕ → ℕ → Ran M B S A R Q P H W → Bool
+  is_of client call (outcomes.Done f) = (f.order.client == client) && (f.order.call == call)
+  is_of client call (outcomes.Unrun p) = (p.order.client == client) && (p.order.call == call)
+
+module _ {M S A R Q P H W : Type 0} (g : Ghosts M S A R Q P H W) where
   -- The lane and the ordinal of what came back.
-  abbrev pub tag_of : {B : Type 0} → Ran M B S A R Q P H → ℕ × ℕ
+  abbrev pub tag_of : {B : Type 0} → Ran M B S A R Q P H W → ℕ × ℕ
   tag_of (outcomes.Done f) = g.tagged f.order.request
   tag_of (outcomes.Unrun p) = g.tagged p.order.request
 
+  -- What was asked by what came back, and what is told of the room.
+  abbrev pub asked_of : {B : Type 0} → Ran M B S A R Q P H W → Asked
+  asked_of (outcomes.Done f) = g.asks f.order.request
+  asked_of (outcomes.Unrun p) = g.asks p.order.request
+
+  abbrev pub told_of : {B : Type 0} → Ran M B S A R Q P H W → Option (List ℕ)
+  told_of (outcomes.Done f) = Some (g.written f.order.request f.reply)
+  told_of (outcomes.Unrun p) = None
+
+  -- These bytes are what is told.
+  abbrev pub IsTold : {B : Type 0} → Ran M B S A R Q P H W → List ℕ → Type 0
+  IsTold ran bytes = Tells (told_of ran) bytes
+
   -- The note knows the lane up to this ordinal; where there is none, that is 0.
-  abbrev pub NoteKnows : ℕ → ℕ → Option (Noted M S A R Q P H) → Type 0
+  abbrev pub NoteKnows : ℕ → ℕ → Option (Noted M S A R Q P H W) → Type 0
   NoteKnows lane known None = known ≡ 0
   NoteKnows lane known (Some note) = HasFence g lane known note.seen
 
   -- The request was made a pass under the client's next number.
-  abbrev pub IsSent : Client M S A R Q P H → Q → Client M S A R Q P H → ℕ → Type 0
-  IsSent c request d call = ((pass : Passed M S A R Q P H) × Drawn g c request d pass) × (call ≡ c.account.used + 1)
+  abbrev pub IsSent : Client M S A R Q P H W → Q → Client M S A R Q P H W → ℕ → Type 0
+  IsSent c request d call = ((pass : Passed M S A R Q P H W) × Drawn g c request d pass) × (call ≡ c.account.used + 1)

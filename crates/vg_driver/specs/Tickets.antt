@@ -19,19 +19,19 @@ use Rattle.vg_driver.specs.declared.ticket.Ticket.{Ticket}
 
 -- The tokens of a book whose machine is a display.
 abbrev pub Account : Type 0
-Account = books.Account State State Act ActReply Request Reply Holds
+Account = books.Account State State Act ActReply Request Reply Holds Request
 
 abbrev pub Order : Type 0
-Order = orders.Order State State Act ActReply Request Reply Holds
+Order = orders.Order State State Act ActReply Request Reply Holds Request
 
 abbrev pub Token : Type 0
-Token = tokens.Client State State Act ActReply Request Reply Holds
+Token = tokens.Client State State Act ActReply Request Reply Holds Request
 
 abbrev pub Pass : Type 0
-Pass = tokens.Passed State State Act ActReply Request Reply Holds
+Pass = tokens.Passed State State Act ActReply Request Reply Holds Request
 
 abbrev pub DonePass : Type 0
-DonePass = tokens.Done State State Act ActReply Request Reply Holds
+DonePass = tokens.Done State State Act ActReply Request Reply Holds Request
 
 -- The ticket's call, with the lane and the ordinal of its fence.
 pub record IsOf (ticket : Ticket) (order : Order) : Type 0 where

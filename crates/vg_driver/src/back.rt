@@ -1,15 +1,43 @@
 //! What came back of a command, run or unrun.
 
-ghost use Rattle.std.specs.Prelude.{◌≡◌, ◌≤◌, true, false, IfSome, vec_len, vec_capacity};
-ghost use Rattle.vg_driver.specs.Halves.{IsOf, tag_of};
+ghost use Rattle.std.specs.Prelude.{◌≡◌, ◌≤◌, ◌<◌, ◌∷◌, true, false, length, IfSome, IsPermutation, MatchOption, max, vec_len, vec_capacity};
+ghost use Rattle.std.specs.List.{position};
+ghost use Rattle.vg_driver.specs.Halves.{IsOf, IsTold, asked_of, tag_of};
+ghost use Rattle.vg_driver.specs.Halves as halves;
 
-use vg_book::{Carried, Naming, Ran};
+use crate::heard::Heard;
+use std::marker::Model;
+use vg_book::{Book, Carried, Naming, Ran};
+use vg_chain::Shape;
 use vg_history::{Machine, Tagged};
+use vg_ring::Cargo;
 
-/// What a cargo has brought back.
-pub(crate) fn came_back<M: Machine, B: Naming>(pass: Carried<M, B>) -> Ran<M, B>
+/// What became of a command, with the shape of its chain and what is in the room for its response. A clause sees the first alone.
+#[derive(Drop)]
+pub(crate) struct Back<M: Machine, B: Naming> {
+    ran: Ran<M, B>,
+    shape: Shape,
+    bytes: Vec<u8>,
+}
+
+impl<M: Machine, B: Naming> Model for Back<M, B> {
+    ghost use Rattle.std.specs.Prelude.{◌≡◌};
+    ghost use Rattle.vg_book.specs.declared.outcome.Ran as outcomes;
+    ghost use Rattle.vg_driver.specs.Halves.{IsTold, asked_of};
+
+    ghost Value = { outcomes.Ran M B M.State M.Act M.ActReply M.Request M.Reply M.Holds M.Job };
+
+    ghost view = { λ r. r.ran };
+
+    ghost invariant = { λ r. ((asked_of M.Machine r.ran).shape ≡ r.shape) × IsTold M.Machine r.ran r.bytes.items };
+}
+
+/// What a pass on its way back has become.
+fn came_back<M: Machine, B: Naming>(pass: Carried<M, B>) -> Ran<M, B>
     requires { ⟦<Carried<M, B> as Tagged>⟧.is_wanted pass ≡ false }
-    ensures { tag_of M.Machine result ≡ ⟦<Carried<M, B> as Tagged>⟧.tagged pass }
+    ensures tag { tag_of M.Machine result ≡ ⟦<Carried<M, B> as Tagged>⟧.tagged pass }
+    ensures asked { asked_of M.Machine result ≡ ⟦<Carried<M, B> as Tagged>⟧.asks pass }
+    ensures told { halves.told_of M.Machine result ≡ ⟦<Carried<M, B> as Tagged>⟧.told pass }
 {
     match pass {
         Carried::Done(done) => Ran::Done(done),
@@ -18,31 +46,72 @@ pub(crate) fn came_back<M: Machine, B: Naming>(pass: Carried<M, B>) -> Ran<M, B>
     }
 }
 
-/// Whether this came of the client's call.
-fn is_of<M: Machine, B: Naming>(ran: &Ran<M, B>, client: u32, call: u64) -> bool
-    ensures { result ≡ true → IsOf client call ran.now }
-{
-    match ran {
-        Ran::Done(done) => done.client() == client && done.call() == call,
-        Ran::Unrun(pass) => pass.client() == client && pass.call() == call,
+impl<M: Machine, B: Naming> Back<M, B> {
+    /// What a cargo has brought back, with the used length. It takes no memory.
+    pub(crate) fn of(cargo: Cargo<Carried<M, B>>, len: u32) -> Back<M, B>
+        requires back { ⟦<Carried<M, B> as Tagged>⟧.is_wanted cargo.pass ≡ false }
+        requires len { length cargo.parcel.response ≡ len }
+        ensures { tag_of M.Machine result ≡ ⟦<Carried<M, B> as Tagged>⟧.tagged cargo.pass }
+    {
+        let (parcel, pass) = cargo.apart();
+        let (shape, bytes) = parcel.into_response(len);
+        Back {
+            ran: came_back(pass),
+            shape,
+            bytes,
+        }
+    }
+
+    /// Its lane hears of it.
+    pub(crate) fn tell(&mut self, book: &Book<M, B>, heard: &mut Heard<M, B>, ordinal: u64)
+        requires { tag_of M.Machine self.old ≡ (heard.old.lane, ordinal) }
+        ensures lane { heard.new.lane ≡ heard.old.lane }
+        ensures top { heard.new.top ≡ max ordinal heard.old.top }
+        ensures same { self.new ≡ self.old }
+    {
+        heard.hear(book, &mut self.ran, ordinal);
+    }
+
+    /// What became of the command, the shape of its chain, and what is in the room.
+    pub(crate) fn apart(self) -> (Ran<M, B>, Shape, Vec<u8>)
+        ensures ran { result.0 ≡ self }
+        ensures shape { (asked_of M.Machine self).shape ≡ result.1 }
+        ensures told { IsTold M.Machine self result.2.items }
+    {
+        let Back { ran, shape, bytes } = self;
+        (ran, shape, bytes)
+    }
+
+    /// Whether it came of the client's call.
+    fn is_of(&self, client: u32, call: u64) -> bool
+        ensures { result ≡ halves.is_of client call self.now }
+    {
+        match &self.ran {
+            Ran::Done(done) => done.client() == client && done.call() == call,
+            Ran::Unrun(pass) => pass.client() == client && pass.call() == call,
+        }
     }
 }
 
-/// Takes out what came of a client's call, if it is there.
+/// Where the first that came of a client's call stands, if it is there.
+fn place_of<M: Machine, B: Naming>(replies: &[Back<M, B>], client: u32, call: u64) -> Option<usize>
+    ensures place { result ≡ position (halves.is_of client call) replies.now }
+    ensures within { IfSome result (λ place. place < length replies.now) }
+{
+    replies.iter().position(|reply| reply.is_of(client, call))
+}
+
+/// Takes out what came of a client's call, if it is there. All else stays, in any order.
 pub(crate) fn take_out<M: Machine, B: Naming>(
-    replies: &mut Vec<Ran<M, B>>,
+    replies: &mut Vec<Back<M, B>>,
     client: u32,
     call: u64,
-) -> Option<Ran<M, B>>
+) -> Option<Back<M, B>>
     ensures of { IfSome result (IsOf client call) }
+    ensures left { MatchOption result (replies.new.items ≡ replies.old.items) (λ reply. IsPermutation replies.old.items (reply ∷ replies.new.items)) }
     ensures fewer { vec_len replies.new ≤ vec_len replies.old }
     ensures room { vec_capacity replies.new ≡ vec_capacity replies.old }
 {
-    let place = replies.iter().position(|ran| is_of(ran, client, call))?;
-    let ran = replies.swap_remove(place);
-    if is_of(&ran, client, call) {
-        Some(ran)
-    } else {
-        None
-    }
+    let place = place_of(replies.as_slice(), client, call)?;
+    Some(replies.swap_remove(place))
 }

@@ -7,10 +7,12 @@ ghost use Rattle.vg_ring.specs.Making.{IsNewDriver};
 ghost use Rattle.vg_holds.specs.Holds.{denied_of};
 ghost use Rattle.vg_driver.specs.Requests as requests;
 ghost use Rattle.vg_driver.specs.Requests.{IsShort, MayGo};
+ghost use Rattle.vg_machine.specs.Written.{read_by};
 ghost use Rattle.vg_driver.specs.Halves.{IsOf};
 ghost use Rattle.vg_driver.specs.Offers.{MayOffer};
 ghost use Rattle.vg_driver.specs.Tickets.{Finished, IsOut, Spent, Submitted};
 
+use crate::back::Back;
 use crate::half::Half;
 use crate::offer::{offer, offer_raw};
 use crate::request::{Way, queue_by};
@@ -20,7 +22,8 @@ use std::alloc::{AllocError, Global};
 use std::sync::{Mutex, Wait};
 use vg_book::{Book, Carried, ClientToken, NoMemory, Ran};
 use vg_chain::Shape;
-use vg_machine::Display;
+use vg_list::Seq;
+use vg_machine::{Display, Reply};
 use vg_ring::{ControlOf, CursorOf, DriverEnd, OfQueue, Rings};
 use vg_wire::Queue;
 use vg_wire_ext::Command;
@@ -105,7 +108,7 @@ fn look<B: vg_book::Naming, Q: vg_ring::Naming + OfQueue>(
     book: &Book<Display, B>,
     client: u32,
     call: u64,
-) -> Option<Ran<Display, B>>
+) -> Option<Back<Display, B>>
     ensures { IfSome result (IsOf client call) }
 {
     match half.try_lock() {
@@ -124,17 +127,29 @@ fn wait_for<R: Wait, B: vg_book::Naming, Q: vg_ring::Naming + OfQueue>(
     book: &Book<Display, B>,
     client: u32,
     call: u64,
-) -> Ran<Display, B>
+) -> Back<Display, B>
     ensures { IsOf client call result }
 {
     let backoff = Backoff::new();
     for _ in rt.forever() {
-        if let Some(ran) = look(half, book, client, call) {
-            return ran;
+        if let Some(back) = look(half, book, client, call) {
+            return back;
         }
         backoff.snooze();
     }
     unreachable!()
+}
+
+/// The reply to a request of this shape, by what is in the room for it.
+fn reply_in(shape: Shape, bytes: Vec<u8>) -> Reply
+    ensures { result ≡ read_by shape bytes.items }
+{
+    match shape {
+        Shape::Bad { fault } => Reply::Fault { fault },
+        _ => Reply::Response {
+            bytes: Seq::from_vec(bytes),
+        },
+    }
 }
 
 /// Takes back what came of a client's call.
@@ -142,16 +157,21 @@ fn settle<B: vg_book::Naming>(
     book: &Book<Display, B>,
     token: &mut ClientToken<Display, B>,
     ticket: Ticket,
-    ran: Ran<Display, B>,
+    back: Back<Display, B>,
 ) -> Result<Answer, NoMemory>
     requires out { IsOut token.old.account ticket }
-    requires of { IsOf token.old.account.number ticket.call ran }
+    requires of { IsOf token.old.account.number ticket.call back }
     ensures { MatchResult result (λ answer. Finished token.old ticket answer token.new) (λ _. Spent token.old ticket token.new) }
 {
+    let (ran, shape, bytes) = back.apart();
     match ran {
         Ran::Done(done) => {
-            let (entry, reply) = token.take_back(book, done);
-            Ok(Answer { entry, reply })
+            done.can_be_read();
+            let entry = token.take_back(book, done);
+            Ok(Answer {
+                entry,
+                reply: reply_in(shape, bytes),
+            })
         }
         Ran::Unrun(pass) => {
             token.take_unrun(book, pass);
@@ -267,11 +287,11 @@ impl<B: vg_book::Naming, N: Rings> Driver<B, N> {
         ensures { MatchResult result (λ answer. Finished token.old ticket answer token.new) (λ _. Spent token.old ticket token.new) }
     {
         let client = token.number();
-        let ran = if ticket.fence.lane == 65 {
+        let back = if ticket.fence.lane == 65 {
             wait_for(rt, &self.cursor, book, client, ticket.call)
         } else {
             wait_for(rt, &self.control, book, client, ticket.call)
         };
-        settle(book, token, ticket, ran)
+        settle(book, token, ticket, back)
     }
 }

@@ -1,16 +1,18 @@
 //! One queue of a device, as the clients share it under a lock.
 
 ghost use Rattle.std.specs.Prelude.{◌≡◌, ℕ, ◌+◌, ◌-◌, ◌^◌, ◌<◌, ◌%◌, true, [], length, IfOk, IfSome, MatchResult};
+ghost use Rattle.vg_ring.specs.Cargo.{asked_of};
 ghost use Rattle.vg_ring.specs.Ends.{HasRoom};
 ghost use Rattle.vg_ring.specs.Entries.{lane_count};
 ghost use Rattle.vg_ring.specs.Making.{IsNewDriver};
 ghost use Rattle.vg_driver.specs.Halves.{AreHeard, HasReaped, IsOf, IsOffered, IsSent, ReapsOne};
 
-use crate::back::{came_back, take_out};
+use crate::back::{Back, take_out};
 use crate::heard::Heard;
 use std::alloc::{AllocError, Global};
 use std::marker::Model;
-use vg_book::{Book, Carried, ClientToken, NoMemory, Ran};
+use std::snapshot::Snapshot;
+use vg_book::{Book, Carried, ClientToken, NoMemory};
 use vg_chain::Shape;
 use vg_history::Machine;
 use vg_ring::{DriverEnd, OfQueue, Parcel, Reaped, Tag};
@@ -23,7 +25,7 @@ const MOST_PUBLISHED: u64 = 9223372036854775807;
 pub struct Half<M: Machine, B: vg_book::Naming, Q: vg_ring::Naming + OfQueue> {
     end: DriverEnd<Carried<M, B>, Q>,
     /// It has room for all that is still to come back.
-    replies: Vec<Ran<M, B>>,
+    replies: Vec<Back<M, B>>,
     heard: Vec<Heard<M, B>>,
 }
 
@@ -96,27 +98,29 @@ impl<M: Machine, B: vg_book::Naming, Q: vg_ring::Naming + OfQueue> Half<M, B, Q>
         self.end.next_head()
     }
 
-    /// Publishes a parcel with a pass for this request, and gives the client's number for it. For want of memory nothing was
-    /// published.
+    /// Publishes the parcel of this request with a pass for it, and gives the client's number for it. For want of memory nothing
+    /// was published.
     pub(crate) fn send(
         &mut self,
         book: &Book<M, B>,
         token: &mut ClientToken<M, B>,
         shape: Shape,
         parcel: Parcel,
-        request: M::Request,
+        request: Snapshot<M::Request>,
     ) -> Result<u64, NoMemory>
-        requires tag { M.tagged request ≡ (parcel.lane, parcel.ordinal) }
-        requires allowed { M.allows token.old.account.holds request ≡ true }
+        requires tag { M.tagged request.value ≡ (parcel.lane, parcel.ordinal) }
+        requires asked { M.asks request.value ≡ asked_of parcel }
+        requires allowed { M.allows token.old.account.holds request.value ≡ true }
         requires used { token.old.account.used < 2 ^ 63 - 1 }
         requires parcel { IsOffered self.old shape parcel }
-        ensures { MatchResult result (λ call. IsSent M.Machine token.old request token.new call) (λ _. token.new ≡ token.old) }
+        ensures { MatchResult result (λ call. IsSent M.Machine token.old request.value token.new call) (λ _. token.new ≡ token.old) }
     {
         let out = self.end.published() - self.end.reaped();
         if self.replies.reserve(out as usize + 1).is_err() {
             return Err(NoMemory);
         }
-        let pass = token.pass(book, request);
+        let Tag { lane, ordinal } = parcel.tag();
+        let pass = token.pass_of(book, request, (lane, ordinal));
         let call = pass.call();
         self.end.publish(shape, parcel.load(Carried::Wanted(pass)));
         Ok(call)
@@ -128,11 +132,11 @@ impl<M: Machine, B: vg_book::Naming, Q: vg_ring::Naming + OfQueue> Half<M, B, Q>
     {
         match self.end.reap() {
             None => false,
-            Some(Reaped { cargo, .. }) => {
+            Some(Reaped { len, cargo, .. }) => {
                 let Tag { lane, ordinal } = cargo.tag();
-                let mut ran = came_back(cargo.unload());
-                self.heard[lane as usize].hear(book, &mut ran, ordinal);
-                self.replies.push_reserved(ran);
+                let mut reply = Back::of(cargo, len);
+                reply.tell(book, &mut self.heard[lane as usize], ordinal);
+                self.replies.push_reserved(reply);
                 true
             }
         }
@@ -147,7 +151,7 @@ impl<M: Machine, B: vg_book::Naming, Q: vg_ring::Naming + OfQueue> Half<M, B, Q>
     }
 
     /// Takes all replies from the ring, and the reply of a client's call out, if it came.
-    pub(crate) fn answer(&mut self, book: &Book<M, B>, client: u32, call: u64) -> Option<Ran<M, B>>
+    pub(crate) fn answer(&mut self, book: &Book<M, B>, client: u32, call: u64) -> Option<Back<M, B>>
         ensures { IfSome result (IsOf client call) }
     {
         self.reap_all(book);

@@ -13,6 +13,7 @@ use crate::half::Half;
 use crate::request::{Way, lane_by, needed_by, raw_request, request_by};
 use crate::ticket::{Fence, Ticket};
 use std::alloc::{AllocError, Global};
+use std::snapshot::Snapshot;
 use vg_book::{Book, ClientToken, NoMemory};
 use vg_chain::Shape;
 use vg_list::Seq;
@@ -21,28 +22,24 @@ use vg_ring::{OfQueue, Parcel, Tag};
 use vg_wire::Queue;
 use vg_wire_ext::Command;
 
-/// A parcel of a request, for this head.
-fn parcel_of(alloc: Global, head: u16, request: &Request) -> Result<Parcel, AllocError>
-    requires short { length request.now.bytes ≤ 49152 }
-    requires room { request.now.room ≤ 8192 }
-    requires lane { IsLane request.now.queue request.now.lane }
-    requires count { IsCount request.now.shape }
-    ensures { IfOk result (λ parcel. IsParcelOf request.now head parcel) }
+/// The parcel of a request, for this head. The request's bytes move to it.
+fn parcel_of(alloc: Global, head: u16, request: Request) -> Result<Parcel, AllocError>
+    requires short { length request.bytes ≤ 49152 }
+    requires room { request.room ≤ 8192 }
+    requires lane { IsLane request.queue request.lane }
+    requires count { IsCount request.shape }
+    ensures { IfOk result (λ parcel. IsParcelOf request head parcel) }
 {
-    let tag = Tag {
-        lane: request.lane,
-        ordinal: request.ordinal,
-    };
-    let bytes = request.bytes.as_slice().to_vec(alloc)?;
-    Parcel::new(
-        alloc,
-        request.queue,
-        head,
-        tag,
-        request.shape,
+    let Request {
+        queue,
+        lane,
+        ordinal,
+        room,
+        shape,
         bytes,
-        request.room,
-    )
+    } = request;
+    let tag = Tag { lane, ordinal };
+    Parcel::new(alloc, queue, head, tag, shape, bytes.into_vec(), room)
 }
 
 /// Publishes a request. For want of memory nothing was published.
@@ -57,14 +54,16 @@ fn send<B: vg_book::Naming, Q: vg_ring::Naming + OfQueue>(
     requires used { token.old.account.used < 2 ^ 63 - 1 }
     ensures { MatchResult result (λ ticket. Submitted token.old (λ _. request) ticket token.new) (λ _. token.new ≡ token.old) }
 {
-    let Ok(parcel) = parcel_of(alloc, half.next_head(), &request) else {
-        return Err(NoMemory);
-    };
+    let asked = Snapshot::of(&request);
     let fence = Fence {
         lane: request.lane,
         ordinal: request.ordinal,
     };
-    let call = half.send(book, token, request.shape, parcel, request)?;
+    let shape = request.shape;
+    let Ok(parcel) = parcel_of(alloc, half.next_head(), request) else {
+        return Err(NoMemory);
+    };
+    let call = half.send(book, token, shape, parcel, asked)?;
     Ok(Ticket { fence, call })
 }
 

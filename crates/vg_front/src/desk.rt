@@ -3,9 +3,9 @@
 ghost use Rattle.std.specs.Prelude.{◌≡◌, ℕ, ◌⊎◌, ◌+◌, ◌<◌, ◌≤◌, true, false, Some, [], ◌++◌, length, map, vec_capacity, vec_len, IfOk, OnOk, OnErr, MatchOption};
 ghost use Rattle.std.specs.List.{All};
 ghost use Rattle.vg_wire.specs.declared.request.Queue.{Queue};
-ghost use Rattle.vg_ring.specs.Cargo.{base_of};
-ghost use Rattle.vg_ring.specs.Entries.{head_of, Has};
-ghost use Rattle.vg_ring.specs.DeviceEnds.{IsAnswer, IsCargoOf};
+ghost use Rattle.vg_ring.specs.Entries.{Has};
+ghost use Rattle.vg_ring.specs.Walked.{IsWalkOf};
+ghost use Rattle.vg_ring.specs.DeviceEnds.{IsCargoOf};
 ghost use Rattle.vg_ring.specs.Making.{IsNewDevice};
 ghost use Rattle.vg_front.specs.Lanes.{AreLanes};
 ghost use Rattle.vg_front.specs.Desks.{AddsTokens, AreNew, Finishes, IsAway, IsFirstReady, IsIdle, IsOfLanes, Looks, Takes, is_busy, is_some_away};
@@ -79,7 +79,7 @@ impl<P: Tagged, T: Turn + Drop, N: Naming> Desk<P, T, N> {
     ) -> Result<Result<Chain, ChainFault>, AllocError>
         requires lent { Has right.old.entry self.old.lists.lent }
         requires cargo { IsCargoOf right.old.entry cargo.now }
-        ensures chain { IfOk result (λ walked. IsAnswer right.old.entry.shape (length right.old.entry.request) right.old.entry.room (base_of right.old.entry.queue (head_of right.old.entry)) walked) }
+        ensures chain { IfOk result (λ walked. IsWalkOf cargo.now.parcel walked) }
         ensures walked { OnOk result (right.new ≡ record right.old { walked = true }) }
         ensures err { OnErr result (right.new ≡ right.old) }
         ensures same { self.new ≡ self.old }

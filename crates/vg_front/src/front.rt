@@ -2,9 +2,8 @@
 
 ghost use Rattle.std.specs.Prelude.{◌≡◌, ℕ, ◌⊎◌, ◌||◌, true, false, length, IfOk, OnOk, OnErr};
 ghost use Rattle.vg_wire.specs.declared.request.Queue.TheVariants as queues;
-ghost use Rattle.vg_ring.specs.Cargo.{base_of};
-ghost use Rattle.vg_ring.specs.Entries.{head_of};
-ghost use Rattle.vg_ring.specs.DeviceEnds.{IsAnswer, IsCargoOf};
+ghost use Rattle.vg_ring.specs.Walked.{IsWalkOf};
+ghost use Rattle.vg_ring.specs.DeviceEnds.{IsCargoOf};
 ghost use Rattle.vg_ring.specs.Making.{IsNewDevice};
 ghost use Rattle.vg_front.specs.Desks.{AreNew, is_busy};
 ghost use Rattle.vg_front.specs.Loans.{right_of};
@@ -113,7 +112,7 @@ impl<P: Tagged, T: Turn + Drop, N: Rings> Front<P, T, N> {
     ) -> Result<Result<Chain, ChainFault>, AllocError>
         requires lent { IsLent self.old right.old }
         requires cargo { IsCargoOf (right_of right.old).entry cargo.now }
-        ensures chain { IfOk result (λ walked. IsAnswer (right_of right.old).entry.shape (length (right_of right.old).entry.request) (right_of right.old).entry.room (base_of (right_of right.old).entry.queue (head_of (right_of right.old).entry)) walked) }
+        ensures chain { IfOk result (λ walked. IsWalkOf cargo.now.parcel walked) }
         ensures walked { OnOk result (HasWalked right.old right.new) }
         ensures err { OnErr result (right.new ≡ right.old) }
         ensures same { self.new ≡ self.old }

@@ -10,11 +10,11 @@ ghost use Rattle.vg_front_tests.specs.Held.{IsHeld, count_in, lane_in};
 
 use std::alloc::{AllocError, Global};
 use std::marker::Model;
-use vg_chain::Shape;
+use vg_chain::{Chain, ChainFault, Shape};
 use vg_front::{Front, Loan, Work};
 use vg_history::Turn;
-use vg_ring::{Cargo, ControlOf, CursorOf, DeviceEnd, DriverEnd, Naming, Parcel, Rings, Tag};
-use vg_ring_uses::Ticket;
+use vg_ring::{Cargo, ControlOf, CursorOf, DeviceEnd, DriverEnd, Naming, Rings, Tag};
+use vg_ring_uses::{Ticket, answered, ticketed, unanswered};
 use vg_wire::Queue;
 
 /// A lane's token that runs nothing but counts.
@@ -84,20 +84,16 @@ pub fn ask<N: Naming>(
     };
     let request = [1u8, 2, 3].to_vec(alloc)?;
     let head = driver.next_head();
-    let parcel = Parcel::new(alloc, queue, head, tag, shape, request, 4)?;
-    let ticket = Ticket {
-        lane,
-        ordinal: tag.ordinal,
-        wanted: true,
-    };
-    Ok(driver.publish(shape, parcel.load(ticket)) == head)
+    let cargo = ticketed(alloc, queue, head, tag, shape, request, 4)?;
+    Ok(driver.publish(shape, cargo) == head)
 }
 
-/// A command that a worker has, with its chain walked.
+/// A command that a worker has, with the walk of its chain.
 #[derive(Drop)]
 pub struct Held<N: Rings> {
     token: Token,
     right: Loan<N>,
+    walked: Result<Chain, ChainFault>,
     cargo: Cargo<Ticket>,
 }
 
@@ -125,10 +121,11 @@ pub fn take<N: Rings>(
                 mut right,
                 cargo,
             } => {
-                let _chain = front.chain(alloc, &mut right, &cargo)?;
+                let walked = front.chain(alloc, &mut right, &cargo)?;
                 return Ok(Some(Held {
                     token,
                     right,
+                    walked,
                     cargo,
                 }));
             }
@@ -146,21 +143,16 @@ pub fn give<N: Rings>(front: &mut Front<Ticket, Token, N>, held: Held<N>)
     let Held {
         mut token,
         right,
-        mut cargo,
+        walked,
+        cargo,
     } = held;
     let Tag { lane, ordinal } = cargo.tag();
-    cargo.swap_pass(Ticket {
-        lane,
-        ordinal,
-        wanted: false,
-    });
     if front.halted() {
-        let none = cargo.fill(&[]);
-        front.finish(token, right, none, cargo);
+        front.finish(token, right, 0, unanswered(cargo));
         return;
     }
     token.count = ordinal;
-    let len = cargo.fill(&[lane as u8]);
+    let (cargo, len) = answered(cargo, &walked, &[lane as u8]);
     front.finish(token, right, len, cargo);
 }
 
@@ -170,5 +162,6 @@ pub fn back<N: Naming>(driver: &mut DriverEnd<Ticket, N>) -> Option<(u32, u64, O
 {
     let reaped = driver.reap()?;
     let Tag { lane, ordinal } = reaped.cargo.tag();
-    Some((lane, ordinal, reaped.cargo.response().first().copied()))
+    let response = reaped.cargo.response(reaped.len);
+    Some((lane, ordinal, response.first().copied()))
 }

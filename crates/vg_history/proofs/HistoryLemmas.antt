@@ -10,9 +10,9 @@ use Rattle.vg_history.specs.Entries.{client_of}
 use Rattle.vg_history.specs.History.{after, replay, AgreesFrom, updated, holds_after, IsAllowed, AllowedBy, ordinal_in, ordinals, Ordered, HasCommand, HasFence, GivesNothingUp}
 use Rattle.vg_history.proofs.ListLemmas.{has_left, has_right, has_append, has_upto, upto_has}
 
-module _ {M S A R Q P H : Type 0} (g : Ghosts M S A R Q P H) where
+module _ {M S A R Q P H W : Type 0} (g : Ghosts M S A R Q P H W) where
   abbrev E : Type 0
-  E = Entry M S A R Q P H
+  E = Entry M S A R Q P H W
 
   pub replay_append : (s : S) (xs ys : List E) → replay g s (xs ++ ys) ≡ replay g (replay g s xs) ys
   replay_append s [] ys = refl

@@ -4,9 +4,9 @@ use Rattle.vg_history.specs.declared.entry.Entry.{Entry}
 use Rattle.vg_history.specs.declared.entry.Entry.TheVariants.{Act, Command}
 use Rattle.vg_history.specs.Lists.{Has, upto}
 
-module _ {M S A R Q P H : Type 0} (g : Ghosts M S A R Q P H) where
+module _ {M S A R Q P H W : Type 0} (g : Ghosts M S A R Q P H W) where
   abbrev E : Type 0
-  E = Entry M S A R Q P H
+  E = Entry M S A R Q P H W
 
   -- The state after an entry.
   abbrev pub after : S → E → S

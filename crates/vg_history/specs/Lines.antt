@@ -4,9 +4,9 @@ use Rattle.vg_history.specs.declared.machine.Machine.{Ghosts}
 use Rattle.vg_history.specs.declared.entry.Entry.{Entry}
 use Rattle.vg_history.specs.declared.entry.Entry.TheVariants.{Act, Command}
 
-module _ {M S A R Q P H : Type 0} (g : Ghosts M S A R Q P H) where
+module _ {M S A R Q P H W : Type 0} (g : Ghosts M S A R Q P H W) where
   abbrev E : Type 0
-  E = Entry M S A R Q P H
+  E = Entry M S A R Q P H W
 
   -- The line of an entry: its number, its client, the client's own number for it, and what the machine says of it.
   unfoldable pub entry_line : ℕ → E → List ℕ

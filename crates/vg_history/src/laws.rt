@@ -13,14 +13,14 @@ use crate::machine::Machine;
 
 /// A law, and no work: where no call stands twice, two entries of one call are one entry.
 pub fn one_of_a_call<M: Machine>()
-    ensures { (es : _) (e f : Entry M M.State M.Act M.ActReply M.Request M.Reply M.Holds) → EachOnce es → Has es e → Has es f → IsSameCall e f → e ≡ f }
+    ensures { (es : _) (e f : Entry M M.State M.Act M.ActReply M.Request M.Reply M.Holds M.Job) → EachOnce es → Has es e → Has es f → IsSameCall e f → e ≡ f }
 {}
 
 /// A law, and no work: a replay goes on where the replay of a beginning ended, and what a history agrees with, each
 /// beginning of it does.
 pub fn replay_goes_on<M: Machine>()
-    ensures state { (s : M.State) (xs ys : List (Entry M M.State M.Act M.ActReply M.Request M.Reply M.Holds)) → replay M.Machine s (xs ++ ys) ≡ replay M.Machine (replay M.Machine s xs) ys }
-    ensures beginning { (s : M.State) (xs ys : List (Entry M M.State M.Act M.ActReply M.Request M.Reply M.Holds)) → AgreesFrom M.Machine s (xs ++ ys) → AgreesFrom M.Machine s xs }
+    ensures state { (s : M.State) (xs ys : List (Entry M M.State M.Act M.ActReply M.Request M.Reply M.Holds M.Job)) → replay M.Machine s (xs ++ ys) ≡ replay M.Machine (replay M.Machine s xs) ys }
+    ensures beginning { (s : M.State) (xs ys : List (Entry M M.State M.Act M.ActReply M.Request M.Reply M.Holds M.Job)) → AgreesFrom M.Machine s (xs ++ ys) → AgreesFrom M.Machine s xs }
 {}
 
 /// A law, and no work: what a client may ask it may ask still, as long as no act of its own gives something up.

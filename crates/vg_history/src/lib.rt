@@ -5,14 +5,18 @@
 //! [`Entry`]s. Nothing here knows of threads.
 #![tactic(auto)]
 
+mod begun;
 mod entry;
+mod growing;
 mod held;
 mod laws;
 mod listed;
 mod machine;
 mod spelled;
 
+pub use begun::Begun;
 pub use entry::Entry;
+pub use growing::Growing;
 pub use held::History;
 pub use laws::{allowed_still, fence_behind, one_of_a_call, replay_goes_on};
 pub use machine::{Machine, Tagged, Turn};

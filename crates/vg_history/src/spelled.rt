@@ -28,7 +28,7 @@ impl<M: Machine> Model for Lines<M> {
     ghost use Rattle.vg_history.specs.declared.entry.Entry.{Entry};
     ghost use Rattle.vg_history.specs.Lines.{entry_line};
 
-    ghost Value = { List (Entry M M.State M.Act M.ActReply M.Request M.Reply M.Holds) };
+    ghost Value = { List (Entry M M.State M.Act M.ActReply M.Request M.Reply M.Holds M.Job) };
 
     ghost view = { λ l. l.entries.items };
 

@@ -1,3 +1,3 @@
 pub mod DeniedLemmas
 pub mod ForeignLemmas
-pub mod NamedLemmas
+pub mod FeatureLemmas

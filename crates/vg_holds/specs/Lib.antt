@@ -1,5 +1,4 @@
 pub mod Setup
 pub mod Holds
 pub mod Foreign
-pub mod Named
 pub mod Growing

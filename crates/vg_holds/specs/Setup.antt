@@ -1,16 +1,13 @@
-use Rattle.std.specs.Prelude.{◌≡◌, ◌≤◌, ◌-◌, ℕ, Bool, if◌then◌else◌, List, [], ◌∷◌, length}
+use Rattle.std.specs.Prelude.{◌≡◌, ◌≤◌, ◌+◌, ◌-◌, ℕ, Bool, if◌then◌else◌, List, [], ◌∷◌, length}
+use Rattle.vg_config.specs.Features.{CONTEXT_INIT, EDID, RESOURCE_BLOB, RESOURCE_UUID, VIRGL, offered}
 use Rattle.vg_holds.specs.declared.setup.Setup.{Setup}
 
--- The features that can be accepted: VIRGL, EDID, RESOURCE_UUID, RESOURCE_BLOB and CONTEXT_INIT (VIRTIO 1.2, 5.7.3),
--- VIRTIO_F_INDIRECT_DESC and VIRTIO_F_VERSION_1 (6).
-abbrev pub all_features : ℕ
-all_features = 0x11000001f
-
--- The features that are accepted where some are left out: EDID (bit 1), RESOURCE_UUID (bit 2), RESOURCE_BLOB (bit 3), and contexts,
--- which are VIRGL (bit 0) and CONTEXT_INIT (bit 4).
+-- The features that are accepted, of those that are offered, where some are left out (VIRTIO 1.2, 5.7.3): EDID, RESOURCE_UUID,
+-- RESOURCE_BLOB, and contexts, which are VIRGL and CONTEXT_INIT.
 abbrev pub features_without : Bool → Bool → Bool → Bool → ℕ
 features_without edid uuid blob context =
-    all_features - (if edid then 2 else 0) - (if uuid then 4 else 0) - (if blob then 8 else 0) - (if context then 17 else 0)
+    offered - (if edid then EDID else 0) - (if uuid then RESOURCE_UUID else 0) - (if blob then RESOURCE_BLOB else 0)
+    - (if context then VIRGL + CONTEXT_INIT else 0)
 
 -- Features that can be accepted: all but what is left out.
 pub record AreAccepted (accepted : ℕ) : Type 0 where

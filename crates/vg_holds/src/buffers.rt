@@ -103,13 +103,6 @@ impl Buffers {
         self.pairs.partition_point(|pair| pair.0 < key)
     }
 
-    /// Whether a buffer of this key has the page.
-    pub(crate) fn has_page(&self, key: u32, page: u32) -> bool
-        ensures { result ≡ list_any (holding.has_page key page) self.now }
-    {
-        self.pairs.iter().any(|pair| has_page(key, page, pair))
-    }
-
     /// All of them, in two parts.
     pub(crate) fn parts(&self) -> (&[(u32, Seq<u32>)], &[(u32, Seq<u32>)])
         ensures { result.0.now ++ result.1.now ≡ self.now }
@@ -124,11 +117,4 @@ fn remove_at(pairs: &mut VecDeque<(u32, Seq<u32>)>, index: usize)
     ensures { pairs.new.items ≡ remove pairs.old.items index }
 {
     pairs.remove(index).unwrap();
-}
-
-/// Whether the buffer of this key has the page, by the pair of its key and pages.
-fn has_page(key: u32, page: u32, pair: &(u32, Seq<u32>)) -> bool
-    ensures { result ≡ holding.has_page key page pair.now }
-{
-    pair.0 == key && pair.1.as_slice().contains(&page)
 }

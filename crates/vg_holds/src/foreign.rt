@@ -219,7 +219,7 @@ fn is_missing(own: &[bool], page: u32) -> bool
 }
 
 /// The first page that an entry names, and the one behind the last. None where it names none.
-pub(crate) fn pages_between(count: u32, entry: MemEntry) -> Option<(u32, u32)>
+fn pages_between(count: u32, entry: MemEntry) -> Option<(u32, u32)>
     ensures pages { between result ≡ pages_in_entry count entry }
     ensures below { IfSome result (λ pair. (pair.0 < pair.1) × (pair.1 ≤ count)) }
 {

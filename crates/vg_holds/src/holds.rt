@@ -171,7 +171,7 @@ fn denied_resource(holds: &Holds, creating: bool, n: u32) -> Option<What>
 
 /// Whether the client may name a resource. No buffer has a key of 2^31 or more, so such a number may be named, but not
 /// created.
-pub(crate) fn is_allowed_resource(holds: &Holds, creating: bool, n: u32) -> bool
+fn is_allowed_resource(holds: &Holds, creating: bool, n: u32) -> bool
     ensures { result ≡ holding.is_allowed_resource holds.now creating n }
 {
     let is_free = n == 0 || (n >= 0x8000_0000 && !creating);
@@ -190,7 +190,7 @@ fn denied_scanout(holds: &Holds, n: u32) -> Option<What>
 }
 
 /// Whether the client may name a scanout.
-pub(crate) fn is_allowed_scanout(holds: &Holds, n: u32) -> bool
+fn is_allowed_scanout(holds: &Holds, n: u32) -> bool
     ensures { result ≡ holding.is_allowed_scanout holds.now n }
 {
     holds.displays <= n || holds.scanouts.as_slice().contains(&n)
@@ -222,7 +222,7 @@ fn is_of_context(command: &Command) -> bool
 }
 
 /// Whether the client may name a context.
-pub(crate) fn is_allowed_context(holds: &Holds, n: u32) -> bool
+fn is_allowed_context(holds: &Holds, n: u32) -> bool
     ensures { result ≡ holding.is_allowed_context holds.now n }
 {
     let first = 256 * u64::from(holds.client) + 1;

@@ -2,17 +2,14 @@
 #![tactic(auto)]
 
 mod act;
-mod allowance;
 mod buffers;
 mod foreign;
 mod growing;
 mod holds;
-mod named;
 mod setup;
 
 pub use act::{Act, ActReply, What};
-pub use allowance::allowed;
 pub use buffers::Buffers;
 pub use growing::holds_only_grow;
 pub use holds::{Holds, denied, denied_command};
-pub use setup::Setup;
+pub use setup::{Setup, accepted_features_are_faultless};

@@ -1,5 +1,9 @@
 //! What is settled before the first client enters.
 
+ghost use Rattle.std.specs.Prelude.{ℕ};
+ghost use Rattle.vg_config.specs.Features.{IsFaultless};
+ghost use Rattle.vg_holds.specs.Setup.{AreAccepted};
+
 use vg_list::Seq;
 
 /// What no command and no act changes.
@@ -15,3 +19,8 @@ pub struct Setup {
     /// How many clients there are: at most 16.
     pub clients: u32,
 }
+
+/// A law, and no work: a device accepts the features of each setup, since none of their bits is faulty.
+pub fn accepted_features_are_faultless()
+    ensures { (accepted : ℕ) → AreAccepted accepted → IsFaultless accepted }
+{}

@@ -1,4 +1,5 @@
 use Rattle.std.specs.Prelude.{ℕ, ◌==◌, if◌then◌else◌, List, [], ◌++◌, bit_and, length, codes, decimal}
+use Rattle.vg_config.specs.Features.{EDID, RESOURCE_BLOB, RESOURCE_UUID, VIRGL}
 use Rattle.vg_holds.specs.declared.setup.Setup.{Setup}
 use Rattle.vg_scanout.specs.declared.scanout.Frame.{Frame}
 use Rattle.vg_text.specs.Text.{numbered}
@@ -40,8 +41,8 @@ without_line accepted bit name = if bit_and accepted bit == 0 then codes "withou
 -- The features that are left out: EDID, UUIDs, blobs and contexts.
 unfoldable pub without_text : ℕ → List ℕ
 without_text accepted =
-    without_line accepted 2 (codes "edid") ++ without_line accepted 4 (codes "uuid") ++ without_line accepted 8 (codes "blob")
-    ++ without_line accepted 1 (codes "context")
+    without_line accepted EDID (codes "edid") ++ without_line accepted RESOURCE_UUID (codes "uuid")
+    ++ without_line accepted RESOURCE_BLOB (codes "blob") ++ without_line accepted VIRGL (codes "context")
 
 -- The lines before the entries: the title, the displays from 0, the pages, the features that are left out, and the clients.
 unfoldable pub head_text : Setup → List ℕ

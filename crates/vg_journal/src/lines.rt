@@ -5,6 +5,7 @@ ghost use Rattle.vg_text.specs.Text.{are_characters, numbered};
 ghost use Rattle.vg_journal.specs.Text.{entry_line, display_line, frame_line, title_text, head_text, counts_text, without_line, without_text};
 
 use std::alloc::AllocError;
+use vg_config::features::{EDID, RESOURCE_BLOB, RESOURCE_UUID, VIRGL};
 use vg_history::put_line;
 use vg_machine::{Entry, Frame, Setup};
 use vg_text::Packed;
@@ -51,10 +52,10 @@ fn put_display(out: &mut Packed, number: u64, size: &(u32, u32)) -> Result<(), A
 fn put_without(out: &mut Packed, accepted: u64) -> Result<(), AllocError>
     ensures { OnOk result (out.new ≡ out.old ++ without_text accepted) }
 {
-    put_left_out(out, accepted, 2, b"edid")?;
-    put_left_out(out, accepted, 4, b"uuid")?;
-    put_left_out(out, accepted, 8, b"blob")?;
-    put_left_out(out, accepted, 1, b"context")
+    put_left_out(out, accepted, EDID, b"edid")?;
+    put_left_out(out, accepted, RESOURCE_UUID, b"uuid")?;
+    put_left_out(out, accepted, RESOURCE_BLOB, b"blob")?;
+    put_left_out(out, accepted, VIRGL, b"context")
 }
 
 /// Adds the line of a feature, where its bit isn't accepted.

@@ -13,6 +13,7 @@ use Rattle.vg_refusals.specs.Refusals.{refusal_of}
 use Rattle.vg_resource.specs.Resource.{create_refusals, resource_at, unref_refusals, with_blank}
 use Rattle.vg_transfer.specs.Backings.{attach_refusals, detach_refusals, detached}
 use Rattle.vg_scanout.specs.FrameOf.{MakesFrames}
+use Rattle.vg_scanout.specs.Touched.{MakesTouched}
 use Rattle.vg_scanout.specs.Scanout.{ScanoutState, flushed, snapped, unbound}
 use Rattle.vg_wire.specs.declared.two_d.Command2d.{Command2d}
 use Rattle.vg_wire.specs.declared.two_d.Command2d.TheVariants.{DisplayInfo, Create2d, Unref, SetScanout, Flush, Transfer, Attach, Detach}
@@ -21,7 +22,7 @@ use Rattle.vg_wire_ext.specs.declared.command.Command.TheVariants.{TwoD, CapsetI
 use Rattle.vg_wire_ext.specs.declared.response.Response.{Response}
 use Rattle.vg_wire_ext.specs.declared.response.Response.TheVariants as responses
 use Rattle.vg_machine.specs.State.{State}
-use Rattle.vg_machine.specs.Step.{answered_with, block_of, command_step, cursor_change, cursor_refusals, edid_refusals, flush_refusals, flushed_by, move_refusals, pixels_of, set_scanout_refusals, two_d_step, unreferenced, with_cursor, with_scanout, with_shown}
+use Rattle.vg_machine.specs.Step.{answered_by, answered_with, block_of, command_step, cursor_change, cursor_refusals, edid_refusals, flush_refusals, flushed_by, move_refusals, pixels_of, set_scanout_refusals, two_d_step, unreferenced, with_cursor, with_scanout, with_shown}
 use Rattle.vg_machine.specs.Receive.{receive_refusal, with_received}
 use Rattle.vg_machine.specs.Uuids.{assign_refusals, assigned, number_for, uuid_bytes}
 
@@ -116,3 +117,16 @@ pub makes-frames : (state : State) → MakeEach state.scanouts → (command : Co
     → MakesFrames state.entries (command_step state command).0.cursors state.scanouts (command_step state command).0.scanouts
 unfolding Makes MadeBy
 makes-frames state law command = made state law command
+
+-- where a flush isn't refused, what it makes is the next state
+touched-answered : (refusal : Option ℕ) (state next : State) (id : ℕ) (rect : Rect) → MakesTouched id rect state.scanouts next.scanouts
+    → (answered_by refusal state next).1 ≡ responses.Nodata → MakesTouched id rect state.scanouts (answered_by refusal state next).0.scanouts
+touched-answered (Some code) state next id rect made done = cc
+touched-answered None state next id rect made done = made
+
+pub makes-touched : (state : State)
+    → ((entry id : ℕ) (rect : Rect) (surface : List ℕ) (cursors : List Cursor) (scanouts : ScanoutState) → MakesTouched id rect scanouts (flushed entry id rect surface cursors scanouts))
+    → (rect : Rect) (id : ℕ) → (two_d_step state (Flush rect id)).1 ≡ responses.Nodata → MakesTouched id rect state.scanouts (two_d_step state (Flush rect id)).0.scanouts
+makes-touched state law rect id done =
+    touched-answered (refusal_of (flush_refusals state rect id)) state (record state { scanouts = flushed_by state rect id }) id rect
+    (law state.entries id rect (pixels_of (resource_at id state.resources)) state.cursors state.scanouts) done

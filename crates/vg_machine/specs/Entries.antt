@@ -9,4 +9,4 @@ use Rattle.vg_machine.specs.State.{State}
 
 -- An act of a client or a command of it, with the reply: a display is seen as its state.
 abbrev pub Entry : Type 0
-Entry = history.Entry State State Act ActReply Request Reply Holds
+Entry = history.Entry State State Act ActReply Request Reply Holds Request

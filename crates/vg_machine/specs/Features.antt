@@ -1,26 +1,7 @@
--- The features that commands need (VIRTIO 1.2, 5.7.3), each by the value of its bit.
+-- The features that commands need (VIRTIO 1.2, 5.7.3).
 use Rattle.std.specs.Prelude.{◌==◌, ◌&&◌, ◌||◌, ℕ, Bool, true, not, nat_le, if◌then◌else◌, Option, Some, None, bit_and}
+use Rattle.vg_config.specs.Features.{CONTEXT_INIT, EDID, RESOURCE_BLOB, RESOURCE_UUID, VIRGL}
 use Rattle.vg_wire.specs.Kinds.{CTX_CREATE, GET_CAPSET, GET_CAPSET_INFO, GET_EDID, RESOURCE_ASSIGN_UUID, RESOURCE_CREATE_BLOB, SET_SCANOUT_BLOB, SUBMIT_3D}
-
--- bit 0
-abbrev pub VIRGL : ℕ
-VIRGL = 1
-
--- bit 1
-abbrev pub EDID : ℕ
-EDID = 2
-
--- bit 2
-abbrev pub RESOURCE_UUID : ℕ
-RESOURCE_UUID = 4
-
--- bit 3
-abbrev pub RESOURCE_BLOB : ℕ
-RESOURCE_BLOB = 8
-
--- bit 4
-abbrev pub CONTEXT_INIT : ℕ
-CONTEXT_INIT = 16
 
 -- What the display can't do yet: it goes by these features as if they weren't accepted.
 abbrev pub is_to_come : ℕ → Bool

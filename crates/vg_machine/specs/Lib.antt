@@ -10,6 +10,8 @@ pub mod Step
 pub mod Change
 pub mod Pixels
 pub mod ActStep
+pub mod Written
 pub mod Replay
+pub mod Read
 pub mod Order
 pub mod Counted

@@ -1,4 +1,4 @@
-use Rattle.std.specs.Prelude.{List, is_none}
+use Rattle.std.specs.Prelude.{List, [], false, is_none}
 use Rattle.vg_history.specs.History as history
 use Rattle.vg_history.specs.declared.machine.Machine.{Ghosts}
 use Rattle.vg_holds.specs.declared.setup.Setup.{Setup}
@@ -15,6 +15,7 @@ use Rattle.vg_machine.specs.State.{State, counted, start}
 use Rattle.vg_machine.specs.ActStep.{act_step}
 use Rattle.vg_holds.specs.Holds.{denied_of, gives_up, update}
 use Rattle.vg_machine.specs.Step.{step}
+use Rattle.vg_machine.specs.Written.{asks_of, read_by, written_in}
 use Rattle.vg_machine.specs.Lines.{is_control, rest_of_act, rest_of_command}
 
 -- A request as its bytes say: the display after it, and the reply.
@@ -33,7 +34,7 @@ abbrev pub request_step : State → Request → State × Reply
 request_step state request = shaped_step request.shape state request
 
 -- The display as a machine of which a history is kept.
-abbrev pub display : Ghosts State State Act ActReply Request Reply Holds
+abbrev pub display : Ghosts State State Act ActReply Request Reply Holds Request
 display = record {
   state = λ d. d;
   count = λ s. s.entries;
@@ -45,6 +46,14 @@ display = record {
   allows = λ h request. is_none (denied_of h request.queue request.bytes);
   ends_hold = gives_up;
   tagged = λ request. (request.lane, request.ordinal);
+  asks = asks_of;
+  written = λ request reply. written_in request.room reply;
+  read = λ request bytes. read_by request.shape bytes;
+  lent = λ d. [];
+  asked = λ job. job;
+  worked = λ job. job;
+  blocks = λ d request. false;
+  blocks_act = λ d act. false;
   is_first = λ request. is_control request.queue;
   act_text = rest_of_act;
   command_text = rest_of_command;

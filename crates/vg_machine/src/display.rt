@@ -26,7 +26,7 @@ use vg_share::Share;
 use vg_transfer::Backings;
 use vg_wire::kinds::ERR_UNSPEC;
 use vg_wire::{Header, Queue, read_header};
-use vg_wire_ext::{Command, Response, read_request, write_response};
+use vg_wire_ext::{Command, Response, append_response, read_request};
 
 /// A display device, and what its clients share beside it.
 #[derive(Drop)]
@@ -216,7 +216,7 @@ impl Display {
         let accepted = write_answer(alloc, request, room, &self.acceptance(&command))?;
         match self.run(alloc, &command)? {
             Response::Nodata | Response::Uuid { .. } => Ok(accepted),
-            other => write_answer(alloc, request, room, &other),
+            other => rewrite_answer(request, room, &other, accepted),
         }
     }
 
@@ -302,7 +302,10 @@ fn ring_of(header: &Header) -> u8
     }
 }
 
-/// The response's bytes twice, as far as `room` holds them.
+/// How many bytes the longest response has.
+const MOST_RESPONSE: usize = 1056;
+
+/// The response's bytes twice, as far as `room` holds them. What else such a room holds may be written over them without memory.
 fn write_answer(
     alloc: Global,
     request: &[u8],
@@ -312,10 +315,32 @@ fn write_answer(
     ensures bytes { IfOk result (λ twice. twice.0.items ≡ answered request.now room response.now) }
     ensures same { IfOk result (λ twice. twice.1.items ≡ twice.0.items) }
 {
-    let header = header_of_answer(request, response.kind());
-    let mut bytes = write_response(alloc, &header, response)?;
+    let space = (room as usize).min(MOST_RESPONSE);
+    let bytes = Vec::with_capacity(alloc, space)?;
+    let copy = Vec::with_capacity(alloc, space)?;
+    rewrite_answer(request, room, response, (bytes, copy))
+}
+
+/// As `write_answer`, in place of what stands in these two.
+fn rewrite_answer(
+    request: &[u8],
+    room: u32,
+    response: &Response,
+    twice: (Vec<u8>, Vec<u8>),
+) -> Result<(Vec<u8>, Vec<u8>), AllocError>
+    ensures bytes { IfOk result (λ twice. twice.0.items ≡ answered request.now room response.now) }
+    ensures same { IfOk result (λ twice. twice.1.items ≡ twice.0.items) }
+{
+    let (mut bytes, mut copy) = twice;
+    bytes.clear();
+    append_response(
+        &mut bytes,
+        &header_of_answer(request, response.kind()),
+        response,
+    )?;
     bytes.truncate(room as usize);
-    let copy = bytes.as_slice().to_vec(alloc)?;
+    copy.clear();
+    copy.extend_from_slice(bytes.as_slice())?;
     Ok((bytes, copy))
 }
 

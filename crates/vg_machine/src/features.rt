@@ -3,20 +3,11 @@
 ghost use Rattle.std.specs.Prelude.{◌≡◌};
 ghost use Rattle.vg_machine.specs.Features as features;
 
+use vg_config::features::{CONTEXT_INIT, EDID, RESOURCE_BLOB, RESOURCE_UUID, VIRGL};
 use vg_wire::kinds::{
     CTX_CREATE, GET_CAPSET, GET_CAPSET_INFO, GET_EDID, RESOURCE_ASSIGN_UUID, RESOURCE_CREATE_BLOB,
     SET_SCANOUT_BLOB, SUBMIT_3D,
 };
-
-const VIRGL: u64 = 1;
-
-const EDID: u64 = 2;
-
-const RESOURCE_UUID: u64 = 4;
-
-const RESOURCE_BLOB: u64 = 8;
-
-const CONTEXT_INIT: u64 = 16;
 
 /// Whether commands of this kind may come where these features are accepted.
 pub(crate) fn is_usable(accepted: u64, kind: u32) -> bool

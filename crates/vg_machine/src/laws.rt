@@ -4,6 +4,7 @@
 ghost use Rattle.std.specs.Prelude.{◌≡◌, ◌+◌, ℕ};
 ghost use Rattle.vg_formats.specs.declared.rect.Rect.{Rect};
 ghost use Rattle.vg_scanout.specs.FrameOf.{MakesFrames};
+ghost use Rattle.vg_scanout.specs.Touched.{MakesTouched};
 ghost use Rattle.vg_wire_ext.specs.declared.command.Command.{Command};
 ghost use Rattle.vg_wire_ext.specs.declared.response.Response.TheVariants as responses;
 ghost use Rattle.vg_wire.specs.declared.two_d.Command2d.TheVariants as commands;
@@ -12,6 +13,7 @@ ghost use Rattle.vg_machine.specs.State.{counted};
 ghost use Rattle.vg_machine.specs.Step.{command_step, two_d_step};
 
 use crate::display::Display;
+use vg_scanout::a_flush_makes_frames_of_what_it_touches;
 
 impl Display {
     /// A law, and no work: after RESOURCE_FLUSH that is answered OK_NODATA each pixel of each screen that is bound to the
@@ -45,5 +47,14 @@ impl Display {
     {
         let _ = &self.setup;
         self.scanouts.each_frame_is_of_its_screen();
+    }
+
+    /// A law, and no work: RESOURCE_FLUSH that is answered OK_NODATA makes a frame of each scanout that is bound to the resource and
+    /// has a pixel in the flushed rectangle, and of no other, once each, in the order of the scanouts' numbers.
+    pub fn a_flush_makes_frames_of_what_it_touches(&self)
+        ensures { (rect : Rect) (id : ℕ) → (two_d_step (counted self.now) (commands.Flush rect id)).1 ≡ responses.Nodata
+            → MakesTouched id rect self.now.scanouts (two_d_step (counted self.now) (commands.Flush rect id)).0.scanouts }
+    {
+        a_flush_makes_frames_of_what_it_touches();
     }
 }

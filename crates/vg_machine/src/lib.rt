@@ -21,7 +21,7 @@ pub use history::{Reply, Request};
 pub use lane::lane_of;
 pub use machine::{Entry, History};
 pub use vg_holds::{
-    Act, ActReply, Buffers, Holds, Setup, What, allowed, denied, denied_command, holds_only_grow,
+    Act, ActReply, Buffers, Holds, Setup, What, denied, denied_command, holds_only_grow,
 };
 pub use vg_resource::Resource;
 pub use vg_scanout::{Binding, Frame};

@@ -4,8 +4,9 @@ use crate::display::Display;
 use crate::history::{Reply, Request};
 use crate::spelled::{put_rest_of_act, put_rest_of_command};
 use std::alloc::{AllocError, Global};
-use vg_history::Machine;
-use vg_holds::{Act, ActReply, Holds, allowed};
+use vg_chain::ChainFault;
+use vg_history::{Begun, Machine};
+use vg_holds::{Act, ActReply, Holds};
 use vg_text::Packed;
 use vg_wire::Queue;
 
@@ -28,13 +29,18 @@ impl Machine for Display {
 
     type Holds = Holds;
 
-    ghost use Rattle.std.specs.Prelude.{is_none};
+    type Job = Request;
+
+    ghost use Rattle.std.specs.Prelude.{[], false, is_none};
     ghost use Rattle.vg_machine.specs.ActStep.{act_step};
     ghost use Rattle.vg_holds.specs.Holds as holding;
     ghost use Rattle.vg_holds.specs.Holds.{denied_of};
     ghost use Rattle.vg_machine.specs.Replay.{request_step};
     ghost use Rattle.vg_machine.specs.Lines.{is_control, rest_of_act, rest_of_command};
     ghost use Rattle.vg_machine.specs.Counted.{act-counts, keeps-allowed, request-counts};
+    ghost use Rattle.vg_machine.specs.Written.{asks_of, read_by, written_in};
+    ghost use Rattle.vg_machine.specs.Read.{reads-request};
+    ghost use Rattle.std.proofs.Common.{refl};
 
     ghost state = { λ d. d };
 
@@ -56,6 +62,22 @@ impl Machine for Display {
 
     ghost tagged = { λ q. (q.lane, q.ordinal) };
 
+    ghost asks = { asks_of };
+
+    ghost written = { λ q r. written_in q.room r };
+
+    ghost read = { λ q bytes. read_by q.shape bytes };
+
+    ghost lent = { λ d. [] };
+
+    ghost asked = { λ j. j };
+
+    ghost worked = { λ j. j };
+
+    ghost blocks = { λ d q. false };
+
+    ghost blocks_act = { λ d a. false };
+
     ghost is_first = { λ q. is_control q.queue };
 
     ghost act_text = { rest_of_act };
@@ -72,12 +94,29 @@ impl Machine for Display {
         self.act_as(alloc, client, holds, act)
     }
 
-    fn request(&mut self, alloc: Global, request: &Request) -> Result<(Reply, Reply), AllocError> {
-        Display::request(self, alloc, request)
+    /// It runs each request as a whole.
+    fn begin(
+        &mut self,
+        alloc: Global,
+        request: &Request,
+    ) -> Result<Begun<Request, (Reply, Reply)>, AllocError> {
+        Ok(Begun::Whole(self.request(alloc, request)?))
     }
 
-    fn allowed(holds: &Holds, request: &Request) -> bool {
-        allowed(holds, request.queue, request.bytes.as_slice())
+    fn work(_job: &mut Request) {}
+
+    /// Nothing was lent, so what this answers says nothing.
+    fn end(&mut self, _job: Request) -> (Reply, Reply) {
+        let fault = ChainFault::Index;
+        (Reply::Fault { fault }, Reply::Fault { fault })
+    }
+
+    fn blocked(&self, _request: &Request) -> bool {
+        false
+    }
+
+    fn act_blocked(&self, _act: &Act) -> bool {
+        false
     }
 
     fn gives_up(act: &Act) -> bool {
@@ -111,4 +150,8 @@ impl Machine for Display {
     ghost requests_count = { λ s q. request-counts s q };
 
     ghost keeps_holds = { λ h a r q. keeps-allowed h a r q };
+
+    ghost work_asks = { λ j. refl };
+
+    ghost reads = { λ s q. reads-request s q };
 }

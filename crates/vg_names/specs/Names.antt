@@ -1,53 +1,70 @@
-use Rattle.std.specs.Prelude.{◌≡◌, ◌≤◌, ◌==◌, ◌+◌, ◌-◌, ℕ, Bool, not, if◌then◌else◌, List, [], ◌∷◌, ◌++◌, length, filter, find, slice_get, slice_index, slice_index_or, Option, None, Some}
+use Rattle.std.specs.Prelude.{◌≡◌, ◌≤◌, ◌==◌, ◌+◌, ◌-◌, ℕ, Bool, not, if◌then◌else◌, List, [], ◌∷◌, ◌++◌, length, filter, find, slice_get, slice_index_or, Option, None, Some}
 use Rattle.std.specs.List.{cons_option}
 use Rattle.vg_names.specs.declared.names.Held.{Held}
 
--- The names of a client's buffers that are current, in the order in which they were made, and how many were made so far.
+-- The names of a client's buffers that are current, in the order in which they were defined, and how many names were defined
+-- so far, those among them that never were current.
 pub record NamesState : Type 0 where
   pub current : List Held
   pub made : ℕ
 
-abbrev pub is_generation : ℕ → Held → Bool
-is_generation generation held = held.generation == generation
+abbrev pub is_numbered : ℕ → Held → Bool
+is_numbered number held = held.number == number
 
--- What the name of this generation stands for, if it is current.
+-- What the name of this number stands for, if it is current.
 abbrev pub found : ℕ → NamesState → Option Held
-found generation names = find (is_generation generation) names.current
+found number names = find (is_numbered number) names.current
 
--- One name more: its generation is its place among all that were made, from 1.
+-- One name more: its number is its place among all that were defined, from 1.
 abbrev pub with_name : ℕ → ℕ → ℕ → NamesState → NamesState
 with_name key width height names = record {
-  current = names.current ++ record { generation = names.made + 1; key = key; width = width; height = height } ∷ [];
+  current = names.current ++ record { number = names.made + 1; key = key; width = width; height = height } ∷ [];
   made = names.made + 1;
 }
 
--- The name of this generation isn't current any more.
+-- One name more, which never is current.
+abbrev pub with_none : NamesState → NamesState
+with_none names = record names { made = names.made + 1 }
+
+-- The name of this number isn't current any more.
 abbrev pub without_name : ℕ → NamesState → NamesState
-without_name generation names = record names { current = filter (λ held. not (is_generation generation held)) names.current }
+without_name number names = record names { current = filter (λ held. not (is_numbered number held)) names.current }
 
--- What a place keeps, if it is of this generation.
-abbrev pub of_generation : ℕ → Option Held → Option Held
-of_generation generation None = None
-of_generation generation (Some held) = if held.generation == generation then Some held else None
+-- What a place keeps, if it is of this number.
+abbrev pub of_number : ℕ → Option Held → Option Held
+of_number number None = None
+of_number number (Some held) = if held.number == number then Some held else None
 
--- What these places keep, each of its own generation, where the first place's is the first.
-abbrev pub current_from : ℕ → List (Option Held) → List ℕ → List Held
+-- What is kept where there is a place, and what of it is of this number.
+abbrev pub slot_at : List (Option Held) → Option ℕ → Option Held
+slot_at slots None = None
+slot_at slots (Some place) = slice_index_or slots place None
+
+abbrev pub kept_at : ℕ → List (Option Held) → Option ℕ → Option Held
+kept_at number slots place = of_number number (slot_at slots place)
+
+-- What these places keep, each of its own number, where the first place's is the first.
+abbrev pub current_from : ℕ → List (Option Held) → List (Option ℕ) → List Held
 current_from first slots [] = []
-current_from first slots (place ∷ rest) =
-    cons_option (of_generation first (slice_index_or slots place None)) (current_from (first + 1) slots rest)
+current_from first slots (place ∷ rest) = cons_option (kept_at first slots place) (current_from (first + 1) slots rest)
 
--- Where the name of this generation is or was kept, if one was made.
-abbrev pub place_at : ℕ → List ℕ → Option ℕ
-place_at generation places = if generation == 0 then None else slice_get places (generation - 1)
+-- The place of a name, where one was defined.
+abbrev pub place_in : Option (Option ℕ) → Option ℕ
+place_in None = None
+place_in (Some place) = place
 
--- What is kept at this place is the buffer of one of the names that were made, at that name's place, and no larger than a
+-- Where what the name of this number stands for is or was kept, if it ever was current.
+abbrev pub place_at : ℕ → List (Option ℕ) → Option ℕ
+place_at number places = if number == 0 then None else place_in (slice_get places (number - 1))
+
+-- What is kept at this place is the buffer of one of the names that were defined, at that name's place, and no larger than a
 -- display.
-pub record IsKept (places : List ℕ) (place : ℕ) (held : Held) : Type 0 where
-  pub from_one : 1 ≤ held.generation
-  pub to_made : held.generation ≤ length places
-  pub stands : slice_index places (held.generation - 1) ≡ place
+pub record IsKept (places : List (Option ℕ)) (place : ℕ) (held : Held) : Type 0 where
+  pub from_one : 1 ≤ held.number
+  pub to_made : held.number ≤ length places
+  pub stands : slice_index_or places (held.number - 1) None ≡ Some place
   pub narrow : held.width ≤ 640
   pub low : held.height ≤ 480
 
-abbrev pub AreKept : List (Option Held) → List ℕ → Type 0
+abbrev pub AreKept : List (Option Held) → List (Option ℕ) → Type 0
 AreKept slots places = (place : ℕ) (held : Held) → slice_index_or slots place None ≡ Some held → IsKept places place held

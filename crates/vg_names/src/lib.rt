@@ -1,6 +1,6 @@
-//! The names of a client's buffers.
+//! The names of a client's buffers, by their numbers.
 #![tactic(auto)]
 
 mod names;
 
-pub use names::{Held, NameRef, Names};
+pub use names::{Held, Names};

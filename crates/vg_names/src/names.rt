@@ -2,24 +2,17 @@
 
 ghost use Rattle.std.specs.Prelude.{◌≡◌, ◌+◌, ◌<◌, ◌≤◌, ◌^◌, [], IfOk, IfSome, IsSome, OnErr, OnOk};
 ghost use Rattle.slab.specs.Slab.{get, Updates};
-ghost use Rattle.vg_names.specs.Names.{current_from, found, of_generation, place_at, with_name, without_name};
+ghost use Rattle.vg_names.specs.Names.{current_from, found, kept_at, of_number, place_at, with_name, with_none, without_name};
 
 use slab::Slab;
 use std::alloc::{AllocError, Global};
 use std::marker::Model;
 
-/// A name of a client's: the place where what it stands for is kept, and its generation, which is its number among all
-/// names that the client has made, from 1. One of generation 0 is never current.
-#[derive(Clone, Copy, PartialEq, Eq)]
-pub struct NameRef {
-    pub index: u32,
-    pub generation: u32,
-}
-
-/// What a current name stands for: the buffer's key, and its width and height in pixels.
+/// What a current name stands for: its number among all names that the client has defined, from 1, the buffer's key, and the
+/// buffer's width and height in pixels.
 #[derive(Clone, Copy)]
 pub struct Held {
-    pub generation: u32,
+    pub number: u32,
     pub key: u32,
     pub width: u32,
     pub height: u32,
@@ -29,8 +22,9 @@ pub struct Held {
 #[derive(Drop)]
 pub struct Names {
     held: Slab<Held>,
-    /// Where each name that was made is or was kept, in the order of making.
-    places: Vec<usize>,
+    /// Where what each name stands for is or was kept, in the order in which they were defined; nowhere where a name never was
+    /// current.
+    places: Vec<Option<usize>>,
 }
 
 impl Model for Names {
@@ -55,16 +49,16 @@ impl Names {
         }
     }
 
-    /// What the name of this generation stands for, if it is current.
-    pub fn find(&self, generation: u32) -> Option<Held>
-        ensures value { result ≡ found generation self.now }
+    /// What the name of this number stands for, if it is current.
+    pub fn find(&self, number: u32) -> Option<Held>
+        ensures value { result ≡ found number self.now }
         ensures sizes { IfSome result (λ held. (held.width ≤ 640) × (held.height ≤ 480)) }
     {
-        let place = place_of(self.places.as_slice(), generation)?;
-        kept(&self.held, place, generation as usize)
+        let place = place_of(self.places.as_slice(), number)?;
+        kept(&self.held, place, number as usize)
     }
 
-    /// Makes a name of a buffer.
+    /// Defines the next name, as that of a buffer.
     pub fn make(&mut self, key: u32, width: u32, height: u32) -> Result<(), AllocError>
         requires made { self.old.made < 2 ^ 31 }
         requires width { width ≤ 640 }
@@ -74,95 +68,104 @@ impl Names {
     {
         self.places.reserve(1)?;
         self.held.reserve(1)?;
-        let generation = self.places.len() as u32 + 1;
+        let number = self.places.len() as u32 + 1;
         let place = self.held.insert_reserved(Held {
-            generation,
+            number,
             key,
             width,
             height,
         });
-        self.places.push(place).unwrap();
+        self.places.push(Some(place)).unwrap();
         Ok(())
     }
 
-    /// Ends the name of this generation, if it is current: its place is free for another name then.
-    pub fn end(&mut self, generation: u32)
-        ensures { self.new ≡ without_name generation self.old }
+    /// Defines the next name, as one that never is current.
+    pub fn make_none(&mut self) -> Result<(), AllocError>
+        ensures ok { OnOk result (self.new ≡ with_none self.old) }
+        ensures err { OnErr result (self.new ≡ self.old) }
     {
-        if let Some(place) = place_of(self.places.as_slice(), generation) {
-            free(&mut self.held, place, generation as usize);
+        self.places.reserve(1)?;
+        self.places.push(None).unwrap();
+        Ok(())
+    }
+
+    /// Ends the name of this number, if it is current: its place is free for another name then.
+    pub fn end(&mut self, number: u32)
+        ensures { self.new ≡ without_name number self.old }
+    {
+        if let Some(place) = place_of(self.places.as_slice(), number) {
+            free(&mut self.held, place, number as usize);
         }
     }
 
-    /// What the current names stand for, in the order in which they were made.
+    /// What the current names stand for, in the order in which they were defined.
     pub fn current(&self, alloc: Global) -> Result<Vec<Held>, AllocError>
         ensures { IfOk result (λ held. held.items ≡ self.now.current) }
     {
         current_of(alloc, self.places.as_slice(), &self.held)
     }
 
-    /// How many names were made.
+    /// How many names were defined.
     pub fn made(&self) -> u32
         requires { self.now.made < 2 ^ 32 }
         ensures { result ≡ self.now.made }
     {
         self.places.len() as u32
     }
-
-    /// The name that was made last. Its place fits, since no more places were used than names made.
-    pub fn newest(&self) -> NameRef
-        requires { (1 ≤ self.now.made) × (self.now.made < 2 ^ 32) }
-        ensures { result.generation ≡ self.now.made }
-    {
-        let place = self.places[self.places.len() - 1];
-        NameRef {
-            index: u32::try_from(place).unwrap_or(u32::MAX),
-            generation: self.places.len() as u32,
-        }
-    }
 }
 
-/// Where the name of this generation is or was kept, if one was made.
-fn place_of(places: &[usize], generation: u32) -> Option<usize>
-    ensures { result ≡ place_at generation places.now }
+/// Where what the name of this number stands for is or was kept, if it ever was current.
+fn place_of(places: &[Option<usize>], number: u32) -> Option<usize>
+    ensures { result ≡ place_at number places.now }
 {
-    if generation == 0 {
+    if number == 0 {
         return None;
     }
-    places.get(generation as usize - 1).copied()
+    places.get(number as usize - 1).copied()?
 }
 
-/// What is kept at a place, if it is of this generation.
-fn kept(held: &Slab<Held>, place: usize, generation: usize) -> Option<Held>
-    ensures { result ≡ of_generation generation (get held.now place) }
+/// What is kept at a place, if it is of this number.
+fn kept(held: &Slab<Held>, place: usize, number: usize) -> Option<Held>
+    ensures { result ≡ of_number number (get held.now place) }
 {
     let one = held.get(place)?;
-    if one.generation as usize == generation {
+    if one.number as usize == number {
         Some(*one)
     } else {
         None
     }
 }
 
-/// Frees a place, if what is kept there is of this generation.
-fn free(held: &mut Slab<Held>, place: usize, generation: usize)
-    ensures other { of_generation generation (get held.old place) ≡ None → held.new ≡ held.old }
-    ensures freed { IsSome (of_generation generation (get held.old place)) → Updates held.old held.new place None }
+/// Frees a place, if what is kept there is of this number.
+fn free(held: &mut Slab<Held>, place: usize, number: usize)
+    ensures other { of_number number (get held.old place) ≡ None → held.new ≡ held.old }
+    ensures freed { IsSome (of_number number (get held.old place)) → Updates held.old held.new place None }
 {
-    if kept(held, place, generation).is_some() {
+    if kept(held, place, number).is_some() {
         held.try_remove(place);
     }
 }
 
-/// What these places keep, each of its own generation.
-fn current_of(alloc: Global, places: &[usize], held: &Slab<Held>) -> Result<Vec<Held>, AllocError>
+/// What these places keep, each of its own number.
+fn current_of(
+    alloc: Global,
+    places: &[Option<usize>],
+    held: &Slab<Held>,
+) -> Result<Vec<Held>, AllocError>
     ensures { IfOk result (λ current. current.items ≡ current_from 1 held.now.slots places.now) }
 {
     let mut current = Vec::new(alloc);
     for (i, place) in places.iter().enumerate() {
-        if let Some(one) = kept(held, *place, i + 1) {
+        if let Some(one) = kept_at(held, *place, i + 1) {
             current.push(one)?;
         }
     }
     Ok(current)
+}
+
+/// What is kept at a place, where there is one, if it is of this number.
+fn kept_at(held: &Slab<Held>, place: Option<usize>, number: usize) -> Option<Held>
+    ensures { result ≡ kept_at number held.now.slots place }
+{
+    kept(held, place?, number)
 }

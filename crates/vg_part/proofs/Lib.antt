@@ -1,3 +1,3 @@
-pub mod RefLemmas
 pub mod SetupLemmas
 pub mod LineLemmas
+pub mod NumberLemmas

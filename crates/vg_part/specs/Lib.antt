@@ -1,5 +1,5 @@
 pub mod Setup
 pub mod Follows
 pub mod Kept
-pub mod Refs
 pub mod Performing
+pub mod Numbers

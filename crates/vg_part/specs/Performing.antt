@@ -14,7 +14,7 @@ use Rattle.vg_script.specs.Limits.{ClientInLimits}
 use Rattle.vg_client.specs.Accounts.{IsNew, mine_of}
 use Rattle.vg_client.specs.Callers.{ClientState, IsReady, known}
 use Rattle.vg_tasks.specs.Known.{Known, first_known}
-use Rattle.vg_part.specs.Follows.{GivesAll, no_refs}
+use Rattle.vg_part.specs.Follows.{GivesAll}
 use Rattle.vg_part.specs.Kept.{Kept}
 
 -- The lines of a script's client, of which the first has number 1.
@@ -35,18 +35,18 @@ pub record HasKept {B : Type 0} (old new : ClientState B) : Type 0 where
   pub few : (new.stopped ≡ true) ⊎ (length (mine_of new.caller.token) ≤ length (mine_of old.caller.token) + 19)
 
 -- The entries so far, and those of the lines that are left, are those of all lines.
-abbrev pub GivesRest : Setup → ℕ → List Line → List Line → (List ℕ → ℕ) → Known → List Entry → Type 0
-GivesRest setup client lines left refs known mine = (middle : List Entry) × (mine ≡ entries.Act client 1 Enter act_replies.Ok ∷ middle)
-    × ((rest : List Entry) (after : Known) → GivesAll client refs known left rest after → GivesAll client no_refs (first_known setup client) lines (middle ++ rest) after)
+abbrev pub GivesRest : Setup → ℕ → List Line → List Line → Known → List Entry → Type 0
+GivesRest setup client lines left known mine = (middle : List Entry) × (mine ≡ entries.Act client 1 Enter act_replies.Ok ∷ middle)
+    × ((rest : List Entry) (after : Known) → GivesAll client known left rest after → GivesAll client (first_known setup client) lines (middle ++ rest) after)
 
 -- How far a client has come with its lines: it has done the first so many.
-pub record IsFollowing {B : Type 0} (setup : Setup) (lines : List Line) (i : ℕ) (client : ClientState B) (refs : List ℕ → ℕ) : Type 0 where
+pub record IsFollowing {B : Type 0} (setup : Setup) (lines : List Line) (i : ℕ) (client : ClientState B) : Type 0 where
   pub begun : client.caller.token.start ≡ Some (start setup)
   pub displays : client.caller.token.account.holds.displays ≡ length setup.displays
   pub few : length (mine_of client.caller.token) ≤ 1 + 19 * i
   pub goes_on : client.stopped ≡ false
   pub ready : IsReady client.caller
-  pub gives : GivesRest setup client.caller.token.account.number lines (drop i lines) refs (known client.caller) (mine_of client.caller.token)
+  pub gives : GivesRest setup client.caller.token.account.number lines (drop i lines) (known client.caller) (mine_of client.caller.token)
 
 -- The client of this token has kept to its lines, and all that it has done stands in what it has seen.
 pub record HasPerformed (setup : Setup) (lines : List Line) (token : Token) : Type 0 where

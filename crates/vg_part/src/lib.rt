@@ -2,10 +2,10 @@
 //! that calls.
 #![tactic(auto)]
 
-mod calls;
+mod laws;
 mod performing;
-mod refs;
 mod setup;
 
+pub use laws::lines_number_names;
 pub use performing::{Performed, perform};
 pub use setup::setup_of;

@@ -1,19 +1,19 @@
 //! One client's part of a script, on the thread that it is called on.
 
-ghost use Rattle.std.specs.Prelude.{◌≡◌, ◌⊎◌, ◌<◌, ◌^◌, [], true, Some, length};
+ghost use Rattle.std.specs.Prelude.{◌≡◌, ◌⊎◌, ◌≤◌, ◌<◌, ◌+◌, ◌-◌, ◌^◌, [], true, false, List, Some, length, OnErr, OnOk};
 ghost use Rattle.vg_holds.specs.declared.setup.Setup.{Setup};
+ghost use Rattle.vg_machine.specs.Entries.{Entry as Entries};
 ghost use Rattle.vg_machine.specs.State.{start};
+ghost use Rattle.vg_script.specs.Limits.{CallInLimits};
 ghost use Rattle.vg_client.specs.Accounts.{IsNew, mine_of};
-ghost use Rattle.vg_part.specs.Follows.{no_refs};
-ghost use Rattle.vg_part.specs.Performing.{AreInLimits, HasPerformed, IsFollowing, MayPerform};
+ghost use Rattle.vg_client.specs.Callers.{HasGoneOn, known};
+ghost use Rattle.vg_client.specs.Calls.{Gives};
+ghost use Rattle.vg_part.specs.Performing.{AreInLimits, HasKept, HasPerformed, IsFollowing, MayPerform};
 
-use crate::calls::run_line;
-use crate::refs::Refs;
 use std::alloc::Global;
-use std::collections::BTreeMap;
 use std::sync::Wait;
-use vg_book::{Book, ClientToken, Naming};
-use vg_client::Client;
+use vg_book::{Book, ClientToken, Naming, NoMemory};
+use vg_client::{Call, Client};
 use vg_driver::Driver;
 use vg_machine::Display;
 use vg_ring::Rings;
@@ -56,7 +56,7 @@ fn follow<B: Naming, N: Rings, R: Wait>(
     lines: Vec<Line>,
     client: Client<B>,
 ) -> Performed<B>
-    requires { (setup : Setup) × AreInLimits setup lines.items × IsFollowing setup lines.items 0 client no_refs }
+    requires { (setup : Setup) × AreInLimits setup lines.items × IsFollowing setup lines.items 0 client }
     ensures number { result.token.account.number ≡ client.caller.token.account.number }
     ensures idle { result.token.account.out ≡ [] }
     ensures performed { result.done ≡ true → (setup : Setup) × (client.caller.token.start ≡ Some (start setup)) × HasPerformed setup lines.items result.token }
@@ -79,23 +79,44 @@ fn run_lines<B: Naming, N: Rings, R: Wait>(
     lines: Vec<Line>,
     client: &mut Client<B>,
 ) -> bool
-    requires { (setup : Setup) × AreInLimits setup lines.items × IsFollowing setup lines.items 0 client.old no_refs }
+    requires { (setup : Setup) × AreInLimits setup lines.items × IsFollowing setup lines.items 0 client.old }
     ensures number { client.new.caller.token.account.number ≡ client.old.caller.token.account.number }
     ensures few { (client.new.stopped ≡ true) ⊎ (length (mine_of client.new.caller.token) < 2 ^ 24) }
-    ensures done { result ≡ true → (setup : Setup) × (client.old.caller.token.start ≡ Some (start setup)) × ((refs : _) × IsFollowing setup lines.items (length lines.items) client.new refs) }
+    ensures done { result ≡ true → (setup : Setup) × (client.old.caller.token.start ≡ Some (start setup)) × IsFollowing setup lines.items (length lines.items) client.new }
 {
-    let mut refs: Refs = BTreeMap::new(alloc);
     let mut left = lines;
     // The first line stands last, so that the memory behind what is left can be given back.
     left.reverse();
     while let Some(line) = left.pop() {
         give_back(&mut left);
-        match run_line(rt, alloc, book, driver, client, &mut refs, line.step) {
+        match run_line(rt, alloc, book, driver, client, line.call) {
             Ok(()) => {}
             Err(_) => return false,
         }
     }
     true
+}
+
+/// Makes the call of a line.
+fn run_line<B: Naming, N: Rings, R: Wait>(
+    rt: &R,
+    alloc: Global,
+    book: &Book<Display, B>,
+    driver: &Driver<B, N>,
+    client: &mut Client<B>,
+    call: Call,
+) -> Result<(), NoMemory>
+    requires limits { CallInLimits client.old.caller.token.account.holds.displays call }
+    requires room { length (mine_of client.old.caller.token) + 20 < 2 ^ 31 - 1 }
+    ensures done { OnOk result ((mine : List Entries)
+        × Gives client.old.caller.token.account.number (known client.old.caller) call mine (known client.new.caller)
+        × HasGoneOn client.old.caller mine client.new.caller
+        × (length mine ≤ 19)) }
+    ensures goes_on { OnOk result (client.new.stopped ≡ false) }
+    ensures err { OnErr result (HasKept client.old client.new) }
+{
+    let _outcome = client.call(rt, alloc, book, driver, call)?;
+    Ok(())
 }
 
 /// Gives back the memory behind the lines that are left, now and then.

@@ -6,6 +6,7 @@ ghost use Rattle.vg_script.specs.Limits.{ScriptInLimits};
 ghost use Rattle.vg_part.specs.Setup as setups;
 
 use std::alloc::{AllocError, Global};
+use vg_config::features::{CONTEXT_INIT, EDID, OFFERED, RESOURCE_BLOB, RESOURCE_UUID, VIRGL};
 use vg_list::Seq;
 use vg_machine::Setup;
 use vg_script::{Feature, Script};
@@ -29,7 +30,11 @@ fn accepted_of(without: &[Feature]) -> u64
 {
     let (edid, uuid) = (has_edid(without), has_uuid(without));
     let (blob, context) = (has_blob(without), has_context(without));
-    0x11000001f - left_out(edid, 2) - left_out(uuid, 4) - left_out(blob, 8) - left_out(context, 17)
+    OFFERED
+        - left_out(edid, EDID)
+        - left_out(uuid, RESOURCE_UUID)
+        - left_out(blob, RESOURCE_BLOB)
+        - left_out(context, VIRGL + CONTEXT_INIT)
 }
 
 fn has_edid(features: &[Feature]) -> bool

@@ -1,4 +1,6 @@
 mod WordLemmas
+mod GatherLemmas
+mod ImageLemmas
 pub mod Frames
 pub mod Counts
 pub mod Slots

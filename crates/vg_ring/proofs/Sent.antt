@@ -51,7 +51,7 @@ table_send X V K T Z gt ga s z f = let O = table.the_type X V K T Z gt ga in
 
 module _ (P N : RattleType) (gp : Tagged.Ghosts P.Denot) (gn : Naming.Ghosts N.Denot) (p : IsSend P) (n : IsSend N) where
   pub cargo_send : IsSend (cargo.the_row P gp)
-  cargo_send = search (sendable, crosses) depth 20
+  cargo_send = search (sendable, crosses) depth 40
 
   slot_send : IsSend (option.the_row (cargo.the_row P gp))
   slot_send = search (sendable, cargo_send) depth 20
@@ -71,4 +71,4 @@ module _ (P N : RattleType) (gp : Tagged.Ghosts P.Denot) (gn : Naming.Ghosts N.D
 
   pub device_send : IsSend (device.the_row P N gp gn)
   device_send = let T = device_in.the_type P N gp gn in
-      view_send _ _ _ _ _ (recorded_send _ _ _ T.to_one (struct_send (shape T) (Arc-send _ line_send line_sync, (pass_send, (search sendable, (search sendable, (search sendable, (search (sendable, crosses) depth 20, (search sendable depth 20, tt)))))))))
+      view_send _ _ _ _ _ (recorded_send _ _ _ T.to_one (struct_send (shape T) (Arc-send _ line_send line_sync, (pass_send, (search sendable, (search sendable, (search sendable, (search (sendable, crosses) depth 20, (search (sendable, crosses) depth 20, (search sendable depth 20, tt))))))))))

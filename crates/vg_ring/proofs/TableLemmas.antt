@@ -8,14 +8,15 @@ use Rattle.vg_chain.specs.declared.shape.Shape.{Shape}
 use Rattle.vg_chain.specs.declared.shape.Shape.TheVariants.{Plain, Pieces, Indirect, Mixed, Bad}
 use Rattle.vg_chain.specs.Memory.{Memory, memory}
 use Rattle.vg_chain.specs.Walk.{Walks}
-use Rattle.vg_chain.specs.Made.{made, Stands, AreOther, AreApart, IsRequest, IsLaid, GivesIts, AreTables, IsMeasured, memory_of}
+use Rattle.vg_chain.specs.Made.{made, Stands, AreOther, AreApart, IsRequest, IsLaid, GivesIts, AreTables, IsMeasured, chain_in, memory_of}
 use Rattle.vg_ring.specs.declared.views.Entry.{Entry}
 use Rattle.vg_ring.specs.declared.views.Stored.{Stored}
 use Rattle.vg_ring.specs.Cargo.{CargoData, base_of}
 use Rattle.vg_ring.specs.Words.{rest_word, descriptor_from}
 use Rattle.vg_ring.specs.Entries.{head_of, times, stored_at, stored_of, ring_of, Has, AreBack, IsWhole}
 use Rattle.vg_ring.specs.Tells.{IsIn, TellsWord, TellsDescriptor, TellsTable}
-use Rattle.vg_ring.specs.DeviceEnds.{IsCargoOf, IsAnswer}
+use Rattle.vg_ring.specs.Walked.{IsAnswer, IsWalkOf}
+use Rattle.vg_ring.specs.DeviceEnds.{IsCargoOf}
 
 pub descriptor_tells : (k size addr rest place : ℕ) (found : Descriptor) (held held' : List Entry) → TellsWord k (2 + 2 * place) addr held → TellsWord k (3 + 2 * place) rest held' → held' ≡ held → k ≡ size → found ≡ descriptor_from addr rest
     → TellsDescriptor size place found held
@@ -73,10 +74,10 @@ apart_at (p ∷ places) once =
 pub answer_is : (shape : Shape) (m : Memory) (table : List Descriptor) (head n r b : ℕ) (walked : Result Chain ChainFault)
     → ((m : Memory) (table : List Descriptor) (head : ℕ) (one other : Result Chain ChainFault) → Walks m table head one → Walks m table head other → one ≡ other)
     → GivesIts shape m table head n r b → Walks m table head walked → IsAnswer shape n r b walked
-answer_is Plain m table head n r b walked law gives walks = (gives.0, law m table head walked (Ok gives.0) walks gives.1, gives.2, gives.3)
-answer_is (Pieces k) m table head n r b walked law gives walks = (gives.0, law m table head walked (Ok gives.0) walks gives.1, gives.2, gives.3)
-answer_is Indirect m table head n r b walked law gives walks = (gives.0, law m table head walked (Ok gives.0) walks gives.1, gives.2, gives.3)
-answer_is Mixed m table head n r b walked law gives walks = (gives.0, law m table head walked (Ok gives.0) walks gives.1, gives.2, gives.3)
+answer_is Plain m table head n r b walked law gives walks = (law m table head walked (Ok (chain_in Plain n r b)) walks gives.0, gives.1, gives.2)
+answer_is (Pieces k) m table head n r b walked law gives walks = (law m table head walked (Ok (chain_in (Pieces k) n r b)) walks gives.0, gives.1, gives.2)
+answer_is Indirect m table head n r b walked law gives walks = (law m table head walked (Ok (chain_in Indirect n r b)) walks gives.0, gives.1, gives.2)
+answer_is Mixed m table head n r b walked law gives walks = (law m table head walked (Ok (chain_in Mixed n r b)) walks gives.0, gives.1, gives.2)
 answer_is (Bad fault) m table head n r b walked law gives walks = law m table head walked (Err fault) walks gives
 
 some_places : (table : List Descriptor) (shape : Shape) (n r b q : ℕ) (places : List ℕ) → 0 < length places → length table ≡ q → AreApart places → Stands table places (made shape n r b q places).ring
@@ -116,3 +117,9 @@ chain_is size table held e cargo base m r tables head walked one_law laid_law le
     let w4 = subst (λ (x : List ℕ). Walks (memory b (length e.request) e.room x) table head walked) tables' w3 in
     let w5 = subst (λ (x : ℕ). Walks (memory_of e.shape (length e.request) e.room b size e.places) table x walked) head_is w4 in
     answer_is e.shape (memory_of e.shape (length e.request) e.room b size e.places) table (head_of e) (length e.request) e.room b walked one_law gives w5
+
+-- A walk that answers for an entry answers for the entry's cargo.
+pub walk_of_cargo : {P : Type 0} (e : Entry) (cargo : CargoData P) (walked : Result Chain ChainFault) → IsCargoOf e cargo → IsAnswer e.shape (length e.request) e.room (base_of e.queue (head_of e)) walked → IsWalkOf cargo.parcel walked
+walk_of_cargo e cargo walked is answer =
+    subst (λ (x : Entry). IsAnswer x.shape (length x.request) x.room (base_of x.queue cargo.parcel.head) walked) (sym is.0)
+    (subst (λ (h : ℕ). IsAnswer e.shape (length e.request) e.room (base_of e.queue h) walked) (sym is.1) answer)

@@ -1,6 +1,8 @@
-use Rattle.std.specs.Prelude.{◌≡◌, ℕ, ◌+◌, ◌*◌, ◌^◌, ◌≤◌, List, length, take}
+use Rattle.std.specs.Prelude.{◌≡◌, ℕ, ◌+◌, ◌*◌, ◌^◌, ◌≤◌, Option, None, Some, List, length, take}
 use Rattle.vg_chain.specs.declared.shape.Shape.{Shape}
 use Rattle.vg_chain.specs.Made.{AreTables, IsMeasured}
+use Rattle.vg_asks.specs.declared.asked.Asked.{Asked}
+use Rattle.vg_asks.specs.Asks.{asked}
 use Rattle.vg_wire.specs.declared.request.Queue.{Queue}
 use Rattle.vg_wire.specs.declared.request.Queue.TheVariants.{Control, Cursor}
 
@@ -40,6 +42,15 @@ pub record IsExtent (p : ParcelData) (b n r : ℕ) : Type 0 where
   pub request : n ≡ length p.request
   pub room : r ≡ p.room
   pub measured : IsMeasured n r b
+
+-- What a parcel asks for.
+abbrev pub asked_of : ParcelData → Asked
+asked_of p = asked p.queue p.request p.room p.shape
+
+-- What is in a parcel's room, where it is told.
+abbrev pub Tells : Option (List ℕ) → List ℕ → Type 0
+Tells None response = Unit {0}
+Tells (Some bytes) response = response ≡ bytes
 
 -- A parcel with the pass that goes with it.
 pub record CargoData (P : Type 0) : Type 0 where

@@ -1,10 +1,5 @@
-use Rattle.std.specs.Prelude.{◌≡◌, ℕ, ◌+◌, ◌%◌, ◌^◌, ◌<◌, ◌≤◌, Bool, Some, Result, Ok, Err, List, [], ◌∷◌, ◌++◌, length, slice_get}
+use Rattle.std.specs.Prelude.{◌≡◌, ℕ, ◌+◌, ◌%◌, ◌^◌, ◌<◌, ◌≤◌, Bool, Some, List, [], ◌∷◌, ◌++◌, length, slice_get}
 use Rattle.atomic_table.specs.Seated.{TableId}
-use Rattle.vg_chain.specs.declared.chain.Chain.{Chain}
-use Rattle.vg_chain.specs.declared.chain.ChainFault.{ChainFault}
-use Rattle.vg_chain.specs.declared.shape.Shape.{Shape}
-use Rattle.vg_chain.specs.declared.shape.Shape.TheVariants.{Plain, Pieces, Indirect, Mixed, Bad}
-use Rattle.vg_chain.specs.Made.{Covers}
 use Rattle.vg_wire.specs.declared.request.Queue.{Queue}
 use Rattle.vg_ring.specs.declared.parcel.Tag.{Tag}
 use Rattle.vg_ring.specs.declared.views.Entry.{Entry}
@@ -122,15 +117,3 @@ pub record IsTended (size : ℕ) (v : DeviceView) (fetched completed : ℕ) (tag
   pub places_below : (e : Entry) → Has e v.held → (p : ℕ) → 0 < times p e.places → p < size
   pub tags_size : length tags ≡ size
   pub tags_are : (e : Entry) → Has e v.held → slice_get tags (head_of e) ≡ Some (tag_of e)
-
-abbrev pub GivesWhole : ℕ → ℕ → ℕ → Result Chain ChainFault → Type 0
-GivesWhole n r b walked = (chain : Chain) × (walked ≡ Ok chain) × Covers b n chain.readable × Covers (b + 49152) r chain.writable
-
--- What a walk answers where the shape stands in the ring as it was published: the shape's fault, or a chain of all bytes of
--- the request and of the room, in order.
-abbrev pub IsAnswer : Shape → ℕ → ℕ → ℕ → Result Chain ChainFault → Type 0
-IsAnswer (Bad fault) n r b walked = walked ≡ Err fault
-IsAnswer Plain n r b walked = GivesWhole n r b walked
-IsAnswer (Pieces k) n r b walked = GivesWhole n r b walked
-IsAnswer Indirect n r b walked = GivesWhole n r b walked
-IsAnswer Mixed n r b walked = GivesWhole n r b walked

@@ -1,4 +1,5 @@
 pub mod Cargo
+pub mod Walked
 pub mod Words
 pub mod Entries
 pub mod Rule

@@ -1,7 +1,7 @@
-use Rattle.std.specs.Prelude.{ℕ, ◌+◌, ◌*◌, ◌/◌, ◌%◌, ◌^◌, List, ◌++◌, map, slice_index}
+use Rattle.std.specs.Prelude.{◌≡◌, ℕ, ◌+◌, ◌*◌, ◌/◌, ◌%◌, ◌^◌, ◌<◌, List, ◌++◌, length, map, slice_index}
 use Rattle.std.specs.List.{range_with_len, flat_map}
 use Rattle.vg_chain.specs.declared.descriptor.Descriptor.{Descriptor}
-use Rattle.vg_chain.specs.Numbers.{le}
+use Rattle.vg_chain.specs.Numbers.{le, number_at}
 
 -- Where a ring of size n has its words: the two indexes, two words for each descriptor, one for each available element
 -- and one for each used element (VIRTIO 1.2, 2.7.5, 2.7.6 and 2.7.8).
@@ -49,3 +49,20 @@ image_of n words = record {
   available = le 2 0 ++ le 2 (slice_index words available_index) ++ flat_map (λ k. le 2 (slice_index words (available_place n k))) (range_with_len 0 n);
   used = le 2 0 ++ le 2 (slice_index words used_index) ++ flat_map (λ k. le 8 (slice_index words (used_place n k))) (range_with_len 0 n);
 }
+
+-- The bytes of an available ring of size n: two of flags, two of the index, and two of each element, in order
+-- (VIRTIO 1.2, 2.7.6, struct virtq_avail). The driver sets no flag.
+pub record IsAvailable (n : ℕ) (words bytes : List ℕ) : Type 0 where
+  pub size : length bytes ≡ 4 + 2 * n
+  pub flags : number_at 2 0 bytes ≡ 0
+  pub index : slice_index words available_index < 2 ^ 16 → number_at 2 2 bytes ≡ slice_index words available_index
+  pub elements : (k : ℕ) → k < n → slice_index words (available_place n k) < 2 ^ 16 → number_at 2 (4 + 2 * k) bytes ≡ slice_index words (available_place n k)
+
+-- The bytes of a used ring of size n: two of flags, two of the index, and of each element, in order, four of the head and
+-- four of the length (VIRTIO 1.2, 2.7.8, struct virtq_used). The device sets no flag.
+pub record IsUsed (n : ℕ) (words bytes : List ℕ) : Type 0 where
+  pub size : length bytes ≡ 4 + 8 * n
+  pub flags : number_at 2 0 bytes ≡ 0
+  pub index : slice_index words used_index < 2 ^ 16 → number_at 2 2 bytes ≡ slice_index words used_index
+  pub elements : (k head len : ℕ) → k < n → head < 2 ^ 16 → len < 2 ^ 32 → slice_index words (used_place n k) ≡ used_word head len
+      → (number_at 4 (4 + 8 * k) bytes ≡ head) × (number_at 4 (8 + 8 * k) bytes ≡ len)

@@ -1,16 +1,19 @@
 //! What goes over a ring: a request with its room, and the pass that goes with it.
 
-ghost use Rattle.std.specs.Prelude.{◌≡◌, length, take, min};
-ghost use Rattle.vg_ring.specs.Cargo.{IsLane, IsExtent, base_of};
+ghost use Rattle.std.specs.Prelude.{◌≡◌, length, IfOk};
+ghost use Rattle.vg_asks.specs.Asks.{asked};
+ghost use Rattle.vg_ring.specs.Cargo.{IsLane, IsExtent, Tells, asked_of, base_of};
+ghost use Rattle.vg_ring.specs.Walked.{IsWalkOf};
 ghost use Rattle.vg_chain.specs.Made.{AreTables};
 
-use crate::parcel::{Parcel, Tag};
+use crate::parcel::{Command, Parcel, Tag};
+use std::alloc::{AllocError, Global};
 use std::marker::Model;
 use std::mem;
-use vg_chain::{Extent, Parts};
+use vg_chain::{Chain, ChainFault, Extent, Parts};
 use vg_history::Tagged;
 
-/// A parcel and its pass, which has the parcel's tag.
+/// A parcel and its pass, which has the parcel's tag, asks for what the parcel does, and tells its response once it was run.
 #[derive(Drop)]
 pub struct Cargo<P: Tagged> {
     parcel: Parcel,
@@ -19,19 +22,21 @@ pub struct Cargo<P: Tagged> {
 
 impl<P: Tagged> Model for Cargo<P> {
     ghost use Rattle.std.specs.Prelude.{◌≡◌};
-    ghost use Rattle.vg_ring.specs.Cargo.{CargoData};
+    ghost use Rattle.vg_ring.specs.Cargo.{CargoData, Tells, asked_of};
 
     ghost Value = { CargoData P };
 
     ghost view = { λ c. record { parcel = c.parcel; pass = c.pass } };
 
-    ghost invariant = { λ c. P.tagged c.pass ≡ (c.parcel.lane, c.parcel.ordinal) };
+    ghost invariant = { λ c. (P.tagged c.pass ≡ (c.parcel.lane, c.parcel.ordinal)) × (P.asks c.pass ≡ asked_of c.parcel) × Tells (P.told c.pass) c.parcel.response };
 }
 
 impl Parcel {
     /// The parcel with its pass.
     pub fn load<P: Tagged>(self, pass: P) -> Cargo<P>
-        requires { P.tagged pass ≡ (self.lane, self.ordinal) }
+        requires tag { P.tagged pass ≡ (self.lane, self.ordinal) }
+        requires asked { P.asks pass ≡ asked_of self }
+        requires told { Tells (P.told pass) self.response }
         ensures { result ≡ record { parcel = self; pass = pass } }
     {
         Cargo { parcel: self, pass }
@@ -61,31 +66,31 @@ impl<P: Tagged> Cargo<P> {
         self.parcel.parts()
     }
 
-    /// The request's bytes.
-    pub fn request(&self) -> &[u8]
-        ensures { result.now ≡ self.now.parcel.request }
+    /// What it asks for, as the walk of its chain reads it.
+    pub fn read(
+        &self,
+        alloc: Global,
+        walked: &Result<Chain, ChainFault>,
+    ) -> Result<Command, AllocError>
+        requires { IsWalkOf self.now.parcel walked.now }
+        ensures { IfOk result (λ read. P.asks self.now.pass ≡ asked read.queue read.bytes.items read.room read.shape) }
     {
-        self.parcel.request()
+        self.parcel.read(alloc, walked)
     }
 
-    /// The bytes that were filled into the room.
-    pub fn response(&self) -> &[u8]
+    /// As `Parcel::response`.
+    pub fn response(&self, len: u32) -> &[u8]
+        requires { length self.now.parcel.response ≡ len }
         ensures { result.now ≡ self.now.parcel.response }
     {
-        self.parcel.response()
+        self.parcel.response(len)
     }
 
-    /// As `Parcel::fill`.
-    pub fn fill(&mut self, bytes: &[u8]) -> u32
-        ensures count { result ≡ min (length bytes.now) self.old.parcel.room }
-        ensures response { self.new ≡ record self.old { parcel = record self.old.parcel { response = take result bytes.now } } }
-    {
-        self.parcel.fill(bytes)
-    }
-
-    /// Puts another pass of the same tag in, and gives the one that was there.
+    /// Puts another pass of the same tag in, which asks for the same, and gives the one that was there.
     pub fn swap_pass(&mut self, pass: P) -> P
-        requires { P.tagged pass ≡ (self.old.parcel.lane, self.old.parcel.ordinal) }
+        requires tag { P.tagged pass ≡ (self.old.parcel.lane, self.old.parcel.ordinal) }
+        requires asked { P.asks pass ≡ P.asks self.old.pass }
+        requires told { Tells (P.told pass) self.old.parcel.response }
         ensures old { result ≡ self.old.pass }
         ensures new { self.new ≡ record self.old { pass = pass } }
     {
@@ -96,6 +101,9 @@ impl<P: Tagged> Cargo<P> {
     pub fn apart(self) -> (Parcel, P)
         ensures parcel { result.0 ≡ self.parcel }
         ensures pass { result.1 ≡ self.pass }
+        ensures tag { P.tagged self.pass ≡ (self.parcel.lane, self.parcel.ordinal) }
+        ensures asked { P.asks self.pass ≡ asked_of self.parcel }
+        ensures told { Tells (P.told self.pass) self.parcel.response }
     {
         let Cargo { parcel, pass } = self;
         (parcel, pass)

@@ -3,15 +3,15 @@
 ghost use Rattle.std.specs.Prelude.{◌≡◌, ℕ, ◌+◌, ◌<◌, true, false, [], ◌∷◌, length, MatchOption, IfOk, OnOk, OnErr};
 ghost use mathlib.Core.List.{IsPrefix};
 ghost use Rattle.vg_ring.specs.declared.views.Entry.{Entry};
-ghost use Rattle.vg_ring.specs.Entries.{head_of, heads, weigh, entries, Has};
+ghost use Rattle.vg_ring.specs.Entries.{heads, weigh, entries, Has};
 ghost use Rattle.vg_wire.specs.declared.request.Queue.{Queue};
 ghost use Rattle.vg_ring.specs.declared.views.View.TheVariants.{Device, Note};
 ghost use Rattle.vg_ring.specs.Plays.{fetched_of, reaped_of};
 ghost use Rattle.vg_ring.specs.Rule.{new_device};
 ghost use Rattle.vg_ring.specs.Ends.{IsOnLine};
 ghost use Rattle.vg_ring.specs.Making.{IsNewDevice};
-ghost use Rattle.vg_ring.specs.DeviceEnds.{HasAt, IsCargoOf, Fetches, FetchesNone, TakesIn, completing, IsTended, IsAnswer};
-ghost use Rattle.vg_ring.specs.Cargo.{base_of};
+ghost use Rattle.vg_ring.specs.DeviceEnds.{HasAt, IsCargoOf, Fetches, FetchesNone, TakesIn, completing, IsTended};
+ghost use Rattle.vg_ring.specs.Walked.{IsWalkOf};
 
 use crate::cargo::Cargo;
 use crate::device::{
@@ -25,7 +25,7 @@ use crate::table::read_table;
 use std::alloc::{AllocError, Global};
 use std::marker::{Model, PhantomData};
 use std::sync::Arc;
-use vg_chain::{Chain, ChainFault, a_layout_is_walked, a_walk_has_one_result, walk};
+use vg_chain::{Chain, ChainFault, Descriptor, a_layout_is_walked, a_walk_has_one_result, walk};
 use vg_history::Tagged;
 
 /// A cargo that was fetched, and the place of its head descriptor.
@@ -45,6 +45,8 @@ pub struct DeviceEnd<P: Tagged, N: Naming> {
     completed: u64,
     /// The tag of the cargo of each head.
     tags: Vec<Tag>,
+    /// The ring's descriptors as they were read last: a place to read them into.
+    table: Vec<Descriptor>,
     of: PhantomData<N>,
 }
 
@@ -120,13 +122,13 @@ impl<P: Tagged, N: Naming> DeviceEnd<P, N> {
     ) -> Result<Result<Chain, ChainFault>, AllocError>
         requires lent { Has right.old.entry self.old.lent }
         requires cargo { IsCargoOf right.old.entry cargo.now }
-        ensures chain { IfOk result (λ walked. IsAnswer right.old.entry.shape (length right.old.entry.request) right.old.entry.room (base_of right.old.entry.queue (head_of right.old.entry)) walked) }
+        ensures chain { IfOk result (λ walked. IsWalkOf cargo.now.parcel walked) }
         ensures walked { OnOk result (right.new ≡ record right.old { walked = true }) }
         ensures err { OnErr result (right.new ≡ right.old) }
         ensures same { self.new ≡ self.old }
     {
-        let table = read_table(alloc, &self.line, &mut self.pass, self.size)?;
-        let walked = walk(alloc, table.as_slice(), right.head(), &cargo.parts())?;
+        read_table(&mut self.table, &self.line, &mut self.pass, self.size)?;
+        let walked = walk(alloc, self.table.as_slice(), right.head(), &cargo.parts())?;
         a_walk_has_one_result();
         a_layout_is_walked();
         right.set_walked();
@@ -190,6 +192,7 @@ impl<P: Tagged, N: Naming> DeviceEnd<P, N> {
         requires line { (queue : Queue) × IsOnLine N.ring line.value.shared.table_id pass.table_id line.value.shared.key queue size × (pass.me ≡ (Device (new_device queue), [])) × IsTended size (new_device queue) 0 0 tags.items }
         ensures { (queue : Queue) → pass.me ≡ (Device (new_device queue), []) → IsNewDevice queue size result }
     {
+        let table = Vec::new(*tags.allocator());
         DeviceEnd {
             line,
             pass,
@@ -197,6 +200,7 @@ impl<P: Tagged, N: Naming> DeviceEnd<P, N> {
             fetched: 0,
             completed: 0,
             tags,
+            table,
             of: PhantomData,
         }
     }

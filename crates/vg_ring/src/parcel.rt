@@ -1,14 +1,17 @@
 //! A request with the room for its response.
 
-ghost use Rattle.std.specs.Prelude.{◌≡◌, ◌+◌, ◌≤◌, ◌^◌, [], length, take, min, IfOk};
-ghost use Rattle.vg_chain.specs.Made.{IsCount, AreTables};
-ghost use Rattle.vg_ring.specs.Cargo.{IsLane, IsExtent};
+ghost use Rattle.std.specs.Prelude.{◌≡◌, ◌+◌, ◌≤◌, ◌^◌, Ok, [], length, take, min, IfOk};
+ghost use Rattle.vg_asks.specs.Asks.{asked};
+ghost use Rattle.vg_chain.specs.Made.{Covers, IsCount, AreTables};
+ghost use Rattle.vg_ring.specs.Cargo.{IsLane, IsExtent, asked_of};
 ghost use Rattle.vg_ring.specs.Cargo as cargo;
+ghost use Rattle.vg_ring.specs.Walked.{IsWalkOf};
 
+use crate::gather::{gather, scatter, total};
 use std::alloc::{AllocError, Global};
 use std::marker::Model;
 use std::snapshot::Snapshot;
-use vg_chain::{Extent, Parts, Shape};
+use vg_chain::{Chain, ChainFault, Extent, Parts, Segment, Shape};
 use vg_wire::Queue;
 
 /// The lane of a request and its number in that lane.
@@ -20,17 +23,29 @@ pub struct Tag {
     pub ordinal: u64,
 }
 
+/// What a device reads of a request through its chain.
+#[derive(Drop)]
+pub struct Command {
+    pub queue: Queue,
+    pub bytes: Vec<u8>,
+    /// How many bytes there are for the response.
+    pub room: u32,
+    /// The shape of the chain, with the fault that the walk of a bad one comes to.
+    pub shape: Shape,
+}
+
 /// A request's bytes, the bytes of its indirect tables, and the room for its response.
 #[derive(Drop)]
 pub struct Parcel {
     queue: Queue,
     head: u16,
     tag: Tag,
+    shape: Shape,
     request: Vec<u8>,
     tables: Vec<u8>,
     room: Vec<u8>,
-    filled: usize,
-    shape: Snapshot<Shape>,
+    /// How much of the room is filled, which the used length tells who takes the parcel back.
+    filled: Snapshot<usize>,
 }
 
 impl Model for Parcel {
@@ -39,9 +54,9 @@ impl Model for Parcel {
 
     ghost Value = { ParcelData };
 
-    ghost view = { λ p. parcel_of p.queue p.head p.tag.lane p.tag.ordinal p.shape.value p.request.items p.tables.items p.room.items p.filled };
+    ghost view = { λ p. parcel_of p.queue p.head p.tag.lane p.tag.ordinal p.shape p.request.items p.tables.items p.room.items p.filled.value };
 
-    ghost invariant = { λ p. (p.filled ≤ length p.room.items) × IsParcel (parcel_of p.queue p.head p.tag.lane p.tag.ordinal p.shape.value p.request.items p.tables.items p.room.items p.filled) };
+    ghost invariant = { λ p. (p.filled.value ≤ length p.room.items) × IsParcel (parcel_of p.queue p.head p.tag.lane p.tag.ordinal p.shape p.request.items p.tables.items p.room.items p.filled.value) };
 }
 
 /// The address of the first byte of a request.
@@ -56,21 +71,14 @@ fn base_of(queue: Queue, head: u16) -> u64
     from + 65536 * u64::from(head)
 }
 
-/// Writes bytes over the front of a slice.
-fn copy_front(room: &mut [u8], bytes: &[u8])
-    requires { length bytes.now ≤ length room.old }
-    ensures { take (length bytes.now) room.new ≡ bytes.now }
-{
-    room[..bytes.len()].copy_from_slice(bytes);
-}
-
-/// Writes bytes over the front of a list, which keeps its length.
-fn put_front(room: &mut Vec<u8>, bytes: &[u8])
-    requires { length bytes.now ≤ length room.old.items }
+/// Writes bytes into the room by its segments, which keeps its length.
+fn write(room: &mut Vec<u8>, start: u64, segments: &[Segment], bytes: &[u8])
+    requires segments { Covers start (length room.old.items) segments.now }
+    requires few { length bytes.now ≤ length room.old.items }
     ensures front { take (length bytes.now) room.new.items ≡ bytes.now }
     ensures length { length room.new.items ≡ length room.old.items }
 {
-    copy_front(room.as_mut_slice(), bytes);
+    scatter(room.as_mut_slice(), start, segments, bytes);
 }
 
 impl Parcel {
@@ -90,7 +98,8 @@ impl Parcel {
         requires room { room ≤ 8192 }
         requires lane { IsLane queue tag.lane }
         requires count { IsCount shape }
-        ensures { IfOk result (λ p. p ≡ record { queue = queue; head = head; lane = tag.lane; ordinal = tag.ordinal; shape = shape; request = request.items; room = room; tables = p.tables; response = [] }) }
+        ensures parcel { IfOk result (λ p. p ≡ record { queue = queue; head = head; lane = tag.lane; ordinal = tag.ordinal; shape = shape; request = request.items; room = room; tables = p.tables; response = [] }) }
+        ensures tables { IfOk result (λ p. AreTables shape (length request.items) room (cargo.base_of queue head) p.tables) }
     {
         let extent = Extent {
             base: base_of(queue, head),
@@ -102,11 +111,11 @@ impl Parcel {
             queue,
             head,
             tag,
+            shape,
             request,
             tables,
             room: vec![in alloc; 0; room as usize]?,
-            filled: 0,
-            shape: Snapshot::of(&shape),
+            filled: Snapshot::of(&0),
         })
     }
 
@@ -154,29 +163,83 @@ impl Parcel {
         self.head
     }
 
-    /// The request's bytes.
-    pub fn request(&self) -> &[u8]
-        ensures { result.now ≡ self.now.request }
+    /// What it asks for, as the walk of its chain reads it.
+    pub(crate) fn read(
+        &self,
+        alloc: Global,
+        walked: &Result<Chain, ChainFault>,
+    ) -> Result<Command, AllocError>
+        requires { IsWalkOf self.now walked.now }
+        ensures { IfOk result (λ read. asked_of self.now ≡ asked read.queue read.bytes.items read.room read.shape) }
     {
-        self.request.as_slice()
+        match walked {
+            Ok(chain) => self.read_by(alloc, chain),
+            Err(fault) => Ok(Command {
+                queue: self.queue,
+                bytes: self.request.as_slice().to_vec(alloc)?,
+                room: self.room.len() as u32,
+                shape: Shape::Bad { fault: *fault },
+            }),
+        }
     }
 
-    /// The bytes that were filled into the room.
-    pub fn response(&self) -> &[u8]
-        ensures { result.now ≡ self.now.response }
+    /// What it asks for, as the segments of its chain have it.
+    fn read_by(&self, alloc: Global, chain: &Chain) -> Result<Command, AllocError>
+        requires { IsWalkOf self.now (Ok chain.now) }
+        ensures { IfOk result (λ read. asked_of self.now ≡ asked read.queue read.bytes.items read.room read.shape) }
     {
-        &self.room[..self.filled]
+        let base = base_of(self.queue, self.head);
+        let readable = chain.readable.as_slice();
+        Ok(Command {
+            queue: self.queue,
+            bytes: gather(alloc, self.request.as_slice(), base, readable)?,
+            room: total(chain.writable.as_slice()),
+            shape: self.shape,
+        })
     }
 
-    /// Puts as many of these bytes as there is room for in place of what was filled before, and answers
-    /// how many.
-    pub fn fill(&mut self, bytes: &[u8]) -> u32
+    /// Writes as many of these bytes as there is room for by the writable segments of its chain, in place of what
+    /// was filled before, and answers how many.
+    pub fn fill_by(&mut self, chain: &Chain, bytes: &[u8]) -> u32
+        requires { IsWalkOf self.old (Ok chain.now) }
         ensures count { result ≡ min (length bytes.now) self.old.room }
         ensures response { self.new ≡ record self.old { response = take result bytes.now } }
     {
+        let start = base_of(self.queue, self.head) + 49152;
         let count = bytes.len().min(self.room.len());
-        put_front(&mut self.room, &bytes[..count]);
-        self.filled = count;
+        let writable = chain.writable.as_slice();
+        write(&mut self.room, start, writable, &bytes[..count]);
+        self.filled = Snapshot::of(&count);
         count as u32
+    }
+
+    /// Nothing is filled any more.
+    pub fn clear(&mut self)
+        ensures { self.new ≡ record self.old { response = [] } }
+    {
+        self.filled = Snapshot::of(&0);
+    }
+
+    /// The bytes that were filled into the room, as many as the used length says.
+    pub fn response(&self, len: u32) -> &[u8]
+        requires { length self.now.response ≡ len }
+        ensures { result.now ≡ self.now.response }
+    {
+        &self.room[..len as usize]
+    }
+
+    /// The shape, and the bytes that were filled into the room, as many as the used length says. It takes no memory.
+    pub fn into_response(self, len: u32) -> (Shape, Vec<u8>)
+        requires { length self.response ≡ len }
+        ensures shape { result.0 ≡ self.shape }
+        ensures bytes { result.1.items ≡ self.response }
+    {
+        let Parcel {
+            shape,
+            mut room,
+            ..
+        } = self;
+        room.truncate(len as usize);
+        (shape, room)
     }
 }

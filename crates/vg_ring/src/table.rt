@@ -1,13 +1,13 @@
 //! Reading a ring's descriptor table.
 
-ghost use Rattle.std.specs.Prelude.{◌≡◌, ◌+◌, ◌*◌, ◌<◌, [], length, IfOk};
+ghost use Rattle.std.specs.Prelude.{◌≡◌, ◌+◌, ◌*◌, ◌<◌, [], length, OnOk};
 ghost use Rattle.vg_ring.specs.Plays.{device_of, resting_device};
 ghost use Rattle.vg_ring.specs.Tells.{TellsDescriptor, TellsTable};
 
 use crate::device::read_word;
 use crate::law::{Line, Pass};
 use crate::words::descriptor_of;
-use std::alloc::{AllocError, Global};
+use std::alloc::AllocError;
 use vg_chain::Descriptor;
 use vg_history::Tagged;
 
@@ -29,22 +29,23 @@ fn read_descriptor<P: Tagged>(
     descriptor_of(addr, rest)
 }
 
-/// The ring's descriptor table, one descriptor after another.
+/// Reads the ring's descriptor table, one descriptor after another, in place of what was read before.
 pub(crate) fn read_table<P: Tagged>(
-    alloc: Global,
+    table: &mut Vec<Descriptor>,
     line: &Line<P>,
     pass: &mut Pass<P>,
     size: u16,
-) -> Result<Vec<Descriptor>, AllocError>
+) -> Result<(), AllocError>
     requires line { (pass.old.table_id ≡ line.now.shared.table_id) × (line.now.shared.table_id.slots ≡ size) × (line.now.shared.table_id.words ≡ 2 + 4 * size) × (line.now.shared.key.count ≡ size) }
     requires view { pass.old.me ≡ (resting_device pass.old.me.0, []) }
     ensures line { (pass.new.table_id ≡ pass.old.table_id) × (pass.new.id ≡ pass.old.id) × (pass.new.me ≡ pass.old.me) }
-    ensures length { IfOk result (λ table. length table.items ≡ size) }
-    ensures table { IfOk result (λ table. TellsTable size size table.items (device_of pass.old.me.0).held) }
+    ensures length { OnOk result (length table.new.items ≡ size) }
+    ensures table { OnOk result (TellsTable size size table.new.items (device_of pass.old.me.0).held) }
 {
-    let mut table = Vec::with_capacity(alloc, size as usize)?;
+    table.clear();
+    table.reserve(size as usize)?;
     for place in 0..size {
         table.push(read_descriptor(line, pass, size, place))?;
     }
-    Ok(table)
+    Ok(())
 }

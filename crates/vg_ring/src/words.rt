@@ -4,7 +4,7 @@ ghost use Rattle.std.specs.Prelude.{◌≡◌, ℕ, ◌+◌, ◌*◌, ◌/◌, �
 ghost use Rattle.vg_chain.specs.Made.{table_bytes};
 ghost use Rattle.vg_chain.specs.Numbers.{le};
 ghost use Rattle.vg_ring.specs.Words as layout;
-ghost use Rattle.vg_ring.specs.Words.{descriptor_from, image_of, table_from};
+ghost use Rattle.vg_ring.specs.Words.{IsAvailable, IsUsed, descriptor_from, image_of, table_from};
 
 use vg_chain::Descriptor;
 
@@ -46,11 +46,14 @@ pub(crate) fn used_of(word: u64) -> (u16, u32)
     ((word % 0x1_0000_0000) as u16, (word / 0x1_0000_0000) as u32)
 }
 
-/// The bytes of the descriptors of a ring are those of the table that its words have, and the eight bytes
-/// of a used element are its head and its length, four bytes each.
+/// The bytes of the descriptors of a ring are those of the table that its words have, those of the two
+/// rings are their flags, their index and their elements in order, and the eight bytes of a used element
+/// are its head and its length, four bytes each.
 pub fn words_are_bytes()
     ensures descriptors { (n : ℕ) (words : List ℕ) → ((i : ℕ) → slice_index words i < 2 ^ 64) → (image_of n words).descriptors ≡ table_bytes (table_from n words) }
-    ensures used { (head len : ℕ) → head < 2 ^ 16 → len < 2 ^ 32 → le 8 (layout.used_word head len) ≡ le 4 head ++ le 4 len }
+    ensures available { (n : ℕ) (words : List ℕ) → IsAvailable n words (image_of n words).available }
+    ensures used { (n : ℕ) (words : List ℕ) → IsUsed n words (image_of n words).used }
+    ensures used_element { (head len : ℕ) → head < 2 ^ 16 → len < 2 ^ 32 → le 8 (layout.used_word head len) ≡ le 4 head ++ le 4 len }
 {}
 
 /// The word of an available element, by how many cargoes were published before.

@@ -1,10 +1,12 @@
 -- What the driver's thread knows of the cargoes that it has asked, one at a time.
 use Rattle.std.proofs.Common.{◌≡◌, ℕ, zero, suc, ◌+◌, ◌<◌, ◌≤◌, Bool, true, false, List, [], ◌∷◌, ◌++◌, length, map, refl, ap, sym, subst, ◌∙◌, arith, length-append, add-one, take, min}
 use Rattle.std.specs.Prelude.{All}
-use Rattle.std.proofs.lemmas.List.{map-append, append-nil}
+use Rattle.std.proofs.lemmas.List.{map-append, append-nil, take_all}
 use Rattle.std.proofs.lemmas.List.Elements.{All-append, All-nil}
 use Rattle.std.proofs.lemmas.Bool.{eq-eqb}
 use mathlib.Core.List.{IsPrefix}
+use Rattle.vg_chain.specs.declared.shape.Shape.{Shape}
+use Rattle.vg_chain.specs.declared.shape.Shape.TheVariants.{Plain, Pieces, Indirect, Mixed, Bad}
 use Rattle.vg_wire.specs.declared.request.Queue.{Queue}
 use Rattle.vg_wire.specs.declared.request.Queue.TheVariants.{Control, Cursor}
 use Rattle.vg_history.specs.Lists.{upto}
@@ -14,7 +16,7 @@ use Rattle.vg_ring.specs.Cargo.{CargoData, IsLane}
 use Rattle.vg_ring.specs.Entries.{entries, lane_count}
 use Rattle.vg_ring.specs.Ends.{DriverLists, Reaps, ReapsNone}
 use Rattle.vg_ring.specs.DeviceEnds.{DeviceLists}
-use Rattle.vg_ring_uses.specs.Carried.{ordinal_of, ordinal_bytes, IsAsked, IsEchoed, IsAnswered, HasAsked, Asks, MayAsk, TakesBack, HasAnswered, HaveCarried}
+use Rattle.vg_ring_uses.specs.Carried.{ordinal_of, echo_in, IsAsked, IsGood, IsEchoed, IsAnswered, HasAsked, Asks, MayAsk, TakesBack, HasAnswered, HaveCarried}
 
 pub all_one : {X : Type 0} (P : X → Type 0) (x : X) → P x → All P (x ∷ [])
 all_one P x h zero d lt = h
@@ -138,9 +140,19 @@ length_entries (a ∷ more) = let rest = length_entries more in omega (arith, re
 length_prefix : {X : Type 0} (xs ys : List X) (p : IsPrefix xs ys) → length xs ≤ length ys
 length_prefix xs ys p = (let long = length-append xs p.0 in let same = ap length p.1 in omega (arith, long, same))
 
--- with room for all of the ordinal's bytes the response is the request
+-- with room for all of the request the response is the request
+good_echo : (shape : Shape) (request : List ℕ) (room : ℕ) → IsGood shape → echo_in shape request room ≡ take (min (length request) room) request
+good_echo Plain request room good = refl
+good_echo (Pieces k) request room good = refl
+good_echo Indirect request room good = refl
+good_echo Mixed request room good = refl
+good_echo (Bad fault) request room good = absurd good
+
 echoed : (queue : Queue) (lane : ℕ) (a : Answer) → IsAnswered a → IsAsked queue lane a.entry → IsEchoed a
-echoed queue lane a h k = h ∙ (ap (λ (room : ℕ). take (min (length (ordinal_bytes a.entry)) room) (ordinal_bytes a.entry)) k.room ∙ sym k.request)
+echoed queue lane a h k =
+    let eight : length a.entry.request ≡ 8 = ap length k.request ∙ refl in
+    let whole : take (min (length a.entry.request) a.entry.room) a.entry.request ≡ a.entry.request = take_all (min (length a.entry.request) a.entry.room) a.entry.request (let room = k.room in omega (arith, eight, room)) in
+    h ∙ (good_echo a.entry.shape a.entry.request a.entry.room k.good ∙ whole)
 
 echoes : (queue : Queue) (lane : ℕ) (answers : List Answer) → All IsAnswered answers → All (IsAsked queue lane) (entries answers) → All IsEchoed answers
 echoes queue lane [] h k i d lt = absurd (omega arith)

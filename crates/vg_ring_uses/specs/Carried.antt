@@ -1,13 +1,20 @@
 -- What goes across a ring and back between two threads.
-use Rattle.std.specs.Prelude.{◌≡◌, ℕ, ◌+◌, ◌%◌, ◌≤◌, Bool, true, false, All, List, [], ◌∷◌, ◌++◌, length, map, min, take}
+use Rattle.std.specs.Prelude.{◌≡◌, ℕ, ◌+◌, ◌%◌, ◌≤◌, Bool, true, false, Result, Ok, Err, All, List, [], ◌∷◌, ◌++◌, length, map, min, take}
 use Rattle.std.specs.Int.{to_le_bytes, w64}
+use Rattle.vg_chain.specs.declared.chain.Chain.{Chain}
+use Rattle.vg_chain.specs.declared.chain.ChainFault.{ChainFault}
+use Rattle.vg_chain.specs.declared.shape.Shape.{Shape}
+use Rattle.vg_chain.specs.declared.shape.Shape.TheVariants.{Plain, Pieces, Indirect, Mixed, Bad}
 use Rattle.vg_wire.specs.declared.request.Queue.{Queue}
 use Rattle.vg_history.specs.Lists.{upto}
 use Rattle.vg_ring.specs.declared.views.Entry.{Entry}
 use Rattle.vg_ring.specs.declared.views.Answer.{Answer}
+use Rattle.vg_ring.specs.Cargo.{ParcelData}
 use Rattle.vg_ring.specs.Entries.{entries, lane_count}
 use Rattle.vg_ring.specs.Ends.{DriverLists}
 use Rattle.vg_ring.specs.DeviceEnds.{DeviceLists}
+use Rattle.vg_ring_uses.specs.declared.answering.Look.{Look}
+use Rattle.vg_ring_uses.specs.declared.answering.Look.TheVariants.{Answered, Unread, Nothing}
 
 abbrev pub ordinal_of : Entry → ℕ
 ordinal_of e = e.ordinal
@@ -16,8 +23,17 @@ ordinal_of e = e.ordinal
 abbrev pub ordinal_bytes : Entry → List ℕ
 ordinal_bytes e = to_le_bytes w64 e.ordinal
 
--- A cargo of the queue and the lane, whose request is its ordinal's bytes, with as much room.
+-- A shape that isn't a fault's.
+abbrev pub IsGood : Shape → Type 0
+IsGood Plain = Unit {0}
+IsGood (Pieces k) = Unit {0}
+IsGood Indirect = Unit {0}
+IsGood Mixed = Unit {0}
+IsGood (Bad fault) = ⊥
+
+-- A cargo of the queue and the lane, whose request is its ordinal's bytes, with as much room, in a chain that isn't bad.
 pub record IsAsked (queue : Queue) (lane : ℕ) (e : Entry) : Type 0 where
+  pub good : IsGood e.shape
   pub queue_is : e.queue ≡ queue
   pub lane_is : e.lane ≡ lane
   pub request : e.request ≡ ordinal_bytes e
@@ -27,9 +43,27 @@ pub record IsAsked (queue : Queue) (lane : ℕ) (e : Entry) : Type 0 where
 abbrev pub IsEchoed : Answer → Type 0
 IsEchoed a = a.response ≡ a.entry.request
 
--- The response is as many of the ordinal's bytes as there is room for.
+-- As many of these bytes as there is room for, and none where the chain is bad.
+abbrev pub written : Result Chain ChainFault → ℕ → List ℕ → List ℕ
+written (Ok chain) room bytes = take (min (length bytes) room) bytes
+written (Err fault) room bytes = []
+
+abbrev pub echo_in : Shape → List ℕ → ℕ → List ℕ
+echo_in Plain request room = take (min (length request) room) request
+echo_in (Pieces k) request room = take (min (length request) room) request
+echo_in Indirect request room = take (min (length request) room) request
+echo_in Mixed request room = take (min (length request) room) request
+echo_in (Bad fault) request room = []
+
+-- The response is as much of the request as there is room for, and nothing where the chain is bad.
 abbrev pub IsAnswered : Answer → Type 0
-IsAnswered a = a.response ≡ take (min (length (ordinal_bytes a.entry)) a.entry.room) (ordinal_bytes a.entry)
+IsAnswered a = a.response ≡ echo_in a.entry.shape a.entry.request a.entry.room
+
+-- The same of a cargo that goes back, unless it wasn't read.
+abbrev pub IsRespondedTo : ParcelData → List ℕ → Look → Type 0
+IsRespondedTo p response Answered = response ≡ echo_in p.shape p.request p.room
+IsRespondedTo p response Unread = Unit {0}
+IsRespondedTo p response Nothing = ⊥
 
 -- The driver's end has asked so many cargoes of a lane, under the ordinals from 1 on, and has no more of them back.
 pub record HasAsked (queue : Queue) (lane count : ℕ) (lists : DriverLists) : Type 0 where
@@ -58,10 +92,20 @@ pub record TakesBack (old new : DriverLists) : Type 0 where
   pub queue_is : new.queue ≡ old.queue
   pub fewer : length old.reaped ≤ length old.published → length new.reaped ≤ length new.published
 
--- The device's end has completed all that it has fetched, in that order, each with its ordinal's bytes.
+-- The device's end has completed all that it has fetched, in that order, each with its request as its response.
 pub record HasAnswered (lists : DeviceLists) : Type 0 where
   pub in_order : entries lists.completed ≡ lists.fetched
   pub answered : All IsAnswered lists.completed
+
+-- The same, unless a cargo went back unread.
+abbrev pub HasAnsweredIf : Bool → DeviceLists → Type 0
+HasAnsweredIf true lists = Unit {0}
+HasAnsweredIf false lists = HasAnswered lists
+
+abbrev pub is_unread : Bool → Look → Bool
+is_unread unread Answered = unread
+is_unread unread Unread = true
+is_unread unread Nothing = unread
 
 -- The available index that was loaded last is the count of what was fetched.
 abbrev pub HasSeenAll : DeviceLists → Type 0
@@ -74,9 +118,10 @@ pub record Answers (old new : DeviceLists) : Type 0 where
   pub completed : new.completed ≡ old.completed ++ answer ∷ []
   pub answered : IsAnswered answer
 
-abbrev pub MayAnswer : DeviceLists → DeviceLists → Bool → Type 0
-MayAnswer old new true = Answers old new
-MayAnswer old new false = (new.fetched ≡ old.fetched) × (new.completed ≡ old.completed) × HasSeenAll new
+abbrev pub MayAnswer : DeviceLists → DeviceLists → Look → Type 0
+MayAnswer old new Answered = Answers old new
+MayAnswer old new Unread = Unit {0}
+MayAnswer old new Nothing = (new.fetched ≡ old.fetched) × (new.completed ≡ old.completed) × HasSeenAll new
 
 -- So many cargoes of a lane went across a ring and back: all that was published was fetched, in order, and all that was
 -- completed came back, in order; those that came back have the ordinals from 1 on, one by one, each with its request as its

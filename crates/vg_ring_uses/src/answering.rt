@@ -1,56 +1,143 @@
 //! The device's thread: it fetches cargoes and gives them back.
 
-ghost use Rattle.std.specs.Prelude.{◌≡◌, []};
-ghost use Rattle.vg_ring_uses.specs.Carried.{HasAnswered, HasSeenAll, MayAnswer};
+ghost use Rattle.std.specs.Prelude.{◌≡◌, [], false, length, IfOk};
+ghost use Rattle.vg_asks.specs.Asks.{asked};
+ghost use Rattle.vg_ring.specs.Entries.{Has};
+ghost use Rattle.vg_ring.specs.DeviceEnds.{IsCargoOf};
+ghost use Rattle.vg_ring.specs.Walked.{IsWalkOf};
+ghost use Rattle.vg_ring_uses.specs.Carried.{HasAnswered, HasSeenAll, IsRespondedTo, MayAnswer, is_unread};
 
 use crate::asking::pause;
-use crate::ticket::Ticket;
+use crate::ticket::{Ticket, answered, unanswered};
 use crossbeam_utils::Backoff;
+use std::alloc::{AllocError, Global};
 use std::marker::{Model, Sync};
 use std::sync::Wait;
 use std::sync::atomic::{AtomicBool, Ordering};
 use std::thread::Threads;
+use vg_chain::{Chain, ChainFault};
 use vg_crew::Job;
-use vg_ring::{DeviceEnd, Fetched, Naming, Tag};
+use vg_history::Tagged;
+use vg_ring::{Cargo, Command, DeviceEnd, Fetched, Naming, Right};
 
-/// Fetches a cargo, fills it with its ordinal's bytes, and gives it back. False where there is none.
-fn answer_next<N: Naming>(device: &mut DeviceEnd<Ticket, N>) -> bool
+/// What a look for a cargo came to.
+#[derive(Clone, Copy, PartialEq, Eq)]
+pub enum Look {
+    /// One was answered.
+    Answered,
+    /// One went back with nothing in its room, since there was no memory to read it.
+    Unread,
+    /// There was none.
+    Nothing,
+}
+
+/// A cargo's chain, and what was read through it.
+#[derive(Drop)]
+struct Read {
+    walked: Result<Chain, ChainFault>,
+    command: Command,
+}
+
+/// A cargo on its way back, and how long its response is.
+#[derive(Drop)]
+struct Back {
+    cargo: Cargo<Ticket>,
+    len: u32,
+    look: Look,
+}
+
+/// Walks the chain of a cargo that is lent, and reads what the cargo asks for.
+fn read_through<N: Naming>(
+    alloc: Global,
+    device: &mut DeviceEnd<Ticket, N>,
+    right: &mut Right<N>,
+    cargo: &Cargo<Ticket>,
+) -> Result<Read, AllocError>
+    requires lent { Has right.old.entry device.old.lent }
+    requires cargo { IsCargoOf right.old.entry cargo.now }
+    ensures read { IfOk result (λ read. IsWalkOf cargo.now.parcel read.walked × (⟦<Ticket as Tagged>⟧.asks cargo.now.pass ≡ asked read.command.queue read.command.bytes.items read.command.room read.command.shape)) }
+    ensures right { right.new.entry ≡ right.old.entry }
+    ensures same { device.new ≡ device.old }
+{
+    let walked = device.chain(alloc, right, cargo)?;
+    let command = cargo.read(alloc, &walked)?;
+    Ok(Read { walked, command })
+}
+
+/// Puts what was read of a cargo into its room.
+fn respond(cargo: Cargo<Ticket>, read: Result<Read, AllocError>) -> Back
+    requires { IfOk read (λ read. IsWalkOf cargo.parcel read.walked × (⟦<Ticket as Tagged>⟧.asks cargo.pass ≡ asked read.command.queue read.command.bytes.items read.command.room read.command.shape)) }
+    ensures parcel { result.cargo.parcel ≡ record cargo.parcel { response = result.cargo.parcel.response } }
+    ensures response { IsRespondedTo cargo.parcel result.cargo.parcel.response result.look }
+    ensures len { length result.cargo.parcel.response ≡ result.len }
+    ensures back { result.cargo.pass.wanted ≡ false }
+{
+    match read {
+        Ok(Read { walked, command }) => {
+            let (cargo, len) = answered(cargo, &walked, command.bytes.as_slice());
+            Back {
+                cargo,
+                len,
+                look: Look::Answered,
+            }
+        }
+        Err(_) => Back {
+            cargo: unanswered(cargo),
+            len: 0,
+            look: Look::Unread,
+        },
+    }
+}
+
+/// Fetches a cargo, reads what it asks for through its chain, and gives it back with that as its response.
+fn answer_next<N: Naming>(alloc: Global, device: &mut DeviceEnd<Ticket, N>) -> Look
     ensures { MayAnswer device.old device.new result }
 {
     let Some(fetched) = device.fetch() else {
-        return false;
+        return Look::Nothing;
     };
-    let Fetched { head, mut cargo } = fetched;
-    let Tag { lane, ordinal } = cargo.tag();
-    let len = cargo.fill(&ordinal.to_le_bytes());
-    cargo.swap_pass(Ticket {
-        lane,
-        ordinal,
-        wanted: false,
-    });
+    let Fetched { head, cargo } = fetched;
+    let mut right = device.lend(head);
+    let read = read_through(alloc, device, &mut right, &cargo);
+    device.take_in(right);
+    let Back { cargo, len, look } = respond(cargo, read);
     device.complete(head, len, cargo);
-    true
+    look
 }
 
-/// Answers all cargoes, until the flag is up and there are no more.
+/// Whether a cargo went back unread, once a look came to this.
+fn unread_by(unread: bool, look: Look) -> bool
+    ensures { result ≡ is_unread unread look }
+{
+    match look {
+        Look::Unread => true,
+        _ => unread,
+    }
+}
+
+/// Answers all cargoes, until the flag is up and there are no more. For want of memory some go back with nothing in their
+/// rooms, and that is told at the end.
 pub fn answer<N: Naming, R: Wait>(
     rt: &R,
+    alloc: Global,
     device: DeviceEnd<Ticket, N>,
     stop: &AtomicBool,
-) -> DeviceEnd<Ticket, N>
+) -> Result<DeviceEnd<Ticket, N>, AllocError>
     requires { (device.fetched ≡ []) × (device.completed ≡ []) }
-    ensures answered { HasAnswered result }
-    ensures seen { HasSeenAll result }
+    ensures answered { IfOk result HasAnswered }
+    ensures seen { IfOk result HasSeenAll }
 {
     let mut device = device;
+    let mut unread = false;
     let backoff = Backoff::new();
     for _turn in rt.forever() {
         let stopped = stop.load(Ordering::SeqCst);
-        let answered = answer_next(&mut device);
-        if stopped && !answered {
-            return device;
+        let look = answer_next(alloc, &mut device);
+        unread = unread_by(unread, look);
+        if stopped && look == Look::Nothing {
+            return if unread { Err(AllocError) } else { Ok(device) };
         }
-        pause(&backoff, answered);
+        pause(&backoff, look != Look::Nothing);
     }
     unreachable!()
 }
@@ -58,19 +145,20 @@ pub fn answer<N: Naming, R: Wait>(
 /// A device's end that is to answer all cargoes, on a thread.
 #[derive(Drop)]
 pub(crate) struct Answering<'a, N: Naming> {
+    pub alloc: Global,
     pub device: DeviceEnd<Ticket, N>,
     pub stop: &'a AtomicBool,
 }
 
-impl<'a, N: Naming> Job<DeviceEnd<Ticket, N>> for Answering<'a, N> {
-    ghost use Rattle.std.specs.Prelude.{◌≡◌, []};
+impl<'a, N: Naming> Job<Result<DeviceEnd<Ticket, N>, AllocError>> for Answering<'a, N> {
+    ghost use Rattle.std.specs.Prelude.{◌≡◌, [], IfOk};
     ghost use Rattle.vg_ring_uses.specs.Carried.{HasAnswered};
 
     ghost is_ready = { λ job. (job.device.fetched ≡ []) × (job.device.completed ≡ []) };
 
-    ghost gives = { λ job device. HasAnswered device };
+    ghost gives = { λ job result. IfOk result HasAnswered };
 
-    fn run<R: Threads + Wait + Sync>(self, rt: &R) -> DeviceEnd<Ticket, N> {
-        answer(rt, self.device, self.stop)
+    fn run<R: Threads + Wait + Sync>(self, rt: &R) -> Result<DeviceEnd<Ticket, N>, AllocError> {
+        answer(rt, self.alloc, self.device, self.stop)
     }
 }

@@ -3,9 +3,9 @@
 ghost use Rattle.std.specs.Prelude.{◌≡◌, [], IfOk, length};
 ghost use Rattle.vg_chain.specs.Made.{IsCount};
 ghost use Rattle.vg_ring.specs.Cargo.{IsLane};
-ghost use Rattle.vg_ring_uses.specs.Carried.{HasAsked, MayAsk, TakesBack};
+ghost use Rattle.vg_ring_uses.specs.Carried.{HasAsked, IsGood, MayAsk, TakesBack};
 
-use crate::ticket::Ticket;
+use crate::ticket::{Ticket, ticketed};
 use crossbeam_utils::Backoff;
 use std::alloc::{AllocError, Global};
 use std::marker::{Model, Sync};
@@ -13,7 +13,7 @@ use std::sync::Wait;
 use std::thread::Threads;
 use vg_chain::Shape;
 use vg_crew::Job;
-use vg_ring::{DriverEnd, Naming, Parcel, Reaped, Tag};
+use vg_ring::{DriverEnd, Naming, Reaped, Tag};
 use vg_wire::Queue;
 
 /// How many bytes there are of an ordinal, and how much room for them.
@@ -39,7 +39,8 @@ pub struct Order {
 
 /// The shape of the cargo behind so many.
 fn shape_at(mix: Mix, before: u64) -> Shape
-    ensures { IsCount result }
+    ensures count { IsCount result }
+    ensures good { IsGood result }
 {
     match mix {
         Mix::Plain => Shape::Plain,
@@ -76,20 +77,17 @@ pub(crate) fn ask_next<N: Naming>(
     };
     let request = tag.ordinal.to_le_bytes().to_vec(alloc)?;
     let head = driver.next_head();
-    let parcel = Parcel::new(alloc, order.queue, head, tag, shape, request, ROOM)?;
-    let ticket = Ticket {
-        lane: tag.lane,
-        ordinal: tag.ordinal,
-        wanted: true,
-    };
-    driver.publish(shape, parcel.load(ticket));
+    let cargo = ticketed(alloc, order.queue, head, tag, shape, request, ROOM)?;
+    driver.publish(shape, cargo);
     Ok(true)
 }
 
-/// Whether a cargo came back with its own request as its response, under this ordinal.
-fn is_right(reaped: &Reaped<Ticket>, ordinal: u64) -> bool {
+/// Whether a cargo came back under this ordinal, with the ordinal's bytes as its response.
+fn is_right(reaped: &Reaped<Ticket>, ordinal: u64) -> bool
+    requires { length reaped.now.cargo.parcel.response ≡ reaped.now.len }
+{
     let cargo = &reaped.cargo;
-    cargo.tag().ordinal == ordinal && cargo.response() == cargo.request()
+    cargo.tag().ordinal == ordinal && cargo.response(reaped.len) == ordinal.to_le_bytes().as_slice()
 }
 
 /// Takes one cargo back, and tells whether it is the next one. None where none came back.

@@ -35,12 +35,13 @@ pub fn carry<N: Naming + Send, R: Threads + Wait + Sync>(
         order,
     };
     let answering = Answering {
+        alloc,
         device,
         stop: &stop,
     };
     let (asked, answered) = both(rt, &stop, asking, answering)?;
     let (mut driver, right) = asked?;
-    let mut device = answered;
+    let mut device = answered?;
     ends_agree(&mut driver, &mut device);
     Ok((driver, device, right))
 }

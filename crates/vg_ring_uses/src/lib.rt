@@ -7,8 +7,8 @@ mod carrying;
 mod ticket;
 mod turn;
 
-pub use answering::answer;
+pub use answering::{Look, answer};
 pub use asking::{Mix, Order, ask};
 pub use carrying::{carry, index_seen};
-pub use ticket::Ticket;
+pub use ticket::{Ticket, answered, ticketed, unanswered};
 pub use turn::answer_turned;

@@ -1,26 +1,11 @@
 //! Completions in another order than fetches.
 
-ghost use Rattle.std.specs.Prelude.{◌≡◌, true, false, length};
+ghost use Rattle.std.specs.Prelude.{◌≡◌, true, false};
 ghost use Rattle.vg_ring_uses.specs.Carried.{HasSeenAll, Turns};
 
-use crate::ticket::Ticket;
+use crate::ticket::{Ticket, unanswered};
 use std::marker::Model;
-use vg_ring::{Cargo, DeviceEnd, Fetched, Naming, Tag};
-
-/// Puts a pass that isn't wanted in place of the one that is, and gives the length of the response.
-fn settle(cargo: &mut Cargo<Ticket>) -> u32
-    ensures parcel { cargo.new.parcel ≡ record cargo.old.parcel { response = cargo.new.parcel.response } }
-    ensures len { length cargo.new.parcel.response ≡ result }
-    ensures done { cargo.new.pass.wanted ≡ false }
-{
-    let Tag { lane, ordinal } = cargo.tag();
-    cargo.swap_pass(Ticket {
-        lane,
-        ordinal,
-        wanted: false,
-    });
-    cargo.fill(&[])
-}
+use vg_ring::{DeviceEnd, Fetched, Naming};
 
 /// Fetches two cargoes, and completes the second one first. False where there aren't two.
 pub fn answer_turned<N: Naming>(device: &mut DeviceEnd<Ticket, N>) -> bool
@@ -33,11 +18,9 @@ pub fn answer_turned<N: Naming>(device: &mut DeviceEnd<Ticket, N>) -> bool
     let Some(second) = device.fetch() else {
         return false;
     };
-    let Fetched { head, mut cargo } = second;
-    let len = settle(&mut cargo);
-    device.complete(head, len, cargo);
-    let Fetched { head, mut cargo } = first;
-    let len = settle(&mut cargo);
-    device.complete(head, len, cargo);
+    let Fetched { head, cargo } = second;
+    device.complete(head, 0, unanswered(cargo));
+    let Fetched { head, cargo } = first;
+    device.complete(head, 0, unanswered(cargo));
     true
 }

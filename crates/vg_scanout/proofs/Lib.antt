@@ -2,4 +2,5 @@ pub mod ScreenLemmas
 pub mod PanelLemmas
 pub mod SnapLemmas
 pub mod LawLemmas
+pub mod TouchLemmas
 pub mod RowLemmas

@@ -6,4 +6,5 @@ mod laws;
 mod panel;
 mod scanout;
 
+pub use laws::a_flush_makes_frames_of_what_it_touches;
 pub use scanout::{Binding, Frame, Scanouts};

@@ -5,7 +5,7 @@ use Rattle.std.proofs.lemmas.Bool.Decides.{nat_tests}
 use Rattle.vg_words.specs.declared.kind.Stop.{Stop}
 use Rattle.vg_words.specs.declared.kind.Stop.TheVariants.{Memory, Fault}
 use Rattle.vg_words.specs.declared.kind.Kind.TheVariants.{Word}
-use Rattle.vg_steps.specs.declared.types.Step.{Step}
+use Rattle.vg_calls.specs.declared.call.Call.{Call}
 use Rattle.vg_script.specs.Seen.{Seen}
 use Rattle.vg_steps.specs.Tables.{NameTable}
 use Rattle.vg_steps.specs.Rows.{judged_row, row_of}
@@ -20,10 +20,10 @@ room n h = grind (arith, nat_tests)
 no_room : (n : ℕ) → 100000 ≤ n → nat_lt n 100000 ≡ false
 no_room n h = grind (arith, nat_tests)
 
-pub goes_past : (seen new : Seen) (word : List ℕ) (args : List (List ℕ)) (after : NameTable) (read : Result Step Stop) → (length seen.clients == 0) ≡ false → 100000 ≤ sum_by length seen.clients
+pub goes_past : (seen new : Seen) (word : List ℕ) (args : List (List ℕ)) (after : NameTable) (read : Result Call Stop) → (length seen.clients == 0) ≡ false → 100000 ≤ sum_by length seen.clients
     → Judges after read (judged_row (row_of word (length seen.displays) seen.table args)) → Goes new (Err (past_limit read)) (settled_form (called_form seen word args))
 unfolding called_form
-goes_past seen new word args after (Ok step) begun full h = past_ok seen _ step after begun (no_room _ full) h
+goes_past seen new word args after (Ok call) begun full h = past_ok seen _ call after begun (no_room _ full) h
 goes_past seen new word args after (Err Memory) begun full h = tt
 goes_past seen new word args after (Err (Fault kind)) begun full h = past_err seen _ kind begun (no_room _ full) h
 
@@ -33,10 +33,10 @@ unfolding called_form
 goes_err seen new word args after Memory begun few h = tt
 goes_err seen new word args after (Fault kind) begun few h = call_err seen _ kind begun (room _ few) h
 
-pub goes_ok : (seen : Seen) (word : List ℕ) (args : List (List ℕ)) (after : NameTable) (step : Step) → (length seen.clients == 0) ≡ false → sum_by length seen.clients < 100000
-    → judged_row (row_of word (length seen.displays) seen.table args) ≡ Ok (step, after) → settled_form (called_form seen word args) ≡ Ok (with_call seen step after)
+pub goes_ok : (seen : Seen) (word : List ℕ) (args : List (List ℕ)) (after : NameTable) (call : Call) → (length seen.clients == 0) ≡ false → sum_by length seen.clients < 100000
+    → judged_row (row_of word (length seen.displays) seen.table args) ≡ Ok (call, after) → settled_form (called_form seen word args) ≡ Ok (with_call seen call after)
 unfolding called_form
-goes_ok seen word args after step begun few h = call_ok seen _ step after begun (room _ few) h
+goes_ok seen word args after call begun few h = call_ok seen _ call after begun (room _ few) h
 
 pub goes_misplaced : (seen : Seen) (word : List ℕ) (args : List (List ℕ)) → (length seen.clients == 0) ≡ true → settled_form (called_form seen word args) ≡ Err Word
 unfolding called_form

@@ -14,7 +14,8 @@ use Rattle.vg_script.specs.declared.types.Script.{Script}
 use Rattle.vg_script.specs.declared.types.ScriptFault.{ScriptFault}
 use Rattle.vg_script.specs.declared.types.Feature.{Feature}
 use Rattle.vg_script.specs.declared.types.Feature.TheVariants.{Edid, Uuid, Blob, Context}
-use Rattle.vg_steps.specs.declared.types.RawShape.{RawShape}
+use Rattle.vg_chain.specs.declared.shape.Shape.{Shape}
+use Rattle.vg_wire.specs.declared.request.Queue.{Queue}
 use Rattle.vg_script.specs.Lines.{lines_of}
 use Rattle.vg_words.specs.Words.{words_of, hex_bytes, value, is_position, signed_value}
 use Rattle.vg_steps.specs.Args.{no_args, one_arg, two_args, three_args, four_args, five_args, six_args}
@@ -23,16 +24,16 @@ use Rattle.vg_script.specs.Features.{feature_of, is_same}
 use Rattle.vg_script.specs.Seen.{Seen, nothing_seen, add_line}
 use Rattle.vg_steps.specs.Tables.{NameTable}
 use Rattle.vg_steps.specs.Rows.{Row, info_row, edid_row, buffer_row, store_row, load_row, send_row, flush_row, take_row, drop_row, hide_row, show_row, flip_row, cursor_row, move_row, uuid_row, close_row, raw_row, request_row, queue_of, shape_of, bad_shape_of, row_of, row_of_buffers, row_of_scanouts, row_of_others}
-use Rattle.vg_script.specs.Grammar.{Form, display_form, memory_form, feature_form, without_form, client_form, step_form, skipped_form, called_form, worded_form, form_of, line_form, one_more, script_of, scan, read_script, Parses}
+use Rattle.vg_script.specs.Grammar.{Form, display_form, memory_form, feature_form, without_form, client_form, row_form, skipped_form, called_form, worded_form, form_of, line_form, one_more, script_of, scan, read_script, Parses}
 use Rattle.vg_script.specs.Faults.{fails, given, form_gives, seen_after, AreFaultless, has_fault}
-use Rattle.vg_script.specs.Limits.{IsBetween, IsPosition, ShapeInLimits, StepInLimits, ClientInLimits, DisplayInLimits, ScriptInLimits}
+use Rattle.vg_script.specs.Limits.{IsBetween, IsPosition, ShapeInLimits, CallInLimits, ClientInLimits, DisplayInLimits, ScriptInLimits}
 use Rattle.vg_script.proofs.FaultLaws.{script_to}
 use Rattle.vg_script.proofs.ClientLists.{length-add_line, lines-add_line}
 
 -- ---- the rows
 abbrev RowFits : ℕ → Option Row → Type 0
 RowFits displays None = ⊤
-RowFits displays (Some row) = row.limits ≡ true → StepInLimits displays row.step
+RowFits displays (Some row) = row.limits ≡ true → CallInLimits displays row.call
 
 either_fits : (n : ℕ) (b : Bool) (x y : Option Row) → RowFits n x → RowFits n y → RowFits n (if b then x else y)
 either_fits n true x y p q = p
@@ -136,11 +137,11 @@ unfolding close_row
 close_fits n table name = λ h. tt
 
 -- A shape that a word spells has 2 to 8 pieces, if it has pieces.
-abbrev ShapeFits : Option RawShape → Type 0
+abbrev ShapeFits : Option Shape → Type 0
 ShapeFits None = ⊤
 ShapeFits (Some shape) = ShapeInLimits shape
 
-either_shape : (b : Bool) (x y : Option RawShape) → ShapeFits x → ShapeFits y → ShapeFits (if b then x else y)
+either_shape : (b : Bool) (x y : Option Shape) → ShapeFits x → ShapeFits y → ShapeFits (if b then x else y)
 either_shape true x y p q = p
 either_shape false x y p q = q
 
@@ -169,11 +170,11 @@ bytes_few : (hex : List ℕ) (nothing : Bool) → length hex / 2 ≤ 4096 → Is
 bytes_few hex true few = (lit≤ tt, lit≤ tt)
 bytes_few hex false few = let e = length-hex_bytes hex in (omega arith, omega (arith, e))
 
-request_fits : (n : ℕ) (table : NameTable) (queue : Option Bool) (shape : Option RawShape) (room hex : List ℕ) → ShapeFits shape → RowFits n (request_row table queue shape room hex)
+request_fits : (n : ℕ) (table : NameTable) (queue : Option Queue) (shape : Option Shape) (room hex : List ℕ) → ShapeFits shape → RowFits n (request_row table queue shape room hex)
 unfolding request_row
 request_fits n table None shape room hex s = tt
-request_fits n table (Some cursor) None room hex s = tt
-request_fits n table (Some cursor) (Some shape) room hex s = λ h.
+request_fits n table (Some one) None room hex s = tt
+request_fits n table (Some one) (Some shape) room hex s = λ h.
     let r : IsBetween 0 8192 (value room) = grind (arith, nat_tests) in
     let few : length hex / 2 ≤ 4096 = grind (arith, nat_tests) in
     (r, s, bytes_few hex (bytes_eq hex (codes "-")) few)
@@ -182,9 +183,9 @@ raw_fits : (n : ℕ) (table : NameTable) (queue room shape hex : List ℕ) → R
 unfolding raw_row
 raw_fits n table queue room shape hex = request_fits n table (queue_of queue) (shape_of shape) room hex (shape_fits shape)
 
-step_fits : (word : List ℕ) (n : ℕ) (table : NameTable) (args : List (List ℕ)) → RowFits n (row_of word n table args)
+row_fits : (word : List ℕ) (n : ℕ) (table : NameTable) (args : List (List ℕ)) → RowFits n (row_of word n table args)
 unfolding row_of row_of_buffers row_of_scanouts row_of_others
-step_fits word n table args =
+row_fits word n table args =
     either_fits n (bytes_eq word (codes "info")) (no_args (info_row table) args) _ (no_args_give (RowFits n) tt (info_row table) (info_fits n table) args)
     (either_fits n (bytes_eq word (codes "edid")) (one_arg (edid_row table) args) _ (one_arg_gives (RowFits n) tt (edid_row table) (edid_fits n table) args)
     (either_fits n (bytes_eq word (codes "buffer")) (four_args (buffer_row table) args) _ (four_args_give (RowFits n) tt (buffer_row table) (buffer_fits n table) args)
@@ -305,16 +306,16 @@ begun_within : (n : ℕ) (clients : List (List Line)) → nat_lt (length clients
     → (length (clients ++ [] ∷ []) ≤ 16) × (sum_by length (clients ++ [] ∷ []) ≤ 100000) × All (ClientInLimits n) (clients ++ [] ∷ [])
 begun_within n clients few lines calls =
     let less : length clients < 16 = grind (arith, nat_tests) in
-    (omega (arith, less, length-append clients ([] ∷ [])), omega (arith, lines, sum_by-append length clients ([] ∷ [])), All-push (ClientInLimits n) clients [] calls (All-nil (λ line. StepInLimits n line.step)))
+    (omega (arith, less, length-append clients ([] ∷ [])), omega (arith, lines, sum_by-append length clients ([] ∷ [])), All-push (ClientInLimits n) clients [] calls (All-nil (λ line. CallInLimits n line.call)))
 
-All-add_line : (n : ℕ) (clients : List (List Line)) (line : Line) → StepInLimits n line.step → All (ClientInLimits n) clients → All (ClientInLimits n) (add_line clients line)
+All-add_line : (n : ℕ) (clients : List (List Line)) (line : Line) → CallInLimits n line.call → All (ClientInLimits n) clients → All (ClientInLimits n) (add_line clients line)
 All-add_line n [] line fits calls = calls
 All-add_line n (client ∷ []) line fits calls =
-    All-cons (ClientInLimits n) (client ++ line ∷ []) [] (All-push (λ l. StepInLimits n l.step) client line (All-head (ClientInLimits n) client [] calls) fits) (All-nil (ClientInLimits n))
+    All-cons (ClientInLimits n) (client ++ line ∷ []) [] (All-push (λ l. CallInLimits n l.call) client line (All-head (ClientInLimits n) client [] calls) fits) (All-nil (ClientInLimits n))
 All-add_line n (client ∷ next ∷ more) line fits calls =
     All-cons (ClientInLimits n) client _ (All-head (ClientInLimits n) client (next ∷ more) calls) (All-add_line n (next ∷ more) line fits (All-tail (ClientInLimits n) client (next ∷ more) calls))
 
-added_within : (n : ℕ) (clients : List (List Line)) (line : Line) → length clients ≤ 16 → nat_lt (sum_by length clients) 100000 ≡ true → All (ClientInLimits n) clients → StepInLimits n line.step
+added_within : (n : ℕ) (clients : List (List Line)) (line : Line) → length clients ≤ 16 → nat_lt (sum_by length clients) 100000 ≡ true → All (ClientInLimits n) clients → CallInLimits n line.call
     → (length (add_line clients line) ≤ 16) × (sum_by length (add_line clients line) ≤ 100000) × All (ClientInLimits n) (add_line clients line)
 added_within n clients line few room calls fits =
     let left : sum_by length clients < 100000 = grind (arith, nat_tests) in
@@ -326,18 +327,18 @@ client_fits seen w = λ place limits.
     let b = begun_within (length seen.displays) seen.clients limits w.lines w.calls in
     record { few = w.few; sizes = w.sizes; pages = w.pages; features = w.features; clients = b.0; lines = b.1; calls = b.2 }
 
-row_form_fits : (seen : Seen) → Within seen → (row : Option Row) → RowFits (length seen.displays) row → FormFits (option_map (step_form seen) row)
-unfolding step_form
+row_form_fits : (seen : Seen) → Within seen → (row : Option Row) → RowFits (length seen.displays) row → FormFits (option_map (row_form seen) row)
+unfolding row_form
 row_form_fits seen w None fits = tt
 row_form_fits seen w (Some row) fits = λ place limits.
     let room : nat_lt (sum_by length seen.clients) 100000 ≡ true = grind arith in
     let own : row.limits ≡ true = grind arith in
-    let b = added_within (length seen.displays) seen.clients (record { number = seen.lines; step = row.step }) w.clients room w.calls (fits own) in
+    let b = added_within (length seen.displays) seen.clients (record { number = seen.lines; call = row.call }) w.clients room w.calls (fits own) in
     record { few = w.few; sizes = w.sizes; pages = w.pages; features = w.features; clients = b.0; lines = b.1; calls = b.2 }
 
 called_fits : (seen : Seen) → Within seen → (word : List ℕ) (args : List (List ℕ)) → FormFits (called_form seen word args)
 unfolding called_form
-called_fits seen w word args = row_form_fits seen w (row_of word (length seen.displays) seen.table args) (step_fits word (length seen.displays) seen.table args)
+called_fits seen w word args = row_form_fits seen w (row_of word (length seen.displays) seen.table args) (row_fits word (length seen.displays) seen.table args)
 
 worded_fits : (seen : Seen) → Within seen → (word : List ℕ) (args : List (List ℕ)) → FormFits (worded_form seen word args)
 unfolding worded_form

@@ -13,7 +13,7 @@ use Rattle.vg_steps.proofs.Counts.{no_args_give, one_arg_gives, two_args_give}
 use Rattle.vg_script.specs.Seen.{Seen}
 use Rattle.vg_script.specs.Features.{feature_of}
 use Rattle.vg_steps.specs.Rows.{Row, row_of}
-use Rattle.vg_script.specs.Grammar.{Form, display_form, memory_form, feature_form, without_form, client_form, step_form, skipped_form, called_form, worded_form, form_of, line_form, one_more, settled, settled_form, after_line, fault_at, scan}
+use Rattle.vg_script.specs.Grammar.{Form, display_form, memory_form, feature_form, without_form, client_form, row_form, skipped_form, called_form, worded_form, form_of, line_form, one_more, settled, settled_form, after_line, fault_at, scan}
 use Rattle.vg_script.proofs.Lines.{lines_of-first}
 
 -- What a form gives has as many lines.
@@ -25,8 +25,8 @@ either_has : (n : ℕ) (b : Bool) (x y : Option Form) → HasLines n x → HasLi
 either_has n true x y p q = p
 either_has n false x y p q = q
 
-row_has : (seen : Seen) (row : Option Row) → HasLines seen.lines (option_map (step_form seen) row)
-unfolding step_form
+row_has : (seen : Seen) (row : Option Row) → HasLines seen.lines (option_map (row_form seen) row)
+unfolding row_form
 row_has seen None = tt
 row_has seen (Some row) = refl
 

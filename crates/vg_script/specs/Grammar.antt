@@ -72,14 +72,14 @@ client_form seen = Some (record {
 })
 
 -- A line of a client. All clients together have at most 100,000 of them.
-unfoldable pub step_form : Seen → Row → Form
-step_form seen row = record {
+unfoldable pub row_form : Seen → Row → Form
+row_form seen row = record {
   place = not (length seen.clients == 0);
   numbers = row.numbers;
   limits = nat_lt (sum_by length seen.clients) 100000 && row.limits;
   names = row.names;
   gives = record seen {
-    clients = add_line seen.clients (record { number = seen.lines; step = row.step });
+    clients = add_line seen.clients (record { number = seen.lines; call = row.call });
     table = row.after;
   };
 }
@@ -95,7 +95,7 @@ skipped_form seen = record {
 }
 
 unfoldable pub called_form : Seen → List ℕ → List (List ℕ) → Option Form
-called_form seen word args = option_map (step_form seen) (row_of word (length seen.displays) seen.table args)
+called_form seen word args = option_map (row_form seen) (row_of word (length seen.displays) seen.table args)
 
 -- The line of a word and its arguments, if it is one: `seen` counts this line too.
 unfoldable pub worded_form : Seen → List ℕ → List (List ℕ) → Option Form

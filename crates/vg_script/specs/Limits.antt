@@ -2,14 +2,14 @@
 use Rattle.std.specs.Prelude.{ℕ, ℤ, pos, negsuc, ◌*◌, ◌==◌, ◌<◌, ◌≤◌, List, [], ◌∷◌, length, sum_by, count_by, All, IsTrue}
 use Rattle.std.specs.Bool.{⊤}
 use Rattle.std.specs.List.{list_any}
+use Rattle.vg_chain.specs.declared.shape.Shape.{Shape}
+use Rattle.vg_chain.specs.declared.shape.Shape.TheVariants.{Pieces}
+use Rattle.vg_calls.specs.declared.call.Call.{Call}
 use Rattle.vg_script.specs.declared.types.Feature.{Feature}
 use Rattle.vg_script.specs.declared.types.Line.{Line}
-use Rattle.vg_steps.specs.declared.types.RawShape.{RawShape}
-use Rattle.vg_steps.specs.declared.types.RawShape.TheVariants.{Pieces}
 use Rattle.vg_script.specs.declared.types.Script.{Script}
-use Rattle.vg_steps.specs.declared.types.Step.{Step}
 use Rattle.vg_script.specs.Features.{is_same}
-use Rattle.vg_steps.specs.declared.types.Step.TheVariants.{Info, Edid, Buffer, Store, Load, Send, Flush, Take, Drop, Hide, Show, Flip, Cursor, Move, Uuid, Close, Raw}
+use Rattle.vg_calls.specs.declared.call.Call.TheVariants.{Info, Edid, Buffer, Store, Load, Send, Flush, Take, Drop, Hide, Show, Flip, Cursor, Move, Uuid, Close, Raw}
 
 abbrev pub IsBetween : ℕ → ℕ → ℕ → Type 0
 IsBetween low high n = (low ≤ n) × (n ≤ high)
@@ -19,7 +19,7 @@ abbrev pub IsFormatCode : ℕ → Type 0
 IsFormatCode code = IsTrue (list_any (λ c. code == c) (1 ∷ 2 ∷ 3 ∷ 4 ∷ 67 ∷ 68 ∷ 121 ∷ 134 ∷ []))
 
 -- A request in pieces has 2 to 8 of them.
-abbrev pub ShapeInLimits : RawShape → Type 0
+abbrev pub ShapeInLimits : Shape → Type 0
 ShapeInLimits (Pieces n) = IsBetween 2 8 n
 ShapeInLimits shape = ⊤
 
@@ -29,29 +29,29 @@ IsPosition (pos n) = n ≤ 32767
 IsPosition (negsuc n) = n ≤ 32767
 
 -- The numbers of a call, where there are so many displays.
-abbrev pub StepInLimits : ℕ → Step → Type 0
-StepInLimits displays Info = ⊤
-StepInLimits displays (Edid scanout) = IsBetween 0 4294967295 scanout
-StepInLimits displays (Buffer name width height format) = IsBetween 1 640 width × IsBetween 1 480 height × IsFormatCode format
-StepInLimits displays (Store name offset bytes times) =
+abbrev pub CallInLimits : ℕ → Call → Type 0
+CallInLimits displays Info = ⊤
+CallInLimits displays (Edid scanout) = IsBetween 0 4294967295 scanout
+CallInLimits displays (Buffer width height format) = IsBetween 1 640 width × IsBetween 1 480 height × IsFormatCode format
+CallInLimits displays (Store name offset bytes times) =
     IsBetween 0 1228799 offset × IsBetween 1 4096 (length bytes) × IsBetween 1 307200 times × (length bytes * times ≤ 1228800)
-StepInLimits displays (Load name offset size) = IsBetween 0 1228799 offset × IsBetween 1 1024 size
-StepInLimits displays (Send name area) = ⊤
-StepInLimits displays (Flush name area) = ⊤
-StepInLimits displays (Take scanout) = scanout < displays
-StepInLimits displays (Drop scanout) = scanout < displays
-StepInLimits displays (Hide scanout) = scanout < displays
-StepInLimits displays (Show scanout name area) = scanout < displays
-StepInLimits displays (Flip scanout name) = scanout < displays
-StepInLimits displays (Cursor scanout name x y hot_x hot_y) =
+CallInLimits displays (Load name offset size) = IsBetween 0 1228799 offset × IsBetween 1 1024 size
+CallInLimits displays (Send name rect) = ⊤
+CallInLimits displays (Flush name rect) = ⊤
+CallInLimits displays (Take scanout) = scanout < displays
+CallInLimits displays (Drop scanout) = scanout < displays
+CallInLimits displays (Hide scanout) = scanout < displays
+CallInLimits displays (Show scanout name rect) = scanout < displays
+CallInLimits displays (Flip scanout name) = scanout < displays
+CallInLimits displays (Cursor scanout name x y hot_x hot_y) =
     (scanout < displays) × IsPosition x × IsPosition y × IsBetween 0 4294967295 hot_x × IsBetween 0 4294967295 hot_y
-StepInLimits displays (Move scanout x y) = (scanout < displays) × IsPosition x × IsPosition y
-StepInLimits displays (Uuid name) = ⊤
-StepInLimits displays (Close name) = ⊤
-StepInLimits displays (Raw cursor room shape bytes) = IsBetween 0 8192 room × ShapeInLimits shape × IsBetween 0 4096 (length bytes)
+CallInLimits displays (Move scanout x y) = (scanout < displays) × IsPosition x × IsPosition y
+CallInLimits displays (Uuid name) = ⊤
+CallInLimits displays (Close name) = ⊤
+CallInLimits displays (Raw queue room shape bytes) = IsBetween 0 8192 room × ShapeInLimits shape × IsBetween 0 4096 (length bytes)
 
 abbrev pub ClientInLimits : ℕ → List Line → Type 0
-ClientInLimits displays lines = All (λ line. StepInLimits displays line.step) lines
+ClientInLimits displays lines = All (λ line. CallInLimits displays line.call) lines
 
 abbrev pub DisplayInLimits : ℕ × ℕ → Type 0
 DisplayInLimits size = IsBetween 1 640 size.0 × IsBetween 1 480 size.1

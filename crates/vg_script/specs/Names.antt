@@ -1,6 +1,8 @@
--- Which names are defined, in other words than line by line.
-use Rattle.std.specs.Prelude.{◌≡◌, ℕ, ◌&&◌, ◌||◌, Bool, true, false, List, [], ◌∷◌, ◌++◌, All, codes, bytes_eq}
+-- Which names are defined, and their numbers, in other words than line by line.
+use Rattle.std.specs.Prelude.{◌≡◌, ℕ, ◌+◌, ◌&&◌, ◌||◌, Bool, true, false, List, [], ◌∷◌, ◌++◌, All, if◌then◌else◌, codes, bytes_eq}
 use Rattle.vg_words.specs.Words.{words_of}
+use Rattle.vg_steps.specs.declared.names.NameKind.TheVariants as kinds
+use Rattle.vg_steps.specs.declared.names.Named.{Named}
 
 -- The words begin with this word and this name.
 abbrev pub begins : List ℕ → List ℕ → List (List ℕ) → Bool
@@ -16,15 +18,33 @@ abbrev pub begin_client : List (List ℕ) → Bool
 begin_client [] = false
 begin_client (first ∷ more) = bytes_eq first (codes "client")
 
+-- The words define some name: they are `buffer` and the name.
+abbrev pub define_name : List (List ℕ) → Bool
+define_name (first ∷ second ∷ more) = bytes_eq first (codes "buffer")
+define_name words = false
+
 -- The words end this name: they begin a client, or are `close` and the name.
 abbrev pub end_name : List ℕ → List (List ℕ) → Bool
 end_name name words = begin_client words || begins (codes "close") name words
 
--- Some line is `buffer` and this name, and no line behind it ends the name.
-pub record IsDefinedBy (lines : List (List ℕ)) (name : List ℕ) : Type 0 where
+-- How many names the last client's lines define, where those before had defined so many.
+abbrev pub counted : List (List ℕ) → ℕ → ℕ
+counted words count = if begin_client words then 0 else if define_name words then count + 1 else count
+
+abbrev pub names_in : ℕ → List (List ℕ) → ℕ
+names_in count [] = count
+names_in count (line ∷ more) = names_in (counted (words_of line) count) more
+
+abbrev pub buffer_of : ℕ → Named
+buffer_of number = record { kind = kinds.Buffer; number = number }
+
+-- Some line is `buffer` and this name, no line behind it ends the name, and its client's lines have defined so many names with
+-- it.
+pub record IsDefinedBy (lines : List (List ℕ)) (name : List ℕ) (number : ℕ) : Type 0 where
   pub front : List (List ℕ)
   pub defining : List ℕ
   pub behind : List (List ℕ)
   pub parts : lines ≡ front ++ defining ∷ behind
   pub defines : says (codes "buffer") name defining ≡ true
   pub kept : All (λ line. end_name name (words_of line) ≡ false) behind
+  pub place : number ≡ names_in 0 front + 1

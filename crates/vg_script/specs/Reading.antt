@@ -1,17 +1,21 @@
 -- How the reader's fields stand for what has been seen.
-use Rattle.std.specs.Prelude.{◌≡◌, Result, Ok, Err}
+use Rattle.std.specs.Prelude.{◌≡◌, ◌<◌, ◌^◌, Result, Ok, Err}
 use Rattle.std.specs.Bool.{⊤}
+use Rattle.vg_calls.specs.declared.call.Call.{Call}
 use Rattle.vg_words.specs.declared.kind.Kind.{Kind}
 use Rattle.vg_words.specs.declared.kind.Kind.TheVariants.{Text, Word, Number, Limit, Name}
 use Rattle.vg_words.specs.declared.kind.Stop.{Stop}
 use Rattle.vg_words.specs.declared.kind.Stop.TheVariants.{Memory, Fault}
 use Rattle.vg_script.specs.declared.reader.Reader.{Reader}
-use Rattle.vg_steps.specs.declared.types.Step.{Step}
 use Rattle.vg_script.specs.Seen.{Seen}
 use Rattle.vg_steps.specs.Code.{table_of}
 
 abbrev pub seen : Reader → Seen
 seen reader = record { lines = reader.lines; displays = reader.displays.items; pages = reader.pages; without = reader.without.items; clients = reader.clients.items; table = table_of reader.names }
+
+-- The line may define a name: fewer were defined than there were lines, and these can be counted.
+abbrev pub MayDefine : Seen → Type 0
+MayDefine seen = (seen.table.count < seen.lines) × (seen.lines < 2 ^ 32)
 
 -- A line was read, where memory may be wanting: what has been seen after it, or the kind of the fault.
 abbrev pub Goes : Seen → Result (Unit {0}) Stop → Result Seen Kind → Type 0
@@ -27,7 +31,7 @@ past_kind Number = Number
 past_kind Limit = Limit
 past_kind Name = Limit
 
-abbrev pub past_limit : Result Step Stop → Stop
-past_limit (Ok step) = Fault Limit
+abbrev pub past_limit : Result Call Stop → Stop
+past_limit (Ok call) = Fault Limit
 past_limit (Err Memory) = Memory
 past_limit (Err (Fault kind)) = Fault (past_kind kind)

@@ -6,8 +6,8 @@ ghost use Rattle.vg_script.specs.Reading.{past_limit};
 
 use crate::types::Line;
 use std::alloc::AllocError;
+use vg_calls::Call;
 use vg_list::Seq;
-use vg_steps::Step;
 use vg_words::{Kind, Stop};
 
 /// Adds a line to the last client, if there is one.
@@ -22,7 +22,7 @@ pub(crate) fn add_line(clients: &mut Vec<Seq<Line>>, line: Line) -> Result<(), A
 }
 
 /// Why a line stops that is one too many: a fault of its name gives way to that of the limit.
-pub(crate) fn past_limit(read: Result<Step, Stop>) -> Stop
+pub(crate) fn past_limit(read: Result<Call, Stop>) -> Stop
     ensures { result ≡ past_limit read }
 {
     match read {

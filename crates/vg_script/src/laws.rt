@@ -1,12 +1,11 @@
 //! What holds of the grammar itself: each function here does nothing, and its contract is a law.
 
 ghost use Rattle.std.specs.Prelude.{◌≡◌, ◌⊎◌, ◌↔◌, ℕ, List, Some};
-ghost use Rattle.vg_steps.specs.declared.names.NameKind.TheVariants as kinds;
 ghost use Rattle.vg_script.specs.declared.types.Script.{Script};
 ghost use Rattle.vg_script.specs.Lines.{lines_of};
 ghost use Rattle.vg_script.specs.Grammar.{Parses, Faulty};
 ghost use Rattle.vg_script.specs.Faults.{HasFirstFault, IsScriptOf, AreFaultless, seen_after};
-ghost use Rattle.vg_script.specs.Names.{IsDefinedBy};
+ghost use Rattle.vg_script.specs.Names.{IsDefinedBy, buffer_of};
 ghost use Rattle.vg_script.specs.Seen.{nothing_seen};
 ghost use Rattle.vg_script.specs.Limits.{ScriptInLimits};
 
@@ -35,9 +34,10 @@ pub fn script_limits()
     ensures { (bytes : List ℕ) (script : Script) → Parses bytes script → ScriptInLimits script }
 {}
 
-/// After lines without a fault a name is that of a buffer of the last client exactly where some line is `buffer` and
-/// this name, and no line behind it is `close` and this name or begins another client.
+/// After lines without a fault a name is that of a buffer of the last client, with this number, exactly where some line is
+/// `buffer` and this name, no line behind it is `close` and this name or begins another client, and the client's lines have
+/// defined so many names with it.
 pub fn defined_names()
-    ensures { (lines : List (List ℕ)) (name : List ℕ) → AreFaultless nothing_seen lines
-        → (((seen_after nothing_seen lines).table name ≡ Some kinds.Buffer) ↔ IsDefinedBy lines name) }
+    ensures { (lines : List (List ℕ)) (name : List ℕ) (number : ℕ) → AreFaultless nothing_seen lines
+        → (((seen_after nothing_seen lines).table.names name ≡ Some (buffer_of number)) ↔ IsDefinedBy lines name number) }
 {}

@@ -7,7 +7,7 @@ use crate::features::{feature_of, is_among};
 use crate::types::{Feature, Line, Script, ScriptFault};
 use std::alloc::{AllocError, Global};
 use vg_list::Seq;
-use vg_steps::{Names, step_of};
+use vg_steps::{Names, call_of};
 use vg_words::{Kind, Stop, both_spelled, is, is_text, limited, put_words, size, spelled};
 
 /// How many lines all clients may have.
@@ -27,13 +27,14 @@ pub(crate) struct Reader<'a> {
     names: Names<'a>,
     ghost few: { length displays.items ≤ 16 },
     ghost counted: { count ≡ sum_by length clients.items },
+    ghost named: { names.count ≤ lines },
 }
 
 impl<'a> Reader<'a> {
     ghost use Rattle.std.specs.Prelude.{◌≡◌, ◌==◌, ◌&&◌, not, is_none, ◌+◌, ◌-◌, ◌<◌, ◌^◌, [], ◌∷◌, map, IfOk};
     ghost use Rattle.vg_script.specs.Seen.{Seen, nothing_seen};
     ghost use Rattle.vg_script.specs.Grammar.{display_form, memory_form, without_form, client_form, called_form, worded_form, form_of, feature_form, settled, settled_form, after_line, scan};
-    ghost use Rattle.vg_script.specs.Reading.{seen, Goes};
+    ghost use Rattle.vg_script.specs.Reading.{seen, Goes, MayDefine};
 
     pub(crate) fn new(alloc: Global) -> Reader<'a>
         ensures { seen result ≡ nothing_seen }
@@ -77,6 +78,7 @@ impl<'a> Reader<'a> {
 
     #[tactic(auto, unfolding(crate::specs::Grammar::form_of, crate::specs::Grammar::skipped_form))]
     fn read_words(&mut self, alloc: Global, words: &[&'a [u8]]) -> Result<(), Stop>
+        requires { MayDefine (seen self.old) }
         ensures { Goes (seen self.new) result
             (settled_form (form_of (seen self.old) (map (λ word. word.now) words.now))) }
     {
@@ -91,6 +93,7 @@ impl<'a> Reader<'a> {
 
     #[tactic(auto, unfolding(crate::specs::Grammar::worded_form))]
     fn read_form(&mut self, alloc: Global, word: &[u8], args: &[&'a [u8]]) -> Result<(), Stop>
+        requires { MayDefine (seen self.old) }
         ensures { Goes (seen self.new) result
             (settled_form (worded_form (seen self.old) word.now (map (λ arg. arg.now) args.now))) }
     {
@@ -118,7 +121,7 @@ impl<'a> Reader<'a> {
                 _ => Err(Stop::Fault(Kind::Word)),
             };
         }
-        self.step(alloc, word, args)
+        self.call(alloc, word, args)
     }
 
     /// Whether there was a line that no display may stand behind.
@@ -199,7 +202,8 @@ impl<'a> Reader<'a> {
         Ok(())
     }
 
-    fn step(&mut self, alloc: Global, word: &[u8], args: &[&'a [u8]]) -> Result<(), Stop>
+    fn call(&mut self, alloc: Global, word: &[u8], args: &[&'a [u8]]) -> Result<(), Stop>
+        requires { MayDefine (seen self.old) }
         ensures { Goes (seen self.new) result
             (settled_form (called_form (seen self.old) word.now (map (λ arg. arg.now) args.now))) }
     {
@@ -207,14 +211,14 @@ impl<'a> Reader<'a> {
             return Err(Stop::Fault(Kind::Word));
         }
         let displays = self.displays.len();
-        let read = step_of(alloc, &mut self.names, displays, word, args);
+        let read = call_of(alloc, &mut self.names, displays, word, args);
         if self.count >= MOST_LINES {
             return Err(past_limit(read));
         }
         match read {
-            Ok(step) => {
+            Ok(call) => {
                 let number = self.lines;
-                add_line(&mut self.clients, Line { number, step })?;
+                add_line(&mut self.clients, Line { number, call })?;
                 self.count += 1;
                 Ok(())
             }

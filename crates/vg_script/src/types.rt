@@ -1,7 +1,7 @@
 //! What a script says: its displays, its pages, and the lines of its clients.
 
+use vg_calls::Call;
 use vg_list::Seq;
-use vg_steps::Step;
 
 /// A whole script, as `parse` gives it.
 #[derive(Drop)]
@@ -34,8 +34,8 @@ pub enum Feature {
 pub struct Line {
     /// The line's number in the text, from 1 on.
     pub number: u32,
-    /// The call that it makes.
-    pub step: Step,
+    /// The call that it makes. A name in it is told by its number among those that the client's lines define.
+    pub call: Call,
 }
 
 /// The first fault of a text that is no script.

@@ -7,8 +7,7 @@ use denote.Ref.{NamedLft}
 use Rattle.std.proofs.Crossing.{crosses}
 use Rattle.vg_list.specs.contracts.seq.Seq as seq
 use Rattle.vg_script.specs.contracts.types.Line as line
-use Rattle.vg_steps.specs.contracts.types.Step as step
-use Rattle.vg_words.specs.contracts.name.Name as name
+use Rattle.vg_calls.specs.contracts.call.Call as call
 use Rattle.vg_book.specs.declared.board.Naming as Naming
 use Rattle.vg_ring.specs.declared.rings.Rings as Rings
 use Rattle.vg_driver.specs.contracts.driver.Driver as driver
@@ -20,15 +19,12 @@ use Rattle.vg_part.specs.contracts.performing.Performed as performed
 seq_send : (X : RattleType) → IsSend X → IsSend (seq.the_row X)
 seq_send X x = search (sendable, crosses) depth 20
 
-name_send : IsSend name.the_row
-name_send = search (sendable, crosses) depth 20
-
--- a step, as a line has it
-step_send : IsSend (enum.field step.the_type).row
-step_send = enum_send (enum.shape step.the_type) (tt, (search (sendable, crosses, name_send, seq_send) depth 20, (search (sendable, crosses, name_send, seq_send) depth 20, (search (sendable, crosses, name_send, seq_send) depth 20, (search (sendable, crosses, name_send, seq_send) depth 20, (search (sendable, crosses, name_send, seq_send) depth 20, (search (sendable, crosses, name_send, seq_send) depth 20, (search (sendable, crosses, name_send, seq_send) depth 20, (search (sendable, crosses, name_send, seq_send) depth 20, (search (sendable, crosses, name_send, seq_send) depth 20, (search (sendable, crosses, name_send, seq_send) depth 20, (search (sendable, crosses, name_send, seq_send) depth 20, (search (sendable, crosses, name_send, seq_send) depth 20, (search (sendable, crosses, name_send, seq_send) depth 20, (search (sendable, crosses, name_send, seq_send) depth 20, (search (sendable, crosses, name_send, seq_send) depth 20, (search (sendable, crosses, name_send, seq_send) depth 20, tt)))))))))))))))))
+-- a call, as a line has it
+call_send : IsSend (enum.field call.the_type).row
+call_send = enum_send (enum.shape call.the_type) (tt, (search (sendable, crosses, seq_send) depth 20, (search (sendable, crosses, seq_send) depth 20, (search (sendable, crosses, seq_send) depth 20, (search (sendable, crosses, seq_send) depth 20, (search (sendable, crosses, seq_send) depth 20, (search (sendable, crosses, seq_send) depth 20, (search (sendable, crosses, seq_send) depth 20, (search (sendable, crosses, seq_send) depth 20, (search (sendable, crosses, seq_send) depth 20, (search (sendable, crosses, seq_send) depth 20, (search (sendable, crosses, seq_send) depth 20, (search (sendable, crosses, seq_send) depth 20, (search (sendable, crosses, seq_send) depth 20, (search (sendable, crosses, seq_send) depth 20, (search (sendable, crosses, seq_send) depth 20, (search (sendable, crosses, seq_send) depth 20, tt)))))))))))))))))
 
 line_send : IsSend line.the_row
-line_send = let T = line.the_type in recorded_send _ _ _ T.to_one (struct_send (shape T) (search sendable, (step_send, tt)))
+line_send = let T = line.the_type in recorded_send _ _ _ T.to_one (struct_send (shape T) (search sendable, (call_send, tt)))
 
 module _ (B : RattleType) (gb : Naming.Ghosts B.Denot) where
   pub performed_sent : IsSend (performed.the_row B gb)

@@ -32,10 +32,10 @@ use Rattle.vg_part.specs.Setup.{setup_of}
 
 -- The root and the lanes' tokens of a book whose machine is a display.
 abbrev pub Root : Type 0
-Root = Rooted State State Act ActReply Request Reply Holds
+Root = Rooted State State Act ActReply Request Reply Holds Request
 
 abbrev pub Lane : Type 0
-Lane = tokens.Lane State State Act ActReply Request Reply Holds
+Lane = tokens.Lane State State Act ActReply Request Reply Holds Request
 
 abbrev pub account_of : Token → Account
 account_of token = token.account

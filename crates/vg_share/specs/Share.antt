@@ -148,7 +148,7 @@ is_lease_of client None = false
 abbrev pub is_leased : ℕ → ℕ → ShareState → Bool
 is_leased client scanout share = is_lease_of client (slice_get share.leases scanout)
 
--- `shown` says whether the scanout is bound.
+-- `shown` says whether the scanout is bound or its cursor is shown.
 abbrev pub drop_refusal : ℕ → ℕ → Bool → ShareState → Option ShareRefusal
 drop_refusal client scanout shown share = refusal_of (
     (not (is_leased client scanout share), NotHeld)

@@ -28,7 +28,7 @@ pub enum ShareRefusal {
     ScanoutHeld { by: u32 },
     /// The bytes pass the end of the buffer, which has so many.
     OutOfRange { bytes: u32 },
-    /// The buffer is shown on this scanout, or the scanout shows something.
+    /// The buffer is shown on this scanout; or the scanout is bound, or its cursor is shown.
     InUse { scanout: u32 },
     /// The device has a resource with the buffer's key.
     ResourceLive,
@@ -212,7 +212,7 @@ impl Share {
         Ok(())
     }
 
-    /// Ends the lease of a scanout. `shown` says whether it is bound.
+    /// Ends the lease of a scanout. `shown` says whether it is bound or its cursor is shown.
     pub fn drop_scanout(
         &mut self,
         client: u32,

@@ -1,20 +1,24 @@
 -- The lines of a client, one row for each word: what has to hold of how its numbers are spelled, of the limits
 -- and of the names, and which call it is. `displays` is how many displays there are, and `table` has the names
 -- that are defined before the line. A word or a count of arguments that the grammar doesn't know has no row.
-use Rattle.std.specs.Prelude.{ℕ, ◌*◌, ◌/◌, ◌==◌, ◌&&◌, ◌||◌, not, nat_lt, nat_le, Bool, true, false, is_none, List, [], ◌∷◌, length, Option, Some, None, Result, Ok, Err, if◌then◌else◌, codes, bytes_eq}
+use Rattle.std.specs.Prelude.{ℕ, ◌*◌, ◌/◌, ◌==◌, ◌&&◌, ◌||◌, not, nat_lt, nat_le, Bool, true, is_none, List, [], ◌∷◌, length, Option, Some, None, Result, Ok, Err, if◌then◌else◌, codes, bytes_eq}
 use Rattle.std.specs.List.{list_any}
 use Rattle.std.specs.Int.{is_in_range}
 use Rattle.vg_words.specs.declared.kind.Kind.{Kind}
 use Rattle.vg_words.specs.declared.kind.Kind.TheVariants.{Word, Number, Limit, Name}
-use Rattle.vg_steps.specs.declared.types.Area.{Area}
-use Rattle.vg_steps.specs.declared.types.Step.{Step}
+use Rattle.vg_formats.specs.declared.rect.Rect.{Rect}
+use Rattle.vg_wire.specs.declared.request.Queue.{Queue}
+use Rattle.vg_wire.specs.declared.request.Queue.TheVariants as queues
+use Rattle.vg_chain.specs.declared.shape.Shape.{Shape}
+use Rattle.vg_chain.specs.declared.shape.Shape.TheVariants.{Plain, Pieces, Indirect, Mixed, Bad}
+use Rattle.vg_chain.specs.declared.chain.ChainFault.TheVariants.{Index, Loop, Nested, NextWithIndirect, TableLength, Order, Range}
+use Rattle.vg_calls.specs.declared.call.Call.{Call}
+use Rattle.vg_calls.specs.declared.call.Call.TheVariants.{Info, Edid, Buffer, Store, Load, Send, Flush, Take, Drop, Hide, Show, Flip, Cursor, Move, Uuid, Close, Raw}
+use Rattle.vg_calls.specs.declared.call.NameRef.{NameRef}
 use Rattle.vg_steps.specs.declared.names.NameKind.TheVariants as kinds
-use Rattle.vg_steps.specs.declared.types.RawShape.{RawShape}
-use Rattle.vg_steps.specs.declared.types.RawShape.TheVariants.{Plain, Pieces, Indirect, Mixed, Index, Loop, Nested, NextIndirect, TableLength, Order, Range}
-use Rattle.vg_steps.specs.declared.types.Step.TheVariants.{Info, Edid, Buffer, Store, Load, Send, Flush, Take, Drop, Hide, Show, Flip, Cursor, Move, Uuid, Close, Raw}
-use Rattle.vg_words.specs.Words.{is_number, value, is_within, is_hex, hex_bytes, is_hex_or_none, bytes_or_none, is_name, is_no_name, name_or_none, is_signed, signed_value, is_position}
+use Rattle.vg_words.specs.Words.{is_number, value, is_within, is_hex, hex_bytes, is_hex_or_none, bytes_or_none, is_name, is_no_name, is_signed, signed_value, is_position}
 use Rattle.vg_steps.specs.Args.{no_args, one_arg, two_args, three_args, four_args, five_args, six_args}
-use Rattle.vg_steps.specs.Tables.{NameTable, with_name, without_name, is_kind}
+use Rattle.vg_steps.specs.Tables.{NameTable, with_name, without_name, is_kind, ref_to}
 
 pub record Row : Type 0 where
   -- each number and HEX is well spelled
@@ -24,7 +28,7 @@ pub record Row : Type 0 where
   -- each name is well spelled, and is defined or isn't, as it has to be: a badly spelled one never is
   pub names : Bool
   -- the call
-  pub step : Step
+  pub call : Call
   -- which names are defined after it
   pub after : NameTable
 
@@ -51,8 +55,12 @@ are_numbers x y width height = is_number x && is_number y && is_number width && 
 abbrev pub are_any : (x y width height : List ℕ) → Bool
 are_any x y width height = is_any x && is_any y && is_any width && is_any height
 
-abbrev pub area_of : (x y width height : List ℕ) → Area
-area_of x y width height = record { x = value x; y = value y; width = value width; height = value height }
+abbrev pub rect_of : (x y width height : List ℕ) → Rect
+rect_of x y width height = record { x = value x; y = value y; width = value width; height = value height }
+
+-- The name that a word is, or none where it is `-`.
+abbrev pub ref_or_none : NameTable → List ℕ → Option NameRef
+ref_or_none table name = if is_no_name name then None else Some (ref_to table name)
 
 -- info
 unfoldable pub info_row : NameTable → Option Row
@@ -60,7 +68,7 @@ info_row table = Some (record {
   numbers = true;
   limits = true;
   names = true;
-  step = Info;
+  call = Info;
   after = table;
 })
 
@@ -70,7 +78,7 @@ edid_row table scanout = Some (record {
   numbers = is_number scanout;
   limits = is_any scanout;
   names = true;
-  step = Edid (value scanout);
+  call = Edid (value scanout);
   after = table;
 })
 
@@ -79,8 +87,8 @@ unfoldable pub buffer_row : NameTable → (name width height format : List ℕ) 
 buffer_row table name width height format = Some (record {
   numbers = is_number width && is_number height && is_number format;
   limits = is_within 1 640 width && is_within 1 480 height && is_format format;
-  names = is_name name && is_none (table name);
-  step = Buffer name (value width) (value height) (value format);
+  names = is_name name && is_none (table.names name);
+  call = Buffer (value width) (value height) (value format);
   after = with_name name kinds.Buffer table;
 })
 
@@ -89,8 +97,8 @@ unfoldable pub store_row : NameTable → (name offset hex times : List ℕ) → 
 store_row table name offset hex times = Some (record {
   numbers = is_number offset && is_hex hex && is_number times;
   limits = is_within 0 1228799 offset && are_times (length hex / 2) times;
-  names = is_kind kinds.Buffer (table name);
-  step = Store name (value offset) (hex_bytes hex) (value times);
+  names = is_kind kinds.Buffer (table.names name);
+  call = Store (ref_to table name) (value offset) (hex_bytes hex) (value times);
   after = table;
 })
 
@@ -99,8 +107,8 @@ unfoldable pub load_row : NameTable → (name offset size : List ℕ) → Option
 load_row table name offset size = Some (record {
   numbers = is_number offset && is_number size;
   limits = is_within 0 1228799 offset && is_within 1 1024 size;
-  names = is_kind kinds.Buffer (table name);
-  step = Load name (value offset) (value size);
+  names = is_kind kinds.Buffer (table.names name);
+  call = Load (ref_to table name) (value offset) (value size);
   after = table;
 })
 
@@ -109,8 +117,8 @@ unfoldable pub send_row : NameTable → (name x y width height : List ℕ) → O
 send_row table name x y width height = Some (record {
   numbers = are_numbers x y width height;
   limits = are_any x y width height;
-  names = is_kind kinds.Buffer (table name);
-  step = Send name (area_of x y width height);
+  names = is_kind kinds.Buffer (table.names name);
+  call = Send (ref_to table name) (rect_of x y width height);
   after = table;
 })
 
@@ -119,8 +127,8 @@ unfoldable pub flush_row : NameTable → (name x y width height : List ℕ) → 
 flush_row table name x y width height = Some (record {
   numbers = are_numbers x y width height;
   limits = are_any x y width height;
-  names = is_kind kinds.Buffer (table name);
-  step = Flush name (area_of x y width height);
+  names = is_kind kinds.Buffer (table.names name);
+  call = Flush (ref_to table name) (rect_of x y width height);
   after = table;
 })
 
@@ -130,7 +138,7 @@ take_row displays table scanout = Some (record {
   numbers = is_number scanout;
   limits = is_scanout displays scanout;
   names = true;
-  step = Take (value scanout);
+  call = Take (value scanout);
   after = table;
 })
 
@@ -140,7 +148,7 @@ drop_row displays table scanout = Some (record {
   numbers = is_number scanout;
   limits = is_scanout displays scanout;
   names = true;
-  step = Drop (value scanout);
+  call = Drop (value scanout);
   after = table;
 })
 
@@ -150,7 +158,7 @@ hide_row displays table scanout = Some (record {
   numbers = is_number scanout;
   limits = is_scanout displays scanout;
   names = true;
-  step = Hide (value scanout);
+  call = Hide (value scanout);
   after = table;
 })
 
@@ -159,8 +167,8 @@ unfoldable pub show_row : ℕ → NameTable → (scanout name x y width height :
 show_row displays table scanout name x y width height = Some (record {
   numbers = is_number scanout && are_numbers x y width height;
   limits = is_scanout displays scanout && are_any x y width height;
-  names = is_kind kinds.Buffer (table name);
-  step = Show (value scanout) name (area_of x y width height);
+  names = is_kind kinds.Buffer (table.names name);
+  call = Show (value scanout) (ref_to table name) (rect_of x y width height);
   after = table;
 })
 
@@ -169,8 +177,8 @@ unfoldable pub flip_row : ℕ → NameTable → (scanout name : List ℕ) → Op
 flip_row displays table scanout name = Some (record {
   numbers = is_number scanout;
   limits = is_scanout displays scanout;
-  names = is_kind kinds.Buffer (table name);
-  step = Flip (value scanout) name;
+  names = is_kind kinds.Buffer (table.names name);
+  call = Flip (value scanout) (ref_to table name);
   after = table;
 })
 
@@ -179,8 +187,8 @@ unfoldable pub cursor_row : ℕ → NameTable → (scanout name x y hot_x hot_y 
 cursor_row displays table scanout name x y hot_x hot_y = Some (record {
   numbers = is_number scanout && is_signed x && is_signed y && is_number hot_x && is_number hot_y;
   limits = is_scanout displays scanout && is_position x && is_position y && is_any hot_x && is_any hot_y;
-  names = is_no_name name || is_kind kinds.Buffer (table name);
-  step = Cursor (value scanout) (name_or_none name) (signed_value x) (signed_value y) (value hot_x) (value hot_y);
+  names = is_no_name name || is_kind kinds.Buffer (table.names name);
+  call = Cursor (value scanout) (ref_or_none table name) (signed_value x) (signed_value y) (value hot_x) (value hot_y);
   after = table;
 })
 
@@ -190,7 +198,7 @@ move_row displays table scanout x y = Some (record {
   numbers = is_number scanout && is_signed x && is_signed y;
   limits = is_scanout displays scanout && is_position x && is_position y;
   names = true;
-  step = Move (value scanout) (signed_value x) (signed_value y);
+  call = Move (value scanout) (signed_value x) (signed_value y);
   after = table;
 })
 
@@ -199,8 +207,8 @@ unfoldable pub uuid_row : NameTable → (name : List ℕ) → Option Row
 uuid_row table name = Some (record {
   numbers = true;
   limits = true;
-  names = is_kind kinds.Buffer (table name);
-  step = Uuid name;
+  names = is_kind kinds.Buffer (table.names name);
+  call = Uuid (ref_to table name);
   after = table;
 })
 
@@ -209,32 +217,32 @@ unfoldable pub close_row : NameTable → (name : List ℕ) → Option Row
 close_row table name = Some (record {
   numbers = true;
   limits = true;
-  names = is_kind kinds.Buffer (table name);
-  step = Close name;
+  names = is_kind kinds.Buffer (table.names name);
+  call = Close (ref_to table name);
   after = without_name name table;
 })
 
--- Which queue `control` and `cursor` are: whether it is that of the cursor.
-unfoldable pub queue_of : List ℕ → Option Bool
+-- The queue that a word names.
+unfoldable pub queue_of : List ℕ → Option Queue
 queue_of word =
-    if bytes_eq word (codes "control") then Some false
-    else if bytes_eq word (codes "cursor") then Some true
+    if bytes_eq word (codes "control") then Some queues.Control
+    else if bytes_eq word (codes "cursor") then Some queues.Cursor
     else None
 
 -- The shape that a word spells, where it has a fault.
-unfoldable pub bad_shape_of : List ℕ → Option RawShape
+unfoldable pub bad_shape_of : List ℕ → Option Shape
 bad_shape_of word =
-    if bytes_eq word (codes "index") then Some Index
-    else if bytes_eq word (codes "loop") then Some Loop
-    else if bytes_eq word (codes "nested") then Some Nested
-    else if bytes_eq word (codes "nextindirect") then Some NextIndirect
-    else if bytes_eq word (codes "tablelength") then Some TableLength
-    else if bytes_eq word (codes "order") then Some Order
-    else if bytes_eq word (codes "range") then Some Range
+    if bytes_eq word (codes "index") then Some (Bad Index)
+    else if bytes_eq word (codes "loop") then Some (Bad Loop)
+    else if bytes_eq word (codes "nested") then Some (Bad Nested)
+    else if bytes_eq word (codes "nextindirect") then Some (Bad NextWithIndirect)
+    else if bytes_eq word (codes "tablelength") then Some (Bad TableLength)
+    else if bytes_eq word (codes "order") then Some (Bad Order)
+    else if bytes_eq word (codes "range") then Some (Bad Range)
     else None
 
 -- The shape that a word spells.
-unfoldable pub shape_of : List ℕ → Option RawShape
+unfoldable pub shape_of : List ℕ → Option Shape
 shape_of word =
     if bytes_eq word (codes "plain") then Some Plain
     else if bytes_eq word (codes "pieces2") then Some (Pieces 2)
@@ -249,12 +257,12 @@ shape_of word =
     else bad_shape_of word
 
 -- A request on that queue in that shape, if there are such.
-unfoldable pub request_row : NameTable → Option Bool → Option RawShape → (room hex : List ℕ) → Option Row
-request_row table (Some cursor) (Some shape) room hex = Some (record {
+unfoldable pub request_row : NameTable → Option Queue → Option Shape → (room hex : List ℕ) → Option Row
+request_row table (Some queue) (Some shape) room hex = Some (record {
   numbers = is_number room && is_hex_or_none hex;
   limits = is_within 0 8192 room && nat_le (length hex / 2) 4096;
   names = true;
-  step = Raw cursor (value room) shape (bytes_or_none hex);
+  call = Raw queue (value room) shape (bytes_or_none hex);
   after = table;
 })
 request_row table queue shape room hex = None
@@ -303,14 +311,14 @@ row_of word displays table args =
     else row_of_buffers word displays table args
 
 -- A row's call and the names after it, or the least kind of its faults.
-abbrev pub judged : Row → Result (Step × NameTable) Kind
+abbrev pub judged : Row → Result (Call × NameTable) Kind
 judged row =
     if not row.numbers then Err Number
     else if not row.limits then Err Limit
     else if not row.names then Err Name
-    else Ok (row.step, row.after)
+    else Ok (row.call, row.after)
 
 -- The same where there may be no row, which is a fault of a word.
-abbrev pub judged_row : Option Row → Result (Step × NameTable) Kind
+abbrev pub judged_row : Option Row → Result (Call × NameTable) Kind
 judged_row None = Err Word
 judged_row (Some row) = judged row

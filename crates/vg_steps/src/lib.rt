@@ -2,11 +2,9 @@
 #![tactic(auto)]
 
 mod args;
+mod calls;
 mod names;
 mod rows;
-mod steps;
-mod types;
 
-pub use names::{NameKind, Names};
-pub use steps::step_of;
-pub use types::{Area, RawShape, Step};
+pub use calls::call_of;
+pub use names::{NameKind, Named, Names};

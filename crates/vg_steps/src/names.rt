@@ -1,7 +1,5 @@
 //! The names that are defined.
 
-ghost use Rattle.vg_steps.specs.Tables.{AreShort, kinds_of};
-
 use std::alloc::{AllocError, Global};
 use std::collections::BTreeMap;
 
@@ -12,16 +10,24 @@ pub enum NameKind {
     Buffer,
 }
 
-/// The names that are defined, as parts of the text, each of at most 16 bytes.
+/// What a text is that is a name: of what it is the name, and its number among those that its client's lines define, from 1.
+#[derive(Clone, Copy)]
+pub struct Named {
+    pub kind: NameKind,
+    pub number: u32,
+}
+
+/// The names of a client that are defined, as parts of the text, and how many its lines have defined so far, those that have
+/// ended among them.
 #[derive(Drop)]
 pub struct Names<'a> {
-    pub kinds: BTreeMap<&'a [u8], NameKind>,
-    ghost short: { AreShort (kinds_of kinds) },
+    pub named: BTreeMap<&'a [u8], Named>,
+    pub count: u32,
 }
 
 impl<'a> Names<'a> {
-    ghost use Rattle.std.specs.Prelude.{◌≡◌, ◌≤◌, OnOk, is_some, length, true};
-    ghost use Rattle.vg_steps.specs.Tables.{with_name, without_name, no_names, is_kind};
+    ghost use Rattle.std.specs.Prelude.{◌≡◌, ◌+◌, ◌-◌, ◌<◌, ◌≤◌, ◌^◌, OnOk, is_some};
+    ghost use Rattle.vg_steps.specs.Tables.{with_name, without_name, no_names};
     ghost use Rattle.vg_steps.specs.Code.{table_of};
 
     /// No names.
@@ -29,34 +35,34 @@ impl<'a> Names<'a> {
         ensures { table_of result ≡ no_names }
     {
         Names {
-            kinds: BTreeMap::new(alloc),
+            named: BTreeMap::new(alloc),
+            count: 0,
         }
     }
 
     /// Whether a name is defined.
     pub(crate) fn has(&self, name: &[u8]) -> bool
-        ensures { result ≡ is_some (table_of self.now name.now) }
+        ensures { result ≡ is_some ((table_of self.now).names name.now) }
     {
-        self.kinds.contains_key(name)
+        self.named.contains_key(name)
     }
 
-    /// Whether a name is defined as one of this kind.
-    pub(crate) fn is_kind(&self, name: &[u8], kind: NameKind) -> bool
-        ensures kind { result ≡ is_kind kind (table_of self.now name.now) }
-        ensures short { result ≡ true → length name.now ≤ 16 }
+    /// What a text is, where it is a name.
+    pub(crate) fn find(&self, name: &[u8]) -> Option<Named>
+        ensures { result ≡ (table_of self.now).names name.now }
     {
-        match self.kinds.get(name) {
-            Some(found) => *found == kind,
-            None => false,
-        }
+        self.named.get(name).copied()
     }
 
-    /// Defines a name.
+    /// Defines a name, which gets the next number.
     pub(crate) fn define(&mut self, name: &'a [u8], kind: NameKind) -> Result<(), AllocError>
-        requires { length name.now ≤ 16 }
-        ensures { OnOk result (table_of self.new ≡ with_name name.now kind (table_of self.old)) }
+        requires { (table_of self.old).count < 2 ^ 32 - 1 }
+        ensures names { OnOk result (table_of self.new ≡ with_name name.now kind (table_of self.old)) }
+        ensures count { (table_of self.new).count ≤ (table_of self.old).count + 1 }
     {
-        self.kinds.insert(name, kind)?;
+        let number = self.count + 1;
+        self.named.insert(name, Named { kind, number })?;
+        self.count = number;
         Ok(())
     }
 
@@ -64,13 +70,14 @@ impl<'a> Names<'a> {
     pub(crate) fn end(&mut self, name: &[u8])
         ensures { table_of self.new ≡ without_name name.now (table_of self.old) }
     {
-        self.kinds.remove(name);
+        self.named.remove(name);
     }
 
-    /// Ends all names.
+    /// Ends all names, and the numbers begin again.
     pub fn clear(&mut self)
         ensures { table_of self.new ≡ no_names }
     {
-        self.kinds.clear();
+        self.named.clear();
+        self.count = 0;
     }
 }

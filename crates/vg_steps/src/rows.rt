@@ -1,39 +1,43 @@
 //! The lines of a client, one function for each word.
 
-ghost use Rattle.std.specs.Prelude.{◌≡◌, ◌≤◌, ◌&&◌, ◌||◌, true, IfOk, OnOk};
+ghost use Rattle.std.specs.Prelude.{◌≡◌, ◌+◌, ◌-◌, ◌<◌, ◌≤◌, ◌^◌, ◌&&◌, ◌||◌, true, IfOk, OnOk};
+ghost use Rattle.vg_chain.specs.declared.shape.Shape.TheVariants as shapes;
 ghost use Rattle.vg_steps.specs.declared.names.NameKind.TheVariants as kinds;
-ghost use Rattle.vg_words.specs.Words.{is_number, value, is_within, is_signed, signed_value, is_position, is_no_name, name_or_none};
-ghost use Rattle.vg_steps.specs.Tables.{is_kind};
-ghost use Rattle.vg_steps.specs.Rows.{judged_row, is_format, is_any, are_times, is_scanout, are_numbers, are_any, area_of, queue_of, shape_of, bad_shape_of, info_row, edid_row, buffer_row, store_row, load_row, send_row, flush_row, take_row, drop_row, hide_row, show_row, flip_row, cursor_row, move_row, uuid_row, close_row, raw_row};
+ghost use Rattle.vg_words.specs.Words.{is_number, value, is_within, is_signed, signed_value, is_position, is_no_name};
+ghost use Rattle.vg_steps.specs.Tables.{is_kind, ref_to};
+ghost use Rattle.vg_steps.specs.Rows.{judged_row, is_format, is_any, are_times, is_scanout, are_numbers, are_any, rect_of, ref_or_none, queue_of, shape_of, bad_shape_of, info_row, edid_row, buffer_row, store_row, load_row, send_row, flush_row, take_row, drop_row, hide_row, show_row, flip_row, cursor_row, move_row, uuid_row, close_row, raw_row};
 ghost use Rattle.vg_words.specs.Code.{Passes, Yields};
 ghost use Rattle.vg_steps.specs.Code.{table_of, Judges, Finds, Knows};
 
 use crate::names::{NameKind, Names};
-use crate::types::{Area, RawShape, Step};
 use std::alloc::Global;
+use vg_calls::{Call, NameRef};
+use vg_chain::{ChainFault, Shape};
+use vg_formats::Rect;
+use vg_wire::Queue;
 use vg_words::{
-    Kind, Name, Stop, both_spelled, bytes_or_none, hex_bytes, is, is_name, is_number, is_signed,
-    limited, position, size, spelled, value,
+    Kind, Stop, both_spelled, bytes_or_none, hex_bytes, is, is_name, is_number, is_signed, limited,
+    position, size, spelled, value,
 };
 
 /// `info`
 #[tactic(auto, unfolding(crate::specs::Rows::info_row))]
-pub(crate) fn info(names: &Names) -> Result<Step, Stop>
+pub(crate) fn info(names: &Names) -> Result<Call, Stop>
     ensures { Judges (table_of names.now) result
         (judged_row (info_row (table_of names.now))) }
 {
-    Ok(Step::Info)
+    Ok(Call::Info)
 }
 
 /// `edid S`
 #[tactic(auto, unfolding(crate::specs::Rows::edid_row))]
-pub(crate) fn edid(names: &Names, scanout: &[u8]) -> Result<Step, Stop>
+pub(crate) fn edid(names: &Names, scanout: &[u8]) -> Result<Call, Stop>
     ensures { Judges (table_of names.now) result
         (judged_row (edid_row (table_of names.now) scanout.now)) }
 {
     spelled(scanout)?;
     let scanout = limited(scanout, 0, u32::MAX)?;
-    Ok(Step::Edid { scanout })
+    Ok(Call::Edid { scanout })
 }
 
 /// `buffer A W H F`
@@ -44,9 +48,11 @@ pub(crate) fn buffer<'a>(
     width: &[u8],
     height: &[u8],
     format: &[u8],
-) -> Result<Step, Stop>
-    ensures { Judges (table_of names.new) result
+) -> Result<Call, Stop>
+    requires { (table_of names.old).count < 2 ^ 32 - 1 }
+    ensures call { Judges (table_of names.new) result
         (judged_row (buffer_row (table_of names.old) name.now width.now height.now format.now)) }
+    ensures count { (table_of names.new).count ≤ (table_of names.old).count + 1 }
 {
     both_spelled(width, height)?;
     spelled(format)?;
@@ -56,9 +62,7 @@ pub(crate) fn buffer<'a>(
         return Err(Stop::Fault(Kind::Name));
     }
     names.define(name, NameKind::Buffer)?;
-    let name = Name::of(name);
-    Ok(Step::Buffer {
-        name,
+    Ok(Call::Buffer {
         width,
         height,
         format,
@@ -74,7 +78,7 @@ pub(crate) fn store(
     offset: &[u8],
     hex: &[u8],
     times: &[u8],
-) -> Result<Step, Stop>
+) -> Result<Call, Stop>
     ensures { Judges (table_of names.now) result
         (judged_row (store_row (table_of names.now) name.now offset.now hex.now times.now)) }
 {
@@ -83,7 +87,7 @@ pub(crate) fn store(
     let offset = limited(offset, 0, 1_228_799)?;
     let times = times_of(hex.len() / 2, times)?;
     let name = known(names, name)?;
-    Ok(Step::Store {
+    Ok(Call::Store {
         name,
         offset,
         bytes,
@@ -108,7 +112,7 @@ fn times_of(count: usize, number: &[u8]) -> Result<u32, Kind>
 
 /// `load A OFFSET LEN`
 #[tactic(auto, unfolding(crate::specs::Rows::load_row))]
-pub(crate) fn load(names: &Names, name: &[u8], offset: &[u8], size: &[u8]) -> Result<Step, Stop>
+pub(crate) fn load(names: &Names, name: &[u8], offset: &[u8], size: &[u8]) -> Result<Call, Stop>
     ensures { Judges (table_of names.now) result
         (judged_row (load_row (table_of names.now) name.now offset.now size.now)) }
 {
@@ -116,7 +120,7 @@ pub(crate) fn load(names: &Names, name: &[u8], offset: &[u8], size: &[u8]) -> Re
     let offset = limited(offset, 0, 1_228_799)?;
     let length = limited(size, 1, 1_024)?;
     let name = known(names, name)?;
-    Ok(Step::Load {
+    Ok(Call::Load {
         name,
         offset,
         length,
@@ -132,14 +136,14 @@ pub(crate) fn send(
     y: &[u8],
     width: &[u8],
     height: &[u8],
-) -> Result<Step, Stop>
+) -> Result<Call, Stop>
     ensures { Judges (table_of names.now) result
         (judged_row (send_row (table_of names.now) name.now x.now y.now width.now height.now)) }
 {
     all_spelled(x, y, width, height)?;
-    let area = area(x, y, width, height)?;
+    let rect = rect(x, y, width, height)?;
     let name = known(names, name)?;
-    Ok(Step::Send { name, area })
+    Ok(Call::Send { name, rect })
 }
 
 /// `flush A X Y W H`
@@ -151,50 +155,50 @@ pub(crate) fn flush(
     y: &[u8],
     width: &[u8],
     height: &[u8],
-) -> Result<Step, Stop>
+) -> Result<Call, Stop>
     ensures { Judges (table_of names.now) result
         (judged_row (flush_row (table_of names.now) name.now x.now y.now width.now height.now)) }
 {
     all_spelled(x, y, width, height)?;
-    let area = area(x, y, width, height)?;
+    let rect = rect(x, y, width, height)?;
     let name = known(names, name)?;
-    Ok(Step::Flush { name, area })
+    Ok(Call::Flush { name, rect })
 }
 
 /// `take S`
 #[tactic(auto, unfolding(crate::specs::Rows::take_row))]
-pub(crate) fn take(names: &Names, displays: usize, scanout: &[u8]) -> Result<Step, Stop>
+pub(crate) fn take(names: &Names, displays: usize, scanout: &[u8]) -> Result<Call, Stop>
     requires { displays ≤ 16 }
     ensures { Judges (table_of names.now) result
         (judged_row (take_row displays (table_of names.now) scanout.now)) }
 {
     spelled(scanout)?;
     let scanout = display(scanout, displays)?;
-    Ok(Step::Take { scanout })
+    Ok(Call::Take { scanout })
 }
 
 /// `drop S`
 #[tactic(auto, unfolding(crate::specs::Rows::drop_row))]
-pub(crate) fn drop_scanout(names: &Names, displays: usize, scanout: &[u8]) -> Result<Step, Stop>
+pub(crate) fn drop_scanout(names: &Names, displays: usize, scanout: &[u8]) -> Result<Call, Stop>
     requires { displays ≤ 16 }
     ensures { Judges (table_of names.now) result
         (judged_row (drop_row displays (table_of names.now) scanout.now)) }
 {
     spelled(scanout)?;
     let scanout = display(scanout, displays)?;
-    Ok(Step::Drop { scanout })
+    Ok(Call::Drop { scanout })
 }
 
 /// `hide S`
 #[tactic(auto, unfolding(crate::specs::Rows::hide_row))]
-pub(crate) fn hide(names: &Names, displays: usize, scanout: &[u8]) -> Result<Step, Stop>
+pub(crate) fn hide(names: &Names, displays: usize, scanout: &[u8]) -> Result<Call, Stop>
     requires { displays ≤ 16 }
     ensures { Judges (table_of names.now) result
         (judged_row (hide_row displays (table_of names.now) scanout.now)) }
 {
     spelled(scanout)?;
     let scanout = display(scanout, displays)?;
-    Ok(Step::Hide { scanout })
+    Ok(Call::Hide { scanout })
 }
 
 /// `show S A X Y W H`
@@ -208,20 +212,20 @@ pub(crate) fn show(
     y: &[u8],
     width: &[u8],
     height: &[u8],
-) -> Result<Step, Stop>
+) -> Result<Call, Stop>
     requires { displays ≤ 16 }
     ensures { Judges (table_of names.now) result
         (judged_row (show_row displays (table_of names.now) scanout.now name.now x.now y.now width.now height.now)) }
 {
     spelled(scanout)?;
     all_spelled(x, y, width, height)?;
-    let area = area(x, y, width, height)?;
+    let rect = rect(x, y, width, height)?;
     let scanout = display(scanout, displays)?;
     let name = known(names, name)?;
-    Ok(Step::Show {
+    Ok(Call::Show {
         scanout,
         name,
-        area,
+        rect,
     })
 }
 
@@ -232,7 +236,7 @@ pub(crate) fn flip(
     displays: usize,
     scanout: &[u8],
     name: &[u8],
-) -> Result<Step, Stop>
+) -> Result<Call, Stop>
     requires { displays ≤ 16 }
     ensures { Judges (table_of names.now) result
         (judged_row (flip_row displays (table_of names.now) scanout.now name.now)) }
@@ -240,7 +244,7 @@ pub(crate) fn flip(
     spelled(scanout)?;
     let scanout = display(scanout, displays)?;
     let name = known(names, name)?;
-    Ok(Step::Flip { scanout, name })
+    Ok(Call::Flip { scanout, name })
 }
 
 /// `cursor S A X Y HX HY`
@@ -254,7 +258,7 @@ pub(crate) fn cursor(
     y: &[u8],
     hot_x: &[u8],
     hot_y: &[u8],
-) -> Result<Step, Stop>
+) -> Result<Call, Stop>
     requires { displays ≤ 16 }
     ensures { Judges (table_of names.now) result
         (judged_row (cursor_row displays (table_of names.now) scanout.now name.now x.now y.now hot_x.now hot_y.now)) }
@@ -266,7 +270,7 @@ pub(crate) fn cursor(
     let (x, y) = positions(x, y)?;
     let (hot_x, hot_y) = pair(hot_x, hot_y)?;
     let name = known_or_none(names, name)?;
-    Ok(Step::Cursor {
+    Ok(Call::Cursor {
         scanout,
         name,
         x,
@@ -284,7 +288,7 @@ pub(crate) fn move_cursor(
     scanout: &[u8],
     x: &[u8],
     y: &[u8],
-) -> Result<Step, Stop>
+) -> Result<Call, Stop>
     requires { displays ≤ 16 }
     ensures { Judges (table_of names.now) result
         (judged_row (move_row displays (table_of names.now) scanout.now x.now y.now)) }
@@ -293,28 +297,29 @@ pub(crate) fn move_cursor(
     both_signed(x, y)?;
     let scanout = display(scanout, displays)?;
     let (x, y) = positions(x, y)?;
-    Ok(Step::Move { scanout, x, y })
+    Ok(Call::Move { scanout, x, y })
 }
 
 /// `uuid A`
 #[tactic(auto, unfolding(crate::specs::Rows::uuid_row))]
-pub(crate) fn uuid(names: &Names, name: &[u8]) -> Result<Step, Stop>
+pub(crate) fn uuid(names: &Names, name: &[u8]) -> Result<Call, Stop>
     ensures { Judges (table_of names.now) result
         (judged_row (uuid_row (table_of names.now) name.now)) }
 {
     let name = known(names, name)?;
-    Ok(Step::Uuid { name })
+    Ok(Call::Uuid { name })
 }
 
 /// `close A`
 #[tactic(auto, unfolding(crate::specs::Rows::close_row))]
-pub(crate) fn close(names: &mut Names, name: &[u8]) -> Result<Step, Stop>
-    ensures { Judges (table_of names.new) result
+pub(crate) fn close(names: &mut Names, name: &[u8]) -> Result<Call, Stop>
+    ensures call { Judges (table_of names.new) result
         (judged_row (close_row (table_of names.old) name.now)) }
+    ensures count { (table_of names.new).count ≡ (table_of names.old).count }
 {
     let buffer = known(names, name)?;
     names.end(name);
-    Ok(Step::Close { name: buffer })
+    Ok(Call::Close { name: buffer })
 }
 
 /// `raw Q ROOM SHAPE HEX`
@@ -326,11 +331,11 @@ pub(crate) fn raw(
     room: &[u8],
     shape: &[u8],
     hex: &[u8],
-) -> Result<Step, Stop>
+) -> Result<Call, Stop>
     ensures { Judges (table_of names.now) result
         (judged_row (raw_row (table_of names.now) queue.now room.now shape.now hex.now)) }
 {
-    let cursor = queue_of(queue)?;
+    let queue = queue_of(queue)?;
     let shape = shape_of(shape)?;
     spelled(room)?;
     let bytes = bytes_or_none(alloc, hex)?;
@@ -338,93 +343,99 @@ pub(crate) fn raw(
     if hex.len() / 2 > 4_096 {
         return Err(Stop::Fault(Kind::Limit));
     }
-    Ok(Step::Raw {
-        cursor,
+    Ok(Call::Raw {
+        queue,
         room,
         shape,
         bytes,
     })
 }
 
-/// Which queue a word is: whether it is that of the cursor.
+/// The queue that a word names.
 #[tactic(auto, unfolding(crate::specs::Rows::queue_of))]
-fn queue_of(word: &[u8]) -> Result<bool, Kind>
+fn queue_of(word: &[u8]) -> Result<Queue, Kind>
     ensures { Finds (queue_of word.now) Kind.Word result }
 {
     if is(word, b"control") {
-        return Ok(false);
+        return Ok(Queue::Control);
     }
     if is(word, b"cursor") {
-        return Ok(true);
+        return Ok(Queue::Cursor);
     }
     Err(Kind::Word)
 }
 
 /// The shape that a word spells.
 #[tactic(auto, unfolding(crate::specs::Rows::shape_of))]
-fn shape_of(word: &[u8]) -> Result<RawShape, Kind>
+fn shape_of(word: &[u8]) -> Result<Shape, Kind>
     ensures { Finds (shape_of word.now) Kind.Word result }
 {
     if is(word, b"plain") {
-        return Ok(RawShape::Plain);
+        return Ok(Shape::Plain);
     }
     if is(word, b"pieces2") {
-        return Ok(RawShape::Pieces { n: 2 });
+        return Ok(Shape::Pieces { n: 2 });
     }
     if is(word, b"pieces3") {
-        return Ok(RawShape::Pieces { n: 3 });
+        return Ok(Shape::Pieces { n: 3 });
     }
     if is(word, b"pieces4") {
-        return Ok(RawShape::Pieces { n: 4 });
+        return Ok(Shape::Pieces { n: 4 });
     }
     if is(word, b"pieces5") {
-        return Ok(RawShape::Pieces { n: 5 });
+        return Ok(Shape::Pieces { n: 5 });
     }
     if is(word, b"pieces6") {
-        return Ok(RawShape::Pieces { n: 6 });
+        return Ok(Shape::Pieces { n: 6 });
     }
     if is(word, b"pieces7") {
-        return Ok(RawShape::Pieces { n: 7 });
+        return Ok(Shape::Pieces { n: 7 });
     }
     if is(word, b"pieces8") {
-        return Ok(RawShape::Pieces { n: 8 });
+        return Ok(Shape::Pieces { n: 8 });
     }
     if is(word, b"indirect") {
-        return Ok(RawShape::Indirect);
+        return Ok(Shape::Indirect);
     }
     if is(word, b"mixed") {
-        return Ok(RawShape::Mixed);
+        return Ok(Shape::Mixed);
     }
     bad_shape_of(word)
 }
 
 /// The shape that a word spells, where it has a fault.
 #[tactic(auto, unfolding(crate::specs::Rows::bad_shape_of))]
-fn bad_shape_of(word: &[u8]) -> Result<RawShape, Kind>
+fn bad_shape_of(word: &[u8]) -> Result<Shape, Kind>
     ensures { Finds (bad_shape_of word.now) Kind.Word result }
 {
     if is(word, b"index") {
-        return Ok(RawShape::Index);
+        return Ok(bad(ChainFault::Index));
     }
     if is(word, b"loop") {
-        return Ok(RawShape::Loop);
+        return Ok(bad(ChainFault::Loop));
     }
     if is(word, b"nested") {
-        return Ok(RawShape::Nested);
+        return Ok(bad(ChainFault::Nested));
     }
     if is(word, b"nextindirect") {
-        return Ok(RawShape::NextIndirect);
+        return Ok(bad(ChainFault::NextWithIndirect));
     }
     if is(word, b"tablelength") {
-        return Ok(RawShape::TableLength);
+        return Ok(bad(ChainFault::TableLength));
     }
     if is(word, b"order") {
-        return Ok(RawShape::Order);
+        return Ok(bad(ChainFault::Order));
     }
     if is(word, b"range") {
-        return Ok(RawShape::Range);
+        return Ok(bad(ChainFault::Range));
     }
     Err(Kind::Word)
+}
+
+fn bad(fault: ChainFault) -> Shape
+    ensures { result ≡ shapes.Bad fault }
+{
+    Shape::Bad { fault }
 }
 
 /// Refuses two words of which one is no signed number.
@@ -495,17 +506,17 @@ fn all_spelled(x: &[u8], y: &[u8], width: &[u8], height: &[u8]) -> Result<(), Ki
 }
 
 /// A rectangle.
-fn area(x: &[u8], y: &[u8], width: &[u8], height: &[u8]) -> Result<Area, Kind>
+fn rect(x: &[u8], y: &[u8], width: &[u8], height: &[u8]) -> Result<Rect, Kind>
     requires x { is_number x.now ≡ true }
     requires y { is_number y.now ≡ true }
     requires width { is_number width.now ≡ true }
     requires height { is_number height.now ≡ true }
     ensures { Yields (are_any x.now y.now width.now height.now)
-        (area_of x.now y.now width.now height.now) Kind.Limit result }
+        (rect_of x.now y.now width.now height.now) Kind.Limit result }
 {
     let (x, y) = pair(x, y)?;
     let (width, height) = pair(width, height)?;
-    Ok(Area {
+    Ok(Rect {
         x,
         y,
         width,
@@ -514,18 +525,23 @@ fn area(x: &[u8], y: &[u8], width: &[u8], height: &[u8]) -> Result<Area, Kind>
 }
 
 /// A name, where it is that of a buffer.
-fn known(names: &Names, name: &[u8]) -> Result<Name, Stop>
-    ensures { Knows (is_kind kinds.Buffer (table_of names.now name.now)) name.now result }
+fn known(names: &Names, name: &[u8]) -> Result<NameRef, Stop>
+    ensures { Knows (is_kind kinds.Buffer ((table_of names.now).names name.now)) (ref_to (table_of names.now) name.now) result }
 {
-    if !names.is_kind(name, NameKind::Buffer) {
+    let Some(named) = names.find(name) else {
+        return Err(Stop::Fault(Kind::Name));
+    };
+    if named.kind != NameKind::Buffer {
         return Err(Stop::Fault(Kind::Name));
     }
-    Ok(Name::of(name))
+    Ok(NameRef {
+        number: named.number,
+    })
 }
 
 /// A name, where it is that of a buffer, or none where it is `-`.
-fn known_or_none(names: &Names, name: &[u8]) -> Result<Option<Name>, Stop>
-    ensures { Knows (is_no_name name.now || is_kind kinds.Buffer (table_of names.now name.now)) (name_or_none name.now) result }
+fn known_or_none(names: &Names, name: &[u8]) -> Result<Option<NameRef>, Stop>
+    ensures { Knows (is_no_name name.now || is_kind kinds.Buffer ((table_of names.now).names name.now)) (ref_or_none (table_of names.now) name.now) result }
 {
     if is(name, b"-") {
         return Ok(None);

@@ -1,3 +1,4 @@
+pub mod Queue
 pub mod Known
 pub mod Table
 pub mod Fits

@@ -1,12 +1,12 @@
 -- What a call that is within its limits plans: few tasks, each within its limits, or what is denied.
-use Rattle.std.specs.Prelude.{◌≡◌, ◌≤◌, ◌<◌, ◌+◌, ℕ, List, [], ◌∷◌, length, Result, Ok, Err, Vec}
+use Rattle.std.specs.Prelude.{◌≡◌, ◌≤◌, ◌<◌, ◌+◌, ℕ, List, [], ◌∷◌, length, Result, Ok, Err}
 use Rattle.std.specs.List.{AllByRecursion}
 use Rattle.vg_chain.specs.Made.{IsCount}
 use Rattle.vg_holds.specs.declared.act.What.{What}
 use Rattle.vg_holds.specs.declared.holds.Holds.{Holds}
 use Rattle.vg_holds.specs.Holds.{Deniable}
-use Rattle.vg_tasks.specs.declared.call.Call.{Call}
-use Rattle.vg_tasks.specs.declared.call.Call.TheVariants as calls
+use Rattle.vg_calls.specs.declared.call.Call.{Call}
+use Rattle.vg_calls.specs.declared.call.Call.TheVariants as calls
 use Rattle.vg_tasks.specs.declared.task.Change.{Change}
 use Rattle.vg_tasks.specs.declared.task.Change.TheVariants.{NewBuffer, EndOfName}
 use Rattle.vg_tasks.specs.declared.task.Task.{Task}
@@ -15,7 +15,7 @@ use Rattle.vg_tasks.specs.Fits.{IsFit}
 -- How many entries a task can give, with those that follow from it.
 abbrev pub weight_of : Change → ℕ
 weight_of (NewBuffer width height format) = 3
-weight_of (EndOfName generation key) = 3
+weight_of (EndOfName number key) = 3
 weight_of change = 1
 
 abbrev pub weights : List Task → ℕ
@@ -30,21 +30,16 @@ IsCallFit displays (calls.Raw queue room shape bytes) = (length bytes ≤ 49152)
 IsCallFit displays call = Unit {0}
 
 -- What was made of a plan: its tasks, which are few and fit, or what is denied.
-abbrev pub IsPlanOf : {A : Type 0} → Result (List Task) What → Result (Vec Task A) What → Type 0
-IsPlanOf plan (Ok tasks) = (plan ≡ Ok tasks.items) × AllByRecursion IsFit tasks.items × (weights tasks.items ≤ 19)
+abbrev pub IsPlanOf : Result (List Task) What → Result (List Task) What → Type 0
+IsPlanOf plan (Ok tasks) = (plan ≡ Ok tasks) × AllByRecursion IsFit tasks × (weights tasks ≤ 19)
 IsPlanOf plan (Err what) = plan ≡ Err what
 
 -- The same, where memory may lack.
-abbrev pub Plans : {A E : Type 0} → Result (List Task) What → Result (Result (Vec Task A) What) E → Type 0
+abbrev pub Plans : {E : Type 0} → Result (List Task) What → Result (Result (List Task) What) E → Type 0
 Plans plan (Ok made) = IsPlanOf plan made
 Plans plan (Err none) = Unit {0}
 
--- What is planned, as lists.
-abbrev pub planned : {A : Type 0} → Result (Vec Task A) What → Result (List Task) What
-planned (Ok tasks) = Ok tasks.items
-planned (Err what) = Err what
-
 -- The tasks are few and fit; what is denied may be.
-abbrev pub IsFitPlan : {A : Type 0} → Holds → Result (Vec Task A) What → Type 0
-IsFitPlan holds (Ok tasks) = AllByRecursion IsFit tasks.items × (weights tasks.items ≤ 19)
+abbrev pub IsFitPlan : Holds → Result (List Task) What → Type 0
+IsFitPlan holds (Ok tasks) = AllByRecursion IsFit tasks × (weights tasks ≤ 19)
 IsFitPlan holds (Err what) = Deniable holds what

@@ -105,7 +105,7 @@ drop_task scanout = record { deed = Act (acts.Drop scanout); change = Shows scan
 
 -- Gives up the hold of the buffer that a name stands for.
 abbrev pub release_task : Held → Task
-release_task held = record { deed = Act (acts.Release held.key); change = EndOfName held.generation held.key }
+release_task held = record { deed = Act (acts.Release held.key); change = EndOfName held.number held.key }
 
 abbrev pub unref_task : ℕ → Task
 unref_task key = two_d_task (commands.Unref key) GoesOn

@@ -5,10 +5,10 @@ use Rattle.vg_holds.specs.declared.act.What.{What}
 use Rattle.vg_holds.specs.declared.act.What.TheVariants.{Name, Scanout}
 use Rattle.vg_holds.specs.declared.holds.Holds.{Holds}
 use Rattle.vg_holds.specs.Holds.{has_number}
-use Rattle.vg_tasks.specs.declared.call.Call.{Call}
-use Rattle.vg_tasks.specs.declared.call.Call.TheVariants as calls
+use Rattle.vg_calls.specs.declared.call.Call.{Call}
+use Rattle.vg_calls.specs.declared.call.Call.TheVariants as calls
 use Rattle.vg_names.specs.declared.names.Held.{Held}
-use Rattle.vg_names.specs.declared.names.NameRef.{NameRef}
+use Rattle.vg_calls.specs.declared.call.NameRef.{NameRef}
 use Rattle.vg_tasks.specs.declared.task.Task.{Task}
 use Rattle.vg_tasks.specs.Known.{Known}
 use Rattle.vg_names.specs.Names.{NamesState, found}
@@ -20,7 +20,7 @@ if_current None tasks = Err Name
 if_current (Some held) tasks = Ok (tasks held)
 
 abbrev pub with_held : NamesState → NameRef → (Held → List Task) → Result (List Task) What
-with_held names name tasks = if_current (found name.generation names) tasks
+with_held names name tasks = if_current (found name.number names) tasks
 
 -- The whole of a buffer.
 abbrev pub whole_of : Held → Rect

@@ -47,7 +47,8 @@ pub enum Deed {
 pub enum Change {
     /// Nothing.
     Nothing,
-    /// A buffer that was reserved gets a name, and then a resource with its pages as its backing.
+    /// The next name is that of a buffer that was reserved, which then gets a resource with its pages as its backing; or it never
+    /// is current.
     NewBuffer {
         width: u32,
         height: u32,
@@ -55,7 +56,7 @@ pub enum Change {
     },
     /// The name of a buffer that was released ends. What no one holds any more is taken down.
     EndOfName {
-        generation: u32,
+        number: u32,
         key: u32,
     },
     /// The scanout shows a buffer of the client's, or none.
@@ -341,7 +342,7 @@ pub(crate) fn release_task(held: Held) -> Task
             act: Act::Release { key: held.key },
         },
         change: Change::EndOfName {
-            generation: held.generation,
+            number: held.number,
             key: held.key,
         },
     }

@@ -10,17 +10,18 @@ ghost use Rattle.vg_tasks.specs.Table as table;
 ghost use Rattle.vg_tasks.specs.Tasks as plan;
 ghost use Rattle.vg_tasks.specs.Tasks.{clear_tasks, leases_back, with_held};
 
-use crate::call::Call;
+use crate::queue::Tasks;
 use crate::task::{
     Task, act_task, clear_task, cursor_task, drop_task, edid_task, flush_task, hide_cursor_task,
     hide_task, info_task, move_task, raw_task, release_task, reserve_task, send_task, show_task,
     store_task, uuid_task,
 };
 use std::alloc::{AllocError, Global};
+use vg_calls::{Call, NameRef};
 use vg_formats::Rect;
 use vg_holds::{Act, Holds, What};
 use vg_list::Seq;
-use vg_names::{Held, NameRef, Names};
+use vg_names::{Held, Names};
 
 /// The tasks of a call, or what is denied before there is any.
 pub fn tasks_of(
@@ -29,7 +30,7 @@ pub fn tasks_of(
     names: &Names,
     shows: &[Option<u32>],
     call: Call,
-) -> Result<Result<Vec<Task>, What>, AllocError>
+) -> Result<Result<Tasks, What>, AllocError>
     requires call { IsCallFit holds.now.displays call }
     requires shows { length shows.now ≤ 16 }
     ensures plans { Plans (plan.tasks_of (record { holds = holds.now; names = names.now; shows = shows.now }) call) result }
@@ -85,12 +86,30 @@ pub fn tasks_of(
     }
 }
 
-fn one(alloc: Global, task: Task) -> Result<Result<Vec<Task>, What>, AllocError>
+fn one(alloc: Global, task: Task) -> Result<Result<Tasks, What>, AllocError>
     requires { IsFit task }
     ensures plans { Plans (Ok (task ∷ [])) result }
     ensures denied { IfOk result (λ done. OnErr done ⊥) }
 {
-    Ok(Ok(vec![in alloc; task]?))
+    Ok(Ok(Tasks::one(alloc, task)))
+}
+
+/// Three tasks, each of which gives one entry.
+fn three(
+    alloc: Global,
+    first: Task,
+    second: Task,
+    third: Task,
+) -> Result<Result<Tasks, What>, AllocError>
+    requires fit { IsFit first × IsFit second × IsFit third }
+    requires few { weights (first ∷ second ∷ third ∷ []) ≤ 19 }
+    ensures plans { Plans (Ok (first ∷ second ∷ third ∷ [])) result }
+    ensures denied { IfOk result (λ done. OnErr done ⊥) }
+{
+    let mut tasks = Tasks::one(alloc, first);
+    tasks.push(second)?;
+    tasks.push(third)?;
+    Ok(Ok(tasks))
 }
 
 fn store_tasks(
@@ -100,11 +119,11 @@ fn store_tasks(
     offset: u32,
     bytes: Seq<u8>,
     times: u32,
-) -> Result<Result<Vec<Task>, What>, AllocError>
+) -> Result<Result<Tasks, What>, AllocError>
     ensures plans { Plans (with_held names.now name (λ held. table.store_task held.key offset bytes times ∷ [])) result }
     ensures denied { IfOk result (λ done. IfErr done (λ what. what ≡ whats.Name)) }
 {
-    match names.find(name.generation) {
+    match names.find(name.number) {
         Some(held) => one(alloc, store_task(held.key, offset, bytes, times)),
         None => Ok(Err(What::Name)),
     }
@@ -116,11 +135,11 @@ fn load_tasks(
     name: NameRef,
     offset: u32,
     length: u32,
-) -> Result<Result<Vec<Task>, What>, AllocError>
+) -> Result<Result<Tasks, What>, AllocError>
     ensures plans { Plans (with_held names.now name (λ held. table.load_task held.key offset length ∷ [])) result }
     ensures denied { IfOk result (λ done. IfErr done (λ what. what ≡ whats.Name)) }
 {
-    match names.find(name.generation) {
+    match names.find(name.number) {
         Some(held) => {
             let key = held.key;
             one(
@@ -141,11 +160,11 @@ fn send_tasks(
     names: &Names,
     name: NameRef,
     rect: Rect,
-) -> Result<Result<Vec<Task>, What>, AllocError>
+) -> Result<Result<Tasks, What>, AllocError>
     ensures plans { Plans (with_held names.now name (λ held. table.send_task held rect ∷ [])) result }
     ensures denied { IfOk result (λ done. IfErr done (λ what. what ≡ whats.Name)) }
 {
-    match names.find(name.generation) {
+    match names.find(name.number) {
         Some(held) => one(alloc, send_task(held, rect)),
         None => Ok(Err(What::Name)),
     }
@@ -168,11 +187,11 @@ fn flush_tasks(
     names: &Names,
     name: NameRef,
     rect: Rect,
-) -> Result<Result<Vec<Task>, What>, AllocError>
+) -> Result<Result<Tasks, What>, AllocError>
     ensures plans { Plans (with_held names.now name (λ held. table.flush_task held.key rect ∷ [])) result }
     ensures denied { IfOk result (λ done. IfErr done (λ what. what ≡ whats.Name)) }
 {
-    match names.find(name.generation) {
+    match names.find(name.number) {
         Some(held) => one(alloc, flush_task(held.key, rect)),
         None => Ok(Err(What::Name)),
     }
@@ -184,11 +203,11 @@ fn show_tasks(
     scanout: u32,
     name: NameRef,
     rect: Rect,
-) -> Result<Result<Vec<Task>, What>, AllocError>
+) -> Result<Result<Tasks, What>, AllocError>
     ensures plans { Plans (with_held names.now name (λ held. table.show_task scanout held.key rect ∷ [])) result }
     ensures denied { IfOk result (λ done. IfErr done (λ what. what ≡ whats.Name)) }
 {
-    match names.find(name.generation) {
+    match names.find(name.number) {
         Some(held) => one(alloc, show_task(scanout, held.key, rect)),
         None => Ok(Err(What::Name)),
     }
@@ -199,17 +218,17 @@ fn flip_tasks(
     names: &Names,
     scanout: u32,
     name: NameRef,
-) -> Result<Result<Vec<Task>, What>, AllocError>
+) -> Result<Result<Tasks, What>, AllocError>
     ensures plans { Plans (with_held names.now name (plan.flip_tasks scanout)) result }
     ensures denied { IfOk result (λ done. IfErr done (λ what. what ≡ whats.Name)) }
 {
-    match names.find(name.generation) {
+    match names.find(name.number) {
         Some(held) => flip_held(alloc, scanout, held),
         None => Ok(Err(What::Name)),
     }
 }
 
-fn flip_held(alloc: Global, scanout: u32, held: Held) -> Result<Result<Vec<Task>, What>, AllocError>
+fn flip_held(alloc: Global, scanout: u32, held: Held) -> Result<Result<Tasks, What>, AllocError>
     requires { held.width ≤ 640 }
     ensures plans { Plans (Ok (plan.flip_tasks scanout held)) result }
     ensures denied { IfOk result (λ done. OnErr done ⊥) }
@@ -218,7 +237,7 @@ fn flip_held(alloc: Global, scanout: u32, held: Held) -> Result<Result<Vec<Task>
     let send = send_task(held, rect);
     let show = show_task(scanout, held.key, rect);
     let flush = flush_task(held.key, rect);
-    Ok(Ok(vec![in alloc; send, show, flush]?))
+    three(alloc, send, show, flush)
 }
 
 fn cursor_tasks(
@@ -230,31 +249,27 @@ fn cursor_tasks(
     y: i32,
     hot_x: u32,
     hot_y: u32,
-) -> Result<Result<Vec<Task>, What>, AllocError>
+) -> Result<Result<Tasks, What>, AllocError>
     ensures plans { Plans (plan.cursor_tasks names.now scanout name x y hot_x hot_y) result }
     ensures denied { IfOk result (λ done. IfErr done (λ what. what ≡ whats.Name)) }
 {
     let Some(name) = name else {
         return one(alloc, cursor_task(scanout, 0, x, y, hot_x, hot_y));
     };
-    match names.find(name.generation) {
+    match names.find(name.number) {
         Some(held) => one(alloc, cursor_task(scanout, held.key, x, y, hot_x, hot_y)),
         None => Ok(Err(What::Name)),
     }
 }
 
-fn drop_tasks(
-    alloc: Global,
-    holds: &Holds,
-    scanout: u32,
-) -> Result<Result<Vec<Task>, What>, AllocError>
+fn drop_tasks(alloc: Global, holds: &Holds, scanout: u32) -> Result<Result<Tasks, What>, AllocError>
     requires { scanout < holds.now.displays }
     ensures plans { Plans (plan.drop_tasks holds.now scanout) result }
     ensures denied { IfOk result (λ done. IfErr done (MayDeny holds.now)) }
 {
     if is_leased(holds, scanout) {
         let hide = hide_cursor_task(scanout);
-        Ok(Ok(vec![in alloc; clear_task(scanout), hide, drop_task(scanout)]?))
+        three(alloc, clear_task(scanout), hide, drop_task(scanout))
     } else {
         Ok(Err(What::Scanout { n: scanout }))
     }
@@ -271,11 +286,11 @@ fn uuid_tasks(
     alloc: Global,
     names: &Names,
     name: NameRef,
-) -> Result<Result<Vec<Task>, What>, AllocError>
+) -> Result<Result<Tasks, What>, AllocError>
     ensures plans { Plans (with_held names.now name (λ held. table.uuid_task held.key ∷ [])) result }
     ensures denied { IfOk result (λ done. IfErr done (λ what. what ≡ whats.Name)) }
 {
-    match names.find(name.generation) {
+    match names.find(name.number) {
         Some(held) => one(alloc, uuid_task(held.key)),
         None => Ok(Err(What::Name)),
     }
@@ -286,12 +301,12 @@ fn close_tasks(
     names: &Names,
     shows: &[Option<u32>],
     name: NameRef,
-) -> Result<Result<Vec<Task>, What>, AllocError>
+) -> Result<Result<Tasks, What>, AllocError>
     requires { length shows.now ≤ 16 }
     ensures plans { Plans (with_held names.now name (plan.close_tasks shows.now)) result }
     ensures denied { IfOk result (λ done. IfErr done (λ what. what ≡ whats.Name)) }
 {
-    match names.find(name.generation) {
+    match names.find(name.number) {
         Some(held) => close_held(alloc, shows, held),
         None => Ok(Err(What::Name)),
     }
@@ -301,7 +316,7 @@ fn close_held(
     alloc: Global,
     shows: &[Option<u32>],
     held: Held,
-) -> Result<Result<Vec<Task>, What>, AllocError>
+) -> Result<Result<Tasks, What>, AllocError>
     requires { length shows.now ≤ 16 }
     ensures plans { Plans (Ok (clear_tasks held.key 0 shows.now ++ table.release_task held ∷ [])) result }
     ensures denied { IfOk result (λ done. OnErr done ⊥) }
@@ -312,11 +327,11 @@ fn close_held(
 }
 
 /// Disables each scanout on which the client shows the key.
-fn clear_each(alloc: Global, key: u32, shows: &[Option<u32>]) -> Result<Vec<Task>, AllocError>
+fn clear_each(alloc: Global, key: u32, shows: &[Option<u32>]) -> Result<Tasks, AllocError>
     requires { length shows.now ≤ 16 }
-    ensures { IfOk result (λ tasks. tasks.items ≡ clear_tasks key 0 shows.now) }
+    ensures { IfOk result (λ tasks. tasks ≡ clear_tasks key 0 shows.now) }
 {
-    let mut tasks = Vec::new(alloc);
+    let mut tasks = Tasks::new(alloc);
     for (scanout, shown) in shows.iter().enumerate() {
         clear_shown(&mut tasks, key, scanout as u32, *shown)?;
     }
@@ -325,12 +340,12 @@ fn clear_each(alloc: Global, key: u32, shows: &[Option<u32>]) -> Result<Vec<Task
 
 /// Disables a scanout that shows the key.
 fn clear_shown(
-    tasks: &mut Vec<Task>,
+    tasks: &mut Tasks,
     key: u32,
     scanout: u32,
     shown: Option<u32>,
 ) -> Result<(), AllocError>
-    ensures { OnOk result (tasks.new.items ≡ tasks.old.items ++ (if plan.is_shown key shown then table.clear_task scanout ∷ [] else [])) }
+    ensures { OnOk result (tasks.new ≡ tasks.old ++ (if plan.is_shown key shown then table.clear_task scanout ∷ [] else [])) }
 {
     if is_shown(key, shown) {
         tasks.push(clear_task(scanout))?;
@@ -348,11 +363,11 @@ fn is_shown(key: u32, shown: Option<u32>) -> bool
 }
 
 /// What the client gives up at its end: its leases, rising, and then its buffers in the order in which they were made.
-pub fn end_tasks(alloc: Global, holds: &Holds, names: &Names) -> Result<Vec<Task>, AllocError>
-    ensures tasks { IfOk result (λ tasks. tasks.items
+pub fn end_tasks(alloc: Global, holds: &Holds, names: &Names) -> Result<Tasks, AllocError>
+    ensures tasks { IfOk result (λ tasks. tasks
         ≡ leases_back holds.now.scanouts 0 holds.now.displays ++ map table.release_task names.now.current) }
-    ensures fit { IfOk result (λ tasks. AllByRecursion IsFit tasks.items) }
-    ensures few { IfOk result (λ tasks. weights tasks.items ≤ 3 * holds.now.displays + 3 * length names.now.current) }
+    ensures fit { IfOk result (λ tasks. AllByRecursion IsFit tasks) }
+    ensures few { IfOk result (λ tasks. weights tasks ≤ 3 * holds.now.displays + 3 * length names.now.current) }
 {
     let mut tasks = give_back_each(alloc, holds)?;
     let current = names.current(alloc)?;
@@ -361,10 +376,10 @@ pub fn end_tasks(alloc: Global, holds: &Holds, names: &Names) -> Result<Vec<Task
 }
 
 /// Gives back each scanout that is leased to the client.
-fn give_back_each(alloc: Global, holds: &Holds) -> Result<Vec<Task>, AllocError>
-    ensures { IfOk result (λ tasks. tasks.items ≡ leases_back holds.now.scanouts 0 holds.now.displays) }
+fn give_back_each(alloc: Global, holds: &Holds) -> Result<Tasks, AllocError>
+    ensures { IfOk result (λ tasks. tasks ≡ leases_back holds.now.scanouts 0 holds.now.displays) }
 {
-    let mut tasks = Vec::new(alloc);
+    let mut tasks = Tasks::new(alloc);
     for scanout in 0..holds.displays {
         give_back_leased(&mut tasks, holds, scanout)?;
     }
@@ -372,8 +387,8 @@ fn give_back_each(alloc: Global, holds: &Holds) -> Result<Vec<Task>, AllocError>
 }
 
 /// Gives back a scanout that is leased to the client.
-fn give_back_leased(tasks: &mut Vec<Task>, holds: &Holds, scanout: u32) -> Result<(), AllocError>
-    ensures { OnOk result (tasks.new.items ≡ tasks.old.items
+fn give_back_leased(tasks: &mut Tasks, holds: &Holds, scanout: u32) -> Result<(), AllocError>
+    ensures { OnOk result (tasks.new ≡ tasks.old
         ++ (if has_number scanout holds.now.scanouts then plan.give_back scanout else [])) }
 {
     if is_leased(holds, scanout) {
@@ -385,8 +400,8 @@ fn give_back_leased(tasks: &mut Vec<Task>, holds: &Holds, scanout: u32) -> Resul
 }
 
 /// Gives up each of these buffers.
-fn release_each(tasks: &mut Vec<Task>, current: &[Held]) -> Result<(), AllocError>
-    ensures { OnOk result (tasks.new.items ≡ tasks.old.items ++ map table.release_task current.now) }
+fn release_each(tasks: &mut Tasks, current: &[Held]) -> Result<(), AllocError>
+    ensures { OnOk result (tasks.new ≡ tasks.old ++ map table.release_task current.now) }
 {
     for held in current {
         tasks.push(release_task(*held))?;

@@ -15,4 +15,4 @@ mod write;
 pub use command::Command;
 pub use laws::{a_request_or_a_refusal, each_refusal};
 pub use request::{read_request, write_request};
-pub use response::{Response, read_response, write_response};
+pub use response::{Response, append_response, read_response, write_response};

@@ -90,9 +90,22 @@ pub fn write_response(
     ensures { IfOk result (λ out. out.items ≡ response_bytes header.now response.now) }
 {
     let mut out = Vec::with_capacity(alloc, 24 + size_of(response))?;
-    put_header(&mut out, *header)?;
-    put_response(&mut out, response)?;
+    append_response(&mut out, header, response)?;
     Ok(out)
+}
+
+/// Adds the bytes of a response, as `write_response` gives them, behind those that are there. It takes memory only where there
+/// is no room for them.
+pub fn append_response(
+    out: &mut Vec<u8>,
+    header: &Header,
+    response: &Response,
+) -> Result<(), AllocError>
+    requires { header.now.kind ≡ response_kind response.now }
+    ensures { OnOk result (out.new.items ≡ out.old.items ++ response_bytes header.now response.now) }
+{
+    put_header(out, *header)?;
+    put_response(out, response)
 }
 
 /// The block of an OK_EDID.

@@ -1,5 +1,5 @@
 -- A line's words, and how numbers, HEX and names are spelled.
-use Rattle.std.specs.Prelude.{ℕ, ℤ, pos, ◌+◌, ◌-ℤ◌, ◌*◌, ◌%◌, ◌==◌, ◌&&◌, ◌||◌, not, nat_lt, nat_le, Bool, false, if◌then◌else◌, List, [], ◌∷◌, length, filter, slice_index, bytes_eq, codes, Option, Some, None}
+use Rattle.std.specs.Prelude.{ℕ, ℤ, pos, ◌+◌, ◌-ℤ◌, ◌*◌, ◌%◌, ◌==◌, ◌&&◌, ◌||◌, not, nat_lt, nat_le, Bool, false, if◌then◌else◌, List, [], ◌∷◌, length, filter, slice_index, bytes_eq, codes}
 use Rattle.std.specs.Char.{is_ascii_digit, is_ascii_alphabetic, is_ascii_alphanumeric, digit_value}
 use Rattle.std.specs.Int.{is_in_range}
 use Rattle.std.specs.List.{list_all, slice_split}
@@ -64,9 +64,6 @@ bytes_or_none word = if bytes_eq word (codes "-") then [] else hex_bytes word
 abbrev pub is_name : List ℕ → Bool
 is_name word = is_ascii_alphabetic (slice_index word 0) && list_all is_ascii_alphanumeric word && nat_le (length word) 16
 
--- A name, or `-` where there is none.
+-- `-` stands where there is no name.
 abbrev pub is_no_name : List ℕ → Bool
 is_no_name word = bytes_eq word (codes "-")
-
-abbrev pub name_or_none : List ℕ → Option (List ℕ)
-name_or_none word = if is_no_name word then None else Some word

@@ -2,11 +2,9 @@
 #![tactic(auto)]
 
 mod kind;
-mod name;
 mod words;
 
 pub use kind::{Kind, Stop};
-pub use name::Name;
 pub use words::{
     both_spelled, bytes_or_none, cut, hex_bytes, is, is_name, is_number, is_signed, is_text,
     limited, position, put_words, size, spelled, value,

@@ -93,28 +93,28 @@ holds_send = let T = holds.the_type in
 -- The rows of what a display's book lends and gives.
 module _ (B : RattleType) (gb : Naming.Ghosts B.Denot) where
   abbrev pub Lane : RattleType
-  Lane = lane.the_row display.the_row B display.the_row act.the_row act_reply.the_row request.the_row reply.the_row holds.the_row machine.ghosts gb
+  Lane = lane.the_row display.the_row B display.the_row act.the_row act_reply.the_row request.the_row reply.the_row holds.the_row request.the_row machine.ghosts gb
 
   abbrev pub Carried : RattleType
-  Carried = carried.the_row display.the_row B display.the_row act.the_row act_reply.the_row request.the_row reply.the_row holds.the_row machine.ghosts gb
+  Carried = carried.the_row display.the_row B display.the_row act.the_row act_reply.the_row request.the_row reply.the_row holds.the_row request.the_row machine.ghosts gb
 
   abbrev pub Client : RattleType
-  Client = client.the_row display.the_row B display.the_row act.the_row act_reply.the_row request.the_row reply.the_row holds.the_row machine.ghosts gb
+  Client = client.the_row display.the_row B display.the_row act.the_row act_reply.the_row request.the_row reply.the_row holds.the_row request.the_row machine.ghosts gb
 
   abbrev pub Book : RattleType
-  Book = book.the_row display.the_row B display.the_row act.the_row act_reply.the_row request.the_row reply.the_row holds.the_row gb machine.ghosts
+  Book = book.the_row display.the_row B display.the_row act.the_row act_reply.the_row request.the_row reply.the_row holds.the_row request.the_row gb machine.ghosts
 
   pub lane_sent : IsSend Lane
-  lane_sent = lane_send display.the_row display.the_row act.the_row act_reply.the_row request.the_row reply.the_row holds.the_row display_send act_send act_reply_send request_send reply_send B machine.ghosts gb
+  lane_sent = lane_send display.the_row display.the_row act.the_row act_reply.the_row request.the_row reply.the_row holds.the_row request.the_row display_send act_send act_reply_send request_send reply_send B machine.ghosts gb
 
   pub carried_sent : IsSend Carried
   carried_sent = search (sendable, crosses, pass_send, done_send, display_send, act_send, act_reply_send, request_send, reply_send) depth 20
 
   pub client_sent : IsSend Client
-  client_sent = client_send display.the_row display.the_row act.the_row act_reply.the_row request.the_row reply.the_row holds.the_row display_send act_send act_reply_send request_send reply_send B machine.ghosts gb holds_send
+  client_sent = client_send display.the_row display.the_row act.the_row act_reply.the_row request.the_row reply.the_row holds.the_row request.the_row display_send act_send act_reply_send request_send reply_send B machine.ghosts gb holds_send
 
   pub book_shared : IsSync Book
-  book_shared = book_sync display.the_row display.the_row act.the_row act_reply.the_row request.the_row reply.the_row holds.the_row display_send act_send act_reply_send request_send reply_send B machine.ghosts gb
+  book_shared = book_sync display.the_row display.the_row act.the_row act_reply.the_row request.the_row reply.the_row holds.the_row request.the_row display_send act_send act_reply_send request_send reply_send B machine.ghosts gb
 
   module _ (N : RattleType) (gn : Rings.Ghosts N.Denot) (n : IsSend N) where
     pub front_sent : (gp : Tagged.Ghosts Carried.Denot) (gt : Turn.Ghosts Lane.Denot) → IsSend (front.the_row Carried Lane N gp gt gn)

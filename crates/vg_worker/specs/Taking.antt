@@ -1,10 +1,12 @@
 -- What a worker takes from a front, and what it knows of it when the front's lock is given back.
-use Rattle.std.specs.Prelude.{◌≡◌, ℕ, ◌+◌, Bool, true, Option, Some, None, Result}
+use Rattle.std.specs.Prelude.{◌≡◌, ℕ, ◌+◌, Bool, true, false, Option, Some, None, Result}
 use Rattle.vg_chain.specs.declared.chain.Chain.{Chain}
 use Rattle.vg_chain.specs.declared.chain.ChainFault.{ChainFault}
 use Rattle.vg_ring.specs.Cargo.{CargoData}
 use Rattle.vg_ring.specs.DeviceEnds.{IsCargoOf}
+use Rattle.vg_ring.specs.Walked.{IsWalkOf}
 use Rattle.vg_front.specs.declared.loan.Loan.{Loan}
+use Rattle.vg_front.specs.Desks.{is_busy}
 use Rattle.vg_front.specs.Loans.{right_of}
 use Rattle.vg_front.specs.Fronts.{FrontData, IsLent, IsNext}
 use Rattle.vg_worker.specs.declared.taken.Found.{Found}
@@ -27,11 +29,22 @@ pub record IsReady {T N : Type 0} (count_of : T → ℕ) (token : T) (right : Lo
   pub walked : (right_of right).walked ≡ true
   pub next : (right_of right).entry.ordinal ≡ count_of token + 1
 
-abbrev pub IsReadyIf : {T N : Type 0} → (T → ℕ) → T → Loan N → Option (Result Chain ChainFault) → Type 0
-IsReadyIf count_of token right (Some chain) = IsReady count_of token right
-IsReadyIf count_of token right None = Unit {0}
+-- The walk is that of its cargo's chain.
+abbrev pub IsReadyIf : {P T N : Type 0} → (T → ℕ) → T → Loan N → CargoData P → Option (Result Chain ChainFault) → Type 0
+IsReadyIf count_of token right cargo (Some chain) = IsReady count_of token right × IsWalkOf cargo.parcel chain
+IsReadyIf count_of token right cargo None = Unit {0}
 
 abbrev pub IsFound : {P T N : Type 0} → (P → Bool) → (T → ℕ) → (T → ℕ) → Found P T N → Type 0
 IsFound wanted lane_of count_of Fetched = Unit {0}
 IsFound wanted lane_of count_of (Idle ended) = Unit {0}
-IsFound wanted lane_of count_of (Run token right cargo chain) = IsOut wanted lane_of token right cargo × IsReadyIf count_of token right chain
+IsFound wanted lane_of count_of (Run token right cargo chain) = IsOut wanted lane_of token right cargo × IsReadyIf count_of token right cargo chain
+
+-- What was found says that the worker may end.
+abbrev pub says_ended : {P T N : Type 0} → Found P T N → Bool
+says_ended Fetched = false
+says_ended (Idle ended) = ended
+says_ended (Run token right cargo chain) = false
+
+-- Then it was told to stop, no command waits in the front, and nobody works on a lane.
+abbrev pub EndsIf : {P T N : Type 0} → Bool → FrontData P T → Found P T N → Type 0
+EndsIf stopped front found = says_ended found ≡ true → (stopped ≡ true) × (is_busy front.control ≡ false) × (is_busy front.cursor ≡ false)

@@ -2,6 +2,7 @@
 
 ghost use Rattle.std.specs.Prelude.{◌≡◌, ◌+◌, true, false};
 ghost use Rattle.vg_ring.specs.DeviceEnds.{IsCargoOf};
+ghost use Rattle.vg_ring.specs.Walked.{IsWalkOf};
 ghost use Rattle.vg_front.specs.Loans.{right_of};
 ghost use Rattle.vg_worker.specs.Taking.{IsOut, IsReady, IsReadyIf};
 
@@ -79,7 +80,7 @@ fn work<G: Passage, B: Naming, N: Rings, R: Wait>(
     chain: Option<Result<Chain, ChainFault>>,
 )
     requires out { IsOut ⟦<Carried<Display, B> as Tagged>⟧.is_wanted ⟦<LaneToken<Display, B> as Turn>⟧.lane_of token right cargo }
-    requires ready { IsReadyIf ⟦<LaneToken<Display, B> as Turn>⟧.count_of token right chain }
+    requires ready { IsReadyIf ⟦<LaneToken<Display, B> as Turn>⟧.count_of token right cargo chain }
 {
     let Tag { lane, ordinal } = right.tag();
     gate.pass_before(lane, ordinal);
@@ -103,6 +104,7 @@ fn run<B: Naming, N: Rings, R: Wait>(
 )
     requires out { IsOut ⟦<Carried<Display, B> as Tagged>⟧.is_wanted ⟦<LaneToken<Display, B> as Turn>⟧.lane_of token right cargo }
     requires ready { IsReady ⟦<LaneToken<Display, B> as Turn>⟧.count_of token right }
+    requires walk { IsWalkOf cargo.parcel chain.now }
 {
     let mut token = token;
     let Back { cargo, len, ran } = answer_measured(rt, alloc, book, &mut token, chain, cargo);

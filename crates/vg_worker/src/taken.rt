@@ -2,9 +2,10 @@
 
 ghost use Rattle.std.specs.Prelude.{◌≡◌, true, false, [], length, MatchOption};
 ghost use Rattle.vg_ring.specs.DeviceEnds.{IsCargoOf};
+ghost use Rattle.vg_ring.specs.Walked.{IsWalkOf};
 ghost use Rattle.vg_front.specs.Loans.{right_of};
 ghost use Rattle.vg_front.specs.Fronts.{HasWalked, IsLent};
-ghost use Rattle.vg_worker.specs.Taking.{IsFound, IsOutOf};
+ghost use Rattle.vg_worker.specs.Taking.{EndsIf, IsFound, IsOutOf, says_ended};
 
 use std::alloc::Global;
 use std::sync::{Mutex, Wait};
@@ -38,7 +39,8 @@ pub(crate) fn take<P: Tagged, T: Turn + Drop, N: Rings>(
     front: &Mutex<Front<P, T, N>>,
     stopped: bool,
 ) -> Found<P, T, N>
-    ensures { IsFound P.is_wanted T.lane_of T.count_of result }
+    ensures found { IsFound P.is_wanted T.lane_of T.count_of result }
+    ensures ended { says_ended result ≡ true → stopped ≡ true }
 {
     match front.try_lock() {
         Some(front) => {
@@ -55,7 +57,8 @@ fn step<P: Tagged, T: Turn + Drop, N: Rings>(
     front: &mut Front<P, T, N>,
     stopped: bool,
 ) -> Found<P, T, N>
-    ensures { IsFound P.is_wanted T.lane_of T.count_of result }
+    ensures found { IsFound P.is_wanted T.lane_of T.count_of result }
+    ensures ended { EndsIf stopped front.new result }
 {
     match front.step() {
         Work::Fetched => step_on(alloc, front),
@@ -75,7 +78,8 @@ fn step_on<P: Tagged, T: Turn + Drop, N: Rings>(
     alloc: Global,
     front: &mut Front<P, T, N>,
 ) -> Found<P, T, N>
-    ensures { IsFound P.is_wanted T.lane_of T.count_of result }
+    ensures found { IsFound P.is_wanted T.lane_of T.count_of result }
+    ensures goes_on { says_ended result ≡ false }
 {
     match front.step() {
         Work::Run {
@@ -96,7 +100,8 @@ fn given_out<P: Tagged, T: Turn + Drop, N: Rings>(
     cargo: Cargo<P>,
 ) -> Found<P, T, N>
     requires { IsOutOf P.is_wanted T.lane_of T.count_of front.old token right cargo }
-    ensures { IsFound P.is_wanted T.lane_of T.count_of result }
+    ensures found { IsFound P.is_wanted T.lane_of T.count_of result }
+    ensures goes_on { says_ended result ≡ false }
 {
     let mut right = right;
     let chain = walk(alloc, front, &mut right, &cargo);
@@ -117,7 +122,7 @@ fn walk<P: Tagged, T: Turn + Drop, N: Rings>(
 ) -> Option<Result<Chain, ChainFault>>
     requires lent { IsLent front.old right.old }
     requires cargo { IsCargoOf (right_of right.old).entry cargo.now }
-    ensures { MatchOption result (right.new ≡ right.old) (λ chain. HasWalked right.old right.new × (front.old.control.halted ≡ false)) }
+    ensures { MatchOption result (right.new ≡ right.old) (λ chain. HasWalked right.old right.new × (front.old.control.halted ≡ false) × IsWalkOf cargo.now.parcel chain) }
 {
     if front.halted() {
         return None;

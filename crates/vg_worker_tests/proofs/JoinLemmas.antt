@@ -19,22 +19,22 @@ lanes_more n m ls x h (inr more) = subst (λ (k : ℕ). HasLanes k (ls ++ x ∷ 
     (λ e. (x, has_last ls x, more.1 ∙ sym e))
     (λ ne. lanes_same n ls x h l (omega (arith, lt, ne))))
 
-module _ {M S A R Q P H : Type 0} (g : Ghosts M S A R Q P H) where
+module _ {M S A R Q P H W : Type 0} (g : Ghosts M S A R Q P H W) where
   -- What is so while lanes join.
-  abbrev pub IsJoining : Rooted M S A R Q P H → ℕ → Rooted M S A R Q P H → Type 0
+  abbrev pub IsJoining : Rooted M S A R Q P H W → ℕ → Rooted M S A R Q P H W → Type 0
   IsJoining old n root = HasLanes n root.lanes × IsAsBefore old root
 
-  pub joining_none : (root : Rooted M S A R Q P H) → IsJoining root 0 root
+  pub joining_none : (root : Rooted M S A R Q P H W) → IsJoining root 0 root
   joining_none root = ((λ l lt. absurd (omega (arith, lt))), (refl, refl, refl))
 
-  pub joining_more : (old root new : Rooted M S A R Q P H) (n m : ℕ) (x : Counted) → IsJoining old n root → Follows n x.lane m → (new.given ≡ root.given) × (new.lanes_made ≡ root.lanes_made)
+  pub joining_more : (old root new : Rooted M S A R Q P H W) (n m : ℕ) (x : Counted) → IsJoining old n root → Follows n x.lane m → (new.given ≡ root.given) × (new.lanes_made ≡ root.lanes_made)
       → new.accounts ≡ root.accounts → new.lanes ≡ root.lanes ++ x ∷ [] → IsJoining old m new
   joining_more old root new n m x h f told accounts lanes =
       (subst (λ (ls : List Counted). HasLanes m ls) (sym lanes) (lanes_more n m root.lanes x h.0 f), (told.0 ∙ h.1.0, accounts ∙ h.1.1, told.1 ∙ h.1.2))
 
   -- One client and 66 lanes.
-  pub all_joined : (root : Rooted M S A R Q P H) (a : Account M S A R Q P H) → root.given ≡ 1 → root.accounts ≡ a ∷ [] → a.number ≡ 1 → root.lanes_made ≡ 66 → HasLanes 66 root.lanes → AllJoined g root
+  pub all_joined : (root : Rooted M S A R Q P H W) (a : Account M S A R Q P H W) → root.given ≡ 1 → root.accounts ≡ a ∷ [] → a.number ≡ 1 → root.lanes_made ≡ 66 → HasLanes 66 root.lanes → AllJoined g root
   all_joined root a given accounts number made lanes = record {
-    clients = λ n low high. (a, subst (λ (as' : List (Account M S A R Q P H)). Has as' a) (sym accounts) (inl refl), number ∙ omega (arith, low, high, given));
+    clients = λ n low high. (a, subst (λ (as' : List (Account M S A R Q P H W)). Has as' a) (sym accounts) (inl refl), number ∙ omega (arith, low, high, given));
     lanes = λ l lt. lanes l (omega (arith, lt, made));
   }

@@ -9,7 +9,7 @@ abbrev pub HasLanes : ℕ → List Counted → Type 0
 HasLanes n lanes = (l : ℕ) → l < n → (x : Counted) × Has lanes x × (x.lane ≡ l)
 
 -- The root has the same clients as before, and has made as many lanes.
-abbrev pub IsAsBefore : {M S A R Q P H : Type 0} → Rooted M S A R Q P H → Rooted M S A R Q P H → Type 0
+abbrev pub IsAsBefore : {M S A R Q P H W : Type 0} → Rooted M S A R Q P H W → Rooted M S A R Q P H W → Type 0
 IsAsBefore old new = (new.given ≡ old.given) × (new.accounts ≡ old.accounts) × (new.lanes_made ≡ old.lanes_made)
 
 -- The next number is the same, or one more, where the lane has this one.

@@ -4,15 +4,17 @@ ghost use Rattle.std.specs.Prelude.{◌≡◌, ◌≤◌, ℕ, true, length, IfO
 ghost use Rattle.vg_chain.specs.Made.{IsCount, IsNeeded};
 ghost use Rattle.vg_ring.specs.Cargo.{IsLane};
 ghost use Rattle.vg_ring.specs.Ends.{HasRoom};
+ghost use Rattle.vg_worker_tests.specs.Ways.{shape_by};
 ghost use Rattle.vg_wire.specs.declared.request.Queue.TheVariants as queues;
 
 use std::alloc::{AllocError, Global};
 use vg_book::{Book, Carried, ClientToken, Naming};
 use vg_chain::{ChainFault, Shape};
-use vg_history::{Machine, Tagged};
+use vg_history::Tagged;
+use vg_holds::denied;
 use vg_list::Seq;
-use vg_machine::{Display, Reply, Request, lane_of};
-use vg_ring::{Cargo, ControlOf, CursorOf, DriverEnd, Parcel, Reaped, Rings, Tag};
+use vg_machine::{Display, Request, lane_of};
+use vg_ring::{ControlOf, CursorOf, DriverEnd, Parcel, Reaped, Rings, Tag};
 use vg_wire::Queue;
 
 /// A client, with the driver's ends of both rings.
@@ -31,8 +33,6 @@ pub struct Way {
     pub room: u32,
     /// The fault of its chain.
     pub fault: Option<ChainFault>,
-    /// The fault that its pass names.
-    pub told: Option<ChainFault>,
 }
 
 /// What came of a request.
@@ -41,15 +41,18 @@ pub struct Back {
     pub lane: u32,
     /// The used length.
     pub len: u32,
+    /// The fault of its chain.
+    pub fault: Option<ChainFault>,
+    /// What lies in its room, as far as the used length says.
     pub response: Vec<u8>,
     /// The number of its entry in the history, from 1.
     pub entry: u64,
-    pub reply: Reply,
 }
 
 /// A chain with this fault, or one of two descriptors.
 fn shape_of(fault: Option<ChainFault>) -> Shape
-    ensures { IsCount result }
+    ensures shape { result ≡ shape_by fault }
+    ensures count { IsCount result }
 {
     match fault {
         Some(fault) => Shape::Bad { fault },
@@ -111,10 +114,10 @@ fn publish<B: Naming, N: vg_ring::Naming>(
         lane,
         ordinal: driver.next_ordinal(lane),
     };
-    let request = request_of(alloc, way, tag, bytes)?;
-    if !Display::allowed(client.holds(), &request) {
+    if denied(alloc, client.holds(), way.queue, bytes)?.is_some() {
         return Ok(false);
     }
+    let request = request_of(alloc, way, tag, bytes)?;
     let bytes = bytes.to_vec(alloc)?;
     let parcel = Parcel::new(
         alloc,
@@ -125,62 +128,66 @@ fn publish<B: Naming, N: vg_ring::Naming>(
         bytes,
         way.room,
     )?;
-    let pass = client.pass(book, request);
+    let pass = client.pass(book, &request);
     driver.publish(shape, parcel.load(Carried::Wanted(pass)));
     Ok(true)
 }
 
-/// The request that a pass names.
+/// The request whose pass goes with these bytes.
 fn request_of(alloc: Global, way: Way, tag: Tag, bytes: &[u8]) -> Result<Request, AllocError>
-    ensures { IfOk result (λ request. (request.lane ≡ tag.lane) × (request.ordinal ≡ tag.ordinal)) }
+    ensures tag { IfOk result (λ request. (request.lane ≡ tag.lane) × (request.ordinal ≡ tag.ordinal)) }
+    ensures way { IfOk result (λ request. (request.queue ≡ way.queue) × (request.room ≡ way.room) × (request.shape ≡ shape_by way.fault) × (request.bytes ≡ bytes.now)) }
 {
     Ok(Request {
         queue: way.queue,
         lane: tag.lane,
         ordinal: tag.ordinal,
         room: way.room,
-        shape: shape_of(way.told),
+        shape: shape_of(way.fault),
         bytes: Seq::from_vec(bytes.to_vec(alloc)?),
     })
 }
 
 /// What comes back next on a ring. None where nothing does, or it comes back without having been run.
 fn reap<B: Naming, N: vg_ring::Naming>(
-    alloc: Global,
     book: &Book<Display, B>,
     client: &mut ClientToken<Display, B>,
     driver: &mut DriverEnd<Carried<Display, B>, N>,
-) -> Result<Option<Back>, AllocError>
+) -> Option<Back>
     ensures queue { driver.new.queue ≡ driver.old.queue }
     ensures number { client.new.account.number ≡ client.old.account.number }
 {
-    let Some(reaped) = driver.reap() else {
-        return Ok(None);
-    };
-    let Reaped { len, cargo, .. } = reaped;
+    let Reaped { len, cargo, .. } = driver.reap()?;
     let lane = cargo.tag().lane;
-    let response = cargo.response().to_vec(alloc)?;
-    Ok(match take_back(book, client, cargo) {
-        Some((entry, reply)) => Some(Back {
-            lane,
-            len,
-            response,
-            entry,
-            reply,
-        }),
-        None => None,
+    let (parcel, pass) = cargo.apart();
+    let (shape, response) = parcel.into_response(len);
+    let entry = take_back(book, client, pass)?;
+    Some(Back {
+        lane,
+        len,
+        fault: fault_of(shape),
+        response,
+        entry,
     })
 }
 
-/// Takes back what came of the client's request: the number of its entry, and its reply.
+/// The fault of a bad chain.
+fn fault_of(shape: Shape) -> Option<ChainFault> {
+    match shape {
+        Shape::Bad { fault } => Some(fault),
+        _ => None,
+    }
+}
+
+/// Takes back what came of the client's request: the number of its entry.
 fn take_back<B: Naming>(
     book: &Book<Display, B>,
     client: &mut ClientToken<Display, B>,
-    cargo: Cargo<Carried<Display, B>>,
-) -> Option<(u64, Reply)>
+    pass: Carried<Display, B>,
+) -> Option<u64>
     ensures { client.new.account.number ≡ client.old.account.number }
 {
-    match cargo.unload() {
+    match pass {
         Carried::Done(done) => {
             if done.client() == client.number() {
                 Some(client.take_back(book, done))
@@ -213,20 +220,15 @@ impl<B: Naming, N: Rings> Guest<B, N> {
     }
 
     /// What comes back next on a ring. None where nothing does, or it comes back without having been run.
-    pub fn back(
-        &mut self,
-        alloc: Global,
-        book: &Book<Display, B>,
-        queue: Queue,
-    ) -> Result<Option<Back>, AllocError>
+    pub fn back(&mut self, book: &Book<Display, B>, queue: Queue) -> Option<Back>
         requires queues { (self.old.control.queue ≡ queues.Control) × (self.old.cursor.queue ≡ queues.Cursor) }
         ensures queues { (self.new.control.queue ≡ queues.Control) × (self.new.cursor.queue ≡ queues.Cursor) }
         ensures number { self.new.client.account.number ≡ self.old.client.account.number }
     {
         let client = &mut self.client;
         match queue {
-            Queue::Control => reap(alloc, book, client, &mut self.control),
-            Queue::Cursor => reap(alloc, book, client, &mut self.cursor),
+            Queue::Control => reap(book, client, &mut self.control),
+            Queue::Cursor => reap(book, client, &mut self.cursor),
         }
     }
 }

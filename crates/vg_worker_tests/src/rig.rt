@@ -19,7 +19,7 @@ use vg_crew::each;
 use vg_front::Front;
 use vg_history::{Machine, Tagged, Turn};
 use vg_list::Seq;
-use vg_machine::{Display, History, Holds, Reply, Setup};
+use vg_machine::{Display, History, Holds, Setup};
 use vg_ring::{ControlOf, CursorOf, Made, Rings};
 use vg_text::Packed;
 use vg_wire::Queue;
@@ -102,8 +102,8 @@ impl<B: Naming, N: Rings> Rig<B, N> {
     }
 
     /// What comes back next on a ring. None where nothing does, or it comes back without having been run.
-    pub fn back(&mut self, alloc: Global, queue: Queue) -> Result<Option<Back>, AllocError> {
-        self.guest.back(alloc, &self.book, queue)
+    pub fn back(&mut self, queue: Queue) -> Option<Back> {
+        self.guest.back(&self.book, queue)
     }
 
     /// Serves the rings on this thread, until there is nothing more to do.
@@ -223,14 +223,13 @@ fn put_spelled(out: &mut Vec<u8>, text: &Packed) -> Result<(), AllocError> {
     Ok(())
 }
 
-/// How a reply is spelled at the end of its line.
-fn spelled(alloc: Global, reply: &Reply) -> Result<String, AllocError> {
-    match reply {
-        Reply::Response { bytes } if bytes.is_empty() => format!(in alloc; " = -"),
-        Reply::Response { bytes } => {
-            format!(in alloc; " = {}", encode(alloc, bytes.as_slice())?)
-        }
-        Reply::Fault { fault } => format!(in alloc; " = fault {}", name_of(*fault)),
+/// How the reply that came back is spelled at the end of its line.
+fn spelled(alloc: Global, back: &Back) -> Result<String, AllocError> {
+    let bytes = back.response.as_slice();
+    match back.fault {
+        Some(fault) => format!(in alloc; " = fault {}", name_of(fault)),
+        None if bytes.is_empty() => format!(in alloc; " = -"),
+        None => format!(in alloc; " = {}", encode(alloc, bytes)?),
     }
 }
 
@@ -262,16 +261,8 @@ pub fn agrees(alloc: Global, history: &History, backs: &[Back]) -> Result<bool, 
     let lines = lines_of(alloc, history)?;
     let mut all = history.len() == backs.len();
     for back in backs {
-        let end = spelled(alloc, &back.reply)?;
+        let end = spelled(alloc, back)?;
         all &= ends_so(&lines, back.entry, &end);
     }
     Ok(all)
-}
-
-/// Whether a response is what its reply says.
-pub fn is_written(back: &Back) -> bool {
-    match &back.reply {
-        Reply::Response { bytes } => bytes.as_slice() == back.response.as_slice(),
-        Reply::Fault { .. } => back.response.is_empty(),
-    }
 }

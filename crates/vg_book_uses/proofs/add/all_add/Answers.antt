@@ -54,4 +54,4 @@ returns-clause-added g c =
     have_all_added counter.ghosts (λ job. job.client) (λ job. job.times) c.args.times _ c.args.count c.in-Ok-adders.jobs.items all.taken.0 start.clients start.times c.in-Ok-each.clients.items c.in-Ok-each.ensures all.taken.1 c.join_all.new.root _ c.close.result.1
     (all.given ∙ start.root.given)
     (all.taken.2 ∙ ap (λ l. l ++ map account_of all.taken.0) start.root.accounts)
-    c.close.ensures
+    c.close.ensures.closed

@@ -60,4 +60,4 @@ returns-clause-shared g c =
     have_shared n (λ job. job.client) (λ job. Unit {0}) (λ job. 2) 2 (λ j f. refl) _ 2 c.in-Ok-meetings.jobs.items all.taken.0 start.clients (λ k d lt. tt) c.in-Ok-each.clients.items (all_talked n (λ job. job.client) c.in-Ok-meetings.jobs.items c.in-Ok-each.clients.items c.in-Ok-each.ensures) all.taken.1 c.join_all.new.root _ c.close.result.1
     (all.given ∙ start.root.given)
     (all.taken.2 ∙ ap (λ l. l ++ map account_of all.taken.0) start.root.accounts)
-    c.close.ensures
+    c.close.ensures.closed

@@ -3,7 +3,8 @@ use denote.Param.Send.{IsSend, sendable, param_send}
 use Rattle.std.proofs.Common.{◌≡◌, ◌<◌, ◌*◌, ℕ, length, ap, sym, subst, ◌∙◌, ◌++◌, arith}
 use Rattle.std.specs.Prelude.{All, map}
 use Rattle.std.proofs.Crossing.{crosses}
-use Rattle.vg_book.proofs.Sent.{client_send, lane_send, pass_send, done_send, book_sync}
+use Rattle.vg_book.proofs.Sent.{client_send, lane_send, pass_send, book_sync}
+use Rattle.vg_book_uses.proofs.Crossings.{sent_send, answered_send}
 use Rattle.vg_book_uses.specs.contracts.counter.CounterMachine.TheImpl as counter
 use Rattle.vg_book_uses.specs.contracts.desk.Desk as desk
 use Rattle.vg_book_uses.specs.Adding.{account_of, IsNew}
@@ -18,7 +19,7 @@ use Rattle.vg_book_uses.proofs.share.run_all.Given.{Over}
 use Rattle.vg_book_uses.proofs.share.run_all.Goals as goal
 
 desk_send : (g : Over) → IsSend (desk.the_row (param 0 g.row.B) g.B.Naming)
-desk_send g = search (sendable, crosses, pass_send, done_send) depth 20
+desk_send g = search (sendable, crosses, pass_send, sent_send, answered_send) depth 20
 
 client_done : (g : Over) (κs : contract.Lifetimes.Lfts 7) → IsSend (lts.arg-12-0 g.row.B g.row.R g.B.laws g.R.laws g.B.Naming g.B.Naming-dict g.R.Threads g.R.Threads-dict g.R.Wait g.R.Wait-dict κs)
 client_done g κs = search (sendable, crosses, client_send) depth 20
@@ -92,4 +93,4 @@ returns-clause-shared g c =
     _ c.args.clients c.in-Ok-askers.askers.items all.taken.0 asks.clients asks.rounds c.in-Ok-all.done.items c.in-Ok-all.ensures.0 all.taken.1 c.join_lanes.new.root _ c.close.result.1
     (end.given ∙ (all.given ∙ asks.root.given))
     (end.accounts ∙ (all.taken.2 ∙ ap (λ l. l ++ map account_of all.taken.0) asks.root.accounts))
-    c.close.ensures
+    c.close.ensures.closed

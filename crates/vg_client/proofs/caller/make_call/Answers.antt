@@ -1,22 +1,16 @@
-use Rattle.std.proofs.Common.{◌≡◌, ◌∙◌, List, Option, ap, arith, subst, ℕ}
+use Rattle.std.proofs.Common.{◌≡◌, ◌∙◌, List, Option, ap, subst, ℕ}
 use Rattle.vg_holds.specs.declared.holds.Holds.{Holds}
 use Rattle.vg_client.specs.Callers.{known}
 use Rattle.vg_tasks.specs.Plans.{IsPlanOf}
 use Rattle.vg_tasks.specs.Known.{Known}
 use Rattle.vg_tasks.specs.Tasks.{tasks_of}
 use Rattle.vg_client.proofs.OutcomeLemmas.{ends-some, outcome-is}
-use Rattle.vg_client.proofs.PlayLemmas.{added-length, gives-planned, on_err, unbegun}
+use Rattle.vg_client.proofs.PlayLemmas.{gives-planned, on_err, unbegun}
 use Rattle.vg_client.proofs.GivesLemmas.{gives-some}
 use Rattle.vg_client.proofs.caller.make_call.Goals as goal
 
 pub returns-in_err-plan-clause-begun : goal.returns-in_err-plan-clause-begun
 returns-in_err-plan-clause-begun g c = on_err _ (unbegun c.args.call c.args.client.now c.requires.ready)
-
-pub name_made-requires-clause-room : goal.name_made-requires-clause-room
-name_made-requires-clause-room g c =
-    let done = c.in_ok-played.ensures.done in
-    let ready = done.2.ready in
-    omega (arith, ready.small.made, ready.active.account_is.used, added-length done.2.added, done.3, c.requires.room)
 
 pub outcome-requires : goal.outcome-requires
 outcome-requires g c =

@@ -1,19 +1,19 @@
-use Rattle.std.proofs.Common.{◌≡◌, ◌∙◌, ap, arith, []}
+use Rattle.std.proofs.Common.{◌≡◌, ap, arith, []}
 use Rattle.vg_names.specs.Names.{NamesState}
 use Rattle.vg_client.proofs.OutcomeLemmas.{played-none}
-use Rattle.vg_client.proofs.PlayLemmas.{added-length, left-smaller, none-left, on_err, played-all, playing-first, playing-more, stood-done, stood-make, stood-none}
+use Rattle.vg_client.proofs.PlayLemmas.{added-length, left-smaller, on_err, played-all, playing-first, playing-more, stood-done, stood-make, stood-none}
 use Rattle.vg_client.proofs.play.play.Goals as goal
 
 pub returns-in_err-played-clause-begun : goal.returns-in_err-played-clause-begun
-returns-in_err-played-clause-begun g c = on_err _ (stood-none c.args.stops c.args.tasks.items c.args.client.now c.requires.ready)
+returns-in_err-played-clause-begun g c = on_err _ (stood-none c.args.stops c.args.tasks c.args.client.now c.requires.ready)
 
 pub loop-task-init : goal.loop-task-init
 loop-task-init g c =
-    playing-first c.args.stops c.args.tasks.items c.args.client.now c.in_ok-played.played c.requires.ready c.requires.fit (played-none c.args.client.now.token.seen c.in_ok-played.played c.in_ok-played.ensures.0 c.in_ok-played.ensures.1)
+    playing-first c.args.stops c.args.tasks c.args.client.now c.in_ok-played.played c.requires.ready c.requires.fit (played-none c.args.client.now.token.seen c.in_ok-played.played c.in_ok-played.ensures.0 c.in_ok-played.ensures.1)
 
 pub returns-in_err-added-clause-begun : goal.returns-in_err-added-clause-begun
 returns-in_err-added-clause-begun g c =
-    on_err _ (stood-make c.args.stops c.args.tasks.items c.args.client.now c.loop-task.client c.make.new.client c.loop-task.left.items c.loop-task.played c.loop-task.invariant c.in_err-added.ensures.err)
+    on_err _ (stood-make c.args.stops c.args.tasks c.args.client.now c.loop-task.client c.make.new.client c.loop-task.left c.loop-task.played c.loop-task.invariant c.in_err-added.ensures.err)
 
 pub learn-requires-clause-room : goal.learn-requires-clause-room
 learn-requires-clause-room g c =
@@ -25,31 +25,31 @@ learn-requires-clause-room g c =
 pub returns-in_err-learn-clause-begun : goal.returns-in_err-learn-clause-begun
 returns-in_err-learn-clause-begun g c =
     let done = c.in_ok-added.ensures.done in
-    on_err _ (stood-done c.args.stops c.args.tasks.items c.args.client.now c.loop-task.client c.make.new.client c.learn.new.client c.loop-task.left.items c.pop_front.new.self.items c.loop-task.played c.in-Some.task done.0 c.in_ok-added.added
-    c.loop-task.invariant c.in-Some.ensures.items done.1 done.2 c.learn.ensures.kept)
+    on_err _ (stood-done c.args.stops c.args.tasks c.args.client.now c.loop-task.client c.make.new.client c.learn.new.client c.loop-task.left c.pop_front.new.self c.loop-task.played c.in-Some.task done.0 c.in_ok-added.added
+    c.loop-task.invariant c.in-Some.ensures done.1 done.2 c.learn.ensures.kept)
 
 pub returns-in_err-leave_tasks-clause-begun : goal.returns-in_err-leave_tasks-clause-begun
 returns-in_err-leave_tasks-clause-begun g c =
     let done = c.in_ok-added.ensures.done in
-    on_err _ (stood-done c.args.stops c.args.tasks.items c.args.client.now c.loop-task.client c.make.new.client c.learn.new.client c.loop-task.left.items c.pop_front.new.self.items c.loop-task.played c.in-Some.task done.0 c.in_ok-added.added
-    c.loop-task.invariant c.in-Some.ensures.items done.1 done.2 c.learn.ensures.kept)
+    on_err _ (stood-done c.args.stops c.args.tasks c.args.client.now c.loop-task.client c.make.new.client c.learn.new.client c.loop-task.left c.pop_front.new.self c.loop-task.played c.in-Some.task done.0 c.in_ok-added.added
+    c.loop-task.invariant c.in-Some.ensures done.1 done.2 c.learn.ensures.kept)
 
 pub returns-in_err-add-clause-begun : goal.returns-in_err-add-clause-begun
 returns-in_err-add-clause-begun g c =
     let done = c.in_ok-added.ensures.done in
-    on_err _ (stood-done c.args.stops c.args.tasks.items c.args.client.now c.loop-task.client c.make.new.client c.learn.new.client c.loop-task.left.items c.pop_front.new.self.items c.loop-task.played c.in-Some.task done.0 c.in_ok-added.added
-    c.loop-task.invariant c.in-Some.ensures.items done.1 done.2 c.learn.ensures.kept)
+    on_err _ (stood-done c.args.stops c.args.tasks c.args.client.now c.loop-task.client c.make.new.client c.learn.new.client c.loop-task.left c.pop_front.new.self c.loop-task.played c.in-Some.task done.0 c.in_ok-added.added
+    c.loop-task.invariant c.in-Some.ensures done.1 done.2 c.learn.ensures.kept)
 
 pub loop-task-smaller : goal.loop-task-smaller
-loop-task-smaller g c = left-smaller c.args.stops c.in-Some.task c.in_ok-added.added.given c.loop-task.left.items c.pop_front.new.self.items c.leave_tasks.new.left.items c.in-Some.ensures.items c.in_ok-leave_tasks.ensures
+loop-task-smaller g c = left-smaller c.args.stops c.in-Some.task c.in_ok-added.added.given c.loop-task.left c.pop_front.new.self c.leave_tasks.new.left c.in-Some.ensures c.in_ok-leave_tasks.ensures
 
 pub loop-task-preserved : goal.loop-task-preserved
 loop-task-preserved g c =
     let done = c.in_ok-added.ensures.done in
-    playing-more c.args.stops c.args.tasks.items c.args.client.now c.loop-task.client c.make.new.client c.learn.new.client c.loop-task.left.items c.pop_front.new.self.items c.leave_tasks.new.left.items c.loop-task.played c.add.new.self c.in-Some.task done.0 c.in_ok-added.added
-    c.loop-task.invariant c.in-Some.ensures.items done.1 done.2 done.3 c.learn.ensures.kept c.in_ok-learn.ensures.names c.in_ok-learn.ensures.shows c.in_ok-leave_tasks.ensures c.in_ok-add.ensures.entries c.in_ok-add.ensures.last
+    playing-more c.args.stops c.args.tasks c.args.client.now c.loop-task.client c.make.new.client c.learn.new.client c.loop-task.left c.pop_front.new.self c.leave_tasks.new.left c.loop-task.played c.add.new.self c.in-Some.task done.0 c.in_ok-added.added
+    c.loop-task.invariant c.in-Some.ensures done.1 done.2 done.3 c.learn.ensures.kept c.in_ok-learn.ensures.names c.in_ok-learn.ensures.shows c.in_ok-leave_tasks.ensures c.in_ok-add.ensures.entries c.in_ok-add.ensures.last
 
 pub returns-clause-done : goal.returns-clause-done
 returns-clause-done g c =
-    let none : c.loop-task.left.items ≡ [] = none-left c.loop-task.left.items (c.in_default.ensures.items ∙ c.in_default.ensures.rest) in
-    played-all c.args.stops c.args.tasks.items c.args.client.now c.loop-task.client c.loop-task.left.items c.loop-task.played none c.loop-task.invariant
+    let none : c.loop-task.left ≡ [] = c.in_default.ensures.0 in
+    played-all c.args.stops c.args.tasks c.args.client.now c.loop-task.client c.loop-task.left c.loop-task.played none c.loop-task.invariant

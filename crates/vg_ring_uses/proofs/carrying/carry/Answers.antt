@@ -6,7 +6,7 @@ use Rattle.std.proofs.Crossing.{crosses}
 use Rattle.vg_ring.specs.Ends.{DriverLists}
 use Rattle.vg_ring.specs.DeviceEnds.{DeviceLists}
 use Rattle.vg_ring.proofs.Sent.{driver_send, device_send}
-use Rattle.vg_ring_uses.specs.Carried.{HasAsked, HaveCarried}
+use Rattle.vg_ring_uses.specs.Carried.{HasAnswered, HasAsked, HaveCarried}
 use Rattle.vg_ring_uses.proofs.AskLemmas.{have_carried}
 use Rattle.vg_ring_uses.proofs.carrying.carry.Lts as lts
 use Rattle.vg_ring_uses.proofs.carrying.carry.Given.{Over}
@@ -40,6 +40,7 @@ pub returns : goal.returns
 returns g c =
     let o = c.args.order in
     let got = subst (λ r. IfOk r (λ x. HasAsked o.queue o.lane o.count x.0 × (length x.0.reaped ≡ o.count))) c.in_ok-driver.was c.in_ok-asked.ensures.0 in
+    let answered = subst (λ r. IfOk r HasAnswered) c.in_ok-device.was c.in_ok-asked.ensures.1 in
     let same = c.ends_agree.ensures in
     subst (λ (x : DriverLists × DeviceLists). HaveCarried o.queue o.lane o.count x.0 x.1) (λ i. (sym same.driver i, sym same.device i))
-    (have_carried o.queue o.lane o.count _ _ got.0 got.1 c.in_ok-asked.ensures.1 same.fetched same.reaped)
+    (have_carried o.queue o.lane o.count _ _ got.0 got.1 answered same.fetched same.reaped)

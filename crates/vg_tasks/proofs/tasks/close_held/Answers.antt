@@ -13,7 +13,7 @@ pub returns-clause-plans : goal.returns-clause-plans
 returns-clause-plans c =
     let key = c.args.held.key in
     let shows = c.args.shows.now in
-    let made : c.push.new.self.items ≡ clear_tasks key 0 shows ++ release_task c.args.held ∷ [] = rw (c.in_ok-push.ensures.items, c.in_ok-tasks.ensures, c.release_task.ensures) refl in
+    let made : c.push.new.self ≡ clear_tasks key 0 shows ++ release_task c.args.held ∷ [] = rw (c.in_ok-push.ensures, c.in_ok-tasks.ensures, c.release_task.ensures) refl in
     let Fit : List Task → Type 0 = λ xs. AllByRecursion IsFit xs in
     let Few : List Task → Type 0 = λ xs. weights xs ≤ 19 in
     let ok : List Task → Result (List Task) What = λ xs. Ok xs in

@@ -12,7 +12,7 @@ pub returns-clause-fit : goal.returns-clause-fit
 returns-clause-fit c =
     let holds = c.args.holds.now in
     let names = c.args.names.now in
-    let made : c.release_each.new.tasks.items ≡ leases_back holds.scanouts 0 holds.displays ++ map release_task names.current =
+    let made : c.release_each.new.tasks ≡ leases_back holds.scanouts 0 holds.displays ++ map release_task names.current =
     rw (c.in_ok-release_each.ensures, c.in_ok-tasks.ensures, c.as_slice.ensures.value, c.in_ok-current.ensures) refl in
     let Fit : List Task → Type 0 = λ xs. AllByRecursion IsFit xs in
     subst Fit (sym made) (end-fit holds.scanouts holds.displays names.current)
@@ -21,7 +21,7 @@ pub returns-clause-few : goal.returns-clause-few
 returns-clause-few c =
     let holds = c.args.holds.now in
     let names = c.args.names.now in
-    let made : c.release_each.new.tasks.items ≡ leases_back holds.scanouts 0 holds.displays ++ map release_task names.current =
+    let made : c.release_each.new.tasks ≡ leases_back holds.scanouts 0 holds.displays ++ map release_task names.current =
     rw (c.in_ok-release_each.ensures, c.in_ok-tasks.ensures, c.as_slice.ensures.value, c.in_ok-current.ensures) refl in
     let Few : List Task → Type 0 = λ xs. weights xs ≤ 3 * holds.displays + 3 * length names.current in
     subst Few (sym made) (end-few holds.scanouts holds.displays names.current)

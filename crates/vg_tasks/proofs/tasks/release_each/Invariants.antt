@@ -3,4 +3,4 @@ use Rattle.vg_tasks.specs.Table.{release_task}
 use Rattle.vg_tasks.proofs.tasks.release_each.Given as goal
 
 abbrev pub invariant-loop-held : goal.invariant-loop-held
-invariant-loop-held l = l.tasks.items ≡ l.fn.tasks.items ++ map release_task (take l.held-index l.current)
+invariant-loop-held l = l.tasks ≡ l.fn.tasks ++ map release_task (take l.held-index l.current)

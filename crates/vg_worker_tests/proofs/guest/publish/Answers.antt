@@ -5,7 +5,7 @@ use Rattle.vg_worker_tests.proofs.guest.publish.Goals as goal
 
 pub publish-requires-clause-room : goal.publish-requires-clause-room
 publish-requires-clause-room g c =
-    let parcel = ap (λ cargo. cargo.parcel) c.load.ensures ∙ c.in_ok-parcel.ensures in
+    let parcel = ap (λ cargo. cargo.parcel) c.load.ensures ∙ c.in_ok-parcel.ensures.parcel in
     let copied : length c.in_ok-bytes.bytes.items ≡ length c.args.bytes.now = search rules in
     let request : length c.load.result.parcel.request ≡ length c.args.bytes.now = ap (λ p. length p.request) parcel ∙ copied in
     let room : c.load.result.parcel.room ≡ c.args.way.room = ap (λ p. p.room) parcel in

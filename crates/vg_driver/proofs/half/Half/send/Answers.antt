@@ -18,4 +18,4 @@ invariant_of-self-2 g c =
     (vec_len c.reserve.new.self) (vec_capacity c.reserve.new.self) c.published.result c.reaped.result c.published.ensures c.reaped.ensures room
 
 pub returns : goal.returns
-returns g c = ((c.pass-pass.result, c.pass-pass.ensures), c.call-call.ensures ∙ ap (λ p. p.order.call) c.pass-pass.ensures.pass)
+returns g c = ((c.pass_of-pass.result, c.pass_of-pass.ensures), c.call-call.ensures ∙ ap (λ p. p.order.call) c.pass_of-pass.ensures.pass)

@@ -1,4 +1,4 @@
-use Rattle.std.proofs.Common.{◌≡◌, ◌∙◌, false, refl, sym, ap, subst}
+use Rattle.std.proofs.Common.{◌∙◌, refl, ap, subst}
 use Rattle.vg_front.specs.Desks.{HasNone, Takes}
 use Rattle.vg_front.specs.Fronts.{FrontData}
 use Rattle.vg_front.proofs.front.Front.step.Goals as goal

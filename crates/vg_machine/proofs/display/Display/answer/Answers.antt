@@ -18,8 +18,8 @@ returns-in-Nodata-clause-step c =
 pub returns : goal.returns
 returns c = record {
   step =
-      answered-ok c.write_answer-in_default-2.result (λ twice. twice.0.items) c.args.self.now c.run.new.self c.args.queue c.args.request.now c.args.room _ c.in_ok-other.other
-      (c.in_ok-command.ensures.answer ∙ ap (ran c.args.self.now) c.in-Some.is) c.in_ok-other.ensures.step c.write_answer-in_default-2.ensures.bytes;
-  same = c.write_answer-in_default-2.ensures.same;
-  err = on_err c.write_answer-in_default-2.result (kept-given c.args.self.now c.run.new.self c.in-Some.command c.in_ok-other.other c.in_ok-other.ensures.step c.in_default-2.not-Nodata c.in_default-2.not-Uuid);
+      answered-ok c.rewrite_answer.result (λ twice. twice.0.items) c.args.self.now c.run.new.self c.args.queue c.args.request.now c.args.room _ c.in_ok-other.other
+      (c.in_ok-command.ensures.answer ∙ ap (ran c.args.self.now) c.in-Some.is) c.in_ok-other.ensures.step c.rewrite_answer.ensures.bytes;
+  same = c.rewrite_answer.ensures.same;
+  err = on_err c.rewrite_answer.result (kept-given c.args.self.now c.run.new.self c.in-Some.command c.in_ok-other.other c.in_ok-other.ensures.step c.in_default-2.not-Nodata c.in_default-2.not-Uuid);
 }

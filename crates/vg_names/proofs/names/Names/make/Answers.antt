@@ -1,4 +1,4 @@
-use Rattle.std.proofs.Common.{◌≡◌, ◌+◌, ◌++◌, ◌∷◌, [], length, refl, ap, ◌∙◌, arith}
+use Rattle.std.proofs.Common.{Some, ◌≡◌, ◌+◌, ◌++◌, ◌∷◌, [], length, refl, ap, ◌∙◌, arith}
 use Rattle.slab.specs.Slab.{Slab}
 use Rattle.vg_names.specs.declared.names.Held.{Held}
 use Rattle.vg_names.proofs.NamesLemmas.{kept_after_take, kept_alike, made_more, named}
@@ -28,8 +28,8 @@ invariant_of-self-2 c =
 pub returns-clause-ok : goal.returns-clause-ok
 returns-clause-ok c =
     let pushed = rw c.unwrap.ensures at c.push.ensures.items in
-    let items : c.push.new.self.items ≡ c.self.inside.places.items ++ c.insert_reserved-place.result ∷ [] =
-    pushed ∙ ap (λ xs. xs ++ c.insert_reserved-place.result ∷ []) c.reserve.ensures.items
+    let items : c.push.new.self.items ≡ c.self.inside.places.items ++ Some c.insert_reserved-place.result ∷ [] =
+    pushed ∙ ap (λ xs. xs ++ Some c.insert_reserved-place.result ∷ []) c.reserve.ensures.items
     in
     let next : c.len.result + 1 ≡ length c.self.inside.places.items + 1 = omega (arith, ap length c.reserve.ensures.items) in
     rw (← c.self.view_is)

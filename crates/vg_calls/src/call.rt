@@ -1,0 +1,106 @@
+//! A call of a client, and the names that calls speak of.
+
+use vg_chain::Shape;
+use vg_formats::Rect;
+use vg_list::Seq;
+use vg_wire::Queue;
+
+/// A name of a client: its number among all that the client's calls define, from 1. No name has the number 0.
+#[derive(Clone, Copy)]
+pub struct NameRef {
+    pub number: u32,
+}
+
+/// A call of a client. Offsets and lengths are in bytes, rectangles in pixels. A `scanout` counts the displays from 0 on.
+#[derive(Drop)]
+pub enum Call {
+    /// Asks for the display information.
+    Info,
+    /// Asks for the EDID block of a display, whether there is such a one or not.
+    Edid {
+        scanout: u32,
+    },
+    /// Makes a buffer of pixels, with a resource that has its pages as its backing, and defines a name for it. `format` is a code of
+    /// VIRTIO 1.2, 5.7.6.8.
+    Buffer {
+        width: u32,
+        height: u32,
+        format: u32,
+    },
+    /// Writes `bytes` into a buffer, so many times one after another.
+    Store {
+        name: NameRef,
+        offset: u32,
+        bytes: Seq<u8>,
+        times: u32,
+    },
+    /// Reads bytes of a buffer.
+    Load {
+        name: NameRef,
+        offset: u32,
+        length: u32,
+    },
+    /// Transfers a rectangle of a buffer to the device.
+    Send {
+        name: NameRef,
+        rect: Rect,
+    },
+    /// Flushes a rectangle of a buffer to the scanouts that show it.
+    Flush {
+        name: NameRef,
+        rect: Rect,
+    },
+    /// Leases a scanout.
+    Take {
+        scanout: u32,
+    },
+    /// Ends a lease.
+    Drop {
+        scanout: u32,
+    },
+    /// Shows nothing on a scanout.
+    Hide {
+        scanout: u32,
+    },
+    /// Shows a rectangle of a buffer on a scanout.
+    Show {
+        scanout: u32,
+        name: NameRef,
+        rect: Rect,
+    },
+    /// Transfers, shows and flushes a whole buffer.
+    Flip {
+        scanout: u32,
+        name: NameRef,
+    },
+    /// Shows a buffer as a scanout's cursor, with its hot spot at `x`, `y` of the screen; or, with no name, hides it.
+    Cursor {
+        scanout: u32,
+        name: Option<NameRef>,
+        x: i32,
+        y: i32,
+        hot_x: u32,
+        hot_y: u32,
+    },
+    /// Moves a scanout's cursor.
+    Move {
+        scanout: u32,
+        x: i32,
+        y: i32,
+    },
+    /// Asks for the UUID of a buffer's resource.
+    Uuid {
+        name: NameRef,
+    },
+    /// Asks these bytes of the device, as they are.
+    Raw {
+        queue: Queue,
+        room: u32,
+        shape: Shape,
+        bytes: Seq<u8>,
+    },
+    /// Gives a buffer up, and ends its name.
+    Close {
+        name: NameRef,
+    },
+}

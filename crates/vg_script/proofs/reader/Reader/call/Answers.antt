@@ -1,0 +1,36 @@
+use Rattle.std.proofs.Common.{rules, map, arith, ◌≡◌, ◌<◌, length, ◌∙◌}
+use Rattle.vg_script.specs.Reading.{seen}
+use Rattle.vg_steps.specs.Code.{table_of}
+use Rattle.vg_script.proofs.CallForms.{goes_misplaced, goes_past, goes_err, goes_ok}
+use Rattle.vg_script.proofs.ClientLists.{one_line_added}
+use Rattle.vg_script.proofs.reader.Reader.call.Goals as goal
+
+pub returns-then-is_empty : goal.returns-then-is_empty
+returns-then-is_empty c = goes_misplaced (seen c.args.self.now) _ _ (search rules)
+
+pub returns-then-self-ge-MOST_LINES : goal.returns-then-self-ge-MOST_LINES
+returns-then-self-ge-MOST_LINES c =
+    let count : c.len-displays.result ≡ length c.args.self.now.displays.items = search rules in
+    let read = rw count at c.call_of-read.ensures.call in
+    rw c.past_limit.ensures (goes_past (seen c.args.self.now) (seen c.args.self.now) c.args.word.now (map (λ arg. arg.now) c.args.args.now) (table_of c.call_of-read.new.names) c.call_of-read.result (search rules) (omega (arith, c.args.self.now.counted)) read)
+
+pub invariant_of-self-in-Ok : goal.invariant_of-self-in-Ok
+invariant_of-self-in-Ok c =
+    let some : 0 < length c.args.self.now.clients.items = search rules in
+    record {
+      few = c.args.self.now.few;
+      counted = search (rules, one_line_added c.args.self.now.clients.items (record { number = c.args.self.now.lines; call = c.in-Ok.call }) some);
+      named = omega (arith, c.requires.0, c.call_of-read.ensures.count);
+    }
+
+pub returns-in_ok-add_line-in-Ok : goal.returns-in_ok-add_line-in-Ok
+returns-in_ok-add_line-in-Ok c =
+    let count : c.len-displays.result ≡ length c.args.self.now.displays.items = search rules in
+    let read = rw count at c.in-Ok.ensures.call in
+    goes_ok (seen c.args.self.now) c.args.word.now (map (λ arg. arg.now) c.args.args.now) (table_of c.call_of-read.new.names) c.in-Ok.call (search rules) (omega (arith, c.args.self.now.counted)) read ∙ search rules
+
+pub returns-in-Err : goal.returns-in-Err
+returns-in-Err c =
+    let count : c.len-displays.result ≡ length c.args.self.now.displays.items = search rules in
+    let read = rw count at c.in-Err.ensures.call in
+    goes_err (seen c.args.self.now) (seen c.args.self.now) c.args.word.now (map (λ arg. arg.now) c.args.args.now) (table_of c.call_of-read.new.names) c.in-Err.stop (search rules) (omega (arith, c.args.self.now.counted)) read
