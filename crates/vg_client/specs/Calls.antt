@@ -9,7 +9,6 @@ use Rattle.vg_history.specs.declared.entry.Entry.TheVariants as entries
 use Rattle.vg_machine.specs.declared.history.Reply.{Reply}
 use Rattle.vg_machine.specs.declared.history.Request.{Request}
 use Rattle.vg_holds.specs.declared.holds.Holds.{Holds}
-use Rattle.vg_holds.specs.Holds.{denied_of}
 use Rattle.vg_machine.specs.Order.{updated}
 use Rattle.vg_calls.specs.declared.call.Call.{Call}
 use Rattle.vg_calls.specs.declared.call.NameRef.{NameRef}
@@ -24,7 +23,7 @@ use Rattle.vg_client.specs.Given.{given_of, is_accepted, left_after}
 use Rattle.vg_tasks.specs.Known.{Known}
 use Rattle.vg_names.specs.declared.names.Held.{Held}
 use Rattle.vg_names.specs.Names.{NamesState, found, with_name, with_none, without_name}
-use Rattle.vg_driver.specs.Requests.{denied_by, raw_request, request_by}
+use Rattle.vg_driver.specs.Asks.{denied_for, request_for}
 use Rattle.vg_tasks.specs.Tasks.{tasks_of}
 
 -- A request is asked of the device, with some ordinal, or denied to its client for the first thing that it names and that isn't
@@ -36,8 +35,7 @@ IsAsked client None request entry = (call ordinal : ℕ) × (reply : Reply) × (
 -- The entry that a client with these holds gives for a task.
 abbrev pub IsDone : ℕ → Holds → Deed → Entry → Type 0
 IsDone client holds (deeds.Act act) entry = (call : ℕ) × (reply : ActReply) × (entry ≡ entries.Act client call act reply)
-IsDone client holds (deeds.Command way command) entry = IsAsked client (denied_by holds way command) (request_by way command) entry
-IsDone client holds (deeds.Raw queue room shape bytes) entry = IsAsked client (denied_of holds queue bytes) (raw_request queue room shape bytes) entry
+IsDone client holds (deeds.Ask ask) entry = IsAsked client (denied_for holds ask) (request_for ask) entry
 
 abbrev pub IsEntryOf : ℕ → Holds → Task → Entry → Type 0
 IsEntryOf client holds task entry = IsDone client holds task.deed entry

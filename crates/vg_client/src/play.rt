@@ -2,14 +2,12 @@
 
 ghost use Rattle.std.specs.Prelude.{◌≡◌, ◌<◌, ◌≤◌, ◌-◌, ◌+◌, ◌^◌, ◌⊎◌, ℕ, [], List, length, false, None, if◌then◌else◌, IfOk, OnErr, OnOk};
 ghost use Rattle.std.specs.List.{AllByRecursion};
-ghost use Rattle.vg_chain.specs.Made.{IsCount};
 ghost use Rattle.vg_history.specs.declared.entry.Entry.TheVariants as entries;
 ghost use Rattle.vg_holds.specs.declared.act.ActReply.{ActReply as ActReplies};
 ghost use Rattle.vg_machine.specs.declared.history.Reply.{Reply as Replies};
 ghost use Rattle.vg_machine.specs.Entries.{Entry as Entries};
-ghost use Rattle.vg_holds.specs.Holds.{Deniable, denied_of};
-ghost use Rattle.vg_driver.specs.Requests.{IsShort, MayGo};
-ghost use Rattle.vg_driver.specs.Requests as requests;
+ghost use Rattle.vg_holds.specs.Holds.{Deniable};
+ghost use Rattle.vg_driver.specs.Asks.{IsAsk, denied_for, request_for};
 ghost use Rattle.vg_client.specs.declared.given.Given.TheVariants as givens;
 ghost use Rattle.vg_client.specs.Accounts.{IsActive, MayAct, leaves, mine_of};
 ghost use Rattle.vg_client.specs.Callers.{HasAdded, HasDone, HasGoneOn, IsFewPages, IsReady, known};
@@ -23,17 +21,14 @@ use crate::caller::Caller;
 use crate::given::{Added, Given, leave_tasks};
 use crate::learn::learn;
 use crate::outcome::Played;
-use crate::tokens::{act as add_act, command as ask, raw_command};
+use crate::tokens::{act as add_act, ask as add_ask};
 use std::alloc::{AllocError, Global};
 use std::sync::Wait;
 use vg_book::{Book, Naming};
-use vg_chain::Shape;
-use vg_driver::{Driver, Way, denied_by, queue_by};
-use vg_machine::{Act, ActReply, Display, What, denied};
+use vg_driver::{Ask, Driver};
+use vg_machine::{Act, ActReply, Display, What};
 use vg_ring::Rings;
 use vg_tasks::{Deed, Task, Tasks};
-use vg_wire::Queue;
-use vg_wire_ext::Command;
 
 /// Does these tasks, and what follows from them, one after another. A call that stops does so after its first task that
 /// isn't accepted. For want of memory the entries that were made stand.
@@ -89,25 +84,7 @@ fn make<B: Naming, N: Rings, R: Wait>(
 {
     match deed {
         Deed::Act { act } => make_act(rt, alloc, book, client, act),
-        Deed::Command { way, command } => {
-            make_command(rt, alloc, book, driver, client, way, &command)
-        }
-        Deed::Raw {
-            queue,
-            room,
-            shape,
-            bytes,
-        } => make_raw(
-            rt,
-            alloc,
-            book,
-            driver,
-            client,
-            queue,
-            room,
-            shape,
-            bytes.as_slice(),
-        ),
+        Deed::Ask { ask } => make_ask(rt, alloc, book, driver, client, &ask),
     }
 }
 
@@ -156,125 +133,51 @@ fn given_act(is_told: bool, reply: ActReply) -> Given
     }
 }
 
-/// Asks a command of the device, or tells that the client may not.
-fn make_command<B: Naming, N: Rings, R: Wait>(
+/// Asks something of the device, or tells that the client may not.
+fn make_ask<B: Naming, N: Rings, R: Wait>(
     rt: &R,
     alloc: Global,
     book: &Book<Display, B>,
     driver: &Driver<B, N>,
     client: &mut Caller<B>,
-    way: Way,
-    command: &Command,
+    ask: &Ask,
 ) -> Result<Added, AllocError>
     requires active { IsActive client.old.token }
-    requires may { MayGo way command.now }
-    requires short { IsShort command.now }
+    requires ask { IsAsk ask.now }
     ensures done { IfOk result (λ added. (entry : Entries)
-        × IsAsked client.old.token.account.number (requests.denied_by client.old.token.account.holds way command.now) (requests.request_by way command.now) entry
+        × IsAsked client.old.token.account.number (denied_for client.old.token.account.holds ask.now) (request_for ask.now) entry
         × HasDone client.old entry added client.new
         × IsFewPages added.given) }
     ensures err { OnErr result (HasAdded client.old [] client.new) }
 {
-    match denied_by(alloc, client.token.holds(), way, command)? {
+    match ask.denied(alloc, client.token.holds())? {
         Some(what) => make_act(rt, alloc, book, client, Act::Denied { what }),
-        None => submit(rt, alloc, book, driver, client, way, command),
+        None => submit(rt, alloc, book, driver, client, ask),
     }
 }
 
-/// Submits a command of the client, and takes its response.
+/// Submits what the client asks, and takes the response.
 fn submit<B: Naming, N: Rings, R: Wait>(
     rt: &R,
     alloc: Global,
     book: &Book<Display, B>,
     driver: &Driver<B, N>,
     client: &mut Caller<B>,
-    way: Way,
-    command: &Command,
+    ask: &Ask,
 ) -> Result<Added, AllocError>
     requires active { IsActive client.old.token }
-    requires may { MayGo way command.now }
-    requires short { IsShort command.now }
-    requires allowed { requests.denied_by client.old.token.account.holds way command.now ≡ None }
+    requires ask { IsAsk ask.now }
+    requires allowed { denied_for client.old.token.account.holds ask.now ≡ None }
     ensures done { IfOk result (λ added. (ordinal : ℕ) × (reply : Replies)
-        × HasDone client.old (entries.Command client.old.token.account.number (client.old.token.account.used + 1) (requests.request_by way command.now ordinal) reply) added client.new
+        × HasDone client.old (entries.Command client.old.token.account.number (client.old.token.account.used + 1) (request_for ask.now ordinal) reply) added client.new
         × IsFewPages added.given) }
     ensures err { OnErr result (HasAdded client.old [] client.new) }
 {
-    let answer = ask(rt, alloc, book, driver, &mut client.token, way, command)?;
+    let answer = add_ask(rt, alloc, book, driver, &mut client.token, ask)?;
     Ok(Added {
         number: answer.entry,
         given: Given::Command {
-            queue: queue_by(way),
-            reply: answer.reply,
-        },
-    })
-}
-
-/// Asks bytes of the device as they are, or tells that the client may not.
-fn make_raw<B: Naming, N: Rings, R: Wait>(
-    rt: &R,
-    alloc: Global,
-    book: &Book<Display, B>,
-    driver: &Driver<B, N>,
-    client: &mut Caller<B>,
-    queue: Queue,
-    room: u32,
-    shape: Shape,
-    bytes: &[u8],
-) -> Result<Added, AllocError>
-    requires active { IsActive client.old.token }
-    requires short { length bytes.now ≤ 49152 }
-    requires room { room ≤ 8192 }
-    requires count { IsCount shape }
-    ensures done { IfOk result (λ added. (entry : Entries)
-        × IsAsked client.old.token.account.number (denied_of client.old.token.account.holds queue bytes.now) (requests.raw_request queue room shape bytes.now) entry
-        × HasDone client.old entry added client.new
-        × IsFewPages added.given) }
-    ensures err { OnErr result (HasAdded client.old [] client.new) }
-{
-    match denied(alloc, client.token.holds(), queue, bytes)? {
-        Some(what) => make_act(rt, alloc, book, client, Act::Denied { what }),
-        None => submit_raw(rt, alloc, book, driver, client, queue, room, shape, bytes),
-    }
-}
-
-/// Submits bytes of the client, and takes the response.
-fn submit_raw<B: Naming, N: Rings, R: Wait>(
-    rt: &R,
-    alloc: Global,
-    book: &Book<Display, B>,
-    driver: &Driver<B, N>,
-    client: &mut Caller<B>,
-    queue: Queue,
-    room: u32,
-    shape: Shape,
-    bytes: &[u8],
-) -> Result<Added, AllocError>
-    requires active { IsActive client.old.token }
-    requires short { length bytes.now ≤ 49152 }
-    requires room { room ≤ 8192 }
-    requires count { IsCount shape }
-    requires allowed { denied_of client.old.token.account.holds queue bytes.now ≡ None }
-    ensures done { IfOk result (λ added. (ordinal : ℕ) × (reply : Replies)
-        × HasDone client.old (entries.Command client.old.token.account.number (client.old.token.account.used + 1) (requests.raw_request queue room shape bytes.now ordinal) reply) added client.new
-        × IsFewPages added.given) }
-    ensures err { OnErr result (HasAdded client.old [] client.new) }
-{
-    let answer = raw_command(
-        rt,
-        alloc,
-        book,
-        driver,
-        &mut client.token,
-        queue,
-        room,
-        shape,
-        bytes,
-    )?;
-    Ok(Added {
-        number: answer.entry,
-        given: Given::Command {
-            queue,
+            queue: ask.queue(),
             reply: answer.reply,
         },
     })

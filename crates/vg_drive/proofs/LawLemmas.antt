@@ -25,6 +25,7 @@ use Rattle.vg_client.specs.Calls.{GivesTasks, IsAsked, IsDone, Plays, learned}
 use Rattle.vg_tasks.specs.Known.{Known, first_known}
 use Rattle.vg_drive.specs.Legal.{FollowAll}
 use Rattle.vg_client.specs.Given.{given_of, left_after}
+use Rattle.vg_driver.specs.declared.ask.Ask.TheVariants as asks
 use Rattle.vg_driver.specs.Requests.{denied_by, raw_request, request_by}
 use Rattle.vg_tasks.specs.Tasks.{end_tasks, tasks_of}
 use Rattle.vg_drive.proofs.OrderLemmas.{by_call-in_place, of_client-all}
@@ -108,9 +109,9 @@ same_asked state before k client None request e e' by is is' one other = command
 same_done : (state : State) (before : List Entry) (k client : ℕ) (holds : Holds) (deed : Deed) (e e' : Entry) → IsDone client holds deed e → IsDone client holds deed e'
     → Stood state before k e → Stood state before k e' → e ≡ e'
 same_done state before k client holds (deeds.Act act) e e' is is' one other = acts_same state before k client act is.0 is'.0 is.1 is'.1 e e' is.2 is'.2 one other
-same_done state before k client holds (deeds.Command way command) e e' is is' one other =
+same_done state before k client holds (deeds.Ask (asks.Command way command)) e e' is is' one other =
     same_asked state before k client (denied_by holds way command) (request_by way command) e e' (record { lane = λ m n. refl; ordinal = λ n. refl }) is is' one other
-same_done state before k client holds (deeds.Raw queue room shape bytes) e e' is is' one other =
+same_done state before k client holds (deeds.Ask (asks.Raw queue room shape bytes)) e e' is is' one other =
     same_asked state before k client (denied_of holds queue bytes) (raw_request queue room shape bytes) e e' (record { lane = λ m n. refl; ordinal = λ n. refl }) is is' one other
 
 -- two fronts are one, what is known after them is one, and what is left behind them stands behind the same

@@ -27,14 +27,18 @@ use Rattle.vg_driver.specs.declared.request.Way.{Way}
 use Rattle.vg_driver.specs.declared.request.Way.TheVariants.{Control, Timeline, Cursor}
 use Rattle.vg_driver.specs.declared.ticket.Ticket.{Ticket}
 use Rattle.vg_driver.specs.Requests.{IsShort, IsWay, MayGo, denied_by, header_by, lane_by, queue_by, raw_request, request_by, room_on, shape_of}
+use Rattle.vg_driver.specs.declared.ask.Ask.{Ask}
+use Rattle.vg_driver.specs.declared.ask.Ask.TheVariants as asks
+use Rattle.vg_driver.specs.Asks.{IsAsk, IsMadeFor, IsNeededFor, denied_for, lane_for, queue_for, request_for}
 use Rattle.vg_driver.specs.Offers.{IsNext}
+use Rattle.vg_driver.proofs.HalfLemmas.{lane_small}
 use Rattle.vg_driver.specs.Tickets.{Submitted, Token}
 
 -- what is denied has nothing to do with the ordinal
-denied_for : (holds : Holds) (way : Way) (ordinal : ℕ) (command : Command) → denied_request holds (Ok (header_by way (command_kind command) ordinal, command)) ≡ denied_by holds way command
-denied_for holds (Control context) ordinal command = refl
-denied_for holds (Timeline context ring) ordinal command = refl
-denied_for holds Cursor ordinal command = refl
+denied_with : (holds : Holds) (way : Way) (ordinal : ℕ) (command : Command) → denied_request holds (Ok (header_by way (command_kind command) ordinal, command)) ≡ denied_by holds way command
+denied_with holds (Control context) ordinal command = refl
+denied_with holds (Timeline context ring) ordinal command = refl
+denied_with holds Cursor ordinal command = refl
 
 -- the lane of bytes is one of their queue
 header_lane : (header : Header) → lane_of_header header ≤ 64
@@ -100,45 +104,73 @@ has_room lists request (count, needed, room) =
     let is = needed 0 0 [] in
     omega (arith, one, is, room)
 
-pub next_by : (way : Way) (command : Command) (holds : Holds) (lists : DriverLists) (ordinal : ℕ) (request : Request) (count : ℕ) → MayGo way command → IsShort command → denied_by holds way command ≡ None
+-- what is made of a command, and of bytes
+pub made_command : (way : Way) (command : Command) (ordinal : ℕ) (request : Request) → MayGo way command → IsShort command
     → request ≡ request_by way command ordinal → lane_of (queue_by way) request.bytes ≡ lane_by way → request_of (queue_by way) request.bytes ≡ Ok (header_by way (command_kind command) ordinal, command)
-    → queue_by way ≡ lists.queue → ordinal ≡ lane_count (lane_by way) lists.published + 1 → ((k : ℕ) → IsNeeded (shape_of command) (24 + k) (room_on (queue_by way) command) count) → HasRoom lists count
-    → length lists.published < 2 ^ 63 - 1 → IsNext holds lists request
-next_by way command holds lists ordinal request count may short allowed is lane reads queue next needed room last =
+    → IsMadeFor (asks.Command way command) ordinal request
+made_command way command ordinal request may short is lane reads =
     let header = header_by way (command_kind command) ordinal in
-    let bytes_is : request.bytes ≡ request_bytes header command = ap (λ q. q.bytes) is in
-    let long : length request.bytes ≡ 24 + length (command_body command) = ap {B = ℕ} length bytes_is ∙ request_long header command in
-    let same : request_by way command ordinal ≡ request = sym is in
     let bytes = request.bytes in
+    let bytes_are : bytes ≡ request_bytes header command = ap (λ q. q.bytes) is in
+    let long : length bytes ≡ 24 + length (command_body command) = ap {B = ℕ} length bytes_are ∙ request_long header command in
+    let same : request_by way command ordinal ≡ request = sym is in
     record {
-      queue_is = ap (λ q. q.queue) is ∙ queue;
+      is = is;
       lane = subst (λ (q : Request). IsLane q.queue q.lane) same (way_lane way may.0);
       lane_is = ap (λ q. q.lane) is ∙ (sym lane ∙ ap (λ q. lane_of q bytes) (sym (ap (λ q. q.queue) is)));
-      ordinal = ap (λ q. q.ordinal) is ∙ (next ∙ ap (λ l. lane_count l lists.published + 1) (sym (ap (λ q. q.lane) is)));
       short = let fits = short-body command short in omega (arith, long, fits);
       room = subst (λ (q : Request). q.room ≤ 8192) same (small_room (queue_by way) command);
       count = subst (λ (q : Request). IsCount q.shape) same (shape_counts command);
-      needed = (count, subst (λ (q : Request). IsNeeded q.shape (length bytes) q.room count) same (subst (λ n. IsNeeded (shape_of command) n (room_on (queue_by way) command) count) (sym long) (needed (length (command_body command)))), room);
-      last = last;
-      allowed = ap (λ q. denied_of holds q bytes) (ap (λ q. q.queue) is) ∙ (ap (denied_request holds) reads ∙ (denied_for holds way ordinal command ∙ allowed));
+      needed = λ count is_needed. subst (λ (q : Request). IsNeeded q.shape (length bytes) q.room count) same (subst (λ n. IsNeeded (shape_of command) n (room_on (queue_by way) command) count) (sym long) (is_needed (length (command_body command))));
+      denied = λ holds. ap (λ q. denied_of holds q bytes) (ap (λ q. q.queue) is) ∙ (ap (denied_request holds) reads ∙ denied_with holds way ordinal command);
     }
 
-pub next_raw : (queue : Queue) (room : ℕ) (shape : Shape) (bytes : List ℕ) (holds : Holds) (lists : DriverLists) (ordinal : ℕ) (request : Request) (count : ℕ) → length bytes ≤ 49152 → room ≤ 8192 → IsCount shape → denied_of holds queue bytes ≡ None
-    → request ≡ raw_request queue room shape bytes ordinal → queue ≡ lists.queue → ordinal ≡ lane_count (lane_of queue bytes) lists.published + 1 → IsNeeded shape (length bytes) room count → HasRoom lists count
-    → length lists.published < 2 ^ 63 - 1 → IsNext holds lists request
-next_raw queue room shape bytes holds lists ordinal request count short small is_count allowed is queue_is next needed fits last =
-    subst (IsNext holds lists) (sym is) (record {
-      queue_is = queue_is;
+pub made_raw : (queue : Queue) (room : ℕ) (shape : Shape) (bytes : List ℕ) (ordinal : ℕ) (request : Request) → length bytes ≤ 49152 → room ≤ 8192 → IsCount shape → request ≡ raw_request queue room shape bytes ordinal
+    → IsMadeFor (asks.Raw queue room shape bytes) ordinal request
+made_raw queue room shape bytes ordinal request short small is_count is =
+    subst (IsMadeFor (asks.Raw queue room shape bytes) ordinal) (sym is) (record {
+      is = refl;
       lane = bytes_lane queue bytes;
       lane_is = refl;
-      ordinal = next;
       short = short;
       room = small;
       count = is_count;
-      needed = (count, needed, fits);
-      last = last;
-      allowed = allowed;
+      needed = λ count is_needed. is_needed;
+      denied = λ holds. refl;
     })
+
+-- what is made has the queue, the lane and the ordinal
+pub made_queue : (ask : Ask) (ordinal : ℕ) → (request_for ask ordinal).queue ≡ queue_for ask
+made_queue (asks.Command way command) ordinal = refl
+made_queue (asks.Raw queue room shape bytes) ordinal = refl
+
+made_lane : (ask : Ask) (ordinal : ℕ) → (request_for ask ordinal).lane ≡ lane_for ask
+made_lane (asks.Command way command) ordinal = refl
+made_lane (asks.Raw queue room shape bytes) ordinal = refl
+
+made_ordinal : (ask : Ask) (ordinal : ℕ) → (request_for ask ordinal).ordinal ≡ ordinal
+made_ordinal (asks.Command way command) ordinal = refl
+made_ordinal (asks.Raw queue room shape bytes) ordinal = refl
+
+pub next_for : (ask : Ask) (holds : Holds) (lists : DriverLists) (ordinal : ℕ) (request : Request) (count : ℕ) → IsMadeFor ask ordinal request → denied_for holds ask ≡ None → queue_for ask ≡ lists.queue
+    → ordinal ≡ lane_count (lane_for ask) lists.published + 1 → IsNeededFor ask count → HasRoom lists count → length lists.published < 2 ^ 63 - 1 → IsNext holds lists request
+next_for ask holds lists ordinal request count made allowed queue next needed room last = record {
+  queue_is = ap (λ q. q.queue) made.is ∙ (made_queue ask ordinal ∙ queue);
+  lane = made.lane;
+  lane_is = made.lane_is;
+  ordinal = ap (λ q. q.ordinal) made.is ∙ (made_ordinal ask ordinal ∙ (next ∙ ap (λ l. lane_count l lists.published + 1) (sym (ap (λ q. q.lane) made.is ∙ made_lane ask ordinal))));
+  short = made.short;
+  room = made.room;
+  count = made.count;
+  needed = (count, made.needed count needed, room);
+  last = last;
+  allowed = made.denied holds ∙ allowed;
+}
+
+-- the lane that it goes by is one that there is
+pub lane_below : (ask : Ask) → IsAsk ask → lane_for ask < 66
+lane_below (asks.Command way command) is = lane_small (queue_by way) (lane_by way) (way_lane way is.0.0)
+lane_below (asks.Raw queue room shape bytes) is = lane_small queue (lane_of queue bytes) (bytes_lane queue bytes)
 
 -- the request is this function of its ordinal
 pub submitted_as : (old : Token) (f : ℕ → Request) (request : Request) (ticket : Ticket) (new : Token) → request ≡ f request.ordinal → Submitted old (λ n. request) ticket new → Submitted old f ticket new

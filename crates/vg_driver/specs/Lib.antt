@@ -1,4 +1,5 @@
 pub mod Requests
+pub mod Asks
 pub mod Tickets
 pub mod Halves
 pub mod Offers

@@ -1,21 +1,18 @@
 //! Both queues of a device, as its clients share them.
 
-ghost use Rattle.std.specs.Prelude.{◌≡◌, ℕ, ◌≤◌, None, length, IfSome, MatchResult};
-ghost use Rattle.vg_chain.specs.Made.{IsCount};
+ghost use Rattle.std.specs.Prelude.{◌≡◌, ℕ, None, IfSome, MatchResult};
 ghost use Rattle.vg_wire.specs.declared.request.Queue.TheVariants as queues;
 ghost use Rattle.vg_ring.specs.Making.{IsNewDriver};
-ghost use Rattle.vg_holds.specs.Holds.{denied_of};
-ghost use Rattle.vg_driver.specs.Requests as requests;
-ghost use Rattle.vg_driver.specs.Requests.{IsShort, MayGo};
 ghost use Rattle.vg_machine.specs.Written.{read_by};
+ghost use Rattle.vg_driver.specs.Asks.{IsAsk, denied_for, queue_for, request_for};
 ghost use Rattle.vg_driver.specs.Halves.{IsOf};
 ghost use Rattle.vg_driver.specs.Offers.{MayOffer};
 ghost use Rattle.vg_driver.specs.Tickets.{Finished, IsOut, Spent, Submitted};
 
+use crate::ask::Ask;
 use crate::back::Back;
 use crate::half::Half;
-use crate::offer::{offer, offer_raw};
-use crate::request::{Way, queue_by};
+use crate::offer::offer;
 use crate::ticket::{Answer, Ticket};
 use crossbeam_utils::Backoff;
 use std::alloc::{AllocError, Global};
@@ -26,7 +23,6 @@ use vg_list::Seq;
 use vg_machine::{Display, Reply};
 use vg_ring::{ControlOf, CursorOf, DriverEnd, OfQueue, Rings};
 use vg_wire::Queue;
-use vg_wire_ext::Command;
 
 /// The driver's ends of a device's two rings, each under a lock.
 #[derive(Drop)]
@@ -35,64 +31,23 @@ pub struct Driver<B: vg_book::Naming, N: Rings> {
     cursor: Mutex<Half<Display, B, CursorOf<N>>>,
 }
 
-/// Submits a command on the queue that it goes by.
+/// Submits what is asked on its queue.
 fn submit_on<R: Wait, B: vg_book::Naming, Q: vg_ring::Naming + OfQueue>(
     rt: &R,
     half: &Mutex<Half<Display, B, Q>>,
     alloc: Global,
     book: &Book<Display, B>,
     token: &mut ClientToken<Display, B>,
-    way: Way,
-    command: &Command,
+    ask: &Ask,
 ) -> Result<Ticket, NoMemory>
-    requires queue { Q.queue ≡ requests.queue_by way }
-    requires way { MayGo way command.now }
-    requires short { IsShort command.now }
-    requires allowed { requests.denied_by token.old.account.holds way command.now ≡ None }
-    ensures { MatchResult result (λ ticket. Submitted token.old (requests.request_by way command.now) ticket token.new) (λ _. token.new ≡ token.old) }
+    requires queue { Q.queue ≡ queue_for ask.now }
+    requires ask { IsAsk ask.now }
+    requires allowed { denied_for token.old.account.holds ask.now ≡ None }
+    ensures { MatchResult result (λ ticket. Submitted token.old (request_for ask.now) ticket token.new) (λ _. token.new ≡ token.old) }
 {
     let backoff = Backoff::new();
     for _ in rt.forever() {
-        let offered = offer(&mut half.lock(rt), alloc, book, token, way, command)?;
-        if let Some(ticket) = offered {
-            return Ok(ticket);
-        }
-        backoff.snooze();
-    }
-    unreachable!()
-}
-
-/// Submits bytes on their queue, as they are.
-fn submit_raw_on<R: Wait, B: vg_book::Naming, Q: vg_ring::Naming + OfQueue>(
-    rt: &R,
-    half: &Mutex<Half<Display, B, Q>>,
-    alloc: Global,
-    book: &Book<Display, B>,
-    token: &mut ClientToken<Display, B>,
-    queue: Queue,
-    room: u32,
-    shape: Shape,
-    bytes: &[u8],
-) -> Result<Ticket, NoMemory>
-    requires queue { Q.queue ≡ queue }
-    requires short { length bytes.now ≤ 49152 }
-    requires room { room ≤ 8192 }
-    requires count { IsCount shape }
-    requires allowed { denied_of token.old.account.holds queue bytes.now ≡ None }
-    ensures { MatchResult result (λ ticket. Submitted token.old (requests.raw_request queue room shape bytes.now) ticket token.new) (λ _. token.new ≡ token.old) }
-{
-    let backoff = Backoff::new();
-    for _ in rt.forever() {
-        let offered = offer_raw(
-            &mut half.lock(rt),
-            alloc,
-            book,
-            token,
-            queue,
-            room,
-            shape,
-            bytes,
-        )?;
+        let offered = offer(&mut half.lock(rt), alloc, book, token, ask)?;
         if let Some(ticket) = offered {
             return Ok(ticket);
         }
@@ -208,69 +163,23 @@ impl<B: vg_book::Naming, N: Rings> Driver<B, N> {
         &self.cursor
     }
 
-    /// Submits a command of a client, which goes this way. It waits for its queue's lock, and for free descriptors. For want of
-    /// memory nothing was published.
+    /// Submits what a client asks. It waits for its queue's lock, and for free descriptors. For want of memory nothing was
+    /// published.
     pub fn submit<R: Wait>(
         &self,
         rt: &R,
         alloc: Global,
         book: &Book<Display, B>,
         token: &mut ClientToken<Display, B>,
-        way: Way,
-        command: &Command,
+        ask: &Ask,
     ) -> Result<Ticket, NoMemory>
-        requires way { MayGo way command.now }
-        requires short { IsShort command.now }
-        requires allowed { requests.denied_by token.old.account.holds way command.now ≡ None }
-        ensures { MatchResult result (λ ticket. Submitted token.old (requests.request_by way command.now) ticket token.new) (λ _. token.new ≡ token.old) }
+        requires ask { IsAsk ask.now }
+        requires allowed { denied_for token.old.account.holds ask.now ≡ None }
+        ensures { MatchResult result (λ ticket. Submitted token.old (request_for ask.now) ticket token.new) (λ _. token.new ≡ token.old) }
     {
-        match queue_by(way) {
-            Queue::Control => submit_on(rt, &self.control, alloc, book, token, way, command),
-            Queue::Cursor => submit_on(rt, &self.cursor, alloc, book, token, way, command),
-        }
-    }
-
-    /// Submits bytes of a client as they are, with so many bytes for the response. It waits as `submit` does.
-    pub fn submit_raw<R: Wait>(
-        &self,
-        rt: &R,
-        alloc: Global,
-        book: &Book<Display, B>,
-        token: &mut ClientToken<Display, B>,
-        queue: Queue,
-        room: u32,
-        shape: Shape,
-        bytes: &[u8],
-    ) -> Result<Ticket, NoMemory>
-        requires short { length bytes.now ≤ 49152 }
-        requires room { room ≤ 8192 }
-        requires count { IsCount shape }
-        requires allowed { denied_of token.old.account.holds queue bytes.now ≡ None }
-        ensures { MatchResult result (λ ticket. Submitted token.old (requests.raw_request queue room shape bytes.now) ticket token.new) (λ _. token.new ≡ token.old) }
-    {
-        match queue {
-            Queue::Control => submit_raw_on(
-                rt,
-                &self.control,
-                alloc,
-                book,
-                token,
-                queue,
-                room,
-                shape,
-                bytes,
-            ),
-            Queue::Cursor => submit_raw_on(
-                rt,
-                &self.cursor,
-                alloc,
-                book,
-                token,
-                queue,
-                room,
-                shape,
-                bytes,
-            ),
+        match ask.queue() {
+            Queue::Control => submit_on(rt, &self.control, alloc, book, token, ask),
+            Queue::Cursor => submit_on(rt, &self.cursor, alloc, book, token, ask),
         }
     }
 

@@ -1,26 +1,20 @@
 //! Publishing a request of a client.
 
 ghost use Rattle.std.specs.Prelude.{◌≡◌, ◌-◌, ◌^◌, ◌<◌, ◌≤◌, None, length, IfOk, MatchResult};
-ghost use Rattle.vg_chain.specs.Made.{IsCount, IsNeeded};
+ghost use Rattle.vg_chain.specs.Made.{IsCount};
 ghost use Rattle.vg_ring.specs.Cargo.{IsLane};
-ghost use Rattle.vg_holds.specs.Holds.{denied_of};
-ghost use Rattle.vg_driver.specs.Requests as requests;
-ghost use Rattle.vg_driver.specs.Requests.{IsShort, MayGo};
+ghost use Rattle.vg_driver.specs.Asks.{IsAsk, denied_for, queue_for, request_for};
 ghost use Rattle.vg_driver.specs.Tickets.{Submitted};
 ghost use Rattle.vg_driver.specs.Offers.{IsNext, IsParcelOf, MayOffer};
 
+use crate::ask::Ask;
 use crate::half::Half;
-use crate::request::{Way, lane_by, needed_by, raw_request, request_by};
 use crate::ticket::{Fence, Ticket};
 use std::alloc::{AllocError, Global};
 use std::snapshot::Snapshot;
 use vg_book::{Book, ClientToken, NoMemory};
-use vg_chain::Shape;
-use vg_list::Seq;
-use vg_machine::{Display, Request, lane_of};
+use vg_machine::{Display, Request};
 use vg_ring::{OfQueue, Parcel, Tag};
-use vg_wire::Queue;
-use vg_wire_ext::Command;
 
 /// The parcel of a request, for this head. The request's bytes move to it.
 fn parcel_of(alloc: Global, head: u16, request: Request) -> Result<Parcel, AllocError>
@@ -67,62 +61,28 @@ fn send<B: vg_book::Naming, Q: vg_ring::Naming + OfQueue>(
     Ok(Ticket { fence, call })
 }
 
-/// Publishes a command that goes this way. None where there is no room for it now.
+/// Publishes what is asked. None where there is no room for it now.
 pub(crate) fn offer<B: vg_book::Naming, Q: vg_ring::Naming + OfQueue>(
     half: &mut Half<Display, B, Q>,
     alloc: Global,
     book: &Book<Display, B>,
     token: &mut ClientToken<Display, B>,
-    way: Way,
-    command: &Command,
+    ask: &Ask,
 ) -> Result<Option<Ticket>, NoMemory>
-    requires queue { Q.queue ≡ requests.queue_by way }
-    requires way { MayGo way command.now }
-    requires short { IsShort command.now }
-    requires allowed { requests.denied_by token.old.account.holds way command.now ≡ None }
-    ensures { MatchResult result (λ ticket. MayOffer token.old (requests.request_by way command.now) ticket token.new) (λ _. token.new ≡ token.old) }
+    requires queue { Q.queue ≡ queue_for ask.now }
+    requires ask { IsAsk ask.now }
+    requires allowed { denied_for token.old.account.holds ask.now ≡ None }
+    ensures { MatchResult result (λ ticket. MayOffer token.old (request_for ask.now) ticket token.new) (λ _. token.new ≡ token.old) }
 {
     half.reap_all(book);
     half.is_of_queue();
-    if !half.is_ready(needed_by(way, command)) || token.used() >= LAST_CALL {
+    if !half.is_ready(ask.needed()) || token.used() >= LAST_CALL {
         return Ok(None);
     }
-    let ordinal = half.next_ordinal(lane_by(way));
-    let Ok(request) = request_by(alloc, way, ordinal, command) else {
+    let ordinal = half.next_ordinal(ask.lane());
+    let Ok(request) = ask.request(alloc, ordinal) else {
         return Err(NoMemory);
     };
-    Ok(Some(send(half, alloc, book, token, request)?))
-}
-
-/// Publishes bytes as they are. None where there is no room for them now.
-pub(crate) fn offer_raw<B: vg_book::Naming, Q: vg_ring::Naming + OfQueue>(
-    half: &mut Half<Display, B, Q>,
-    alloc: Global,
-    book: &Book<Display, B>,
-    token: &mut ClientToken<Display, B>,
-    queue: Queue,
-    room: u32,
-    shape: Shape,
-    bytes: &[u8],
-) -> Result<Option<Ticket>, NoMemory>
-    requires queue { Q.queue ≡ queue }
-    requires short { length bytes.now ≤ 49152 }
-    requires room { room ≤ 8192 }
-    requires count { IsCount shape }
-    requires allowed { denied_of token.old.account.holds queue bytes.now ≡ None }
-    ensures { MatchResult result (λ ticket. MayOffer token.old (requests.raw_request queue room shape bytes.now) ticket token.new) (λ _. token.new ≡ token.old) }
-{
-    half.reap_all(book);
-    half.is_of_queue();
-    let needed = shape.needed(bytes.len() as u32, room);
-    if !half.is_ready(needed) || token.used() >= LAST_CALL {
-        return Ok(None);
-    }
-    let ordinal = half.next_ordinal(lane_of(queue, bytes));
-    let Ok(bytes) = bytes.to_vec(alloc) else {
-        return Err(NoMemory);
-    };
-    let request = raw_request(queue, ordinal, room, shape, Seq::from_vec(bytes));
     Ok(Some(send(half, alloc, book, token, request)?))
 }
 

@@ -42,7 +42,7 @@ pub(crate) fn lane_by(way: Way) -> u32
 }
 
 /// The queue of a command that goes this way.
-pub fn queue_by(way: Way) -> Queue
+pub(crate) fn queue_by(way: Way) -> Queue
     ensures { result ≡ requests.queue_by way }
 {
     match way {
@@ -108,7 +108,7 @@ pub(crate) fn request_by(
 
 /// The first thing that a command which goes this way names and that isn't allowed to a client with these holds. None where it
 /// is allowed.
-pub fn denied_by(
+pub(crate) fn denied_by(
     alloc: Global,
     holds: &Holds,
     way: Way,

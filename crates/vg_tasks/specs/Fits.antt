@@ -1,9 +1,8 @@
 -- Tasks whose numbers are within their limits.
-use Rattle.std.specs.Prelude.{◌≤◌, length}
-use Rattle.vg_chain.specs.Made.{IsCount}
+use Rattle.std.specs.Prelude.{◌≤◌}
 use Rattle.vg_holds.specs.declared.act.Act as the_act
 use Rattle.vg_holds.specs.declared.act.Act.TheVariants as acts
-use Rattle.vg_driver.specs.Requests.{IsShort, MayGo}
+use Rattle.vg_driver.specs.Asks.{IsAsk}
 use Rattle.vg_tasks.specs.declared.task.Change.{Change}
 use Rattle.vg_tasks.specs.declared.task.Change.TheVariants.{NewBuffer}
 use Rattle.vg_tasks.specs.declared.task.Deed.{Deed}
@@ -21,8 +20,7 @@ IsFitDeed (deeds.Act acts.Enter) = ⊥
 IsFitDeed (deeds.Act acts.Leave) = ⊥
 IsFitDeed (deeds.Act (acts.Denied what)) = ⊥
 IsFitDeed (deeds.Act act) = HasFewBytes act
-IsFitDeed (deeds.Command way command) = MayGo way command × IsShort command
-IsFitDeed (deeds.Raw queue room shape bytes) = (length bytes ≤ 49152) × (room ≤ 8192) × IsCount shape
+IsFitDeed (deeds.Ask ask) = IsAsk ask
 
 -- A buffer is no larger than a display.
 abbrev pub IsFitChange : Change → Type 0

@@ -14,16 +14,21 @@ use Rattle.vg_holds.specs.declared.act.Act.TheVariants as acts
 use Rattle.vg_names.specs.declared.names.Held.{Held}
 use Rattle.vg_tasks.specs.declared.task.Change.{Change}
 use Rattle.vg_tasks.specs.declared.task.Change.TheVariants.{Nothing, NewBuffer, EndOfName, Shows, GoesOn}
-use Rattle.vg_tasks.specs.declared.task.Deed.TheVariants.{Act, Command, Raw}
+use Rattle.vg_tasks.specs.declared.task.Deed.TheVariants.{Act, Ask}
 use Rattle.vg_tasks.specs.declared.task.Task.{Task}
+use Rattle.vg_driver.specs.declared.ask.Ask.TheVariants.{Command, Raw}
+use Rattle.vg_driver.specs.declared.request.Way.{Way}
 use Rattle.vg_driver.specs.declared.request.Way.TheVariants.{Control, Cursor}
 
--- A task that changes nothing but by its act; a command for no context, and a 2D one.
+-- A task that changes nothing but by its act; a command that goes a way; a command for no context, and a 2D one.
 abbrev pub act_task : the_act.Act → Task
 act_task act = record { deed = Act act; change = Nothing }
 
+abbrev pub command_task : Way → the_command.Command → Change → Task
+command_task way command change = record { deed = Ask (Command way command); change = change }
+
 abbrev pub control_task : the_command.Command → Change → Task
-control_task command change = record { deed = Command (Control 0) command; change = change }
+control_task command change = command_task (Control 0) command change
 
 abbrev pub two_d_task : Command2d → Change → Task
 two_d_task command change = control_task (TwoD command) change
@@ -47,7 +52,7 @@ uuid_task key = control_task (AssignUuid key) Nothing
 
 -- Bytes as they are.
 abbrev pub raw_task : Queue → ℕ → Shape → List ℕ → Task
-raw_task queue room shape bytes = record { deed = Raw queue room shape bytes; change = Nothing }
+raw_task queue room shape bytes = record { deed = Ask (Raw queue room shape bytes); change = Nothing }
 
 -- A buffer has pixels of four bytes.
 abbrev pub reserve_task : ℕ → ℕ → ℕ → Task
@@ -91,10 +96,10 @@ clear_task scanout = disable scanout Nothing
 
 -- A cursor shows a resource with its hot spot at a position; with resource 0 it is hidden.
 abbrev pub cursor_task : ℕ → ℕ → ℤ → ℤ → ℕ → ℕ → Task
-cursor_task scanout key x y hot_x hot_y = record { deed = Command Cursor (UpdateCursor scanout x y key hot_x hot_y); change = Nothing }
+cursor_task scanout key x y hot_x hot_y = command_task Cursor (UpdateCursor scanout x y key hot_x hot_y) Nothing
 
 abbrev pub move_task : ℕ → ℤ → ℤ → Task
-move_task scanout x y = record { deed = Command Cursor (MoveCursor scanout x y); change = Nothing }
+move_task scanout x y = command_task Cursor (MoveCursor scanout x y) Nothing
 
 -- A cursor is hidden before its scanout is given up, at the corner of the screen.
 abbrev pub hide_cursor_task : ℕ → Task

@@ -7,7 +7,7 @@ ghost use Rattle.vg_tasks.specs.Table.{no_rect, page_entry};
 
 use std::alloc::{AllocError, Global};
 use vg_chain::Shape;
-use vg_driver::Way;
+use vg_driver::{Ask, Way};
 use vg_formats::{MemEntry, Rect};
 use vg_holds::Act;
 use vg_list::Seq;
@@ -29,16 +29,8 @@ pub enum Deed {
     Act {
         act: Act,
     },
-    Command {
-        way: Way,
-        command: Command,
-    },
-    /// Bytes for a queue, as they are, with so many bytes for the response.
-    Raw {
-        queue: Queue,
-        room: u32,
-        shape: Shape,
-        bytes: Seq<u8>,
+    Ask {
+        ask: Ask,
     },
 }
 
@@ -78,17 +70,23 @@ pub fn act_task(act: Act) -> Task
     }
 }
 
+/// A command that goes this way, with what its response changes.
+fn command_task(way: Way, command: Command, change: Change) -> Task
+    ensures { result ≡ table.command_task way command change }
+{
+    Task {
+        deed: Deed::Ask {
+            ask: Ask::Command { way, command },
+        },
+        change,
+    }
+}
+
 /// A command for no context, with what its response changes.
 fn control_task(command: Command, change: Change) -> Task
     ensures { result ≡ table.control_task command change }
 {
-    Task {
-        deed: Deed::Command {
-            way: Way::Control { context: 0 },
-            command,
-        },
-        change,
-    }
+    command_task(Way::Control { context: 0 }, command, change)
 }
 
 /// A 2D command for no context, with what its response changes.
@@ -124,11 +122,13 @@ pub(crate) fn raw_task(queue: Queue, room: u32, shape: Shape, bytes: Seq<u8>) ->
     ensures { result ≡ table.raw_task queue room shape bytes }
 {
     Task {
-        deed: Deed::Raw {
-            queue,
-            room,
-            shape,
-            bytes,
+        deed: Deed::Ask {
+            ask: Ask::Raw {
+                queue,
+                room,
+                shape,
+                bytes,
+            },
         },
         change: Change::Nothing,
     }
@@ -292,26 +292,15 @@ pub(crate) fn cursor_task(scanout: u32, key: u32, x: i32, y: i32, hot_x: u32, ho
         hot_x,
         hot_y,
     };
-    Task {
-        deed: Deed::Command {
-            way: Way::Cursor,
-            command,
-        },
-        change: Change::Nothing,
-    }
+    command_task(Way::Cursor, command, Change::Nothing)
 }
 
 /// MOVE_CURSOR
 pub(crate) fn move_task(scanout: u32, x: i32, y: i32) -> Task
     ensures { result ≡ table.move_task scanout x y }
 {
-    Task {
-        deed: Deed::Command {
-            way: Way::Cursor,
-            command: Command::MoveCursor { scanout, x, y },
-        },
-        change: Change::Nothing,
-    }
+    let command = Command::MoveCursor { scanout, x, y };
+    command_task(Way::Cursor, command, Change::Nothing)
 }
 
 /// UPDATE_CURSOR that hides a scanout's cursor, before the scanout is given up.

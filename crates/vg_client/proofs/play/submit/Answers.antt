@@ -1,7 +1,8 @@
-use Rattle.std.proofs.Common.{◌+◌, ap, refl}
+use Rattle.std.proofs.Common.{◌≡◌, ◌+◌, ◌∙◌, ap, refl, sym}
 use Rattle.vg_history.specs.declared.entry.Entry.TheVariants as entries
 use Rattle.vg_wire.specs.declared.request.Queue.{Queue}
-use Rattle.vg_driver.specs.Requests.{request_by}
+use Rattle.vg_driver.specs.Asks.{queue_for, request_for}
+use Rattle.vg_driver.proofs.OfferLemmas.{made_queue}
 use Rattle.vg_client.specs.declared.given.Given.TheVariants as givens
 use Rattle.vg_client.proofs.PlayLemmas.{done-by, on_err, unadded}
 use Rattle.vg_client.proofs.play.submit.Goals as goal
@@ -14,8 +15,8 @@ returns-clause-done g c =
     let added = c.in_ok-answer.ensures.added in (
       added.0,
       answer.reply,
-      done-by client _ (entries.Command account.number (account.used + 1) (request_by c.args.way c.args.command.now added.0) answer.reply) (record { number = answer.entry; given = givens.Command c.queue_by.result answer.reply })
-          added.1 c.requires.active.present refl refl refl (ap (λ (q : Queue). givens.Command q answer.reply) c.queue_by.ensures),
+      done-by client _ (entries.Command account.number (account.used + 1) (request_for c.args.ask.now added.0) answer.reply) (record { number = answer.entry; given = givens.Command c.queue.result answer.reply })
+          added.1 c.requires.active.present refl refl refl (ap (λ (q : Queue). givens.Command q answer.reply) (c.queue.ensures ∙ sym (made_queue c.args.ask.now added.0))),
       tt,
     )
 

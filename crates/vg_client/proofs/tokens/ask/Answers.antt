@@ -1,18 +1,18 @@
 use Rattle.std.proofs.Common.{◌+◌, sym, subst}
 use Rattle.vg_history.specs.declared.entry.Entry.TheVariants as entries
 use Rattle.vg_machine.specs.declared.history.Reply.{Reply}
-use Rattle.vg_driver.specs.Requests.{raw_request}
+use Rattle.vg_driver.specs.Asks.{request_for}
 use Rattle.vg_client.specs.Accounts.{IsAdded}
 use Rattle.vg_client.proofs.AccountLemmas.{command-added}
-use Rattle.vg_client.proofs.tokens.raw_command.Goals as goal
+use Rattle.vg_client.proofs.tokens.ask.Goals as goal
 
 pub returns-in-Ok-finish-clause-added : goal.returns-in-Ok-finish-clause-added
 returns-in-Ok-finish-clause-added g c =
     let token = c.args.token.now in
-    let requests = raw_request c.args.queue c.args.room c.args.shape c.args.bytes.now in
+    let requests = request_for c.args.ask.now in
     let ticket = c.in-Ok.ticket in
     let submitted = c.in-Ok.ensures in
     let finished = c.in-Ok-finish.ensures in
     let step = c.entries_in_step.ensures.back _ _ _ _ _ _ c.requires.active.account_is.in_step submitted.drawn finished.back in
     let P : Reply → Type 0 = λ reply. IsAdded token c.in-Ok-finish.answer.entry (entries.Command token.account.number (token.account.used + 1) (requests ticket.fence.ordinal) reply) c.finish.new.token in
-    (ticket.fence.ordinal, subst P (sym finished.reply) (command-added token c.submit_raw.new.token c.finish.new.token requests ticket finished.done c.in-Ok-finish.answer.entry finished.entry c.requires.active submitted finished.back step))
+    (ticket.fence.ordinal, subst P (sym finished.reply) (command-added token c.submit.new.token c.finish.new.token requests ticket finished.done c.in-Ok-finish.answer.entry finished.entry c.requires.active submitted finished.back step))
