@@ -6,14 +6,13 @@ ghost use Rattle.vg_book.specs.Tokens.{ClientOk, client_value, Acted, Watched, D
 
 use crate::board::{Naming, Place};
 use crate::book::Book;
-use crate::held::NoMemory;
 use crate::note::Note;
 use crate::pass::{DonePass, Pass};
 use crate::seats::{draw, give_up, hand, join, settle, twin};
 use crate::steps::enter;
 use crate::turn::look;
 use crossbeam_utils::Backoff;
-use std::alloc::Global;
+use std::alloc::{AllocError, Global};
 use std::marker::{Model, PhantomData};
 use std::snapshot::Snapshot;
 use std::sync::Wait;
@@ -96,7 +95,7 @@ impl<M: Machine, B: Naming> ClientToken<M, B> {
         alloc: Global,
         book: &Book<M, B>,
         act: M::Act,
-    ) -> Result<(u64, M::ActReply), NoMemory>
+    ) -> Result<(u64, M::ActReply), AllocError>
         requires gives { M.ends_hold act ≡ true → self.old.account.out ≡ [] }
         ensures { MatchResult result (λ r. Acted M.Machine self.old act self.new r.0 r.1) (λ _. Watched M.Machine self.old self.new) }
     {

@@ -7,12 +7,8 @@ ghost use Rattle.vg_book.specs.declared.board.Slot.TheVariants.{Held};
 ghost use Rattle.vg_book.specs.Hands.{IsSameCore, IsLaneClear, ActsOn, RunsWhole, Lends, EndsOn};
 
 use crate::board::{Core, Slot};
-use std::alloc::Global;
+use std::alloc::{AllocError, Global};
 use vg_history::{Begun, Machine};
-
-/// There was no memory.
-#[derive(Debug, Drop)]
-pub struct NoMemory;
 
 impl<M: Machine> Core<M> {
     /// Does the act, and enters it. For want of memory nothing changes.
@@ -23,19 +19,14 @@ impl<M: Machine> Core<M> {
         call: u64,
         holds: &mut M::Holds,
         act: M::Act,
-    ) -> Result<(u64, M::ActReply), NoMemory>
+    ) -> Result<(u64, M::ActReply), AllocError>
         requires count { M.count (M.state self.old.machine) < 2 ^ 31 - 1 }
         requires unblocked { M.blocks_act self.old.machine act ≡ false }
         ensures ok { IfOk result (λ r. ActsOn M.Machine self.old client call holds.old act self.new holds.new r.0 r.1) }
         ensures err { OnErr result (IsSameCore M.Machine self.old self.new × (holds.new ≡ holds.old)) }
     {
-        match self
-            .history
+        self.history
             .act(alloc, &mut self.machine, client, call, holds, act)
-        {
-            Ok(done) => Ok(done),
-            Err(_) => Err(NoMemory),
-        }
     }
 
     /// Runs the request as a whole, and enters it, or has its job lent.
@@ -120,7 +111,7 @@ impl<M: Machine> Slot<M> {
         call: u64,
         holds: &mut M::Holds,
         act: M::Act,
-    ) -> Result<(u64, M::ActReply), NoMemory>
+    ) -> Result<(u64, M::ActReply), AllocError>
         requires { (c : _) × (self.old ≡ Held c) × (M.count (M.state c.machine) < 2 ^ 31 - 1) × (M.blocks_act c.machine act ≡ false) }
         ensures ok { IfOk result (λ r. (c : _) → self.old ≡ Held c → (d : _) × (self.new ≡ Held d) × ActsOn M.Machine c client call holds.old act d holds.new r.0 r.1) }
         ensures err { OnErr result ((c : _) → self.old ≡ Held c → (d : _) × (self.new ≡ Held d) × IsSameCore M.Machine c d × (holds.new ≡ holds.old)) }

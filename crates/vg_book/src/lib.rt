@@ -26,7 +26,6 @@ pub use board::{
 };
 pub use book::{Book, Opened};
 pub use client::ClientToken;
-pub use held::NoMemory;
 pub use lane::LaneToken;
 pub use laws::{entries_in_step, history_in_step};
 pub use note::Note;

@@ -9,10 +9,9 @@ ghost use Rattle.vg_book.specs.Tells.{HasLooked};
 ghost use Rattle.vg_book.specs.Turns.{IsAt, Sits, SitsOut, IsClientSeat, EntersAct, RunsOrder, HasBegun, own, counted, order};
 
 use crate::board::{Board, Place};
-use crate::held::NoMemory;
 use crate::plays::{Answer, Enter, Give, Lend};
 use crate::turn::{take_turn_back, take_turn_for, take_turn_to};
-use std::alloc::Global;
+use std::alloc::{AllocError, Global};
 use std::sync::Wait;
 use vg_history::{Begun, Machine};
 
@@ -25,7 +24,7 @@ fn act_in_hand<M: Machine>(
     call: u64,
     holds: &mut M::Holds,
     act: M::Act,
-) -> Result<(u64, M::ActReply), NoMemory>
+) -> Result<(u64, M::ActReply), AllocError>
     requires table { IsAt table.now.shared.table_id seat.old.table_id }
     requires hand { (c : _) × (seat.old.me.1 ≡ (0, Held c) ∷ []) × (M.count (M.state c.machine) < 2 ^ 31 - 1) × (M.blocks_act c.machine act ≡ false) }
     ensures id { seat.new.table_id ≡ seat.old.table_id }
@@ -88,7 +87,7 @@ pub(crate) fn enter<M: Machine, R: Wait>(
     used: u64,
     holds: &mut M::Holds,
     act: M::Act,
-) -> Result<(u64, M::ActReply), NoMemory>
+) -> Result<(u64, M::ActReply), AllocError>
     requires table { IsAt table.now.shared.table_id seat.old.table_id }
     requires client { IsClientSeat M.Machine seat.old.me number used holds.old }
     requires number { used < 2 ^ 64 - 1 }

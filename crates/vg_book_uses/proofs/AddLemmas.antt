@@ -7,7 +7,7 @@ use Rattle.vg_history.specs.declared.machine.Machine.{Ghosts}
 use Rattle.vg_history.specs.declared.entry.Entry.TheVariants as entries
 use Rattle.vg_history.proofs.ListLemmas.{prefix_self, prefix_more, prefix_trans, has_map}
 use Rattle.vg_history.specs.Lists.{Has}
-use Rattle.vg_book.specs.declared.held.NoMemory.{NoMemory}
+use Rattle.std.specs.declared.alloc.AllocError.{AllocError}
 use Rattle.vg_book.specs.Tokens.{Acted, IsClosed}
 use Rattle.vg_book_uses.specs.declared.counter.Act.{Act}
 use Rattle.vg_book_uses.specs.declared.counter.Act.TheVariants.{Add}
@@ -74,7 +74,7 @@ module _ (g : Ghosts Counter Counter Act ℕ Request ℕ ℕ Request) where
     idle first j c new h = h.out ∙ new.out
 
     module _ (first : Option Counter) (count : ℕ) (js : List X) (cs : List Cl) (new : AreNew g first 0 count (map client js)) (fits : All Fits js)
-        (ds : List (Result Cl NoMemory)) (gave : AllGive (Gives g client 0 Fits Gave same idle) js ds) (all_ok : ds ≡ map Ok cs) where
+        (ds : List (Result Cl AllocError)) (gave : AllGive (Gives g client 0 Fits Gave same idle) js ds) (all_ok : ds ≡ map Ok cs) where
       added_by : (r : Ro) (m : Counter) (H : List E) → r.accounts ≡ map account_of cs → IsClosed g r m H → (n : ℕ) → 0 < n → n ≤ count → IsAddedBy n times H
       added_by r m H accounts closed n low high =
           let c = found g client 0 Fits Gave same idle first count js cs new fits ds gave all_ok n low high in

@@ -8,7 +8,7 @@ use Rattle.vg_history.specs.declared.machine.Machine.{Ghosts}
 use Rattle.vg_history.specs.Lists.{Has, upto}
 use Rattle.vg_history.proofs.ListLemmas.{has_map, map_has, has_upto}
 use Rattle.vg_book.specs.declared.board.Counted.{Counted}
-use Rattle.vg_book.specs.declared.held.NoMemory.{NoMemory}
+use Rattle.std.specs.declared.alloc.AllocError.{AllocError}
 use Rattle.vg_book.specs.Kept.{IsHistory}
 use Rattle.vg_book.specs.Tokens.{AllJoined, MakesClient, TakesIn}
 use Rattle.vg_book_uses.specs.declared.counter.Act.{Act}
@@ -71,15 +71,15 @@ module _ (g : Ghosts Counter Counter Act ℕ Request ℕ ℕ Request) where
     -- Each job gives its client, with the same number and nothing outstanding.
     module _ (Gave : X → Cl → Type 0) (same : (j : X) (c : Cl) → Gave j c → c.account.number ≡ (client j).account.number)
         (idle : (first : Option Counter) (j : X) (c : Cl) → IsNew g first held (client j) → Gave j c → c.account.out ≡ []) where
-      abbrev pub Gives : X → Result Cl NoMemory → Type 0
+      abbrev pub Gives : X → Result Cl AllocError → Type 0
       Gives j result = IfOk result (Gave j)
 
-      pub with_nothing_out : (first : Option Counter) (js : List X) (ds : List (Result Cl NoMemory)) → AllGive Gives js ds → All (λ j. IsNew g first held (client j)) js → All (λ d. IfOk d (λ c. c.account.out ≡ [])) ds
+      pub with_nothing_out : (first : Option Counter) (js : List X) (ds : List (Result Cl AllocError)) → AllGive Gives js ds → All (λ j. IsNew g first held (client j)) js → All (λ d. IfOk d (λ c. c.account.out ≡ [])) ds
       with_nothing_out first js ds h new = given_all Gives (λ j. IsNew g first held (client j)) (λ d. IfOk d (λ c. c.account.out ≡ [])) js ds h new
           (λ j d is gave. ok_more d (Gave j) (λ c. c.account.out ≡ []) gave (λ c a. idle first j c is a))
 
       same_numbers : (js : List X) (cs : List Cl) → AllGive Gives js (map Ok cs) → map number_of cs ≡ map number_of (map client js)
-      same_numbers js cs h = given_same Gave (λ j. number_of (client j)) number_of js cs (given_ok NoMemory Gave js cs h) same ∙ sym (map-map number_of client js)
+      same_numbers js cs h = given_same Gave (λ j. number_of (client j)) number_of js cs (given_ok AllocError Gave js cs h) same ∙ sym (map-map number_of client js)
 
       -- The job that gave a client.
       giver : (first : Option Counter) (js : List X) (cs : List Cl) → AllGive Gives js (map Ok cs) → All (λ j. IsNew g first held (client j)) js → All Fits js
@@ -90,9 +90,9 @@ module _ (g : Ghosts Counter Counter Act ℕ Request ℕ ℕ Request) where
       giver first (j ∷ js) (d ∷ cs) h new fits c (inr at) = giver first js cs h.1 (λ i y l. new (suc i) y (omega arith)) (λ i y l. fits (suc i) y (omega arith)) c at
 
       module _ (first : Option Counter) (count : ℕ) (js : List X) (cs : List Cl) (new : AreNew g first held count (map client js)) (fits : All Fits js)
-          (ds : List (Result Cl NoMemory)) (gave : AllGive Gives js ds) (all_ok : ds ≡ map Ok cs) where
+          (ds : List (Result Cl AllocError)) (gave : AllGive Gives js ds) (all_ok : ds ≡ map Ok cs) where
         gives : AllGive Gives js (map Ok cs)
-        gives = subst (λ (xs : List (Result Cl NoMemory)). AllGive Gives js xs) all_ok gave
+        gives = subst (λ (xs : List (Result Cl AllocError)). AllGive Gives js xs) all_ok gave
 
         -- The client with this number, and its job.
         pub found : (n : ℕ) → 0 < n → n ≤ count → (c : Cl) × Has cs c × (c.account.number ≡ n) × ((j : X) × IsNew g first held (client j) × Fits j × Gave j c)
@@ -108,7 +108,7 @@ module _ (g : Ghosts Counter Counter Act ℕ Request ℕ ℕ Request) where
           lanes = lanes;
         }
 
-  pub taken_more : (r s t : Ro) (ys : List (Result Cl NoMemory)) (y : Result Cl NoMemory) (c : Cl) → HasTakenAll r ys s → y ≡ Ok c → TakesIn g s c.seen t → t.accounts ≡ s.accounts ++ c.account ∷ [] → t.lanes ≡ s.lanes → HasTakenAll r (ys ++ y ∷ []) t
+  pub taken_more : (r s t : Ro) (ys : List (Result Cl AllocError)) (y : Result Cl AllocError) (c : Cl) → HasTakenAll r ys s → y ≡ Ok c → TakesIn g s c.seen t → t.accounts ≡ s.accounts ++ c.account ∷ [] → t.lanes ≡ s.lanes → HasTakenAll r (ys ++ y ∷ []) t
   taken_more r s t ys y c h e takes accounts lanes = record {
     given = takes.given ∙ h.given;
     lanes = lanes ∙ h.lanes;

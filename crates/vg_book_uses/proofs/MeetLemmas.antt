@@ -6,7 +6,7 @@ use Rattle.vg_history.specs.declared.machine.Machine.{Ghosts}
 use Rattle.vg_history.specs.declared.entry.Entry.TheVariants as entries
 use Rattle.vg_history.specs.Lists.{Has}
 use Rattle.vg_history.proofs.ListLemmas.{has_last, has_prefix, prefix_more, prefix_self, prefix_trans}
-use Rattle.vg_book.specs.declared.held.NoMemory.{NoMemory}
+use Rattle.std.specs.declared.alloc.AllocError.{AllocError}
 use Rattle.vg_book.specs.Tokens.{Acted, Watched}
 use Rattle.vg_crew.specs.Jobs.{AllGive}
 use Rattle.vg_book_uses.specs.declared.counter.Act.{Act}
@@ -56,11 +56,11 @@ module _ (g : Ghosts Counter Counter Act ℕ Request ℕ ℕ Request) where
       }
 
   module _ {X : Type 0} (client : X → Cl) where
-    met_talked : (c : Cl) (r : Result Cl NoMemory) → IfOk r (λ d. HasMet g c d) → IfOk r (λ d. HasTalked g c 2 d)
+    met_talked : (c : Cl) (r : Result Cl AllocError) → IfOk r (λ d. HasMet g c d) → IfOk r (λ d. HasTalked g c 2 d)
     met_talked c (Ok d) h = h.talked
     met_talked c (Err e) h = tt
 
-    pub all_talked : (js : List X) (ds : List (Result Cl NoMemory)) → AllGive (λ j r. IfOk r (λ c. HasMet g (client j) c)) js ds → AllGive (λ j r. IfOk r (λ c. HasTalked g (client j) 2 c)) js ds
+    pub all_talked : (js : List X) (ds : List (Result Cl AllocError)) → AllGive (λ j r. IfOk r (λ c. HasMet g (client j) c)) js ds → AllGive (λ j r. IfOk r (λ c. HasTalked g (client j) 2 c)) js ds
     all_talked [] [] h = tt
     all_talked [] (d ∷ ds) h = absurd h
     all_talked (j ∷ js) [] h = absurd h

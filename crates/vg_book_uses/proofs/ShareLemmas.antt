@@ -10,7 +10,7 @@ use Rattle.vg_history.specs.declared.machine.Machine.{Ghosts}
 use Rattle.vg_history.specs.Lists.{Has}
 use Rattle.vg_history.proofs.ListLemmas.{prefix_self, prefix_more, prefix_trans, has_map, map_has, has_left, has_last}
 use Rattle.vg_book.specs.declared.board.Counted.{Counted}
-use Rattle.vg_book.specs.declared.held.NoMemory.{NoMemory}
+use Rattle.std.specs.declared.alloc.AllocError.{AllocError}
 use Rattle.vg_book.specs.Opening.{first_lanes}
 use Rattle.vg_book.specs.Tokens.{Acted, IsClosed}
 use Rattle.vg_book_uses.specs.declared.counter.Act.{Act}
@@ -122,7 +122,7 @@ module _ (g : Ghosts Counter Counter Act ℕ Request ℕ ℕ Request) where
     idle first j c new h = h.out
 
     module _ (first : Option Counter) (count : ℕ) (js : List X) (cs : List Cl) (new : AreNew g first 1 count (map client js)) (fits : All Fits js)
-        (ds : List (Result Cl NoMemory)) (gave : AllGive (Gives g client 1 Fits Gave same idle) js ds) (all_ok : ds ≡ map Ok cs) where
+        (ds : List (Result Cl AllocError)) (gave : AllGive (Gives g client 1 Fits Gave same idle) js ds) (all_ok : ds ≡ map Ok cs) where
       settled_by : (r : Ro) (m : Counter) (H : List E) → r.accounts ≡ map account_of cs → IsClosed g r m H → (n : ℕ) → 0 < n → n ≤ count → IsSettled g n drawn H
       settled_by r m H accounts closed n low high =
           let c = found g client 1 Fits Gave same idle first count js cs new fits ds gave all_ok n low high in

@@ -9,7 +9,7 @@ use Rattle.vg_history.specs.Entries.{client_of, EachOnce}
 use Rattle.vg_history.specs.History.{replay, AgreesFrom, Ordered}
 use Rattle.vg_book.specs.Kept.{Accounted, IsHistory}
 use Rattle.vg_book.specs.declared.board.Account.{Account}
-use Rattle.vg_book.specs.declared.held.NoMemory.{NoMemory}
+use Rattle.std.specs.declared.alloc.AllocError.{AllocError}
 use Rattle.vg_book.specs.Tokens.{Client, Rooted}
 use Rattle.vg_book_uses.specs.declared.counter.Counter.{Counter}
 use Rattle.vg_book_uses.specs.declared.counter.Act.{Act}
@@ -40,7 +40,7 @@ pub record IsRootWith (count : ℕ) (r s : Ro) : Type 0 where
   pub start : s.start ≡ r.start
 
 -- The root has taken in these clients.
-pub record HasTakenAll (r : Ro) (clients : List (Result Cl NoMemory)) (s : Ro) : Type 0 where
+pub record HasTakenAll (r : Ro) (clients : List (Result Cl AllocError)) (s : Ro) : Type 0 where
   pub given : s.given ≡ r.given
   pub lanes : s.lanes ≡ r.lanes
   pub lanes_made : s.lanes_made ≡ r.lanes_made

@@ -8,7 +8,7 @@ use std::alloc::{AllocError, Global};
 use std::marker::{Send, Sync};
 use std::sync::Wait;
 use std::thread::Threads;
-use vg_book::{Book, ClientToken, Naming, NoMemory, Opened, Root};
+use vg_book::{Book, ClientToken, Naming, Opened, Root};
 use vg_crew::{Job, each};
 use vg_history::{History, Machine};
 
@@ -19,7 +19,7 @@ pub fn add_times<B: Naming, R: Wait>(
     book: &Book<Counter, B>,
     client: ClientToken<Counter, B>,
     times: u64,
-) -> Result<ClientToken<Counter, B>, NoMemory>
+) -> Result<ClientToken<Counter, B>, AllocError>
     requires known { IsKnown ⟦<Counter as Machine>⟧ client }
     ensures { IfOk result (λ c. HasAdded ⟦<Counter as Machine>⟧ client times c) }
 {
@@ -39,7 +39,7 @@ struct Adding<'a, B: Naming> {
     times: u64,
 }
 
-impl<'a, B: Naming> Job<Result<ClientToken<Counter, B>, NoMemory>> for Adding<'a, B> {
+impl<'a, B: Naming> Job<Result<ClientToken<Counter, B>, AllocError>> for Adding<'a, B> {
     ghost use Rattle.std.specs.Prelude.{IfOk};
     ghost use Rattle.vg_book_uses.specs.Adding.{HasAdded, IsKnown};
 
@@ -47,7 +47,7 @@ impl<'a, B: Naming> Job<Result<ClientToken<Counter, B>, NoMemory>> for Adding<'a
 
     ghost gives = { λ job result. IfOk result (λ c. HasAdded ⟦<Counter as Machine>⟧ job.client job.times c) };
 
-    fn run<R: Threads + Wait + Sync>(self, rt: &R) -> Result<ClientToken<Counter, B>, NoMemory> {
+    fn run<R: Threads + Wait + Sync>(self, rt: &R) -> Result<ClientToken<Counter, B>, AllocError> {
         add_times(rt, self.alloc, self.book, self.client, self.times)
     }
 }
@@ -83,8 +83,8 @@ fn adders<'a, B: Naming>(
 pub(crate) fn join_all<B: Naming>(
     book: &Book<Counter, B>,
     root: &mut Root<Counter, B>,
-    clients: Vec<Result<ClientToken<Counter, B>, NoMemory>>,
-) -> Result<(), NoMemory>
+    clients: Vec<Result<ClientToken<Counter, B>, AllocError>>,
+) -> Result<(), AllocError>
     requires { All (λ r. IfOk r (λ c. c.account.out ≡ [])) clients.items }
     ensures { OnOk result (HasTakenAll root.old clients.items root.new) }
 {
@@ -101,21 +101,15 @@ pub fn all_add<B: Naming + Send + Sync, R: Threads + Wait + Sync>(
     opened: Opened<Counter>,
     count: u32,
     times: u64,
-) -> Result<(Counter, History<Counter>), NoMemory>
+) -> Result<(Counter, History<Counter>), AllocError>
     requires book { (opened.table ≡ B.table) × (opened.lanes ≡ 0) }
     requires count { count < 2 ^ 32 - 1 }
     ensures whole { IfOk result (λ r. (s : _) → opened.start ≡ Some s → IsWhole ⟦<Counter as Machine>⟧ s r.0 r.1) }
     ensures added { IfOk result (λ r. HaveAllAdded count times r.1) }
 {
-    let Ok((book, mut root, _)) = opened.named::<B>(alloc) else {
-        return Err(NoMemory);
-    };
-    let Ok(jobs) = adders(alloc, &book, &mut root, count, times) else {
-        return Err(NoMemory);
-    };
-    let Ok(clients) = each(rt, jobs) else {
-        return Err(NoMemory);
-    };
+    let (book, mut root, _) = opened.named::<B>(alloc)?;
+    let jobs = adders(alloc, &book, &mut root, count, times)?;
+    let clients = each(rt, jobs)?;
     join_all(&book, &mut root, clients)?;
     Ok(book.close(root))
 }

@@ -6,11 +6,11 @@ ghost use Rattle.vg_book_uses.specs.Desks.{IsOf, HasAsked, HasServed, HandsIn, I
 use crate::counter::{Counter, Request};
 use crate::crossing::{Answered, Came, Sent};
 use crossbeam_utils::Backoff;
-use std::alloc::Global;
+use std::alloc::{AllocError, Global};
 use std::collections::VecDeque;
 use std::sync::atomic::{AtomicBool, Ordering};
 use std::sync::{Mutex, Wait};
-use vg_book::{Book, ClientToken, LaneToken, Naming, NoMemory};
+use vg_book::{Book, ClientToken, LaneToken, Naming};
 use vg_history::Machine;
 
 /// What lies between the clients and the worker of a lane.
@@ -46,17 +46,15 @@ impl<B: Naming> Desk<B> {
         client: &mut ClientToken<Counter, B>,
         lane: u32,
         n: u64,
-    ) -> Result<u64, NoMemory>
+    ) -> Result<u64, AllocError>
         requires allowed { n ≤ client.old.account.holds }
         requires last { client.old.account.used < 2 ^ 63 - 1 }
         ensures { MatchResult result (λ call. HandsIn client.old lane n client.new call) (λ _. client.new ≡ client.old) }
     {
         let Some(ordinal) = self.drawn.checked_add(1) else {
-            return Err(NoMemory);
+            return Err(AllocError);
         };
-        if self.waiting.reserve(1).is_err() {
-            return Err(NoMemory);
-        }
+        self.waiting.reserve(1)?;
         let request = Request { lane, ordinal, n };
         let pass = client.pass(book, &request);
         let call = pass.call();
@@ -107,7 +105,7 @@ pub fn ask<B: Naming, R: Wait>(
     client: &mut ClientToken<Counter, B>,
     lane: u32,
     n: u64,
-) -> Result<Option<u64>, NoMemory>
+) -> Result<Option<u64>, AllocError>
     requires allowed { n ≤ client.old.account.holds }
     requires last { client.old.account.used < 2 ^ 63 - 1 }
     requires out { client.old.account.out ≡ [] }

@@ -13,7 +13,7 @@ use std::alloc::{AllocError, Global};
 use std::marker::{Model, Send, Sync};
 use std::sync::{Mutex, Wait};
 use std::thread::Threads;
-use vg_book::{Book, ClientToken, Naming, NoMemory, Note, Opened, Root};
+use vg_book::{Book, ClientToken, Naming, Note, Opened, Root};
 use vg_crew::{Job, each};
 use vg_history::{History, Machine};
 
@@ -101,7 +101,7 @@ fn exchange<B: Naming, R: Wait>(
     mine: &Mutex<Option<Post<B>>>,
     theirs: &Mutex<Option<Post<B>>>,
     client: ClientToken<Counter, B>,
-) -> Result<ClientToken<Counter, B>, NoMemory>
+) -> Result<ClientToken<Counter, B>, AllocError>
     requires { MayTalk ⟦<Counter as Machine>⟧ client }
     ensures { IfOk result (λ c. HasMet ⟦<Counter as Machine>⟧ client c) }
 {
@@ -125,7 +125,7 @@ struct Meeting<'a, B: Naming> {
     client: ClientToken<Counter, B>,
 }
 
-impl<'a, B: Naming> Job<Result<ClientToken<Counter, B>, NoMemory>> for Meeting<'a, B> {
+impl<'a, B: Naming> Job<Result<ClientToken<Counter, B>, AllocError>> for Meeting<'a, B> {
     ghost use Rattle.std.specs.Prelude.{IfOk};
     ghost use Rattle.vg_book_uses.specs.Meeting.{HasMet};
     ghost use Rattle.vg_book_uses.specs.Sharing.{MayTalk};
@@ -134,7 +134,7 @@ impl<'a, B: Naming> Job<Result<ClientToken<Counter, B>, NoMemory>> for Meeting<'
 
     ghost gives = { λ job result. IfOk result (λ c. HasMet ⟦<Counter as Machine>⟧ job.client c) };
 
-    fn run<R: Threads + Wait + Sync>(self, rt: &R) -> Result<ClientToken<Counter, B>, NoMemory> {
+    fn run<R: Threads + Wait + Sync>(self, rt: &R) -> Result<ClientToken<Counter, B>, AllocError> {
         exchange(
             rt,
             self.alloc,
@@ -151,21 +151,15 @@ pub fn both_meet<B: Naming + Send + Sync, R: Threads + Wait + Sync>(
     rt: &R,
     alloc: Global,
     opened: Opened<Counter>,
-) -> Result<(Counter, History<Counter>), NoMemory>
+) -> Result<(Counter, History<Counter>), AllocError>
     requires { (opened.table ≡ B.table) × (opened.lanes ≡ 0) }
     ensures whole { IfOk result (λ r. (s : _) → opened.start ≡ Some s → IsWhole ⟦<Counter as Machine>⟧ s r.0 r.1) }
     ensures shared { IfOk result (λ r. HaveShared ⟦<Counter as Machine>⟧ 2 2 r.1) }
 {
-    let Ok((book, mut root, _)) = opened.named::<B>(alloc) else {
-        return Err(NoMemory);
-    };
+    let (book, mut root, _) = opened.named::<B>(alloc)?;
     let boards = (Mutex::new(None), Mutex::new(None));
-    let Ok(jobs) = meetings(alloc, &book, &mut root, &boards.0, &boards.1) else {
-        return Err(NoMemory);
-    };
-    let Ok(clients) = each(rt, jobs) else {
-        return Err(NoMemory);
-    };
+    let jobs = meetings(alloc, &book, &mut root, &boards.0, &boards.1)?;
+    let clients = each(rt, jobs)?;
     join_all(&book, &mut root, clients)?;
     Ok(book.close(root))
 }

@@ -13,7 +13,7 @@ use std::marker::{Send, Sync};
 use std::sync::atomic::AtomicBool;
 use std::sync::{Mutex, Wait};
 use std::thread::Threads;
-use vg_book::{Book, ClientToken, LaneToken, Naming, NoMemory, Opened, Root};
+use vg_book::{Book, ClientToken, LaneToken, Naming, Opened, Root};
 use vg_crew::{Job, all};
 use vg_history::{History, Machine};
 
@@ -28,7 +28,7 @@ struct Asking<'a, B: Naming> {
     halt: u32,
 }
 
-impl<'a, B: Naming> Job<Result<ClientToken<Counter, B>, NoMemory>> for Asking<'a, B> {
+impl<'a, B: Naming> Job<Result<ClientToken<Counter, B>, AllocError>> for Asking<'a, B> {
     ghost use Rattle.std.specs.Prelude.{◌≡◌, ◌<◌, ◌≤◌, ◌*◌, [], length, IfOk};
     ghost use Rattle.vg_book_uses.specs.Sharing.{HasTalked, MayTalk};
 
@@ -36,7 +36,7 @@ impl<'a, B: Naming> Job<Result<ClientToken<Counter, B>, NoMemory>> for Asking<'a
 
     ghost gives = { λ job result. IfOk result (λ c. HasTalked ⟦<Counter as Machine>⟧ job.client (2 * job.rounds) c) };
 
-    fn run<R: Threads + Wait + Sync>(self, rt: &R) -> Result<ClientToken<Counter, B>, NoMemory> {
+    fn run<R: Threads + Wait + Sync>(self, rt: &R) -> Result<ClientToken<Counter, B>, AllocError> {
         talk(
             rt,
             self.alloc,
@@ -58,7 +58,7 @@ fn talk<B: Naming, R: Wait>(
     client: ClientToken<Counter, B>,
     rounds: u32,
     halt: u32,
-) -> Result<ClientToken<Counter, B>, NoMemory>
+) -> Result<ClientToken<Counter, B>, AllocError>
     requires client { MayTalk ⟦<Counter as Machine>⟧ client }
     requires desks { 0 < length desks.now }
     ensures { IfOk result (λ c. HasTalked ⟦<Counter as Machine>⟧ client (2 * rounds) c) }
@@ -204,24 +204,18 @@ pub fn run_all<B: Naming + Send + Sync, R: Threads + Wait + Sync>(
     clients: u32,
     rounds: u32,
     halt: u32,
-) -> Result<(Counter, History<Counter>), NoMemory>
+) -> Result<(Counter, History<Counter>), AllocError>
     requires book { (opened.table ≡ B.table) × (opened.lanes ≡ lanes) }
     requires lanes { 0 < lanes }
     requires clients { clients < 2 ^ 32 - 1 }
     ensures whole { IfOk result (λ r. (s : _) → opened.start ≡ Some s → IsWhole ⟦<Counter as Machine>⟧ s r.0 r.1) }
     ensures shared { IfOk result (λ r. HaveShared ⟦<Counter as Machine>⟧ clients (2 * rounds) r.1) }
 {
-    let Ok((book, mut root, tokens)) = opened.named::<B>(alloc) else {
-        return Err(NoMemory);
-    };
-    let Ok(desks) = desks::<B>(alloc, lanes) else {
-        return Err(NoMemory);
-    };
+    let (book, mut root, tokens) = opened.named::<B>(alloc)?;
+    let desks = desks::<B>(alloc, lanes)?;
     let stop = AtomicBool::new(false);
-    let Ok(servers) = servers(alloc, &book, desks.as_slice(), &stop, tokens) else {
-        return Err(NoMemory);
-    };
-    let Ok(askers) = askers(
+    let servers = servers(alloc, &book, desks.as_slice(), &stop, tokens)?;
+    let askers = askers(
         alloc,
         &book,
         &mut root,
@@ -229,12 +223,8 @@ pub fn run_all<B: Naming + Send + Sync, R: Threads + Wait + Sync>(
         clients,
         rounds,
         halt,
-    ) else {
-        return Err(NoMemory);
-    };
-    let Ok((done, served)) = all(rt, &stop, askers, servers) else {
-        return Err(NoMemory);
-    };
+    )?;
+    let (done, served) = all(rt, &stop, askers, servers)?;
     join_all(&book, &mut root, done)?;
     join_lanes(&book, &mut root, served);
     Ok(book.close(root))

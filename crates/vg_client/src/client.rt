@@ -12,10 +12,10 @@ ghost use Rattle.vg_client.specs.Outcomes.{IsOutcome};
 
 use crate::caller::{Caller, end, enter, make_call};
 use crate::outcome::Outcome;
-use std::alloc::Global;
+use std::alloc::{AllocError, Global};
 use std::marker::Model;
 use std::sync::Wait;
-use vg_book::{Book, ClientToken, Naming, NoMemory, Note, entries_in_step};
+use vg_book::{Book, ClientToken, Naming, Note, entries_in_step};
 use vg_calls::Call;
 use vg_driver::Driver;
 use vg_machine::Display;
@@ -48,7 +48,7 @@ impl<B: Naming> Client<B> {
         alloc: Global,
         book: &Book<Display, B>,
         token: ClientToken<Display, B>,
-    ) -> Result<Client<B>, (ClientToken<Display, B>, NoMemory)>
+    ) -> Result<Client<B>, (ClientToken<Display, B>, AllocError)>
         requires { (setup : Setups) × IsNew setup token × (length setup.displays ≤ 16) }
         ensures { MatchResult result (λ client. HasEntered token client.caller × (client.stopped ≡ false)) (λ left. IsUnadded token left.0) }
     {
@@ -57,7 +57,7 @@ impl<B: Naming> Client<B> {
                 caller,
                 stopped: false,
             }),
-            Err(token) => Err((token, NoMemory)),
+            Err(token) => Err((token, AllocError)),
         }
     }
 
@@ -71,7 +71,7 @@ impl<B: Naming> Client<B> {
         book: &Book<Display, B>,
         driver: &Driver<B, N>,
         call: Call,
-    ) -> Result<Outcome, NoMemory>
+    ) -> Result<Outcome, AllocError>
         requires fit { IsCallFit self.old.caller.token.account.holds.displays call }
         requires room { length (mine_of self.old.caller.token) + 20 < 2 ^ 31 - 1 }
         ensures done { IfOk result (λ outcome. (mine : List Entries)
@@ -88,13 +88,13 @@ impl<B: Naming> Client<B> {
         ensures nothing { self.old.stopped ≡ true → self.new ≡ self.old }
     {
         if self.stopped {
-            return Err(NoMemory);
+            return Err(AllocError);
         }
         match make_call(rt, alloc, book, driver, &mut self.caller, call) {
             Ok(outcome) => Ok(outcome),
             Err(_) => {
                 self.stopped = true;
-                Err(NoMemory)
+                Err(AllocError)
             }
         }
     }
@@ -108,7 +108,7 @@ impl<B: Naming> Client<B> {
         alloc: Global,
         book: &Book<Display, B>,
         driver: &Driver<B, N>,
-    ) -> (ClientToken<Display, B>, Result<u64, NoMemory>)
+    ) -> (ClientToken<Display, B>, Result<u64, AllocError>)
         requires room { (self.stopped ≡ true) ⊎ (length (mine_of self.caller.token) < 2 ^ 24) }
         ensures number { result.0.account.number ≡ self.caller.token.account.number }
         ensures start { result.0.start ≡ self.caller.token.start }
@@ -122,12 +122,12 @@ impl<B: Naming> Client<B> {
     {
         let Client { caller, stopped } = self;
         if stopped {
-            return (caller.token, Err(NoMemory));
+            return (caller.token, Err(AllocError));
         }
         let mut caller = caller;
         match end(rt, alloc, book, driver, &mut caller) {
             Ok(number) => (caller.token, Ok(number)),
-            Err(_) => (caller.token, Err(NoMemory)),
+            Err(_) => (caller.token, Err(AllocError)),
         }
     }
 

@@ -29,10 +29,8 @@ pub(crate) fn act<B: Naming, R: Wait>(
 {
     // A law, and no work: the client sees its entries in the order in which it made them.
     entries_in_step::<Display>();
-    match token.act(rt, alloc, book, act) {
-        Ok(done) => Ok(done),
-        Err(_) => Err(AllocError),
-    }
+    let done = token.act(rt, alloc, book, act)?;
+    Ok(done)
 }
 
 /// What the client asks of the device, from its submission to its answer. For want of memory there is no entry, and the number of
@@ -54,11 +52,7 @@ pub(crate) fn ask<B: Naming, N: Rings, R: Wait>(
 {
     // A law, and no work: the client sees its entries in the order in which it made them.
     entries_in_step::<Display>();
-    let Ok(ticket) = driver.submit(rt, alloc, book, token, ask) else {
-        return Err(AllocError);
-    };
-    match driver.finish(rt, book, token, ticket) {
-        Ok(answer) => Ok(answer),
-        Err(_) => Err(AllocError),
-    }
+    let ticket = driver.submit(rt, alloc, book, token, ask)?;
+    let answer = driver.finish(rt, book, token, ticket)?;
+    Ok(answer)
 }

@@ -11,11 +11,11 @@ ghost use Rattle.vg_drive.specs.Legal.{IsLegalJournal};
 
 use crate::journal::journal_of;
 use crate::laws::clients_make_one_history;
-use std::alloc::Global;
+use std::alloc::{AllocError, Global};
 use std::marker::{Brand, Send, Sync};
 use std::sync::Wait;
 use std::thread::Threads;
-use vg_book::{Carried, LaneToken, Naming, NoMemory, Opened, history_in_step};
+use vg_book::{Carried, LaneToken, Naming, Opened, history_in_step};
 use vg_driver::Driver;
 use vg_front::Front;
 use vg_history::Turn;
@@ -47,19 +47,19 @@ pub fn drive<G: Gate, R: Threads + Wait + Sync>(
     script: Script,
     workers: u32,
     gate: &G,
-) -> Result<Journal, NoMemory>
+) -> Result<Journal, AllocError>
     requires limits { ScriptInLimits script }
     requires workers { (1 ≤ workers) × (workers ≤ 8) }
     ensures { IfOk result (IsLegalJournal script) }
 {
     let Ok(setup) = setup_of(alloc, &script) else {
-        return Err(NoMemory);
+        return Err(AllocError);
     };
     let Ok(display) = Display::new(alloc, &setup) else {
-        return Err(NoMemory);
+        return Err(AllocError);
     };
     let Ok(opened) = Opened::new(alloc, display, LANES) else {
-        return Err(NoMemory);
+        return Err(AllocError);
     };
     with_rings::<Brand, G, R>(rt, alloc, opened, setup, script, workers, gate)
 }
@@ -73,7 +73,7 @@ fn with_rings<B: Naming + Send + Sync, G: Gate, R: Threads + Wait + Sync>(
     script: Script,
     workers: u32,
     gate: &G,
-) -> Result<Journal, NoMemory>
+) -> Result<Journal, AllocError>
     requires limits { ScriptInLimits script }
     requires workers { (1 ≤ workers) × (workers ≤ 8) }
     requires setup { setup ≡ setups.setup_of script }
@@ -82,10 +82,10 @@ fn with_rings<B: Naming + Send + Sync, G: Gate, R: Threads + Wait + Sync>(
     ensures { IfOk result (IsLegalJournal script) }
 {
     let Ok(control) = Ring::make::<Carried<Display, B>>(alloc, Queue::Control, 64) else {
-        return Err(NoMemory);
+        return Err(AllocError);
     };
     let Ok(cursor) = Ring::make::<Carried<Display, B>>(alloc, Queue::Cursor, 16) else {
-        return Err(NoMemory);
+        return Err(AllocError);
     };
     journal_in::<B, Brand, G, R>(
         rt, alloc, opened, control, cursor, setup, script, workers, gate,
@@ -103,7 +103,7 @@ fn journal_in<B: Naming + Send + Sync, N: Rings + Send + Sync, G: Gate, R: Threa
     script: Script,
     workers: u32,
     gate: &G,
-) -> Result<Journal, NoMemory>
+) -> Result<Journal, AllocError>
     requires limits { ScriptInLimits script }
     requires workers { (1 ≤ workers) × (workers ≤ 8) }
     requires setup { setup ≡ setups.setup_of script }
@@ -131,7 +131,7 @@ pub fn drive_in<B: Naming + Send + Sync, N: Rings + Send + Sync, G: Gate, R: Thr
     script: Script,
     workers: u32,
     gate: &G,
-) -> Result<Driven<B, N>, NoMemory>
+) -> Result<Driven<B, N>, AllocError>
     requires limits { ScriptInLimits script }
     requires workers { (1 ≤ workers) × (workers ≤ 8) }
     requires setup { setup ≡ setups.setup_of script }
@@ -146,7 +146,7 @@ pub fn drive_in<B: Naming + Send + Sync, N: Rings + Send + Sync, G: Gate, R: Thr
     history_in_step::<Display>();
     clients_make_one_history();
     let Ok((book, root, tokens)) = opened.named::<B>(alloc) else {
-        return Err(NoMemory);
+        return Err(AllocError);
     };
     let mut root = root;
     let (driver, front) = ends::<B, N>(alloc, control, cursor, tokens)?;
@@ -178,7 +178,7 @@ fn ends<B: Naming, N: Rings>(
         Driver<B, N>,
         Front<Carried<Display, B>, LaneToken<Display, B>, N>,
     ),
-    NoMemory,
+    AllocError,
 >
     requires control { (control.table ≡ N.control) × (control.queue ≡ queues.Control) }
     requires cursor { (cursor.table ≡ N.cursor) × (cursor.queue ≡ queues.Cursor) }
@@ -187,10 +187,10 @@ fn ends<B: Naming, N: Rings>(
     let (control, device) = control.named::<ControlOf<N>>();
     let (cursor, pointer) = cursor.named::<CursorOf<N>>();
     let Ok(driver) = Driver::new(alloc, control, cursor) else {
-        return Err(NoMemory);
+        return Err(AllocError);
     };
     let Ok(front) = Front::new(alloc, device, pointer, tokens) else {
-        return Err(NoMemory);
+        return Err(AllocError);
     };
     Ok((driver, front))
 }

@@ -17,7 +17,7 @@ use crate::ticket::{Answer, Ticket};
 use crossbeam_utils::Backoff;
 use std::alloc::{AllocError, Global};
 use std::sync::{Mutex, Wait};
-use vg_book::{Book, Carried, ClientToken, NoMemory, Ran};
+use vg_book::{Book, Carried, ClientToken, Ran};
 use vg_chain::Shape;
 use vg_list::Seq;
 use vg_machine::{Display, Reply};
@@ -39,7 +39,7 @@ fn submit_on<R: Wait, B: vg_book::Naming, Q: vg_ring::Naming + OfQueue>(
     book: &Book<Display, B>,
     token: &mut ClientToken<Display, B>,
     ask: &Ask,
-) -> Result<Ticket, NoMemory>
+) -> Result<Ticket, AllocError>
     requires queue { Q.queue ≡ queue_for ask.now }
     requires ask { IsAsk ask.now }
     requires allowed { denied_for token.old.account.holds ask.now ≡ None }
@@ -113,7 +113,7 @@ fn settle<B: vg_book::Naming>(
     token: &mut ClientToken<Display, B>,
     ticket: Ticket,
     back: Back<Display, B>,
-) -> Result<Answer, NoMemory>
+) -> Result<Answer, AllocError>
     requires out { IsOut token.old.account ticket }
     requires of { IsOf token.old.account.number ticket.call back }
     ensures { MatchResult result (λ answer. Finished token.old ticket answer token.new) (λ _. Spent token.old ticket token.new) }
@@ -130,7 +130,7 @@ fn settle<B: vg_book::Naming>(
         }
         Ran::Unrun(pass) => {
             token.take_unrun(book, pass);
-            Err(NoMemory)
+            Err(AllocError)
         }
     }
 }
@@ -172,7 +172,7 @@ impl<B: vg_book::Naming, N: Rings> Driver<B, N> {
         book: &Book<Display, B>,
         token: &mut ClientToken<Display, B>,
         ask: &Ask,
-    ) -> Result<Ticket, NoMemory>
+    ) -> Result<Ticket, AllocError>
         requires ask { IsAsk ask.now }
         requires allowed { denied_for token.old.account.holds ask.now ≡ None }
         ensures { MatchResult result (λ ticket. Submitted token.old (request_for ask.now) ticket token.new) (λ _. token.new ≡ token.old) }
@@ -191,7 +191,7 @@ impl<B: vg_book::Naming, N: Rings> Driver<B, N> {
         book: &Book<Display, B>,
         token: &mut ClientToken<Display, B>,
         ticket: Ticket,
-    ) -> Result<Answer, NoMemory>
+    ) -> Result<Answer, AllocError>
         requires { IsOut token.old.account ticket }
         ensures { MatchResult result (λ answer. Finished token.old ticket answer token.new) (λ _. Spent token.old ticket token.new) }
     {

@@ -12,7 +12,7 @@ use crate::heard::Heard;
 use std::alloc::{AllocError, Global};
 use std::marker::Model;
 use std::snapshot::Snapshot;
-use vg_book::{Book, Carried, ClientToken, NoMemory};
+use vg_book::{Book, Carried, ClientToken};
 use vg_chain::Shape;
 use vg_history::Machine;
 use vg_ring::{DriverEnd, OfQueue, Parcel, Reaped, Tag};
@@ -107,7 +107,7 @@ impl<M: Machine, B: vg_book::Naming, Q: vg_ring::Naming + OfQueue> Half<M, B, Q>
         shape: Shape,
         parcel: Parcel,
         request: Snapshot<M::Request>,
-    ) -> Result<u64, NoMemory>
+    ) -> Result<u64, AllocError>
         requires tag { M.tagged request.value ≡ (parcel.lane, parcel.ordinal) }
         requires asked { M.asks request.value ≡ asked_of parcel }
         requires allowed { M.allows token.old.account.holds request.value ≡ true }
@@ -117,7 +117,7 @@ impl<M: Machine, B: vg_book::Naming, Q: vg_ring::Naming + OfQueue> Half<M, B, Q>
     {
         let out = self.end.published() - self.end.reaped();
         if self.replies.reserve(out as usize + 1).is_err() {
-            return Err(NoMemory);
+            return Err(AllocError);
         }
         let Tag { lane, ordinal } = parcel.tag();
         let pass = token.pass_of(book, request, (lane, ordinal));

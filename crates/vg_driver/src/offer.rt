@@ -12,7 +12,7 @@ use crate::half::Half;
 use crate::ticket::{Fence, Ticket};
 use std::alloc::{AllocError, Global};
 use std::snapshot::Snapshot;
-use vg_book::{Book, ClientToken, NoMemory};
+use vg_book::{Book, ClientToken};
 use vg_machine::{Display, Request};
 use vg_ring::{OfQueue, Parcel, Tag};
 
@@ -43,7 +43,7 @@ fn send<B: vg_book::Naming, Q: vg_ring::Naming + OfQueue>(
     book: &Book<Display, B>,
     token: &mut ClientToken<Display, B>,
     request: Request,
-) -> Result<Ticket, NoMemory>
+) -> Result<Ticket, AllocError>
     requires next { IsNext token.old.account.holds half.old request }
     requires used { token.old.account.used < 2 ^ 63 - 1 }
     ensures { MatchResult result (λ ticket. Submitted token.old (λ _. request) ticket token.new) (λ _. token.new ≡ token.old) }
@@ -54,9 +54,7 @@ fn send<B: vg_book::Naming, Q: vg_ring::Naming + OfQueue>(
         ordinal: request.ordinal,
     };
     let shape = request.shape;
-    let Ok(parcel) = parcel_of(alloc, half.next_head(), request) else {
-        return Err(NoMemory);
-    };
+    let parcel = parcel_of(alloc, half.next_head(), request)?;
     let call = half.send(book, token, shape, parcel, asked)?;
     Ok(Ticket { fence, call })
 }
@@ -68,7 +66,7 @@ pub(crate) fn offer<B: vg_book::Naming, Q: vg_ring::Naming + OfQueue>(
     book: &Book<Display, B>,
     token: &mut ClientToken<Display, B>,
     ask: &Ask,
-) -> Result<Option<Ticket>, NoMemory>
+) -> Result<Option<Ticket>, AllocError>
     requires queue { Q.queue ≡ queue_for ask.now }
     requires ask { IsAsk ask.now }
     requires allowed { denied_for token.old.account.holds ask.now ≡ None }
@@ -80,9 +78,7 @@ pub(crate) fn offer<B: vg_book::Naming, Q: vg_ring::Naming + OfQueue>(
         return Ok(None);
     }
     let ordinal = half.next_ordinal(ask.lane());
-    let Ok(request) = ask.request(alloc, ordinal) else {
-        return Err(NoMemory);
-    };
+    let request = ask.request(alloc, ordinal)?;
     Ok(Some(send(half, alloc, book, token, request)?))
 }
 

@@ -10,9 +10,9 @@ ghost use Rattle.vg_client.specs.Callers.{HasGoneOn, known};
 ghost use Rattle.vg_client.specs.Calls.{Gives};
 ghost use Rattle.vg_part.specs.Performing.{AreInLimits, HasKept, HasPerformed, IsFollowing, MayPerform};
 
-use std::alloc::Global;
+use std::alloc::{AllocError, Global};
 use std::sync::Wait;
-use vg_book::{Book, ClientToken, Naming, NoMemory};
+use vg_book::{Book, ClientToken, Naming};
 use vg_client::{Call, Client};
 use vg_driver::Driver;
 use vg_machine::Display;
@@ -105,7 +105,7 @@ fn run_line<B: Naming, N: Rings, R: Wait>(
     driver: &Driver<B, N>,
     client: &mut Client<B>,
     call: Call,
-) -> Result<(), NoMemory>
+) -> Result<(), AllocError>
     requires limits { CallInLimits client.old.caller.token.account.holds.displays call }
     requires room { length (mine_of client.old.caller.token) + 20 < 2 ^ 31 - 1 }
     ensures done { OnOk result ((mine : List Entries)

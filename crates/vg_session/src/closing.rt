@@ -3,10 +3,10 @@
 ghost use Rattle.std.specs.Prelude.{IfOk};
 ghost use Rattle.vg_session.specs.Session.{HasTakenLanes, HaveAllJoined, HaveCompleted, IsEnd, IsStill};
 
-use std::alloc::Global;
+use std::alloc::{AllocError, Global};
 use std::sync::atomic::AtomicBool;
 use std::sync::{Mutex, Wait};
-use vg_book::{Book, Carried, LaneToken, Naming, NoMemory, Root};
+use vg_book::{Book, Carried, LaneToken, Naming, Root};
 use vg_front::Front;
 use vg_machine::{Display, Frame, History};
 use vg_ring::{ControlOf, CursorOf, DeviceEnd, Rings};
@@ -60,14 +60,14 @@ pub fn close<B: Naming, N: Rings>(
     book: Book<Display, B>,
     root: Root<Display, B>,
     front: Front<Carried<Display, B>, LaneToken<Display, B>, N>,
-) -> Result<Closed<B, N>, NoMemory>
+) -> Result<Closed<B, N>, AllocError>
     requires clients { (script : _) × HaveAllJoined script root }
     requires still { IsStill front }
     ensures ended { IfOk result (λ closed. IsEnd root closed.history closed.frames.items) }
     ensures completed { IfOk result (λ closed. HaveCompleted closed.history closed.control closed.cursor) }
 {
     if front.halted() {
-        return Err(NoMemory);
+        return Err(AllocError);
     }
     let mut root = root;
     let (tokens, control, cursor) = front.close();

@@ -13,7 +13,7 @@ use std::marker::{Send, Sync};
 use std::sync::atomic::AtomicBool;
 use std::sync::{Mutex, Wait};
 use std::thread::Threads;
-use vg_book::{Book, Carried, ClientToken, LaneToken, Naming, NoMemory, Root, entries_in_step};
+use vg_book::{Book, Carried, ClientToken, LaneToken, Naming, Root, entries_in_step};
 use vg_crew::{Job, all};
 use vg_driver::Driver;
 use vg_front::Front;
@@ -70,7 +70,7 @@ pub fn run_threads<
     script: Script,
     workers: u32,
     gate: &G,
-) -> Result<Front<Carried<Display, B>, LaneToken<Display, B>, N>, NoMemory>
+) -> Result<Front<Carried<Display, B>, LaneToken<Display, B>, N>, AllocError>
     requires limits { ScriptInLimits script }
     requires setup { setup.now ≡ setups.setup_of script }
     requires root { IsRootWith setup.now 0 root.old }
@@ -81,13 +81,13 @@ pub fn run_threads<
     let stop = AtomicBool::new(false);
     let count = useful_workers(&script, workers);
     let Ok(clients) = performers(alloc, book, driver, root, setup, script) else {
-        return Err(NoMemory);
+        return Err(AllocError);
     };
     let Ok(workers) = servers(alloc, &front, book, gate, &stop, count) else {
-        return Err(NoMemory);
+        return Err(AllocError);
     };
     let Ok((performed, _)) = all(rt, &stop, clients, workers) else {
-        return Err(NoMemory);
+        return Err(AllocError);
     };
     join_all(book, root, performed)?;
     Ok(settle(rt, alloc, front.into_inner(), book, gate))
@@ -165,14 +165,14 @@ fn join_all<B: Naming>(
     book: &Book<Display, B>,
     root: &mut Root<Display, B>,
     performed: Vec<Performed<B>>,
-) -> Result<(), NoMemory>
+) -> Result<(), AllocError>
     requires { All (λ p. p.token.account.out ≡ []) performed.items }
     ensures { OnOk result (HasTakenAll root.old performed.items root.new) }
 {
     for client in performed {
         let Performed { token, done } = client;
         if !done {
-            return Err(NoMemory);
+            return Err(AllocError);
         }
         root.join(book, token);
     }

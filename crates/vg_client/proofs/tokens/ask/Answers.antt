@@ -6,13 +6,13 @@ use Rattle.vg_client.specs.Accounts.{IsAdded}
 use Rattle.vg_client.proofs.AccountLemmas.{command-added}
 use Rattle.vg_client.proofs.tokens.ask.Goals as goal
 
-pub returns-in-Ok-finish-clause-added : goal.returns-in-Ok-finish-clause-added
-returns-in-Ok-finish-clause-added g c =
+pub returns-clause-added : goal.returns-clause-added
+returns-clause-added g c =
     let token = c.args.token.now in
     let requests = request_for c.args.ask.now in
-    let ticket = c.in-Ok.ticket in
-    let submitted = c.in-Ok.ensures in
-    let finished = c.in-Ok-finish.ensures in
+    let ticket = c.in_ok-ticket.ticket in
+    let submitted = c.in_ok-ticket.ensures in
+    let finished = c.in_ok-answer.ensures in
     let step = c.entries_in_step.ensures.back _ _ _ _ _ _ c.requires.active.account_is.in_step submitted.drawn finished.back in
-    let P : Reply → Type 0 = λ reply. IsAdded token c.in-Ok-finish.answer.entry (entries.Command token.account.number (token.account.used + 1) (requests ticket.fence.ordinal) reply) c.finish.new.token in
-    (ticket.fence.ordinal, subst P (sym finished.reply) (command-added token c.submit.new.token c.finish.new.token requests ticket finished.done c.in-Ok-finish.answer.entry finished.entry c.requires.active submitted finished.back step))
+    let P : Reply → Type 0 = λ reply. IsAdded token c.in_ok-answer.answer.entry (entries.Command token.account.number (token.account.used + 1) (requests ticket.fence.ordinal) reply) c.finish.new.token in
+    (ticket.fence.ordinal, subst P (sym finished.reply) (command-added token c.submit.new.token c.finish.new.token requests ticket finished.done c.in_ok-answer.answer.entry finished.entry c.requires.active submitted finished.back step))
