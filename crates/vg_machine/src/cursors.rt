@@ -1,14 +1,16 @@
 //! What the commands of the cursor queue do (VIRTIO 1.2, 5.7.6.10).
 
-ghost use Rattle.std.specs.Prelude.{◌≡◌, ◌<◌, Some, None, IfOk, IfErr, OnErr, length};
+ghost use Rattle.std.specs.Prelude.{◌≡◌, ◌<◌, Some, None, IfOk, IfErr, length};
 ghost use Rattle.vg_cursor.specs.Cursor.{IsWhole as IsWholeCursor, changed, cursor_of};
 ghost use Rattle.vg_cursor.specs.Look.{cursor_like};
+ghost use Rattle.vg_machine.specs.Fits.{IfDone, IfRefused, IfWant};
 ghost use Rattle.vg_machine.specs.Change.{IsChange, IsImage, change_of, pointed_step};
 ghost use Rattle.vg_machine.specs.Step.{cursor_step, image_of, image_refusals, move_step};
 ghost use Rattle.vg_refusals.specs.Refusals.{refusal_of};
 ghost use Rattle.vg_resource.specs.Resource.{IsWhole, resource_at};
 
 use crate::display::Display;
+use crate::stop::Stop;
 use std::alloc::{AllocError, Global};
 use vg_cursor::{Cursors, Look};
 use vg_list::Seq;
@@ -52,31 +54,25 @@ impl Display {
         resource: u32,
         hot_x: u32,
         hot_y: u32,
-    ) -> Result<Response, AllocError>
-        ensures step { IfOk result (λ response. cursor_step self.old scanout x y resource hot_x hot_y ≡ (self.new, response)) }
-        ensures err { OnErr result (self.new ≡ self.old) }
+    ) -> Result<Response, Stop>
+        ensures step { IfDone result (λ response. cursor_step self.old scanout x y resource hot_x hot_y ≡ (self.new, response)) }
+        ensures err { IfWant result (self.new ≡ self.old) }
     {
         if self.setup.displays.len() <= scanout as usize {
-            return Ok(Response::Error {
-                code: ERR_INVALID_SCANOUT_ID,
-            });
+            return Err(Stop::Refused(ERR_INVALID_SCANOUT_ID));
         }
         if resource == 0 {
             return self.point(alloc, scanout, &Change::Hide { x, y });
         }
-        match self.image(alloc, resource, hot_x, hot_y)? {
-            Ok(image) => {
-                let change = Change::Show {
-                    image: Seq::from_vec(image),
-                    x,
-                    y,
-                    hot_x,
-                    hot_y,
-                };
-                self.point(alloc, scanout, &change)
-            }
-            Err(code) => Ok(Response::Error { code }),
-        }
+        let image = self.image(alloc, resource, hot_x, hot_y)?;
+        let change = Change::Show {
+            image: Seq::from_vec(image),
+            x,
+            y,
+            hot_x,
+            hot_y,
+        };
+        self.point(alloc, scanout, &change)
     }
 
     /// Moves a cursor, also one that is hidden (MOVE_CURSOR).
@@ -86,61 +82,48 @@ impl Display {
         scanout: u32,
         x: i32,
         y: i32,
-    ) -> Result<Response, AllocError>
-        ensures step { IfOk result (λ response. move_step self.old scanout x y ≡ (self.new, response)) }
-        ensures err { OnErr result (self.new ≡ self.old) }
+    ) -> Result<Response, Stop>
+        ensures step { IfDone result (λ response. move_step self.old scanout x y ≡ (self.new, response)) }
+        ensures err { IfWant result (self.new ≡ self.old) }
     {
         if self.setup.displays.len() <= scanout as usize {
-            return Ok(Response::Error {
-                code: ERR_INVALID_SCANOUT_ID,
-            });
+            return Err(Stop::Refused(ERR_INVALID_SCANOUT_ID));
         }
         self.point(alloc, scanout, &Change::Place { x, y })
     }
 
     /// Changes a cursor, and makes a frame of its scanout as it looks then, if that is bound. What can fail comes before the change.
-    fn point(
-        &mut self,
-        alloc: Global,
-        scanout: u32,
-        change: &Change,
-    ) -> Result<Response, AllocError>
+    fn point(&mut self, alloc: Global, scanout: u32, change: &Change) -> Result<Response, Stop>
         requires scanout { scanout < length self.old.setup.displays }
         requires change { IsChange change.now }
-        ensures step { IfOk result (λ response. pointed_step self.old scanout (change_of change.now) ≡ (self.new, response)) }
-        ensures err { OnErr result (self.new ≡ self.old) }
+        ensures step { IfDone result (λ response. pointed_step self.old scanout (change_of change.now) ≡ (self.new, response)) }
+        ensures err { IfWant result (self.new ≡ self.old) }
     {
         let look = look_after(&self.cursors, scanout, change);
         if let Err(code) = self.scanouts.snap(alloc, self.entries, scanout, &look)? {
-            return Ok(Response::Error { code });
+            return Err(Stop::Refused(code));
         }
         change_cursor(&mut self.cursors, scanout, change);
         Ok(Response::Nodata)
     }
 
-    /// A resource's pixels as an image with this hot spot, or the code of its refusal.
-    fn image(
-        &self,
-        alloc: Global,
-        resource: u32,
-        hot_x: u32,
-        hot_y: u32,
-    ) -> Result<Result<Vec<u8>, u32>, AllocError>
-        ensures done { IfOk result (λ done. IfOk done (λ image. IsImage (resource_at resource self.now.resources) hot_x hot_y image.items)) }
-        ensures refused { IfOk result (λ done. IfErr done (λ code. refusal_of (image_refusals (resource_at resource self.now.resources) hot_x hot_y) ≡ Some code)) }
+    /// A resource's pixels as an image with this hot spot, or why there is none.
+    fn image(&self, alloc: Global, resource: u32, hot_x: u32, hot_y: u32) -> Result<Vec<u8>, Stop>
+        ensures done { IfOk result (λ image. IsImage (resource_at resource self.now.resources) hot_x hot_y image.items) }
+        ensures refused { IfErr result (IfRefused (λ code. refusal_of (image_refusals (resource_at resource self.now.resources) hot_x hot_y) ≡ Some code)) }
     {
         let Some(surface) = self.resources.get(resource) else {
-            return Ok(Err(ERR_INVALID_RESOURCE_ID));
+            return Err(Stop::Refused(ERR_INVALID_RESOURCE_ID));
         };
         if surface.width != IMAGE_SIDE
             || surface.height != IMAGE_SIDE
             || hot_x >= IMAGE_SIDE
             || hot_y >= IMAGE_SIDE
         {
-            return Ok(Err(ERR_INVALID_PARAMETER));
+            return Err(Stop::Refused(ERR_INVALID_PARAMETER));
         }
         let image = shown_image(alloc, surface)?;
-        Ok(Ok(image))
+        Ok(image)
     }
 
     /// Whether the scanout has a cursor that is shown.

@@ -8,10 +8,11 @@ ghost use Rattle.vg_machine.specs.declared.history.Reply.TheVariants as replies;
 ghost use Rattle.vg_machine.specs.ActStep.{KeepsIfRefused, act_step};
 ghost use Rattle.vg_holds.specs.Holds.{update};
 ghost use Rattle.vg_machine.specs.Replay.{request_step};
-ghost use Rattle.vg_machine.specs.Step.{Keeps, acceptance, answer_header, answer_of, answered, effect_and_bytes, ran, step};
+ghost use Rattle.vg_machine.specs.Step.{Keeps, acceptance, answer_header, answer_of, answered, command_step, effect_and_bytes, ran, step};
 
 use crate::features::is_usable;
 use crate::history::{Reply, Request};
+use crate::stop::Stop;
 use crate::uuids::Uuids;
 use std::alloc::{AllocError, Global};
 use std::marker::Model;
@@ -214,9 +215,24 @@ impl Display {
             return write_answer(alloc, request, room, &Response::Error { code: ERR_UNSPEC });
         };
         let accepted = write_answer(alloc, request, room, &self.acceptance(&command))?;
-        match self.run(alloc, &command)? {
+        match self.outcome(alloc, &command)? {
             Response::Nodata | Response::Uuid { .. } => Ok(accepted),
             other => rewrite_answer(request, room, &other, accepted),
+        }
+    }
+
+    /// Runs a command, and gives its response, which is an error where it is refused.
+    fn outcome(&mut self, alloc: Global, command: &Command) -> Result<Response, AllocError>
+        requires fresh { self.old.uuids.given < self.old.entries }
+        requires entries { self.old.entries < 2 ^ 31 }
+        requires count { FitsEntries command.now }
+        ensures step { IfOk result (λ response. command_step self.old command.now ≡ (self.new, response)) }
+        ensures err { OnErr result (self.new ≡ self.old) }
+    {
+        match self.run(alloc, command) {
+            Ok(response) => Ok(response),
+            Err(Stop::Refused(code)) => Ok(Response::Error { code }),
+            Err(Stop::Memory) => Err(AllocError),
         }
     }
 

@@ -11,9 +11,9 @@ mod history;
 mod lane;
 mod laws;
 mod machine;
-mod others;
 mod receive;
 mod spelled;
+mod stop;
 mod uuids;
 
 pub use display::Display;

@@ -2,13 +2,14 @@ use Rattle.std.proofs.Common.{◌≡◌, true, rules}
 use Rattle.std.specs.Prelude.{is_some}
 use Rattle.vg_resource.specs.Resource.{resource_at}
 use Rattle.std.proofs.Common.{}
-use Rattle.vg_machine.proofs.KeepLemmas.{lifted-attach}
+use Rattle.vg_machine.proofs.KeepLemmas.{if-nodata, lifted-attach}
 use Rattle.vg_machine.proofs.display.Display.attach.Goals as goal
 
 pub returns-clause-step : goal.returns-clause-step
 returns-clause-step c =
     let s = c.self.inside in
     let known : is_some (resource_at c.args.resource s.resources) ≡ true = search rules in
-    rw (c.response_of.ensures, ← c.self.view_is)
+    rw (c.nodata.ensures, ← c.self.view_is)
+    (if-nodata c.in_ok-done.done _
     (lifted-attach (λ backings. record { setup = s.setup; entries = s.entries; memory = s.pages; resources = s.resources; backings = backings; uuids = s.uuids; cursors = s.cursors; scanouts = s.scanouts; share = s.share })
-    (is_some (resource_at c.args.resource s.resources)) s.pages c.args.resource c.args.entries.now s.backings c.attach.new.self c.in_ok-done.done known c.in_ok-done.ensures.done)
+    (is_some (resource_at c.args.resource s.resources)) s.pages c.args.resource c.args.entries.now s.backings c.attach.new.self c.in_ok-done.done known c.in_ok-done.ensures.done))

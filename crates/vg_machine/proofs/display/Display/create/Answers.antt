@@ -1,5 +1,5 @@
 use Rattle.std.proofs.Common.{}
-use Rattle.vg_machine.proofs.KeepLemmas.{lifted-create}
+use Rattle.vg_machine.proofs.KeepLemmas.{if-nodata, lifted-create}
 use Rattle.vg_machine.proofs.ShowingLemmas.{all-showing, keeping-create}
 use Rattle.vg_machine.proofs.display.Display.create.Goals as goal
 
@@ -23,6 +23,7 @@ invariant_of-self-2 c =
 pub returns-clause-step : goal.returns-clause-step
 returns-clause-step c =
     let s = c.self.inside in
-    rw (c.response_of.ensures, ← c.self.view_is)
+    rw (c.nodata.ensures, ← c.self.view_is)
+    (if-nodata c.in_ok-done.done _
     (lifted-create (λ resources. record { setup = s.setup; entries = s.entries; memory = s.pages; resources = resources; backings = s.backings; uuids = s.uuids; cursors = s.cursors; scanouts = s.scanouts; share = s.share })
-    c.args.resource c.args.width c.args.height c.args.format s.resources c.create.new.self c.in_ok-done.done c.in_ok-done.ensures.done)
+    c.args.resource c.args.width c.args.height c.args.format s.resources c.create.new.self c.in_ok-done.done c.in_ok-done.ensures.done))

@@ -1,7 +1,7 @@
 use Rattle.std.proofs.Common.{◌≡◌, true, rules, arith}
 use Rattle.vg_formats.specs.Pixels.{is_inside}
 use Rattle.std.proofs.Common.{sym}
-use Rattle.vg_machine.proofs.KeepLemmas.{step-flush}
+use Rattle.vg_machine.proofs.KeepLemmas.{if-nodata, step-flush}
 use Rattle.vg_machine.proofs.BoundLemmas.{fits-surface, showing-flush}
 use Rattle.vg_machine.proofs.display.Display.flush.Goals as goal
 
@@ -37,5 +37,6 @@ returns-clause-step c =
     let s = c.self.inside in
     let surface = c.in-Some.surface.now in
     let inside : is_inside c.args.rect.now surface.width surface.height ≡ true = search rules in
-    rw (c.response_of.ensures, ← c.self.view_is)
-    (step-flush (record { setup = s.setup; entries = s.entries; memory = s.pages; resources = s.resources; backings = s.backings; uuids = s.uuids; cursors = s.cursors; scanouts = s.scanouts; share = s.share }) c.args.rect.now c.args.resource surface c.flush.new.self c.in_ok-done.done (sym c.in-Some.ensures.value) inside (rw c.as_slice-pixels.ensures at c.in_ok-done.ensures.done))
+    rw (c.nodata.ensures, ← c.self.view_is)
+    (if-nodata c.in_ok-done.done _
+    (step-flush (record { setup = s.setup; entries = s.entries; memory = s.pages; resources = s.resources; backings = s.backings; uuids = s.uuids; cursors = s.cursors; scanouts = s.scanouts; share = s.share }) c.args.rect.now c.args.resource surface c.flush.new.self c.in_ok-done.done (sym c.in-Some.ensures.value) inside (rw c.as_slice-pixels.ensures at c.in_ok-done.ensures.done)))

@@ -1,5 +1,5 @@
 use Rattle.std.proofs.Common.{}
-use Rattle.vg_machine.proofs.KeepLemmas.{lifted-receive}
+use Rattle.vg_machine.proofs.KeepLemmas.{if-nodata, no-want, lifted-receive}
 use Rattle.vg_machine.proofs.ShowingLemmas.{all-showing, keeping-receive}
 use Rattle.vg_machine.proofs.display.Display.transfer.Goals as goal
 
@@ -26,7 +26,8 @@ returns c =
     let s = c.self.inside in
     record {
       step =
-          rw (c.response_of.ensures, ← c.self.view_is)
-          (lifted-receive (λ resources. record { setup = s.setup; entries = s.entries; memory = s.pages; resources = resources; backings = s.backings; uuids = s.uuids; cursors = s.cursors; scanouts = s.scanouts; share = s.share })
-          s.pages c.args.resource c.args.rect.now c.args.offset s.backings s.resources c.receive-done.new.resources c.receive-done.result c.receive-done.ensures);
+          rw (c.nodata.ensures, ← c.self.view_is)
+          (if-nodata c.receive-done.result _ (lifted-receive (λ resources. record { setup = s.setup; entries = s.entries; memory = s.pages; resources = resources; backings = s.backings; uuids = s.uuids; cursors = s.cursors; scanouts = s.scanouts; share = s.share })
+          s.pages c.args.resource c.args.rect.now c.args.offset s.backings s.resources c.receive-done.new.resources c.receive-done.result c.receive-done.ensures));
+      err = rw c.nodata.ensures (no-want c.receive-done.result _);
     }

@@ -42,9 +42,9 @@ invariant_of-self-2 c =
 pub returns-in-Err : goal.returns-in-Err
 returns-in-Err c =
     let same = remove-refused c.args.resource c.self.inside.resources c.remove.new.self c.remove.result c.in-Err.code c.remove.ensures c.in-Err.is in
-    record { step = rw (← c.self.view_is, same.0, same.1) refl }
+    record { step = rw (← c.self.view_is, same.0, same.1) refl; err = tt }
 
 pub returns : goal.returns
 returns c =
     let gone = remove-done c.args.resource c.self.inside.resources c.remove.new.self c.remove.result c.remove.ensures c.in_default.is in
-    record { step = rw (← c.self.view_is, c.remove-2.ensures.after, c.forget.ensures, c.unbind_resource.ensures, gone.0, gone.1) refl }
+    record { step = rw (← c.self.view_is, c.remove-2.ensures.after, c.forget.ensures, c.unbind_resource.ensures, gone.0, gone.1) refl; err = tt }

@@ -1,0 +1,37 @@
+//! Why a command does nothing.
+
+ghost use Rattle.vg_machine.specs.Fits as fits;
+ghost use Rattle.std.specs.Prelude.{◌≡◌};
+
+use std::alloc::AllocError;
+use vg_wire_ext::Response;
+
+/// Why a command does nothing.
+#[derive(Clone, Copy)]
+pub(crate) enum Stop {
+    /// Want of memory.
+    Memory,
+    /// It is refused, and answered the error of this code (VIRTIO 1.2, 5.7.6.7).
+    Refused(u32),
+}
+
+impl From<AllocError> for Stop {
+    ghost use Rattle.std.specs.Prelude.{◌≡◌};
+    ghost use Rattle.vg_machine.specs.declared.stop.Stop.TheVariants.{Memory};
+
+    ghost from_gives = { λ _ stop. stop ≡ Memory };
+
+    fn from(_: AllocError) -> Stop {
+        Stop::Memory
+    }
+}
+
+/// OK_NODATA, or the refusal of a part of the display.
+pub(crate) fn nodata(done: Result<(), u32>) -> Result<Response, Stop>
+    ensures { result ≡ fits.nodata done }
+{
+    match done {
+        Ok(()) => Ok(Response::Nodata),
+        Err(code) => Err(Stop::Refused(code)),
+    }
+}
