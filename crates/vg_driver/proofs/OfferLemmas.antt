@@ -1,5 +1,6 @@
 -- A request that may be published next.
-use Rattle.std.proofs.Common.{◌≡◌, ℕ, ◌+◌, ◌-◌, ◌^◌, ◌==◌, ◌<◌, ◌≤◌, ◌&&◌, nat_le, nat_lt, bit_and, Bool, true, false, cond, List, [], length, None, Ok, refl, sym, ap, subst, ◌∙◌, arith, length-append, ne_eqb}
+use Rattle.std.proofs.Common.{◌≡◌, ℕ, ◌+◌, ◌-◌, ◌^◌, ◌==◌, ◌<◌, ◌≤◌, ◌&&◌, nat_le, nat_lt, bit_and, Bool, true, false, cond, List, [], length, None, Result, Ok, Err, refl, sym, ap, subst, ◌∙◌, arith, length-append, ne_eqb}
+use Rattle.std.specs.Prelude.{IfOk}
 use Rattle.std.proofs.lemmas.Bool.Decides.{nat_tests}
 use Rattle.vg_chain.specs.declared.shape.Shape.{Shape}
 use Rattle.vg_chain.specs.declared.shape.Shape.TheVariants.{Plain, Indirect}
@@ -125,6 +126,12 @@ made_command way command ordinal request may short is lane reads =
       denied = λ holds. ap (λ q. denied_of holds q bytes) (ap (λ q. q.queue) is) ∙ (ap (denied_request holds) reads ∙ denied_with holds way ordinal command);
     }
 
+pub made_command-if : {E : Type 0} (way : Way) (command : Command) (ordinal : ℕ) (made : Result Request E) → MayGo way command → IsShort command → IfOk made (λ request. request ≡ request_by way command ordinal)
+    → IfOk made (λ request. lane_of (queue_by way) request.bytes ≡ lane_by way) → IfOk made (λ request. request_of (queue_by way) request.bytes ≡ Ok (header_by way (command_kind command) ordinal, command))
+    → IfOk made (IsMadeFor (asks.Command way command) ordinal)
+made_command-if way command ordinal (Ok request) may short is lane reads = made_command way command ordinal request may short is lane reads
+made_command-if way command ordinal (Err error) may short is lane reads = tt
+
 pub made_raw : (queue : Queue) (room : ℕ) (shape : Shape) (bytes : List ℕ) (ordinal : ℕ) (request : Request) → length bytes ≤ 49152 → room ≤ 8192 → IsCount shape → request ≡ raw_request queue room shape bytes ordinal
     → IsMadeFor (asks.Raw queue room shape bytes) ordinal request
 made_raw queue room shape bytes ordinal request short small is_count is =
@@ -171,6 +178,10 @@ next_for ask holds lists ordinal request count made allowed queue next needed ro
 pub lane_below : (ask : Ask) → IsAsk ask → lane_for ask < 66
 lane_below (asks.Command way command) is = lane_small (queue_by way) (lane_by way) (way_lane way is.0.0)
 lane_below (asks.Raw queue room shape bytes) is = lane_small queue (lane_of queue bytes) (bytes_lane queue bytes)
+
+-- the request is made of its own ordinal
+pub made_as : (ask : Ask) (ordinal : ℕ) (request : Request) → IsMadeFor ask ordinal request → request ≡ request_for ask request.ordinal
+made_as ask ordinal request made = made.is ∙ ap (request_for ask) (sym (ap (λ q. q.ordinal) made.is ∙ made_ordinal ask ordinal))
 
 -- the request is this function of its ordinal
 pub submitted_as : (old : Token) (f : ℕ → Request) (request : Request) (ticket : Ticket) (new : Token) → request ≡ f request.ordinal → Submitted old (λ n. request) ticket new → Submitted old f ticket new
