@@ -2,6 +2,7 @@
 
 ghost use Rattle.std.specs.Prelude.{◌≡◌, ◌≤◌, length, Some, IfOk};
 ghost use Rattle.vg_wire.specs.declared.request.Queue.TheVariants as queues;
+ghost use Rattle.vg_ring.specs.DeviceEnds.{DeviceLists};
 ghost use Rattle.vg_front.specs.Desks as desks;
 ghost use Rattle.vg_machine.specs.State.{start};
 ghost use Rattle.vg_script.specs.Limits.{ScriptInLimits};
@@ -50,7 +51,8 @@ pub fn drive<G: Gate, R: Threads + Wait + Sync>(
 ) -> Result<Journal, NoMemory>
     requires limits { ScriptInLimits script }
     requires workers { (1 ≤ workers) × (workers ≤ 8) }
-    ensures { IfOk result (IsLegalJournal script) }
+    ensures journal { IfOk result (IsLegalJournal script) }
+    ensures completed { IfOk result (λ journal. (control cursor : DeviceLists) × HaveCompleted journal.entries control cursor) }
 {
     let Ok(setup) = setup_of(alloc, &script) else {
         return Err(NoMemory);
@@ -79,7 +81,8 @@ fn with_rings<B: Naming + Send + Sync, G: Gate, R: Threads + Wait + Sync>(
     requires setup { setup ≡ setups.setup_of script }
     requires book { (opened.table ≡ B.table) × (opened.lanes ≡ 66) }
     requires start { opened.start ≡ Some (start setup) }
-    ensures { IfOk result (IsLegalJournal script) }
+    ensures journal { IfOk result (IsLegalJournal script) }
+    ensures completed { IfOk result (λ journal. (control cursor : DeviceLists) × HaveCompleted journal.entries control cursor) }
 {
     let Ok(control) = Ring::make::<Carried<Display, B>>(alloc, Queue::Control, 64) else {
         return Err(NoMemory);
@@ -111,7 +114,8 @@ fn journal_in<B: Naming + Send + Sync, N: Rings + Send + Sync, G: Gate, R: Threa
     requires start { opened.start ≡ Some (start setup) }
     requires control { (control.table ≡ N.control) × (control.queue ≡ queues.Control) }
     requires cursor { (cursor.table ≡ N.cursor) × (cursor.queue ≡ queues.Cursor) }
-    ensures { IfOk result (IsLegalJournal script) }
+    ensures journal { IfOk result (IsLegalJournal script) }
+    ensures completed { IfOk result (λ journal. (control cursor : DeviceLists) × HaveCompleted journal.entries control cursor) }
 {
     let driven = drive_in::<B, N, G, R>(
         rt, alloc, opened, control, cursor, setup, script, workers, gate,
@@ -153,7 +157,7 @@ pub fn drive_in<B: Naming + Send + Sync, N: Rings + Send + Sync, G: Gate, R: Thr
     let front = run_threads(
         rt, alloc, &book, &driver, &mut root, front, &setup, script, workers, gate,
     )?;
-    let closed = close(book, root, front)?;
+    let closed = close(rt, book, root, driver, front)?;
     let Closed {
         history,
         frames,
