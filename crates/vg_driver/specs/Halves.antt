@@ -1,15 +1,21 @@
 -- A queue's driver end with what came back over it: what is kept, and what the calls tell.
 use Rattle.std.specs.Prelude.{◌≡◌, ℕ, ◌+◌, ◌==◌, ◌&&◌, ◌^◌, ◌-◌, ◌<◌, ◌≤◌, ◌%◌, true, false, Bool, List, [], ◌∷◌, length, max, get_or, Option, Some, None, if◌then◌else◌}
+use mathlib.Core.List.{IsPrefix}
 use Rattle.vg_history.specs.declared.machine.Machine.{Ghosts}
+use Rattle.vg_history.specs.declared.entry.Entry.{Entry}
+use Rattle.vg_history.specs.declared.entry.Entry.TheVariants.{Command}
 use Rattle.vg_history.specs.History.{HasFence}
+use Rattle.vg_history.specs.Lists.{Has}
 use Rattle.vg_book.specs.declared.outcome.Ran.{Ran}
 use Rattle.vg_book.specs.declared.outcome.Ran.TheVariants as outcomes
-use Rattle.vg_book.specs.Tokens.{Client, Drawn, Noted, Passed}
+use Rattle.vg_book.specs.Tokens.{Client, Drawn, Noted, Passed, Rooted}
 use Rattle.vg_chain.specs.declared.shape.Shape.{Shape}
 use Rattle.vg_chain.specs.Made.{IsCount, IsNeeded}
 use Rattle.vg_wire.specs.declared.request.Queue.{Queue}
 use Rattle.vg_ring.specs.declared.views.Answer.{Answer}
+use Rattle.vg_ring.specs.declared.views.Entry as ring
 use Rattle.vg_asks.specs.declared.asked.Asked.{Asked}
+use Rattle.vg_asks.specs.Asks.{asked}
 use Rattle.vg_ring.specs.Cargo.{ParcelData, Tells}
 use Rattle.vg_ring.specs.Ends.{DriverLists, HasRoom}
 use Rattle.vg_ring.specs.Entries.{lane_count}
@@ -19,29 +25,18 @@ abbrev pub top_of : ℕ → List Answer → ℕ
 top_of lane [] = 0
 top_of lane (answer ∷ more) = if answer.entry.lane == lane then max answer.entry.ordinal (top_of lane more) else top_of lane more
 
--- What is known of a lane: the greatest ordinal that came back, and up to which ordinal a note knows its commands.
-pub record HeardData : Type 0 where
+-- What is asked by a ring's entry.
+abbrev pub asked_in : ring.Entry → Asked
+asked_in e = asked e.queue e.request e.room e.shape
+
+-- What is known of a lane: the greatest ordinal that came back, up to which ordinal its note knows its commands, and whether
+-- something of it came back without having been run.
+pub record HeardData (M S A R Q P H W : Type 0) : Type 0 where
   pub lane : ℕ
   pub top : ℕ
   pub known : ℕ
-
-abbrev pub unheard : ℕ → HeardData
-unheard lane = record { lane = lane; top = 0; known = 0 }
-
-abbrev pub IsHeard : List Answer → ℕ → HeardData → Type 0
-IsHeard reaped lane heard = (heard.lane ≡ lane) × (heard.top ≡ top_of lane reaped)
-
--- Each lane in its place.
-abbrev pub AreHeard : List Answer → List HeardData → Type 0
-AreHeard reaped heard = (lane : ℕ) → lane < 66 → IsHeard reaped lane (get_or heard lane (unheard 0))
-
--- What a half keeps: there is room for all replies that are still to come.
-pub record IsHalf (queue : Queue) (lists : DriverLists) (replies room : ℕ) (heard : List HeardData) : Type 0 where
-  pub queue_is : lists.queue ≡ queue
-  pub most : length lists.reaped ≤ length lists.published
-  pub room_is : replies + length lists.published ≤ room + length lists.reaped
-  pub lanes : length heard ≡ 66
-  pub tops : AreHeard lists.reaped heard
+  pub note : Option (Noted M S A R Q P H W)
+  pub unrun : Bool
 
 -- Nothing but replies were taken from the ring.
 pub record HasReaped (old new : DriverLists) : Type 0 where
@@ -62,6 +57,40 @@ pub record IsOffered (lists : DriverLists) (shape : Shape) (parcel : ParcelData)
   pub room : (count : ℕ) × IsNeeded shape (length parcel.request) parcel.room count × HasRoom lists count
   pub ordinal : parcel.ordinal ≡ lane_count parcel.lane lists.published + 1
   pub last : length lists.published < 2 ^ 63 - 1
+
+module _ {M S A R Q P H W : Type 0} where
+  abbrev pub unheard : ℕ → HeardData M S A R Q P H W
+  unheard lane = record { lane = lane; top = 0; known = 0; note = None; unrun = false }
+
+  abbrev pub IsHeard : List Answer → ℕ → HeardData M S A R Q P H W → Type 0
+  IsHeard reaped lane heard = (heard.lane ≡ lane) × (heard.top ≡ top_of lane reaped)
+
+  -- Each lane in its place.
+  abbrev pub AreHeard : List Answer → List (HeardData M S A R Q P H W) → Type 0
+  AreHeard reaped heard = (lane : ℕ) → lane < 66 → IsHeard reaped lane (get_or heard lane (unheard 0))
+
+  -- What a note has seen; nothing where there is none.
+  abbrev pub seen_by : Option (Noted M S A R Q P H W) → List (Entry M S A R Q P H W)
+  seen_by None = []
+  seen_by (Some note) = note.seen
+
+  -- The root has at most seen more.
+  pub record HasHeard (old new : Rooted M S A R Q P H W) : Type 0 where
+    pub given : new.given ≡ old.given
+    pub lanes_made : new.lanes_made ≡ old.lanes_made
+    pub accounts : new.accounts ≡ old.accounts
+    pub lanes : new.lanes ≡ old.lanes
+    pub start : new.start ≡ old.start
+    pub more : IsPrefix old.seen new.seen
+
+  -- All of the lane was run, and what its note has seen stands here.
+  abbrev pub IsJoined : List (Entry M S A R Q P H W) → HeardData M S A R Q P H W → Type 0
+  IsJoined es heard = (heard.unrun ≡ false) × IsPrefix (seen_by heard.note) es
+
+  -- The root has seen what these lanes' notes have, and all of them was run.
+  pub record HasJoined (old : Rooted M S A R Q P H W) (heard : List (HeardData M S A R Q P H W)) (new : Rooted M S A R Q P H W) : Type 0 where
+    pub root : HasHeard old new
+    pub lanes : (h : HeardData M S A R Q P H W) → Has heard h → IsJoined new.seen h
 
 module _ {M B S A R Q P H W : Type 0} where
   -- What came back is of this call of this client.
@@ -100,3 +129,39 @@ module _ {M S A R Q P H W : Type 0} (g : Ghosts M S A R Q P H W) where
   -- The request was made a pass under the client's next number.
   abbrev pub IsSent : Client M S A R Q P H W → Q → Client M S A R Q P H W → ℕ → Type 0
   IsSent c request d call = ((pass : Passed M S A R Q P H W) × Drawn g c request d pass) × (call ≡ c.account.used + 1)
+
+  -- A command of this lane and ordinal that asks for this stands there.
+  abbrev pub HasFor : ℕ × ℕ → Asked → List (Entry M S A R Q P H W) → Type 0
+  HasFor tag asks es = (c : ℕ) × (n : ℕ) × (q : Q) × (p : P) × Has es (Command c n q p) × (g.tagged q ≡ tag) × (g.asks q ≡ asks)
+
+  -- What a ring's entry asks is a command there, of its lane and ordinal, with its very bytes, room and shape.
+  abbrev pub HasAsked : ring.Entry → List (Entry M S A R Q P H W) → Type 0
+  HasAsked e es = HasFor (e.lane, e.ordinal) (asked_in e) es
+
+  -- The answer's lane knows its command, unless something of the lane wasn't run.
+  abbrev pub IsKnown : Answer → HeardData M S A R Q P H W → Type 0
+  IsKnown answer heard = (answer.entry.lane < 66) × (heard.unrun ≡ false → HasAsked answer.entry (seen_by heard.note))
+
+  abbrev pub AreKnown : List Answer → List (HeardData M S A R Q P H W) → Type 0
+  AreKnown reaped heard = (answer : Answer) → Has reaped answer → IsKnown answer (get_or heard answer.entry.lane (unheard 0))
+
+  -- A command of the lane came back.
+  pub record Hears {B : Type 0} (old : HeardData M S A R Q P H W) (ran : Ran M B S A R Q P H W) (ordinal : ℕ) (new : HeardData M S A R Q P H W) : Type 0 where
+    pub lane : new.lane ≡ old.lane
+    pub top : new.top ≡ max ordinal old.top
+    pub more : IsPrefix (seen_by old.note) (seen_by new.note)
+    pub run : new.unrun ≡ false → (old.unrun ≡ false) × HasFor (tag_of ran) (asked_of ran) (seen_by new.note)
+
+  -- What a half keeps: there is room for all replies that are still to come, and the lanes know what came back.
+  pub record IsHalf (queue : Queue) (lists : DriverLists) (replies room : ℕ) (heard : List (HeardData M S A R Q P H W)) : Type 0 where
+    pub queue_is : lists.queue ≡ queue
+    pub most : length lists.reaped ≤ length lists.published
+    pub room_is : replies + length lists.published ≤ room + length lists.reaped
+    pub lanes : length heard ≡ 66
+    pub tops : AreHeard lists.reaped heard
+    pub known : AreKnown lists.reaped heard
+
+  -- All that was published came back, and was a command that stands there.
+  pub record AreBack (lists : DriverLists) (es : List (Entry M S A R Q P H W)) : Type 0 where
+    pub all : length lists.reaped ≡ length lists.published
+    pub asked : (answer : Answer) → Has lists.reaped answer → HasAsked answer.entry es

@@ -1,8 +1,9 @@
 //! What came back of a command, run or unrun.
 
-ghost use Rattle.std.specs.Prelude.{◌≡◌, ◌≤◌, ◌<◌, ◌∷◌, true, false, length, IfSome, IsPermutation, MatchOption, max, vec_len, vec_capacity};
+ghost use Rattle.std.specs.Prelude.{◌≡◌, ◌≤◌, ◌<◌, ◌∷◌, true, false, length, IfSome, IsPermutation, MatchOption, vec_len, vec_capacity};
 ghost use Rattle.std.specs.List.{position};
-ghost use Rattle.vg_driver.specs.Halves.{IsOf, IsTold, asked_of, tag_of};
+ghost use Rattle.vg_ring.specs.Cargo as cargoes;
+ghost use Rattle.vg_driver.specs.Halves.{Hears, IsOf, IsTold, asked_of, tag_of};
 ghost use Rattle.vg_driver.specs.Halves as halves;
 
 use crate::heard::Heard;
@@ -51,7 +52,8 @@ impl<M: Machine, B: Naming> Back<M, B> {
     pub(crate) fn of(cargo: Cargo<Carried<M, B>>, len: u32) -> Back<M, B>
         requires back { ⟦<Carried<M, B> as Tagged>⟧.is_wanted cargo.pass ≡ false }
         requires len { length cargo.parcel.response ≡ len }
-        ensures { tag_of M.Machine result ≡ ⟦<Carried<M, B> as Tagged>⟧.tagged cargo.pass }
+        ensures tag { tag_of M.Machine result ≡ ⟦<Carried<M, B> as Tagged>⟧.tagged cargo.pass }
+        ensures asked { asked_of M.Machine result ≡ cargoes.asked_of cargo.parcel }
     {
         let (parcel, pass) = cargo.apart();
         let (shape, bytes) = parcel.into_response(len);
@@ -65,8 +67,7 @@ impl<M: Machine, B: Naming> Back<M, B> {
     /// Its lane hears of it.
     pub(crate) fn tell(&mut self, book: &Book<M, B>, heard: &mut Heard<M, B>, ordinal: u64)
         requires { tag_of M.Machine self.old ≡ (heard.old.lane, ordinal) }
-        ensures lane { heard.new.lane ≡ heard.old.lane }
-        ensures top { heard.new.top ≡ max ordinal heard.old.top }
+        ensures hears { Hears M.Machine heard.old self.old ordinal heard.new }
         ensures same { self.new ≡ self.old }
     {
         heard.hear(book, &mut self.ran, ordinal);

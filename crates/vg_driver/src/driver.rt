@@ -1,6 +1,6 @@
 //! Both queues of a device, as its clients share them.
 
-ghost use Rattle.std.specs.Prelude.{◌≡◌, ℕ, ◌≤◌, None, length, IfSome, MatchResult};
+ghost use Rattle.std.specs.Prelude.{◌≡◌, ℕ, ◌≤◌, None, length, IfOk, IfSome, MatchResult};
 ghost use Rattle.vg_chain.specs.Made.{IsCount};
 ghost use Rattle.vg_wire.specs.declared.request.Queue.TheVariants as queues;
 ghost use Rattle.vg_ring.specs.Making.{IsNewDriver};
@@ -8,7 +8,8 @@ ghost use Rattle.vg_holds.specs.Holds.{denied_of};
 ghost use Rattle.vg_driver.specs.Requests as requests;
 ghost use Rattle.vg_driver.specs.Requests.{IsShort, MayGo};
 ghost use Rattle.vg_machine.specs.Written.{read_by};
-ghost use Rattle.vg_driver.specs.Halves.{IsOf};
+ghost use Rattle.vg_machine.specs.Replay.{display};
+ghost use Rattle.vg_driver.specs.Halves.{AreBack, HasHeard, IsOf};
 ghost use Rattle.vg_driver.specs.Offers.{MayOffer};
 ghost use Rattle.vg_driver.specs.Tickets.{Finished, IsOut, Spent, Submitted};
 
@@ -20,7 +21,7 @@ use crate::ticket::{Answer, Ticket};
 use crossbeam_utils::Backoff;
 use std::alloc::{AllocError, Global};
 use std::sync::{Mutex, Wait};
-use vg_book::{Book, Carried, ClientToken, NoMemory, Ran};
+use vg_book::{Book, Carried, ClientToken, NoMemory, Ran, Root};
 use vg_chain::Shape;
 use vg_list::Seq;
 use vg_machine::{Display, Reply};
@@ -293,5 +294,28 @@ impl<B: vg_book::Naming, N: Rings> Driver<B, N> {
             wait_for(rt, &self.control, book, client, ticket.call)
         };
         settle(book, token, ticket, back)
+    }
+
+    /// Waits until all that was published has come back, has the root see the commands of it, and gives both ends. It answers
+    /// want of memory where a command came back unrun.
+    pub fn close<R: Wait>(
+        self,
+        rt: &R,
+        book: &Book<Display, B>,
+        root: &mut Root<Display, B>,
+    ) -> Result<
+        (
+            DriverEnd<Carried<Display, B>, ControlOf<N>>,
+            DriverEnd<Carried<Display, B>, CursorOf<N>>,
+        ),
+        NoMemory,
+    >
+        ensures root { HasHeard root.old root.new }
+        ensures back { IfOk result (λ ends. AreBack display ends.0 root.new.seen × AreBack display ends.1 root.new.seen) }
+    {
+        let Driver { control, cursor } = self;
+        let control = control.into_inner().close(rt, book, root)?;
+        let cursor = cursor.into_inner().close(rt, book, root)?;
+        Ok((control, cursor))
     }
 }

@@ -1,18 +1,20 @@
 //! One queue of a device, as the clients share it under a lock.
 
-ghost use Rattle.std.specs.Prelude.{◌≡◌, ℕ, ◌+◌, ◌-◌, ◌^◌, ◌<◌, ◌%◌, true, [], length, IfOk, IfSome, MatchResult};
+ghost use Rattle.std.specs.Prelude.{◌≡◌, ℕ, ◌+◌, ◌-◌, ◌^◌, ◌<◌, ◌%◌, true, [], length, IfOk, IfSome, MatchResult, OnOk};
 ghost use Rattle.vg_ring.specs.Cargo.{asked_of};
 ghost use Rattle.vg_ring.specs.Ends.{HasRoom};
 ghost use Rattle.vg_ring.specs.Entries.{lane_count};
 ghost use Rattle.vg_ring.specs.Making.{IsNewDriver};
-ghost use Rattle.vg_driver.specs.Halves.{AreHeard, HasReaped, IsOf, IsOffered, IsSent, ReapsOne};
+ghost use Rattle.vg_driver.specs.Halves.{AreBack, AreHeard, HasHeard, HasJoined, HasReaped, IsOf, IsOffered, IsSent, ReapsOne};
 
 use crate::back::{Back, take_out};
 use crate::heard::Heard;
+use crossbeam_utils::Backoff;
 use std::alloc::{AllocError, Global};
 use std::marker::Model;
 use std::snapshot::Snapshot;
-use vg_book::{Book, Carried, ClientToken, NoMemory};
+use std::sync::Wait;
+use vg_book::{Book, Carried, ClientToken, NoMemory, Root};
 use vg_chain::Shape;
 use vg_history::Machine;
 use vg_ring::{DriverEnd, OfQueue, Parcel, Reaped, Tag};
@@ -38,7 +40,7 @@ impl<M: Machine, B: vg_book::Naming, Q: vg_ring::Naming + OfQueue> Model for Hal
 
     ghost view = { λ h. h.end };
 
-    ghost invariant = { λ h. IsHalf Q.queue h.end (vec_len h.replies) (vec_capacity h.replies) h.heard.items };
+    ghost invariant = { λ h. IsHalf M.Machine Q.queue h.end (vec_len h.replies) (vec_capacity h.replies) h.heard.items };
 }
 
 /// Each lane, of which nothing came back.
@@ -157,4 +159,52 @@ impl<M: Machine, B: vg_book::Naming, Q: vg_ring::Naming + OfQueue> Half<M, B, Q>
         self.reap_all(book);
         take_out(&mut self.replies, client, call)
     }
+
+    /// Takes replies from the ring until all that was published has come back.
+    fn reap_rest<R: Wait>(&mut self, rt: &R, book: &Book<M, B>)
+        ensures { length self.new.reaped ≡ length self.new.published }
+    {
+        let backoff = Backoff::new();
+        for _ in rt.forever() {
+            self.reap_all(book);
+            if self.end.reaped() == self.end.published() {
+                return;
+            }
+            backoff.snooze();
+        }
+        unreachable!()
+    }
+
+    /// Waits until all that was published has come back, has the root see the commands of it, and gives the end. It answers want
+    /// of memory where a command came back unrun.
+    pub(crate) fn close<R: Wait>(
+        self,
+        rt: &R,
+        book: &Book<M, B>,
+        root: &mut Root<M, B>,
+    ) -> Result<DriverEnd<Carried<M, B>, Q>, NoMemory>
+        ensures root { HasHeard root.old root.new }
+        ensures back { IfOk result (λ end. AreBack M.Machine end root.new.seen) }
+    {
+        let mut half = self;
+        half.reap_rest(rt, book);
+        let Half { end, heard, .. } = half;
+        join_lanes(book, root, heard)?;
+        Ok(end)
+    }
+}
+
+/// The root sees what the lanes' notes have seen. It answers want of memory where something of a lane came back unrun.
+fn join_lanes<M: Machine, B: vg_book::Naming>(
+    book: &Book<M, B>,
+    root: &mut Root<M, B>,
+    heard: Vec<Heard<M, B>>,
+) -> Result<(), NoMemory>
+    ensures root { HasHeard root.old root.new }
+    ensures joined { OnOk result (HasJoined root.old heard.items root.new) }
+{
+    for lane in heard {
+        lane.join(book, root)?;
+    }
+    Ok(())
 }

@@ -1,27 +1,30 @@
 //! How far a lane's commands have come back.
 
-ghost use Rattle.std.specs.Prelude.{◌≡◌, max};
-ghost use Rattle.vg_driver.specs.Halves.{tag_of, unheard};
+ghost use Rattle.std.specs.Prelude.{◌≡◌, false, OnOk};
+ghost use mathlib.Core.List.{IsPrefix};
+ghost use Rattle.vg_driver.specs.Halves.{HasHeard, Hears, seen_by, tag_of, unheard};
 
 use std::marker::Model;
-use vg_book::{Book, Naming, Note, Ran};
+use vg_book::{Book, Naming, NoMemory, Note, Ran, Root};
 use vg_history::Machine;
 
-/// A lane's greatest ordinal that came back, run or not, and a note of who knows the lane's commands up to some ordinal.
+/// A lane's greatest ordinal that came back, run or not, a note that knows the lane's commands up to some ordinal and all that
+/// came back of it run, and whether something came back unrun.
 #[derive(Drop)]
 pub(crate) struct Heard<M: Machine, B: Naming> {
     lane: u32,
     top: u64,
     known: u64,
     note: Option<Note<M, B>>,
+    unrun: bool,
 }
 
 impl<M: Machine, B: Naming> Model for Heard<M, B> {
     ghost use Rattle.vg_driver.specs.Halves.{HeardData, NoteKnows};
 
-    ghost Value = { HeardData };
+    ghost Value = { HeardData M M.State M.Act M.ActReply M.Request M.Reply M.Holds M.Job };
 
-    ghost view = { λ h. record { lane = h.lane; top = h.top; known = h.known } };
+    ghost view = { λ h. record { lane = h.lane; top = h.top; known = h.known; note = h.note; unrun = h.unrun } };
 
     ghost invariant = { λ h. NoteKnows M.Machine h.lane h.known h.note };
 }
@@ -36,22 +39,67 @@ impl<M: Machine, B: Naming> Heard<M, B> {
             top: 0,
             known: 0,
             note: None,
+            unrun: false,
         }
     }
 
     /// A command of the lane came back.
     pub(crate) fn hear(&mut self, book: &Book<M, B>, ran: &mut Ran<M, B>, ordinal: u64)
         requires { tag_of M.Machine ran.old ≡ (self.old.lane, ordinal) }
-        ensures lane { self.new.lane ≡ self.old.lane }
-        ensures top { self.new.top ≡ max ordinal self.old.top }
+        ensures hears { Hears M.Machine self.old ran.old ordinal self.new }
         ensures same { ran.new ≡ ran.old }
     {
         self.top = ordinal.max(self.top);
-        if let Ran::Done(done) = ran {
-            if self.known < ordinal {
-                self.note = Some(done.note(book));
-                self.known = ordinal;
+        match ran {
+            Ran::Done(done) => {
+                self.note = Some(with_known(book, done.note(book), self.note.take()));
+                self.known = ordinal.max(self.known);
             }
+            Ran::Unrun(_) => self.unrun = true,
         }
+    }
+
+    /// The root sees what the lane's note has seen. It answers want of memory where something of the lane came back unrun.
+    pub(crate) fn join(self, book: &Book<M, B>, root: &mut Root<M, B>) -> Result<(), NoMemory>
+        ensures root { HasHeard root.old root.new }
+        ensures seen { IsPrefix (seen_by self.note) root.new.seen }
+        ensures run { OnOk result (self.unrun ≡ false) }
+    {
+        let Heard { note, unrun, .. } = self;
+        join_known(book, root, note);
+        if unrun {
+            return Err(NoMemory);
+        }
+        Ok(())
+    }
+}
+
+/// The note, once it has seen what was known before.
+fn with_known<M: Machine, B: Naming>(
+    book: &Book<M, B>,
+    note: Note<M, B>,
+    known: Option<Note<M, B>>,
+) -> Note<M, B>
+    ensures note { IsPrefix note.seen result.seen }
+    ensures known { IsPrefix (seen_by known) result.seen }
+{
+    let mut note = note;
+    if let Some(known) = known {
+        note.meet(book, known);
+    }
+    note
+}
+
+/// The root sees what is known.
+fn join_known<M: Machine, B: Naming>(
+    book: &Book<M, B>,
+    root: &mut Root<M, B>,
+    known: Option<Note<M, B>>,
+)
+    ensures root { HasHeard root.old root.new }
+    ensures seen { IsPrefix (seen_by known) root.new.seen }
+{
+    if let Some(known) = known {
+        root.join_note(book, known);
     }
 }

@@ -14,7 +14,7 @@ pub invariant_of-self-2 : goal.invariant_of-self-2
 invariant_of-self-2 g c =
     let d = c.self.inside in
     let room = fits_of c.reserve.result (vec_len c.reserve.new.self + (c.published.result - c.reaped.result + 1)) (vec_capacity c.reserve.new.self) (sym c.is_err.ensures.value ∙ c.if-is_err.false) c.reserve.ensures.ok in
-    half_sent g.Q.OfQueue.queue d.end (vec_len d.replies) (vec_capacity d.replies) d.heard.items c.self.invariant c.args.shape c.load.result c.publish.new.self c.publish.ensures.published
+    half_sent g.M.Machine g.Q.OfQueue.queue d.end (vec_len d.replies) (vec_capacity d.replies) d.heard.items c.self.invariant c.args.shape c.load.result c.publish.new.self c.publish.ensures.published
     (vec_len c.reserve.new.self) (vec_capacity c.reserve.new.self) c.published.result c.reaped.result c.published.ensures c.reaped.ensures room
 
 pub returns : goal.returns

@@ -1,0 +1,6 @@
+use Rattle.vg_machine.specs.Replay.{display}
+use Rattle.vg_driver.proofs.HalfLemmas.{back_more}
+use Rattle.vg_driver.proofs.driver.Driver.close.Goals as goal
+
+pub returns-clause-back : goal.returns-clause-back
+returns-clause-back g c = (back_more display c.in_ok-control.control c.close.new.root.seen c.close-2.new.root.seen c.in_ok-control.ensures.back c.close-2.ensures.root.more, c.in_ok-cursor.ensures.back)
