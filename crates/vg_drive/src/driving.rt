@@ -2,6 +2,7 @@
 
 ghost use Rattle.std.specs.Prelude.{◌≡◌, ◌≤◌, length, Some, IfOk};
 ghost use Rattle.vg_wire.specs.declared.request.Queue.TheVariants as queues;
+ghost use Rattle.vg_ring.specs.DeviceEnds.{DeviceLists};
 ghost use Rattle.vg_front.specs.Desks as desks;
 ghost use Rattle.vg_machine.specs.State.{start};
 ghost use Rattle.vg_script.specs.Limits.{ScriptInLimits};
@@ -50,17 +51,12 @@ pub fn drive<G: Gate, R: Threads + Wait + Sync>(
 ) -> Result<Journal, AllocError>
     requires limits { ScriptInLimits script }
     requires workers { (1 ≤ workers) × (workers ≤ 8) }
-    ensures { IfOk result (IsLegalJournal script) }
+    ensures journal { IfOk result (IsLegalJournal script) }
+    ensures completed { IfOk result (λ journal. (control cursor : DeviceLists) × HaveCompleted journal.entries control cursor) }
 {
-    let Ok(setup) = setup_of(alloc, &script) else {
-        return Err(AllocError);
-    };
-    let Ok(display) = Display::new(alloc, &setup) else {
-        return Err(AllocError);
-    };
-    let Ok(opened) = Opened::new(alloc, display, LANES) else {
-        return Err(AllocError);
-    };
+    let setup = setup_of(alloc, &script)?;
+    let display = Display::new(alloc, &setup)?;
+    let opened = Opened::new(alloc, display, LANES)?;
     with_rings::<Brand, G, R>(rt, alloc, opened, setup, script, workers, gate)
 }
 
@@ -79,14 +75,11 @@ fn with_rings<B: Naming + Send + Sync, G: Gate, R: Threads + Wait + Sync>(
     requires setup { setup ≡ setups.setup_of script }
     requires book { (opened.table ≡ B.table) × (opened.lanes ≡ 66) }
     requires start { opened.start ≡ Some (start setup) }
-    ensures { IfOk result (IsLegalJournal script) }
+    ensures journal { IfOk result (IsLegalJournal script) }
+    ensures completed { IfOk result (λ journal. (control cursor : DeviceLists) × HaveCompleted journal.entries control cursor) }
 {
-    let Ok(control) = Ring::make::<Carried<Display, B>>(alloc, Queue::Control, 64) else {
-        return Err(AllocError);
-    };
-    let Ok(cursor) = Ring::make::<Carried<Display, B>>(alloc, Queue::Cursor, 16) else {
-        return Err(AllocError);
-    };
+    let control = Ring::make::<Carried<Display, B>>(alloc, Queue::Control, 64)?;
+    let cursor = Ring::make::<Carried<Display, B>>(alloc, Queue::Cursor, 16)?;
     journal_in::<B, Brand, G, R>(
         rt, alloc, opened, control, cursor, setup, script, workers, gate,
     )
@@ -111,7 +104,8 @@ fn journal_in<B: Naming + Send + Sync, N: Rings + Send + Sync, G: Gate, R: Threa
     requires start { opened.start ≡ Some (start setup) }
     requires control { (control.table ≡ N.control) × (control.queue ≡ queues.Control) }
     requires cursor { (cursor.table ≡ N.cursor) × (cursor.queue ≡ queues.Cursor) }
-    ensures { IfOk result (IsLegalJournal script) }
+    ensures journal { IfOk result (IsLegalJournal script) }
+    ensures completed { IfOk result (λ journal. (control cursor : DeviceLists) × HaveCompleted journal.entries control cursor) }
 {
     let driven = drive_in::<B, N, G, R>(
         rt, alloc, opened, control, cursor, setup, script, workers, gate,
@@ -145,15 +139,13 @@ pub fn drive_in<B: Naming + Send + Sync, N: Rings + Send + Sync, G: Gate, R: Thr
     // Laws, and no work: the history has each client's entries as it made them, and so it is one that the clients can have.
     history_in_step::<Display>();
     clients_make_one_history();
-    let Ok((book, root, tokens)) = opened.named::<B>(alloc) else {
-        return Err(AllocError);
-    };
+    let (book, root, tokens) = opened.named::<B>(alloc)?;
     let mut root = root;
     let (driver, front) = ends::<B, N>(alloc, control, cursor, tokens)?;
     let front = run_threads(
         rt, alloc, &book, &driver, &mut root, front, &setup, script, workers, gate,
     )?;
-    let closed = close(book, root, front)?;
+    let closed = close(rt, book, root, driver, front)?;
     let Closed {
         history,
         frames,
@@ -186,11 +178,7 @@ fn ends<B: Naming, N: Rings>(
 {
     let (control, device) = control.named::<ControlOf<N>>();
     let (cursor, pointer) = cursor.named::<CursorOf<N>>();
-    let Ok(driver) = Driver::new(alloc, control, cursor) else {
-        return Err(AllocError);
-    };
-    let Ok(front) = Front::new(alloc, device, pointer, tokens) else {
-        return Err(AllocError);
-    };
+    let driver = Driver::new(alloc, control, cursor)?;
+    let front = Front::new(alloc, device, pointer, tokens)?;
     Ok((driver, front))
 }

@@ -1,3 +1,5 @@
 pub mod RangeLemmas
+pub mod RisingLemmas
+pub mod CrossingLemmas
 pub mod SessionLemmas
 pub mod Sent

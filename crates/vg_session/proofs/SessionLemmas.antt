@@ -1,5 +1,5 @@
 -- Clients on threads, and what they leave.
-use Rattle.std.proofs.Common.{◌≡◌, inl, inr, ⊎_elim, ◌+◌, ◌-◌, ◌<◌, ◌≤◌, ◌∙◌, sym, ap, refl, subst, arith, add-one, append_assoc, append-nil, ℕ, zero, suc, true, false, List, [], ◌∷◌, ◌++◌, length, map, get_or, Some, None}
+use Rattle.std.proofs.Common.{◌≡◌, inl, inr, ⊎_elim, ◌+◌, ◌-◌, ◌<◌, ◌≤◌, ◌∙◌, sym, ap, refl, subst, subst₂, arith, add-one, append_assoc, append-nil, ℕ, zero, suc, true, false, List, [], ◌∷◌, ◌++◌, length, map, get_or, Some, None}
 use Rattle.std.specs.Prelude.{All, sum_by}
 use Rattle.std.specs.List.{fold}
 use Rattle.std.proofs.lemmas.List.{map-append}
@@ -25,16 +25,19 @@ use Rattle.vg_machine.specs.Entries.{Entry}
 use Rattle.vg_holds.specs.Holds.{first_holds}
 use Rattle.vg_machine.specs.Replay.{display}
 use Rattle.vg_machine.specs.State.{State, start}
+use Rattle.vg_scanout.specs.declared.scanout.Frame.{Frame}
 use Rattle.vg_script.specs.declared.types.Line.{Line}
 use Rattle.vg_script.specs.declared.types.Script.{Script}
 use Rattle.vg_script.specs.Limits.{ScriptInLimits}
+use Rattle.vg_driver.specs.Halves.{HasHeard}
 use Rattle.vg_driver.specs.Tickets.{Account, Token}
 use Rattle.vg_client.specs.Accounts.{IsNew, mine_of}
 use Rattle.vg_part.specs.declared.performing.Performed.{Performed}
-use Rattle.vg_session.specs.Session.{AreNew, HasCompleted, HasJoined, HasTakenAll, HasTakenLanes, HaveAllJoined, HaveCompleted, IsReady, IsRootWith, Lane, Performs, Root, counted_of, number_of}
+use Rattle.vg_session.specs.Session.{AreAsked, AreNew, HasCompleted, HasJoined, HasTakenAll, HasTakenLanes, HaveAllJoined, HaveCompleted, IsEnd, IsReady, IsRootWith, Lane, Performs, Root, counted_of, number_of}
 use Rattle.vg_part.specs.Performing.{AreInLimits, HasPerformed, lines_of}
 use Rattle.vg_part.specs.Setup.{setup_of}
 use Rattle.vg_session.proofs.RangeLemmas.{upto-range}
+use Rattle.vg_session.proofs.CrossingLemmas.{all-asked-more, completed-lane}
 
 all-one : {X : Type 0} (P : X → Type 0) (x : X) → P x → All P (x ∷ [])
 all-one P x h zero d lt = h
@@ -227,6 +230,17 @@ lanes-more old now new lanes lane taken takes accounts more = record {
       ∙ ap (λ ls. old.lanes ++ ls) (sym (map-append counted_of lanes (lane ∷ [])));
 }
 
+-- a root that has heard what came back, and then has taken in lanes
+pub lanes-heard : (old heard new : Root) (lanes : List Lane) → HasHeard old heard → HasTakenLanes heard lanes new → HasTakenLanes old lanes new
+lanes-heard old heard new lanes hears taken = record {
+  given = taken.given ∙ hears.given;
+  accounts = taken.accounts ∙ hears.accounts;
+  lanes_made = taken.lanes_made ∙ hears.lanes_made;
+  start = taken.start ∙ hears.start;
+  more = prefix_trans old.seen heard.seen new.seen hears.more taken.more;
+  taken = taken.taken ∙ ap (λ ls. ls ++ map counted_of lanes) hears.lanes;
+}
+
 -- the token at a place
 token-at : (lanes : List Lane) (at : ℕ) → at < length lanes → (lane : Lane) × Has lanes lane × (get_or (map Some lanes) at None ≡ Some lane)
 token-at [] at within = absurd (omega (arith, within))
@@ -270,20 +284,39 @@ module _ {P : Type 0} where
       }
 
   -- a lane's token has run what was completed, and that is what the history has of its lane
-  lane-completed : (front : FrontData P Lane) (lists : DeviceLists) (H : List Entry) (lane : ℕ) (token : Lane) → front.control.halted ≡ false → Ran front lists lane token → ordinals display token.lane H ≡ upto token.count → HasCompleted H lists lane
-  lane-completed front lists H lane token on ran is = ran.ordinals on ∙ sym (upto-range token.count) ∙ sym is ∙ ap (λ (l : ℕ). ordinals display l H) ran.lane_is
+  lane-completed : (front : FrontData P Lane) (lists : DeviceLists) (H : List Entry) (lane : ℕ) (token : Lane) → front.control.halted ≡ false → Ran front lists lane token → ordinals display token.lane H ≡ upto token.count
+      → AreAsked lists.completed H → HasCompleted H lists lane
+  lane-completed front lists H lane token on ran is all =
+      completed-lane lane token.count H lists.completed (ran.ordinals on ∙ sym (upto-range token.count)) (ap (λ (l : ℕ). ordinals display l H) (sym ran.lane_is) ∙ is) all
 
-  pub all-completed : (script : Script) (root root' : Root) (front : FrontData P Lane) (lanes : List Lane) (control cursor : DeviceLists) (machine : State) (H : List Entry) → HaveAllJoined script root → front.control.halted ≡ false
-      → Closing front lanes control cursor → HasTakenLanes root lanes root' → IsClosed display root' machine H → HaveCompleted H control cursor
-  all-completed script root root' front lanes control cursor machine H joined on closes taken closed =
-      let lanes-are : root'.lanes ≡ map counted_of lanes = taken.taken ∙ ap (λ ls. ls ++ map counted_of lanes) joined.lanes in
+  pub all-completed : (script : Script) (root heard root' : Root) (front : FrontData P Lane) (lanes : List Lane) (control cursor control' cursor' : DeviceLists) (machine : State) (H : List Entry) → HaveAllJoined script root → front.control.halted ≡ false
+      → Closing front lanes control cursor → HasHeard root heard → HasTakenLanes heard lanes root' → IsClosed display root' machine H → (control' ≡ control) × (cursor' ≡ cursor) → AreAsked control'.completed heard.seen × AreAsked cursor'.completed heard.seen
+      → HaveCompleted H control' cursor'
+  all-completed script root heard root' front lanes control cursor control' cursor' machine H joined on closes hears taken closed same asked =
+      let all : HasTakenLanes root lanes root' = lanes-heard root heard root' lanes hears taken in
+      let lanes-are : root'.lanes ≡ map counted_of lanes = all.taken ∙ ap (λ ls. ls ++ map counted_of lanes) joined.lanes in
       let counted : (token : Lane) → Has lanes token → ordinals display token.lane H ≡ upto token.count =
       λ token at. closed.lanes (counted_of token) (subst (λ ls. Has ls (counted_of token)) (sym lanes-are) (has_map counted_of lanes token at)) in
-      record {
+      let more : IsPrefix heard.seen H = prefix_trans heard.seen root'.seen H taken.more closed.more in
+      let Asked : DeviceLists → Type 0 = λ lists. AreAsked lists.completed H in
+      let whole : HaveCompleted H control cursor = record {
         on_control = λ lane small.
             let at = control-token front lanes control cursor closes lane small in
-            lane-completed front control H lane at.0 on at.2 (counted at.0 at.1);
+            lane-completed front control H lane at.0 on at.2 (counted at.0 at.1) (subst Asked same.0 (all-asked-more control'.completed heard.seen H more asked.0));
         on_cursor =
             let at = cursor-token front lanes control cursor closes in
-            lane-completed front cursor H 65 at.0 on at.2 (counted at.0 at.1);
-      }
+            lane-completed front cursor H 65 at.0 on at.2 (counted at.0 at.1) (subst Asked same.1 (all-asked-more cursor'.completed heard.seen H more asked.1));
+      } in
+      subst₂ (λ (over pointed : DeviceLists). HaveCompleted H over pointed) (sym same.0) (sym same.1) whole
+
+pub is-end : (root last : Root) (lanes : List Lane) (machine : State) (H : List Entry) (frames : List Frame) → HasTakenLanes root lanes last → IsClosed display last machine H → frames ≡ machine.scanouts.frames → IsEnd root H frames
+is-end root last lanes machine H frames taken closed are = record {
+  last = last;
+  machine = machine;
+  closed = closed;
+  given = taken.given;
+  accounts = taken.accounts;
+  start = taken.start;
+  more = taken.more;
+  frames_are = are;
+}

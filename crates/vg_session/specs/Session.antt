@@ -1,11 +1,14 @@
 -- What clients and workers on threads leave: a history that has all of each client, and lanes that have run what was completed.
-use Rattle.std.specs.Prelude.{◌≡◌, ◌≤◌, ◌<◌, ℕ, true, false, List, [], ◌++◌, length, map, Some}
+use Rattle.std.specs.Prelude.{◌≡◌, ◌≤◌, ◌<◌, ◌==◌, ℕ, true, false, List, [], ◌∷◌, ◌++◌, length, map, Some, if◌then◌else◌}
 use mathlib.Core.List.{IsPrefix}
-use Rattle.vg_history.specs.History.{ordinals}
+use Rattle.vg_history.specs.declared.entry.Entry.TheVariants as entries
 use Rattle.vg_history.specs.Lists.{Has, upto}
 use Rattle.vg_book.specs.declared.board.Counted.{Counted}
 use Rattle.vg_book.specs.Tokens.{IsClosed, Rooted}
 use Rattle.vg_book.specs.Tokens as tokens
+use Rattle.vg_asks.specs.declared.asked.Asked.{Asked}
+use Rattle.vg_asks.specs.Asks.{asked}
+use Rattle.vg_ring.specs.declared.views.Answer.{Answer}
 use Rattle.vg_ring.specs.declared.views.Entry as ring
 use Rattle.vg_ring.specs.DeviceEnds.{DeviceLists}
 use Rattle.vg_ring.specs.Entries as ring_entries
@@ -24,7 +27,8 @@ use Rattle.vg_machine.specs.State.{State, start}
 use Rattle.vg_scanout.specs.declared.scanout.Frame.{Frame}
 use Rattle.vg_script.specs.declared.types.Line.{Line}
 use Rattle.vg_script.specs.declared.types.Script.{Script}
-use Rattle.vg_driver.specs.Tickets.{Account, Token}
+use Rattle.vg_driver.specs.Halves.{HasAsked}
+use Rattle.vg_driver.specs.Tickets.{Account, Order, Token}
 use Rattle.vg_client.specs.Accounts.{IsNew}
 use Rattle.vg_part.specs.declared.performing.Performed.{Performed}
 use Rattle.vg_part.specs.Performing.{HasPerformed, MayPerform, lines_of}
@@ -49,14 +53,38 @@ token_of performed = performed.token
 abbrev pub counted_of : Lane → Counted
 counted_of lane = record { lane = lane.lane; count = lane.count }
 
--- The commands of a lane that were completed are those of the lane in the history, each once and in their order.
-abbrev pub HasCompleted : List Entry → DeviceLists → ℕ → Type 0
-HasCompleted H lists lane = map (λ (e : ring.Entry). e.ordinal) (of_lane lane (ring_entries.entries lists.completed)) ≡ ordinals display lane H
+-- What goes over a ring: which command of its lane it is, and what it asks for, which is its queue, the bytes of its request,
+-- the room for its response, and the shape of its chain.
+pub record Crossing : Type 0 where
+  pub ordinal : ℕ
+  pub asked : Asked
 
--- So it is of each lane of both queues: each command of the history went over its ring, and came back, once.
+-- That of an entry of a ring, and that of a command of the history.
+abbrev pub crossing_of : ring.Entry → Crossing
+crossing_of e = record { ordinal = e.ordinal; asked = asked e.queue e.request e.room e.shape }
+
+abbrev pub crossing_by : Order → Crossing
+crossing_by order = record { ordinal = order.request.ordinal; asked = display.asks order.request }
+
+-- The commands of a lane in a history, in their order.
+abbrev pub commands_of : ℕ → List Entry → List Order
+commands_of lane [] = []
+commands_of lane (entries.Act client call act reply ∷ more) = commands_of lane more
+commands_of lane (entries.Command client call request reply ∷ more) =
+    if request.lane == lane then (record { client = client; call = call; request = request } ∷ commands_of lane more) else commands_of lane more
+
+-- What was completed on a lane, one by one, is what the commands of the lane in the history ask for, each once and in their order.
+abbrev pub HasCompleted : List Entry → DeviceLists → ℕ → Type 0
+HasCompleted H lists lane = map crossing_of (of_lane lane (ring_entries.entries lists.completed)) ≡ map crossing_by (commands_of lane H)
+
+-- So it is of each lane of both queues: each command of the history went over its ring as it is asked for there, and came back, once.
 pub record HaveCompleted (H : List Entry) (control cursor : DeviceLists) : Type 0 where
   pub on_control : (lane : ℕ) → lane < 65 → HasCompleted H control lane
   pub on_cursor : HasCompleted H cursor 65
+
+-- For each of these answers the history has a command that asks for just what the answer's entry has.
+abbrev pub AreAsked : List Answer → List Entry → Type 0
+AreAsked answers H = (answer : Answer) → Has answers answer → HasAsked display answer.entry H
 
 -- The client of this token may perform these lines, and has performed them.
 abbrev pub IsReady : List Line → Token → Type 0

@@ -80,15 +80,9 @@ pub fn run_threads<
     let front = Mutex::new(front);
     let stop = AtomicBool::new(false);
     let count = useful_workers(&script, workers);
-    let Ok(clients) = performers(alloc, book, driver, root, setup, script) else {
-        return Err(AllocError);
-    };
-    let Ok(workers) = servers(alloc, &front, book, gate, &stop, count) else {
-        return Err(AllocError);
-    };
-    let Ok((performed, _)) = all(rt, &stop, clients, workers) else {
-        return Err(AllocError);
-    };
+    let clients = performers(alloc, book, driver, root, setup, script)?;
+    let workers = servers(alloc, &front, book, gate, &stop, count)?;
+    let (performed, _) = all(rt, &stop, clients, workers)?;
     join_all(book, root, performed)?;
     Ok(settle(rt, alloc, front.into_inner(), book, gate))
 }

@@ -4,4 +4,4 @@ use Rattle.vg_part.proofs.SetupLemmas.{displays-in}
 use Rattle.vg_drive.proofs.driving.drive.Goals as goal
 
 pub new-requires : goal.new-requires
-new-requires g c = subst IsSetup (sym c.in-Ok.ensures) (displays-in c.args.script c.requires.limits)
+new-requires g c = subst IsSetup (sym c.in_ok-setup.ensures) (displays-in c.args.script c.requires.limits)

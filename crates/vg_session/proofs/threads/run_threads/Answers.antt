@@ -16,14 +16,14 @@ all-requires-send-W g c κs within = let n = c.type_bounds.send-N in let y = c.t
 
 pub all-requires-after_bounds : goal.all-requires-after_bounds
 all-requires-after_bounds g c κs within =
-    let made = c.in-Ok.ensures in
-    (all-ready (λ job. job.token) (λ job. job.lines.items) c.args.setup.now c.args.script c.in-Ok.clients.items c.requires.setup c.requires.limits made.clients made.lines, λ k d lt. tt)
+    let made = c.in_ok-clients.ensures in
+    (all-ready (λ job. job.token) (λ job. job.lines.items) c.args.setup.now c.args.script c.in_ok-clients.clients.items c.requires.setup c.requires.limits made.clients made.lines, λ k d lt. tt)
 
 pub join_all-requires : goal.join_all-requires
-join_all-requires g c = all-idle (λ job. job.token) (λ job. job.lines.items) c.in-Ok.clients.items c.in-Ok-all.performed.items c.in-Ok-all.ensures.0
+join_all-requires g c = all-idle (λ job. job.token) (λ job. job.lines.items) c.in_ok-clients.clients.items c.in_ok-performed.performed.items c.in_ok-performed.ensures.0
 
 pub returns-clause-joined : goal.returns-clause-joined
 returns-clause-joined g c =
-    let made = c.in-Ok.ensures in
-    all-joined (λ job. job.token) (λ job. job.lines.items) c.args.setup.now c.args.script _ c.join_all.new.root c.in-Ok.clients.items c.in-Ok-all.performed.items
-    c.requires.setup made.root made.clients made.lines c.in-Ok-all.ensures.0 c.in_ok-join_all.ensures
+    let made = c.in_ok-clients.ensures in
+    all-joined (λ job. job.token) (λ job. job.lines.items) c.args.setup.now c.args.script _ c.join_all.new.root c.in_ok-clients.clients.items c.in_ok-performed.performed.items
+    c.requires.setup made.root made.clients made.lines c.in_ok-performed.ensures.0 c.in_ok-join_all.ensures
