@@ -1,4 +1,4 @@
-use Rattle.std.proofs.Common.{◌≡◌, ◌∙◌, ◌++◌, ◌∷◌, [], ℕ, List, ap, arith, subst}
+use Rattle.std.proofs.Common.{◌≡◌, ◌∙◌, ◌++◌, ◌∷◌, [], ℕ, ap, arith, subst}
 use Rattle.vg_worker_tests.specs.Joined.{HasLanes}
 use Rattle.vg_worker_tests.proofs.JoinLemmas.{all_joined}
 use Rattle.vg_worker_tests.proofs.rig.close.Goals as goal
