@@ -12,10 +12,10 @@ use Rattle.vg_book_uses.proofs.add.all_add.Lts as lts
 use Rattle.vg_book_uses.proofs.add.all_add.Given.{Over}
 use Rattle.vg_book_uses.proofs.add.all_add.Goals as goal
 
-done_send : (g : Over) (κs : contract.Lifetimes.Lfts 4) → IsSend (lts.arg-5-0 g.row.B g.row.R g.B.laws g.R.laws g.B.Naming g.B.Naming-dict g.R.Threads g.R.Threads-dict g.R.Wait g.R.Wait-dict κs)
+done_send : (g : Over) (κs : contract.Lifetimes.Lfts 4) → IsSend (lts.arg-7-0 g.row.B g.row.R g.B.laws g.R.laws g.B.Naming g.B.Naming-dict g.R.Threads g.R.Threads-dict g.R.Wait g.R.Wait-dict κs)
 done_send g κs = search (sendable, crosses, client_send) depth 20
 
-job_send : (g : Over) (κs : contract.Lifetimes.Lfts 4) → IsSend (lts.arg-5-1 g.row.B g.row.R g.B.laws g.R.laws g.B.Naming g.B.Naming-dict g.R.Threads g.R.Threads-dict g.R.Wait g.R.Wait-dict κs)
+job_send : (g : Over) (κs : contract.Lifetimes.Lfts 4) → IsSend (lts.arg-7-1 g.row.B g.row.R g.B.laws g.R.laws g.B.Naming g.B.Naming-dict g.R.Threads g.R.Threads-dict g.R.Wait g.R.Wait-dict κs)
 job_send g κs = search (sendable, crosses, client_send, book_sync) depth 20
 
 pub each-requires-send-D : goal.each-requires-send-D

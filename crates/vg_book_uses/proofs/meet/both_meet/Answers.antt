@@ -18,10 +18,10 @@ use Rattle.vg_book_uses.proofs.meet.both_meet.Goals as goal
 post_send : (g : Over) → IsSend (post.the_row (param 0 g.row.B) g.B.Naming)
 post_send g = search (sendable, crosses, note_send) depth 20
 
-done_send : (g : Over) (κs : contract.Lifetimes.Lfts 4) → IsSend (lts.arg-7-0 g.row.B g.row.R g.B.laws g.R.laws g.B.Naming g.B.Naming-dict g.R.Threads g.R.Threads-dict g.R.Wait g.R.Wait-dict κs)
+done_send : (g : Over) (κs : contract.Lifetimes.Lfts 4) → IsSend (lts.arg-9-0 g.row.B g.row.R g.B.laws g.R.laws g.B.Naming g.B.Naming-dict g.R.Threads g.R.Threads-dict g.R.Wait g.R.Wait-dict κs)
 done_send g κs = search (sendable, crosses, client_send) depth 20
 
-job_send : (g : Over) (κs : contract.Lifetimes.Lfts 4) → IsSend (lts.arg-7-1 g.row.B g.row.R g.B.laws g.R.laws g.B.Naming g.B.Naming-dict g.R.Threads g.R.Threads-dict g.R.Wait g.R.Wait-dict κs)
+job_send : (g : Over) (κs : contract.Lifetimes.Lfts 4) → IsSend (lts.arg-9-1 g.row.B g.row.R g.B.laws g.R.laws g.B.Naming g.B.Naming-dict g.R.Threads g.R.Threads-dict g.R.Wait g.R.Wait-dict κs)
 job_send g κs = search (sendable, crosses, client_send, book_sync, post_send) depth 20
 
 pub each-requires-send-D : goal.each-requires-send-D
