@@ -107,9 +107,15 @@ pub fn all_add<B: Naming + Send + Sync, R: Threads + Wait + Sync>(
     ensures whole { IfOk result (λ r. (s : _) → opened.start ≡ Some s → IsWhole ⟦<Counter as Machine>⟧ s r.0 r.1) }
     ensures added { IfOk result (λ r. HaveAllAdded count times r.1) }
 {
-    let (book, mut root, _) = opened.named::<B>(alloc)?;
-    let jobs = adders(alloc, &book, &mut root, count, times)?;
-    let clients = each(rt, jobs)?;
+    let Ok((book, mut root, _)) = opened.named::<B>(alloc) else {
+        return Err(AllocError);
+    };
+    let Ok(jobs) = adders(alloc, &book, &mut root, count, times) else {
+        return Err(AllocError);
+    };
+    let Ok(clients) = each(rt, jobs) else {
+        return Err(AllocError);
+    };
     join_all(&book, &mut root, clients)?;
     Ok(book.close(root))
 }

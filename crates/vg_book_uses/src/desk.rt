@@ -54,7 +54,9 @@ impl<B: Naming> Desk<B> {
         let Some(ordinal) = self.drawn.checked_add(1) else {
             return Err(AllocError);
         };
-        self.waiting.reserve(1)?;
+        if self.waiting.reserve(1).is_err() {
+            return Err(AllocError);
+        }
         let request = Request { lane, ordinal, n };
         let pass = client.pass(book, &request);
         let call = pass.call();

@@ -156,10 +156,16 @@ pub fn both_meet<B: Naming + Send + Sync, R: Threads + Wait + Sync>(
     ensures whole { IfOk result (λ r. (s : _) → opened.start ≡ Some s → IsWhole ⟦<Counter as Machine>⟧ s r.0 r.1) }
     ensures shared { IfOk result (λ r. HaveShared ⟦<Counter as Machine>⟧ 2 2 r.1) }
 {
-    let (book, mut root, _) = opened.named::<B>(alloc)?;
+    let Ok((book, mut root, _)) = opened.named::<B>(alloc) else {
+        return Err(AllocError);
+    };
     let boards = (Mutex::new(None), Mutex::new(None));
-    let jobs = meetings(alloc, &book, &mut root, &boards.0, &boards.1)?;
-    let clients = each(rt, jobs)?;
+    let Ok(jobs) = meetings(alloc, &book, &mut root, &boards.0, &boards.1) else {
+        return Err(AllocError);
+    };
+    let Ok(clients) = each(rt, jobs) else {
+        return Err(AllocError);
+    };
     join_all(&book, &mut root, clients)?;
     Ok(book.close(root))
 }

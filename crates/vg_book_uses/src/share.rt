@@ -211,11 +211,17 @@ pub fn run_all<B: Naming + Send + Sync, R: Threads + Wait + Sync>(
     ensures whole { IfOk result (λ r. (s : _) → opened.start ≡ Some s → IsWhole ⟦<Counter as Machine>⟧ s r.0 r.1) }
     ensures shared { IfOk result (λ r. HaveShared ⟦<Counter as Machine>⟧ clients (2 * rounds) r.1) }
 {
-    let (book, mut root, tokens) = opened.named::<B>(alloc)?;
-    let desks = desks::<B>(alloc, lanes)?;
+    let Ok((book, mut root, tokens)) = opened.named::<B>(alloc) else {
+        return Err(AllocError);
+    };
+    let Ok(desks) = desks::<B>(alloc, lanes) else {
+        return Err(AllocError);
+    };
     let stop = AtomicBool::new(false);
-    let servers = servers(alloc, &book, desks.as_slice(), &stop, tokens)?;
-    let askers = askers(
+    let Ok(servers) = servers(alloc, &book, desks.as_slice(), &stop, tokens) else {
+        return Err(AllocError);
+    };
+    let Ok(askers) = askers(
         alloc,
         &book,
         &mut root,
@@ -223,8 +229,12 @@ pub fn run_all<B: Naming + Send + Sync, R: Threads + Wait + Sync>(
         clients,
         rounds,
         halt,
-    )?;
-    let (done, served) = all(rt, &stop, askers, servers)?;
+    ) else {
+        return Err(AllocError);
+    };
+    let Ok((done, served)) = all(rt, &stop, askers, servers) else {
+        return Err(AllocError);
+    };
     join_all(&book, &mut root, done)?;
     join_lanes(&book, &mut root, served);
     Ok(book.close(root))

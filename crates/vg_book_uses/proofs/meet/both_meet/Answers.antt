@@ -18,10 +18,10 @@ use Rattle.vg_book_uses.proofs.meet.both_meet.Goals as goal
 post_send : (g : Over) → IsSend (post.the_row (param 0 g.row.B) g.B.Naming)
 post_send g = search (sendable, crosses, note_send) depth 20
 
-done_send : (g : Over) (κs : contract.Lifetimes.Lfts 4) → IsSend (lts.arg-9-0 g.row.B g.row.R g.B.laws g.R.laws g.B.Naming g.B.Naming-dict g.R.Threads g.R.Threads-dict g.R.Wait g.R.Wait-dict κs)
+done_send : (g : Over) (κs : contract.Lifetimes.Lfts 4) → IsSend (lts.arg-7-0 g.row.B g.row.R g.B.laws g.R.laws g.B.Naming g.B.Naming-dict g.R.Threads g.R.Threads-dict g.R.Wait g.R.Wait-dict κs)
 done_send g κs = search (sendable, crosses, client_send) depth 20
 
-job_send : (g : Over) (κs : contract.Lifetimes.Lfts 4) → IsSend (lts.arg-9-1 g.row.B g.row.R g.B.laws g.R.laws g.B.Naming g.B.Naming-dict g.R.Threads g.R.Threads-dict g.R.Wait g.R.Wait-dict κs)
+job_send : (g : Over) (κs : contract.Lifetimes.Lfts 4) → IsSend (lts.arg-7-1 g.row.B g.row.R g.B.laws g.R.laws g.B.Naming g.B.Naming-dict g.R.Threads g.R.Threads-dict g.R.Wait g.R.Wait-dict κs)
 job_send g κs = search (sendable, crosses, client_send, book_sync, post_send) depth 20
 
 pub each-requires-send-D : goal.each-requires-send-D
@@ -31,23 +31,23 @@ pub each-requires-send-J : goal.each-requires-send-J
 each-requires-send-J g c κs = λ _. param_send _ _ (job_send g κs)
 
 pub each-requires-after_bounds : goal.each-requires-after_bounds
-each-requires-after_bounds g c = λ κs _ k d lt. may_talk counter.ghosts _ _ (all_of_map (IsNew counter.ghosts _ 1) (λ job. job.client) c.in_ok-jobs.jobs.items c.in_ok-jobs.ensures.clients.new k d lt)
+each-requires-after_bounds g c = λ κs _ k d lt. may_talk counter.ghosts _ _ (all_of_map (IsNew counter.ghosts _ 1) (λ job. job.client) c.in-Ok-meetings.jobs.items c.in-Ok-meetings.ensures.clients.new k d lt)
 
 pub join_all-requires : goal.join_all-requires
 join_all-requires g c =
     let n = counter.ghosts in
     with_nothing_out n (λ job. job.client) 1 (λ job. Unit {0}) (Gave n (λ job. job.client) (λ job. Unit {0}) (λ job. 2) 2 (λ j f. refl)) (same n (λ job. job.client) (λ job. Unit {0}) (λ job. 2) 2 (λ j f. refl)) (idle n (λ job. job.client) (λ job. Unit {0}) (λ job. 2) 2 (λ j f. refl))
-    _ c.in_ok-jobs.jobs.items c.in_ok-clients.clients.items (all_talked n (λ job. job.client) c.in_ok-jobs.jobs.items c.in_ok-clients.clients.items c.in_ok-clients.ensures)
-    (all_of_map (IsNew n _ 1) (λ job. job.client) c.in_ok-jobs.jobs.items c.in_ok-jobs.ensures.clients.new)
+    _ c.in-Ok-meetings.jobs.items c.in-Ok-each.clients.items (all_talked n (λ job. job.client) c.in-Ok-meetings.jobs.items c.in-Ok-each.clients.items c.in-Ok-each.ensures)
+    (all_of_map (IsNew n _ 1) (λ job. job.client) c.in-Ok-meetings.jobs.items c.in-Ok-meetings.ensures.clients.new)
 
 pub close-requires : goal.close-requires
 close-requires g c =
     let n = counter.ghosts in
-    let start = c.in_ok-jobs.ensures in
+    let start = c.in-Ok-meetings.ensures in
     let all = c.in_ok-join_all.ensures in
-    let none : c.join_all.new.root.lanes_made ≡ 0 = all.lanes_made ∙ (start.root.lanes_made ∙ (ap (λ r. r.lanes_made) c.in_ok-book.ensures.root ∙ c.requires.1)) in
+    let none : c.join_all.new.root.lanes_made ≡ 0 = all.lanes_made ∙ (start.root.lanes_made ∙ (ap (λ r. r.lanes_made) c.in-Ok.ensures.root ∙ c.requires.1)) in
     all_joined n (λ job. job.client) 1 (λ job. Unit {0}) (Gave n (λ job. job.client) (λ job. Unit {0}) (λ job. 2) 2 (λ j f. refl)) (same n (λ job. job.client) (λ job. Unit {0}) (λ job. 2) 2 (λ j f. refl)) (idle n (λ job. job.client) (λ job. Unit {0}) (λ job. 2) 2 (λ j f. refl))
-    _ 2 c.in_ok-jobs.jobs.items all.taken.0 start.clients (λ k d lt. tt) c.in_ok-clients.clients.items (all_talked n (λ job. job.client) c.in_ok-jobs.jobs.items c.in_ok-clients.clients.items c.in_ok-clients.ensures) all.taken.1 c.join_all.new.root
+    _ 2 c.in-Ok-meetings.jobs.items all.taken.0 start.clients (λ k d lt. tt) c.in-Ok-each.clients.items (all_talked n (λ job. job.client) c.in-Ok-meetings.jobs.items c.in-Ok-each.clients.items c.in-Ok-each.ensures) all.taken.1 c.join_all.new.root
     (all.given ∙ start.root.given)
     (all.taken.2 ∙ ap (λ l. l ++ map account_of all.taken.0) start.root.accounts)
     (λ l lt. absurd (omega (arith, none, lt)))
@@ -55,9 +55,9 @@ close-requires g c =
 pub returns-clause-shared : goal.returns-clause-shared
 returns-clause-shared g c =
     let n = counter.ghosts in
-    let start = c.in_ok-jobs.ensures in
+    let start = c.in-Ok-meetings.ensures in
     let all = c.in_ok-join_all.ensures in
-    have_shared n (λ job. job.client) (λ job. Unit {0}) (λ job. 2) 2 (λ j f. refl) _ 2 c.in_ok-jobs.jobs.items all.taken.0 start.clients (λ k d lt. tt) c.in_ok-clients.clients.items (all_talked n (λ job. job.client) c.in_ok-jobs.jobs.items c.in_ok-clients.clients.items c.in_ok-clients.ensures) all.taken.1 c.join_all.new.root _ c.close.result.1
+    have_shared n (λ job. job.client) (λ job. Unit {0}) (λ job. 2) 2 (λ j f. refl) _ 2 c.in-Ok-meetings.jobs.items all.taken.0 start.clients (λ k d lt. tt) c.in-Ok-each.clients.items (all_talked n (λ job. job.client) c.in-Ok-meetings.jobs.items c.in-Ok-each.clients.items c.in-Ok-each.ensures) all.taken.1 c.join_all.new.root _ c.close.result.1
     (all.given ∙ start.root.given)
     (all.taken.2 ∙ ap (λ l. l ++ map account_of all.taken.0) start.root.accounts)
     c.close.ensures.closed
