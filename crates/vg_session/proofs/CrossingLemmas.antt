@@ -1,5 +1,5 @@
 -- What was completed on a lane is what its commands in the history ask for.
-use Rattle.std.proofs.Common.{◌≡◌, inl, inr, ◌+◌, ◌==◌, ◌≤◌, ◌∙◌, sym, ap, refl, subst, arith, eq-eqb, eqb-true, ℕ, zero, suc, Bool, true, false, cond, List, [], ◌∷◌, ◌++◌, append-nil, length, length-append, map}
+use Rattle.std.proofs.Common.{◌≡◌, inl, inr, ◌+◌, ◌==◌, ◌≤◌, ◌∙◌, sym, ap, refl, subst, arith, eq-eqb, eqb-true, ℕ, Bool, true, false, cond, List, [], ◌∷◌, ◌++◌, append-nil, length, length-append, map}
 use Rattle.std.proofs.lemmas.Simd.{map-map}
 use Rattle.std.proofs.lemmas.List.{length-map}
 use mathlib.Core.List.{IsPrefix}
