@@ -61,7 +61,10 @@ impl Ask {
         match self {
             Ask::Command { way, command } => needed_by(*way, command),
             Ask::Raw {
-                room, shape, bytes, ..
+                room,
+                shape,
+                bytes,
+                ..
             } => shape.needed(bytes.len() as u32, *room),
         }
     }
@@ -80,13 +83,7 @@ impl Ask {
                 bytes,
             } => {
                 let bytes = bytes.as_slice().to_vec(alloc)?;
-                Ok(raw_request(
-                    *queue,
-                    ordinal,
-                    *room,
-                    *shape,
-                    Seq::from_vec(bytes),
-                ))
+                Ok(raw_request(*queue, ordinal, *room, *shape, Seq::from_vec(bytes)))
             }
         }
     }

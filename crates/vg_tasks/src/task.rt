@@ -26,12 +26,8 @@ pub struct Task {
 /// What is done for a task.
 #[derive(Drop)]
 pub enum Deed {
-    Act {
-        act: Act,
-    },
-    Ask {
-        ask: Ask,
-    },
+    Act { act: Act },
+    Ask { ask: Ask },
 }
 
 /// What the answer to a task changes, for its client and for the rest of the call.
