@@ -152,7 +152,8 @@ pub fn give<N: Rings>(front: &mut Front<Ticket, Token, N>, held: Held<N>)
         return;
     }
     token.count = ordinal;
-    let (cargo, len) = answered(cargo, &walked, &[lane as u8]);
+    let (parcel, ticket) = cargo.apart();
+    let (cargo, len) = answered(parcel, ticket, &walked, &[lane as u8]);
     front.finish(token, right, len, cargo);
 }
 

@@ -1,14 +1,46 @@
 //! Bytes that are read and written by the segments of a chain.
 
-ghost use Rattle.std.specs.Prelude.{◌≡◌, ℕ, ◌+◌, ◌≤◌, length, take, min, IfOk};
+ghost use Rattle.std.specs.Prelude.{◌≡◌, ℕ, ◌+◌, ◌≤◌, [], ◌∷◌, length, take, min, IfErr, IfOk};
 ghost use Rattle.vg_chain.specs.Made.{Covers};
 ghost use Rattle.vg_ring.specs.Walked.{IsFront};
 
 use std::alloc::{AllocError, Global};
 use vg_chain::Segment;
 
-/// The bytes of a memory that begins at `base`, by the segments that it consists of.
-pub(crate) fn gather(
+/// The bytes of a memory that begins at `base`, by the segments that it consists of: moved where it is one, and else copied. For
+/// want of memory they come back as they were.
+pub(crate) fn read_by(
+    alloc: Global,
+    memory: Vec<u8>,
+    base: u64,
+    segments: &[Segment],
+) -> Result<Vec<u8>, Vec<u8>>
+    requires { Covers base (length memory.items) segments.now }
+    ensures read { IfOk result (λ bytes. bytes.items ≡ memory.items) }
+    ensures err { IfErr result (λ bytes. bytes.items ≡ memory.items) }
+{
+    if segments.len() == 1 {
+        return Ok(cut(memory, base, &segments[0]));
+    }
+    match gather(alloc, memory.as_slice(), base, segments) {
+        Ok(bytes) => Ok(bytes),
+        Err(_) => Err(memory),
+    }
+}
+
+/// The bytes of a memory that begins at `base`, by its one segment.
+fn cut(memory: Vec<u8>, base: u64, segment: &Segment) -> Vec<u8>
+    requires { Covers base (length memory.items) (segment.now ∷ []) }
+    ensures { result.items ≡ memory.items }
+{
+    let mut bytes = memory;
+    let from = (segment.addr - base) as usize;
+    bytes.truncate(from + segment.len as usize);
+    bytes
+}
+
+/// The same, copied.
+fn gather(
     alloc: Global,
     memory: &[u8],
     base: u64,

@@ -24,11 +24,11 @@ mod views;
 mod words;
 
 pub use agree::ends_agree;
-pub use cargo::Cargo;
+pub use cargo::{Cargo, Opening};
 pub use device_end::{DeviceEnd, Fetched};
 pub use driver_end::{DriverEnd, Reaped};
 pub use naming::Naming;
-pub use parcel::{Command, Parcel, Tag};
+pub use parcel::{Command, Opened, Parcel, Tag};
 pub use right::Right;
 pub use ring::{Made, Ring};
 pub use rings::{ControlOf, CursorOf, OfQueue, Rings};

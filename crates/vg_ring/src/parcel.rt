@@ -1,13 +1,13 @@
 //! A request with the room for its response.
 
-ghost use Rattle.std.specs.Prelude.{◌≡◌, ◌+◌, ◌≤◌, ◌^◌, Ok, [], length, take, min, IfOk};
+ghost use Rattle.std.specs.Prelude.{◌≡◌, ◌+◌, ◌≤◌, ◌^◌, Ok, false, [], length, take, min, IfErr, IfOk};
 ghost use Rattle.vg_asks.specs.Asks.{asked};
 ghost use Rattle.vg_chain.specs.Made.{Covers, IsCount, AreTables};
-ghost use Rattle.vg_ring.specs.Cargo.{IsLane, IsExtent, asked_of};
+ghost use Rattle.vg_ring.specs.Cargo.{IsLane, IsExtent, Tells, asked_of};
 ghost use Rattle.vg_ring.specs.Cargo as cargo;
 ghost use Rattle.vg_ring.specs.Walked.{IsWalkOf};
 
-use crate::gather::{gather, scatter, total};
+use crate::gather::{read_by, scatter, total};
 use std::alloc::{AllocError, Global};
 use std::marker::Model;
 use std::snapshot::Snapshot;
@@ -34,29 +34,50 @@ pub struct Command {
     pub shape: Shape,
 }
 
-/// A request's bytes, the bytes of its indirect tables, and the room for its response.
+/// A request with the room for its response, on its way to the device.
 #[derive(Drop)]
 pub struct Parcel {
+    opened: Opened,
+    request: Vec<u8>,
+}
+
+impl Model for Parcel {
+    ghost use Rattle.std.specs.Prelude.{◌≡◌};
+    ghost use Rattle.vg_ring.specs.Cargo.{ParcelData};
+
+    ghost Value = { ParcelData };
+
+    ghost view = { λ p. p.opened };
+
+    ghost invariant = { λ p. p.request.items ≡ p.opened.request };
+}
+
+/// A parcel whose request's bytes were taken out: the bytes of its indirect tables, and the room for its response. Which bytes
+/// they were only contracts read here.
+#[derive(Drop)]
+pub struct Opened {
     queue: Queue,
     head: u16,
     tag: Tag,
     shape: Shape,
-    request: Vec<u8>,
+    request: Snapshot<Vec<u8>>,
+    /// How many bytes its request has.
+    size: u32,
     tables: Vec<u8>,
     room: Vec<u8>,
     /// How much of the room is filled, which the used length tells who takes the parcel back.
     filled: Snapshot<usize>,
 }
 
-impl Model for Parcel {
-    ghost use Rattle.std.specs.Prelude.{◌≤◌, length, take};
+impl Model for Opened {
+    ghost use Rattle.std.specs.Prelude.{◌≡◌, ◌≤◌, length, take};
     ghost use Rattle.vg_ring.specs.Cargo.{ParcelData, IsParcel, parcel_of};
 
     ghost Value = { ParcelData };
 
-    ghost view = { λ p. parcel_of p.queue p.head p.tag.lane p.tag.ordinal p.shape p.request.items p.tables.items p.room.items p.filled.value };
+    ghost view = { λ p. parcel_of p.queue p.head p.tag.lane p.tag.ordinal p.shape p.request.value.items p.tables.items p.room.items p.filled.value };
 
-    ghost invariant = { λ p. (p.filled.value ≤ length p.room.items) × IsParcel (parcel_of p.queue p.head p.tag.lane p.tag.ordinal p.shape p.request.items p.tables.items p.room.items p.filled.value) };
+    ghost invariant = { λ p. (p.filled.value ≤ length p.room.items) × (p.size ≡ length p.request.value.items) × IsParcel (parcel_of p.queue p.head p.tag.lane p.tag.ordinal p.shape p.request.value.items p.tables.items p.room.items p.filled.value) };
 }
 
 /// The address of the first byte of a request.
@@ -82,8 +103,6 @@ fn write(room: &mut Vec<u8>, start: u64, segments: &[Segment], bytes: &[u8])
 }
 
 impl Parcel {
-    ghost use Rattle.vg_ring.specs.Cargo.{parcel_of};
-
     /// A parcel whose response is empty, with the tables of its shape.
     pub fn new(
         alloc: Global,
@@ -101,31 +120,52 @@ impl Parcel {
         ensures parcel { IfOk result (λ p. p ≡ record { queue = queue; head = head; lane = tag.lane; ordinal = tag.ordinal; shape = shape; request = request.items; room = room; tables = p.tables; response = [] }) }
         ensures tables { IfOk result (λ p. AreTables shape (length request.items) room (cargo.base_of queue head) p.tables) }
     {
+        let size = request.len() as u32;
         let extent = Extent {
             base: base_of(queue, head),
-            request: request.len() as u32,
+            request: size,
             room,
         };
         let tables = shape.tables(alloc, &extent)?;
-        Ok(Parcel {
+        let opened = Opened {
             queue,
             head,
             tag,
             shape,
-            request,
+            request: Snapshot::of(&request),
+            size,
             tables,
             room: vec![in alloc; 0; room as usize]?,
             filled: Snapshot::of(&0),
-        })
+        };
+        Ok(Parcel { opened, request })
     }
 
+    /// The lane and the ordinal.
+    pub fn tag(&self) -> Tag
+        ensures tag { (result.lane ≡ self.now.lane) × (result.ordinal ≡ self.now.ordinal) }
+        ensures lane { IsLane self.now.queue result.lane }
+    {
+        self.opened.tag()
+    }
+
+    /// What is left of it without the request's bytes, and these.
+    pub(crate) fn open(self) -> (Opened, Vec<u8>)
+        ensures { (result.0 ≡ self) × (result.1.items ≡ self.request) }
+    {
+        let Parcel { opened, request } = self;
+        (opened, request)
+    }
+}
+
+impl Opened {
     /// Where the request and its room lie.
     pub(crate) fn extent(&self) -> Extent
         ensures { IsExtent self.now result.base result.request result.room }
     {
         Extent {
             base: base_of(self.queue, self.head),
-            request: self.request.len() as u32,
+            request: self.size,
             room: self.room.len() as u32,
         }
     }
@@ -156,27 +196,23 @@ impl Parcel {
         self.tag
     }
 
-    /// The place of the head descriptor for which the parcel was made.
-    pub fn head(&self) -> u16
-        ensures { result ≡ self.now.head }
-    {
-        self.head
-    }
-
-    /// What it asks for, as the walk of its chain reads it.
+    /// What it asks for, as the walk of its chain reads it in the request's bytes. For want of memory these come back.
     pub(crate) fn read(
         &self,
         alloc: Global,
+        request: Vec<u8>,
         walked: &Result<Chain, ChainFault>,
-    ) -> Result<Command, AllocError>
-        requires { IsWalkOf self.now walked.now }
-        ensures { IfOk result (λ read. asked_of self.now ≡ asked read.queue read.bytes.items read.room read.shape) }
+    ) -> Result<Command, Vec<u8>>
+        requires request { request.items ≡ self.now.request }
+        requires walk { IsWalkOf self.now walked.now }
+        ensures read { IfOk result (λ read. asked_of self.now ≡ asked read.queue read.bytes.items read.room read.shape) }
+        ensures err { IfErr result (λ bytes. bytes.items ≡ self.now.request) }
     {
         match walked {
-            Ok(chain) => self.read_by(alloc, chain),
+            Ok(chain) => self.read_through(alloc, request, chain),
             Err(fault) => Ok(Command {
                 queue: self.queue,
-                bytes: self.request.as_slice().to_vec(alloc)?,
+                bytes: request,
                 room: self.room.len() as u32,
                 shape: Shape::Bad { fault: *fault },
             }),
@@ -184,15 +220,22 @@ impl Parcel {
     }
 
     /// What it asks for, as the segments of its chain have it.
-    fn read_by(&self, alloc: Global, chain: &Chain) -> Result<Command, AllocError>
-        requires { IsWalkOf self.now (Ok chain.now) }
-        ensures { IfOk result (λ read. asked_of self.now ≡ asked read.queue read.bytes.items read.room read.shape) }
+    fn read_through(
+        &self,
+        alloc: Global,
+        request: Vec<u8>,
+        chain: &Chain,
+    ) -> Result<Command, Vec<u8>>
+        requires request { request.items ≡ self.now.request }
+        requires walk { IsWalkOf self.now (Ok chain.now) }
+        ensures read { IfOk result (λ read. asked_of self.now ≡ asked read.queue read.bytes.items read.room read.shape) }
+        ensures err { IfErr result (λ bytes. bytes.items ≡ self.now.request) }
     {
         let base = base_of(self.queue, self.head);
         let readable = chain.readable.as_slice();
         Ok(Command {
             queue: self.queue,
-            bytes: gather(alloc, self.request.as_slice(), base, readable)?,
+            bytes: read_by(alloc, request, base, readable)?,
             room: total(chain.writable.as_slice()),
             shape: self.shape,
         })
@@ -234,7 +277,7 @@ impl Parcel {
         ensures shape { result.0 ≡ self.shape }
         ensures bytes { result.1.items ≡ self.response }
     {
-        let Parcel {
+        let Opened {
             shape,
             mut room,
             ..

@@ -73,11 +73,13 @@ fn answer<N: Naming>(
     let Fetched { head, cargo } = fetched;
     let mut right = device.lend(head);
     let walked = device.chain(alloc, &mut right, &cargo)?;
-    let read = cargo.read(alloc, &walked)?;
     let tagged = right.tag() == cargo.tag() && right.head() == head && right.walked();
-    let good = is_walk(&walked, head, way) && is_read(&read, shape);
     device.take_in(right);
-    let (cargo, len) = answered(cargo, &walked, &[7, 8]);
+    let Ok(opening) = cargo.open(alloc, &walked) else {
+        return Err(AllocError);
+    };
+    let good = is_walk(&walked, head, way) && is_read(&opening.command, shape);
+    let (cargo, len) = answered(opening.parcel, opening.pass, &walked, &[7, 8]);
     device.complete(head, len, cargo);
     Ok(tagged && good)
 }

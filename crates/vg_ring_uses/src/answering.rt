@@ -1,9 +1,7 @@
 //! The device's thread: it fetches cargoes and gives them back.
 
-ghost use Rattle.std.specs.Prelude.{◌≡◌, [], false, length, IfOk};
-ghost use Rattle.vg_asks.specs.Asks.{asked};
-ghost use Rattle.vg_ring.specs.Entries.{Has};
-ghost use Rattle.vg_ring.specs.DeviceEnds.{IsCargoOf};
+ghost use Rattle.std.specs.Prelude.{◌≡◌, [], false, true, length, IfOk};
+ghost use Rattle.vg_ring_uses.specs.declared.answering.Look.TheVariants.{Unread};
 ghost use Rattle.vg_ring.specs.Walked.{IsWalkOf};
 ghost use Rattle.vg_ring_uses.specs.Carried.{HasAnswered, HasSeenAll, IsRespondedTo, MayAnswer, is_unread};
 
@@ -17,8 +15,7 @@ use std::sync::atomic::{AtomicBool, Ordering};
 use std::thread::Threads;
 use vg_chain::{Chain, ChainFault};
 use vg_crew::Job;
-use vg_history::Tagged;
-use vg_ring::{Cargo, Command, DeviceEnd, Fetched, Naming, Right};
+use vg_ring::{Cargo, DeviceEnd, Fetched, Naming, Opening};
 
 /// What a look for a cargo came to.
 #[derive(Clone, Copy, PartialEq, Eq)]
@@ -31,13 +28,6 @@ pub enum Look {
     Nothing,
 }
 
-/// A cargo's chain, and what was read through it.
-#[derive(Drop)]
-struct Read {
-    walked: Result<Chain, ChainFault>,
-    command: Command,
-}
-
 /// A cargo on its way back, and how long its response is.
 #[derive(Drop)]
 struct Back {
@@ -46,46 +36,50 @@ struct Back {
     look: Look,
 }
 
-/// Walks the chain of a cargo that is lent, and reads what the cargo asks for.
-fn read_through<N: Naming>(
+/// A cargo on its way back, with what was read through its chain in its room, or nothing for want of memory.
+fn respond(
     alloc: Global,
-    device: &mut DeviceEnd<Ticket, N>,
-    right: &mut Right<N>,
-    cargo: &Cargo<Ticket>,
-) -> Result<Read, AllocError>
-    requires lent { Has right.old.entry device.old.lent }
-    requires cargo { IsCargoOf right.old.entry cargo.now }
-    ensures read { IfOk result (λ read. IsWalkOf cargo.now.parcel read.walked × (⟦<Ticket as Tagged>⟧.asks cargo.now.pass ≡ asked read.command.queue read.command.bytes.items read.command.room read.command.shape)) }
-    ensures right { right.new.entry ≡ right.old.entry }
-    ensures same { device.new ≡ device.old }
-{
-    let walked = device.chain(alloc, right, cargo)?;
-    let command = cargo.read(alloc, &walked)?;
-    Ok(Read { walked, command })
-}
-
-/// Puts what was read of a cargo into its room.
-fn respond(cargo: Cargo<Ticket>, read: Result<Read, AllocError>) -> Back
-    requires { IfOk read (λ read. IsWalkOf cargo.parcel read.walked × (⟦<Ticket as Tagged>⟧.asks cargo.pass ≡ asked read.command.queue read.command.bytes.items read.command.room read.command.shape)) }
+    cargo: Cargo<Ticket>,
+    walked: Result<Result<Chain, ChainFault>, AllocError>,
+) -> Back
+    requires wanted { cargo.pass.wanted ≡ true }
+    requires walk { IfOk walked (λ walked. IsWalkOf cargo.parcel walked) }
     ensures parcel { result.cargo.parcel ≡ record cargo.parcel { response = result.cargo.parcel.response } }
     ensures response { IsRespondedTo cargo.parcel result.cargo.parcel.response result.look }
     ensures len { length result.cargo.parcel.response ≡ result.len }
     ensures back { result.cargo.pass.wanted ≡ false }
 {
-    match read {
-        Ok(Read { walked, command }) => {
-            let (cargo, len) = answered(cargo, &walked, command.bytes.as_slice());
+    let Ok(walked) = walked else {
+        return unread(cargo);
+    };
+    match cargo.open(alloc, &walked) {
+        Ok(Opening {
+            command,
+            parcel,
+            pass,
+        }) => {
+            let (cargo, len) = answered(parcel, pass, &walked, command.bytes.as_slice());
             Back {
                 cargo,
                 len,
                 look: Look::Answered,
             }
         }
-        Err(_) => Back {
-            cargo: unanswered(cargo),
-            len: 0,
-            look: Look::Unread,
-        },
+        Err(cargo) => unread(cargo),
+    }
+}
+
+/// A cargo on its way back, with nothing in its room.
+fn unread(cargo: Cargo<Ticket>) -> Back
+    ensures parcel { result.cargo.parcel ≡ record cargo.parcel { response = [] } }
+    ensures look { result.look ≡ Unread }
+    ensures len { result.len ≡ 0 }
+    ensures back { result.cargo.pass.wanted ≡ false }
+{
+    Back {
+        cargo: unanswered(cargo),
+        len: 0,
+        look: Look::Unread,
     }
 }
 
@@ -98,9 +92,9 @@ fn answer_next<N: Naming>(alloc: Global, device: &mut DeviceEnd<Ticket, N>) -> L
     };
     let Fetched { head, cargo } = fetched;
     let mut right = device.lend(head);
-    let read = read_through(alloc, device, &mut right, &cargo);
+    let walked = device.chain(alloc, &mut right, &cargo);
     device.take_in(right);
-    let Back { cargo, len, look } = respond(cargo, read);
+    let Back { cargo, len, look } = respond(alloc, cargo, walked);
     device.complete(head, len, cargo);
     look
 }

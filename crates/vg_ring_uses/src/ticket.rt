@@ -2,7 +2,7 @@
 
 ghost use Rattle.std.specs.Prelude.{◌≡◌, ◌≤◌, None, true, false, [], length, take, min, IfOk};
 ghost use Rattle.vg_chain.specs.Made.{IsCount};
-ghost use Rattle.vg_ring.specs.Cargo.{IsLane};
+ghost use Rattle.vg_ring.specs.Cargo.{IsLane, asked_of};
 ghost use Rattle.vg_ring.specs.Walked.{IsWalkOf};
 ghost use Rattle.vg_ring_uses.specs.Carried.{written};
 
@@ -13,7 +13,7 @@ use vg_asks::Asked;
 use vg_chain::{Chain, ChainFault, Shape};
 use vg_history::Tagged;
 use vg_list::Seq;
-use vg_ring::{Cargo, Parcel, Tag};
+use vg_ring::{Cargo, Opened, Parcel, Tag};
 use vg_wire::Queue;
 
 /// A pass that says its tag itself, and tells nothing of its response.
@@ -91,19 +91,21 @@ pub fn ticketed(
     Ok(parcel.load(ticket))
 }
 
-/// The cargo on its way back, with as many of these bytes in its room as it has room for, and none where its chain is bad;
-/// and how many they are.
+/// A parcel that was opened and its ticket, on their way back, with as many of these bytes in the room as there is room for, and none
+/// where its chain is bad; and how many they are.
 pub fn answered(
-    cargo: Cargo<Ticket>,
+    parcel: Opened,
+    ticket: Ticket,
     walked: &Result<Chain, ChainFault>,
     bytes: &[u8],
 ) -> (Cargo<Ticket>, u32)
-    requires { IsWalkOf cargo.parcel walked.now }
-    ensures parcel { result.0.parcel ≡ record cargo.parcel { response = written walked.now cargo.parcel.room bytes.now } }
+    requires tag { ⟦<Ticket as Tagged>⟧.tagged ticket ≡ (parcel.lane, parcel.ordinal) }
+    requires asked { ⟦<Ticket as Tagged>⟧.asks ticket ≡ asked_of parcel }
+    requires walk { IsWalkOf parcel walked.now }
+    ensures parcel { result.0.parcel ≡ record parcel { response = written walked.now parcel.room bytes.now } }
     ensures len { length result.0.parcel.response ≡ result.1 }
     ensures back { result.0.pass.wanted ≡ false }
 {
-    let (parcel, ticket) = cargo.apart();
     let mut parcel = parcel;
     let len = match walked {
         Ok(chain) => parcel.fill_by(chain, bytes),

@@ -5,7 +5,7 @@ ghost use Rattle.vg_asks.specs.Asks.{asked};
 ghost use Rattle.vg_ring.specs.Cargo.{asked_of};
 ghost use Rattle.vg_ring.specs.Walked.{IsWalkOf};
 ghost use Rattle.vg_machine.specs.Written.{asks_of, read_by, written_in};
-ghost use Rattle.vg_worker.specs.Answers.{Answers, Carries, ComesBack, IsSameParcel, turned};
+ghost use Rattle.vg_worker.specs.Answers.{Answers, ComesBack, turned};
 
 use std::alloc::Global;
 use std::sync::Wait;
@@ -14,7 +14,7 @@ use vg_chain::{Chain, ChainFault};
 use vg_history::{Machine, Tagged};
 use vg_list::Seq;
 use vg_machine::{Display, Reply, Request};
-use vg_ring::{Cargo, Command, Parcel};
+use vg_ring::{Cargo, Command, Opened, Opening};
 
 /// A cargo on its way back.
 #[derive(Drop)]
@@ -62,40 +62,42 @@ pub(crate) fn answer_measured<B: Naming, R: Wait>(
     ensures back { ComesBack token.old cargo token.new result.cargo result.ran }
     ensures len { length result.cargo.parcel.response ≡ result.len }
 {
-    let Ok(command) = cargo.read(alloc, chain) else {
-        return Back {
+    match cargo.open(alloc, chain) {
+        Ok(opening) => run_opened(rt, alloc, book, token, chain, opening),
+        Err(cargo) => Back {
             cargo: unrun(cargo),
             len: 0,
             ran: false,
-        };
-    };
-    let (parcel, pass) = cargo.apart();
-    match pass {
-        Carried::Wanted(pass) => { run_pass(rt, alloc, book, token, chain, command, parcel, pass) }
-        Carried::Done(_) | Carried::Unrun(_) => unreachable!(),
+        },
     }
 }
 
 /// Runs a command that was read on its lane, and puts the response and its pass into its parcel.
-fn run_pass<B: Naming, R: Wait>(
+fn run_opened<B: Naming, R: Wait>(
     rt: &R,
     alloc: Global,
     book: &Book<Display, B>,
     token: &mut LaneToken<Display, B>,
     chain: &Result<Chain, ChainFault>,
-    command: Command,
-    parcel: Parcel,
-    pass: Pass<Display, B>,
+    opening: Opening<Carried<Display, B>>,
 ) -> Back<B>
-    requires tag { ⟦<Display as Machine>⟧.tagged pass.order.request ≡ (parcel.lane, parcel.ordinal) }
-    requires turn { (parcel.lane ≡ token.old.lane) × (parcel.ordinal ≡ token.old.count + 1) }
-    requires asked { ⟦<Display as Machine>⟧.asks pass.order.request ≡ asked_of parcel }
-    requires read { ⟦<Display as Machine>⟧.asks pass.order.request ≡ asked command.queue command.bytes.items command.room command.shape }
-    requires walk { IsWalkOf parcel chain.now }
-    ensures carries { Carries token.old pass parcel.room token.new result.cargo.parcel.response result.cargo.pass result.ran }
-    ensures parcel { IsSameParcel parcel result.cargo.parcel }
+    requires wanted { ⟦<Carried<Display, B> as Tagged>⟧.is_wanted opening.pass ≡ true }
+    requires tag { ⟦<Carried<Display, B> as Tagged>⟧.tagged opening.pass ≡ (opening.parcel.lane, opening.parcel.ordinal) }
+    requires turn { (opening.parcel.lane ≡ token.old.lane) × (opening.parcel.ordinal ≡ token.old.count + 1) }
+    requires asked { ⟦<Carried<Display, B> as Tagged>⟧.asks opening.pass ≡ asked_of opening.parcel }
+    requires read { ⟦<Carried<Display, B> as Tagged>⟧.asks opening.pass ≡ asked opening.command.queue opening.command.bytes.items opening.command.room opening.command.shape }
+    requires walk { IsWalkOf opening.parcel chain.now }
+    ensures back { ComesBack token.old (record { parcel = opening.parcel; pass = opening.pass }) token.new result.cargo result.ran }
     ensures len { length result.cargo.parcel.response ≡ result.len }
 {
+    let Opening {
+        command,
+        parcel,
+        pass,
+    } = opening;
+    let Carried::Wanted(pass) = pass else {
+        unreachable!();
+    };
     let mut parcel = parcel;
     let request = request_of(&pass, command);
     match token.run(rt, alloc, book, pass, request) {
@@ -143,7 +145,7 @@ fn request_of<B: Naming>(pass: &Pass<Display, B>, command: Command) -> Request
 /// Writes the bytes of a reply into the room, through the chain, as many as there is room for, and answers how many. Of a fault
 /// there are none.
 fn write<B: Naming>(
-    parcel: &mut Parcel,
+    parcel: &mut Opened,
     chain: &Result<Chain, ChainFault>,
     done: &DonePass<Display, B>,
     reply: &Reply,
@@ -163,7 +165,7 @@ fn write<B: Naming>(
 }
 
 /// No bytes are in the room.
-fn cleared(parcel: &mut Parcel) -> u32
+fn cleared(parcel: &mut Opened) -> u32
     ensures response { parcel.new ≡ record parcel.old { response = [] } }
     ensures len { length parcel.new.response ≡ result }
 {

@@ -9,6 +9,7 @@ ghost use Rattle.vg_worker.specs.Taking.{IsOut, IsReady, IsReadyIf};
 use crate::answering::{Back, answer_measured, unrun};
 use crate::gate::{Gate, Passage};
 use crate::taken::{Found, give_back, give_up, take};
+use crate::worker::Worker;
 use crossbeam_utils::Backoff;
 use std::alloc::Global;
 use std::sync::atomic::{AtomicBool, Ordering};
@@ -31,22 +32,18 @@ pub fn serve<G: Gate, B: Naming, N: Rings, R: Wait>(
     gate: &G,
     stop: &AtomicBool,
 ) {
-    serve_past(rt, alloc, front, book, gate, stop);
+    serve_past(rt, &Worker::new(alloc, front, book, gate, stop));
 }
 
 /// The same, for a gate that need not be shared.
 pub(crate) fn serve_past<G: Passage, B: Naming, N: Rings, R: Wait>(
     rt: &R,
-    alloc: Global,
-    front: &Mutex<Front<Carried<Display, B>, LaneToken<Display, B>, N>>,
-    book: &Book<Display, B>,
-    gate: &G,
-    stop: &AtomicBool,
+    worker: &Worker<'_, G, B, N>,
 ) {
     let backoff = Backoff::new();
     for _turn in rt.forever() {
-        let stopped = stop.load(Ordering::SeqCst);
-        match take(alloc, front, stopped) {
+        let stopped = worker.stop.load(Ordering::SeqCst);
+        match take(worker.alloc, worker.front, stopped) {
             Found::Fetched => backoff.reset(),
             Found::Run {
                 token,
@@ -54,7 +51,7 @@ pub(crate) fn serve_past<G: Passage, B: Naming, N: Rings, R: Wait>(
                 cargo,
                 chain,
             } => {
-                work(rt, alloc, front, book, gate, token, right, cargo, chain);
+                work(rt, worker, token, right, cargo, chain);
                 backoff.reset();
             }
             Found::Idle { ended } => {
@@ -70,10 +67,7 @@ pub(crate) fn serve_past<G: Passage, B: Naming, N: Rings, R: Wait>(
 /// Runs a command that was taken, or gives it back unrun where it has no chain.
 fn work<G: Passage, B: Naming, N: Rings, R: Wait>(
     rt: &R,
-    alloc: Global,
-    front: &Mutex<Front<Carried<Display, B>, LaneToken<Display, B>, N>>,
-    book: &Book<Display, B>,
-    gate: &G,
+    worker: &Worker<'_, G, B, N>,
     token: LaneToken<Display, B>,
     right: Loan<N>,
     cargo: Cargo<Carried<Display, B>>,
@@ -83,20 +77,18 @@ fn work<G: Passage, B: Naming, N: Rings, R: Wait>(
     requires ready { IsReadyIf ⟦<LaneToken<Display, B> as Turn>⟧.count_of token right cargo chain }
 {
     let Tag { lane, ordinal } = right.tag();
-    gate.pass_before(lane, ordinal);
+    worker.gate.pass_before(lane, ordinal);
     match chain {
-        Some(chain) => run(rt, alloc, front, book, token, right, cargo, &chain),
-        None => give_up(rt, front, token, right, unrun(cargo)),
+        Some(chain) => run(rt, worker, token, right, cargo, &chain),
+        None => give_up(rt, worker.front, token, right, unrun(cargo)),
     }
-    gate.pass_answered(lane, ordinal);
+    worker.gate.pass_answered(lane, ordinal);
 }
 
 /// Runs a command whose chain was walked, and completes it.
-fn run<B: Naming, N: Rings, R: Wait>(
+fn run<G: Passage, B: Naming, N: Rings, R: Wait>(
     rt: &R,
-    alloc: Global,
-    front: &Mutex<Front<Carried<Display, B>, LaneToken<Display, B>, N>>,
-    book: &Book<Display, B>,
+    worker: &Worker<'_, G, B, N>,
     token: LaneToken<Display, B>,
     right: Loan<N>,
     cargo: Cargo<Carried<Display, B>>,
@@ -107,10 +99,11 @@ fn run<B: Naming, N: Rings, R: Wait>(
     requires walk { IsWalkOf cargo.parcel chain.now }
 {
     let mut token = token;
-    let Back { cargo, len, ran } = answer_measured(rt, alloc, book, &mut token, chain, cargo);
+    let Back { cargo, len, ran } =
+        answer_measured(rt, worker.alloc, worker.book, &mut token, chain, cargo);
     if ran {
-        give_back(rt, front, token, right, len, cargo);
+        give_back(rt, worker.front, token, right, len, cargo);
     } else {
-        give_up(rt, front, token, right, cargo);
+        give_up(rt, worker.front, token, right, cargo);
     }
 }

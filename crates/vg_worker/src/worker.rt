@@ -16,11 +16,11 @@ use vg_ring::Rings;
 /// A worker that is to serve a front, as [`serve`](crate::serve) does, on a thread. Each gate is a passage.
 #[derive(Drop)]
 pub struct Worker<'a, G: Passage, B: Naming, N: Rings> {
-    alloc: Global,
-    front: &'a Mutex<Front<Carried<Display, B>, LaneToken<Display, B>, N>>,
-    book: &'a Book<Display, B>,
-    gate: &'a G,
-    stop: &'a AtomicBool,
+    pub(crate) alloc: Global,
+    pub(crate) front: &'a Mutex<Front<Carried<Display, B>, LaneToken<Display, B>, N>>,
+    pub(crate) book: &'a Book<Display, B>,
+    pub(crate) gate: &'a G,
+    pub(crate) stop: &'a AtomicBool,
 }
 
 impl<'a, G: Passage, B: Naming, N: Rings> Worker<'a, G, B, N> {
@@ -47,6 +47,6 @@ impl<'a, G: Passage, B: Naming, N: Rings> Job<()> for Worker<'a, G, B, N> {
     ghost gives = { λ worker result. Unit {0} };
 
     fn run<R: Threads + Wait + Sync>(self, rt: &R) {
-        serve_past(rt, self.alloc, self.front, self.book, self.gate, self.stop);
+        serve_past(rt, &self);
     }
 }
