@@ -3,12 +3,12 @@ use Rattle.vg_refusals.specs.Refusals.{refusal_of}
 use Rattle.vg_chain.specs.declared.chain.ChainFault.{ChainFault}
 use Rattle.vg_chain.specs.declared.chain.ChainFault.TheVariants.{Index, Loop, Nested, NextWithIndirect, TableLength, Order, Range}
 use Rattle.vg_chain.specs.declared.descriptor.Descriptor.{Descriptor}
-use Rattle.vg_chain.specs.Descriptor.{has_next, is_indirect, is_read}
+use Rattle.vg_chain.specs.Descriptor.{descriptor_size, has_next, is_indirect, is_read}
 use Rattle.vg_chain.specs.Memory.{Memory, is_in_range}
 
 -- The length of a table is that of one or more descriptors, of no more than the queue has (VIRTIO 1.2, 2.7.5.3.1).
 abbrev pub is_bad_length : ℕ → Descriptor → Bool
-is_bad_length size d = (d.len == 0) || not (d.len % 16 == 0) || nat_lt (16 * size) d.len
+is_bad_length size d = (d.len == 0) || not (d.len % descriptor_size == 0) || nat_lt (descriptor_size * size) d.len
 
 -- A descriptor's faults, in the order in which they are looked for: in a queue of this size, inside of an indirect table
 -- or not, where the place was met before or not, and a writable segment was or not.

@@ -4,6 +4,7 @@ use Rattle.std.specs.Bool.{⊤}
 use Rattle.std.specs.List.{list_any}
 use Rattle.vg_chain.specs.declared.shape.Shape.{Shape}
 use Rattle.vg_chain.specs.declared.shape.Shape.TheVariants.{Pieces}
+use Rattle.vg_chain.specs.Space.{most_room}
 use Rattle.vg_calls.specs.declared.call.Call.{Call}
 use Rattle.vg_script.specs.declared.types.Feature.{Feature}
 use Rattle.vg_script.specs.declared.types.Line.{Line}
@@ -48,7 +49,7 @@ CallInLimits displays (Cursor scanout name x y hot_x hot_y) =
 CallInLimits displays (Move scanout x y) = (scanout < displays) × IsPosition x × IsPosition y
 CallInLimits displays (Uuid name) = ⊤
 CallInLimits displays (Close name) = ⊤
-CallInLimits displays (Raw queue room shape bytes) = IsBetween 0 8192 room × ShapeInLimits shape × IsBetween 0 4096 (length bytes)
+CallInLimits displays (Raw queue room shape bytes) = IsBetween 0 most_room room × ShapeInLimits shape × IsBetween 0 4096 (length bytes)
 
 abbrev pub ClientInLimits : ℕ → List Line → Type 0
 ClientInLimits displays lines = All (λ line. CallInLimits displays line.call) lines

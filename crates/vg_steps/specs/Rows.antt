@@ -12,6 +12,7 @@ use Rattle.vg_wire.specs.declared.request.Queue.TheVariants as queues
 use Rattle.vg_chain.specs.declared.shape.Shape.{Shape}
 use Rattle.vg_chain.specs.declared.shape.Shape.TheVariants.{Plain, Pieces, Indirect, Mixed, Bad}
 use Rattle.vg_chain.specs.declared.chain.ChainFault.TheVariants.{Index, Loop, Nested, NextWithIndirect, TableLength, Order, Range}
+use Rattle.vg_chain.specs.Space.{most_room}
 use Rattle.vg_calls.specs.declared.call.Call.{Call}
 use Rattle.vg_calls.specs.declared.call.Call.TheVariants.{Info, Edid, Buffer, Store, Load, Send, Flush, Take, Drop, Hide, Show, Flip, Cursor, Move, Uuid, Close, Raw}
 use Rattle.vg_calls.specs.declared.call.NameRef.{NameRef}
@@ -260,7 +261,7 @@ shape_of word =
 unfoldable pub request_row : NameTable → Option Queue → Option Shape → (room hex : List ℕ) → Option Row
 request_row table (Some queue) (Some shape) room hex = Some (record {
   numbers = is_number room && is_hex_or_none hex;
-  limits = is_within 0 8192 room && nat_le (length hex / 2) 4096;
+  limits = is_within 0 most_room room && nat_le (length hex / 2) 4096;
   names = true;
   call = Raw queue (value room) shape (bytes_or_none hex);
   after = table;

@@ -12,7 +12,7 @@ ghost use Rattle.vg_steps.specs.Code.{table_of, Judges, Finds, Knows};
 use crate::names::{NameKind, Names};
 use std::alloc::Global;
 use vg_calls::{Call, NameRef};
-use vg_chain::{ChainFault, Shape};
+use vg_chain::{ChainFault, MOST_ROOM, Shape};
 use vg_formats::Rect;
 use vg_wire::Queue;
 use vg_words::{
@@ -339,7 +339,7 @@ pub(crate) fn raw(
     let shape = shape_of(shape)?;
     spelled(room)?;
     let bytes = bytes_or_none(alloc, hex)?;
-    let room = limited(room, 0, 8_192)?;
+    let room = limited(room, 0, MOST_ROOM)?;
     if hex.len() / 2 > 4_096 {
         return Err(Stop::Fault(Kind::Limit));
     }
