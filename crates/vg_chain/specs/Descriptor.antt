@@ -2,7 +2,7 @@ use Rattle.std.specs.Prelude.{ℕ, ◌+◌, ◌*◌, ◌/◌, ◌%◌, ◌==◌,
 use Rattle.std.specs.List.{range_with_len}
 use Rattle.vg_chain.specs.declared.descriptor.Descriptor.{Descriptor}
 use Rattle.vg_chain.specs.declared.descriptor.Segment.{Segment}
-use Rattle.vg_chain.specs.Numbers.{number_at}
+use Rattle.vg_numbers.specs.Numbers.{number_at}
 
 -- The flags of a descriptor (VIRTIO 1.2, 2.7.5): bit 0 says that another descriptor comes next, bit 1 that the device
 -- writes, bit 2 that the descriptor refers to a table.

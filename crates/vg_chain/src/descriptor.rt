@@ -3,10 +3,9 @@
 ghost use Rattle.std.specs.Prelude.{◌≡◌, ◌+◌, ◌*◌, ◌≤◌, length, IfOk};
 ghost use Rattle.vg_chain.specs.Descriptor as layout;
 ghost use Rattle.vg_chain.specs.Descriptor.{descriptor_size, descriptors_in};
-ghost use Rattle.vg_chain.specs.Numbers.{number_at};
 
-use byteorder::{ByteOrder, LittleEndian};
 use std::alloc::{AllocError, Global};
+use vg_numbers::{u16_at, u32_at, u64_at};
 
 /// The flag that says that another descriptor comes next.
 pub(crate) const NEXT: u16 = 1;
@@ -69,27 +68,6 @@ pub(crate) fn is_indirect(descriptor: Descriptor) -> bool
     ensures { result ≡ layout.is_indirect descriptor }
 {
     has_flag(INDIRECT, descriptor)
-}
-
-fn u16_at(bytes: &[u8], at: usize) -> u16
-    requires { at + 2 ≤ length bytes.now }
-    ensures { result ≡ number_at 2 at bytes.now }
-{
-    LittleEndian::read_u16(&bytes[at..])
-}
-
-fn u32_at(bytes: &[u8], at: usize) -> u32
-    requires { at + 4 ≤ length bytes.now }
-    ensures { result ≡ number_at 4 at bytes.now }
-{
-    LittleEndian::read_u32(&bytes[at..])
-}
-
-fn u64_at(bytes: &[u8], at: usize) -> u64
-    requires { at + 8 ≤ length bytes.now }
-    ensures { result ≡ number_at 8 at bytes.now }
-{
-    LittleEndian::read_u64(&bytes[at..])
 }
 
 /// The descriptor whose bytes stand from place `at`.

@@ -1,7 +1,6 @@
 //! What a shape puts into the ring and into indirect tables.
 
 ghost use Rattle.std.specs.Prelude.{◌≡◌, ℕ, ◌+◌, ◌*◌, ◌≤◌, ◌<◌, ◌++◌, ◌∷◌, [], Some, true, length, slice_get, OnOk, IfOk, if◌then◌else◌};
-ghost use Rattle.vg_chain.specs.Numbers.{le};
 ghost use Rattle.vg_chain.specs.declared.shape.Shape.TheVariants.{Bad, Mixed};
 ghost use Rattle.vg_chain.specs.Space.{most_request, room_at};
 ghost use Rattle.vg_chain.specs.Descriptor.{descriptor_size};
@@ -13,8 +12,8 @@ use crate::descriptor::{DESCRIPTOR_SIZE, Descriptor, INDIRECT, NEXT, WRITE};
 use crate::part::{Extent, Part, count_parts, count_rest, part_of, rest_of};
 use crate::shape::Shape;
 use crate::space::{HEADER_SIZE, ROOM_OFFSET, TABLES_OFFSET};
-use byteorder::{ByteOrder, LittleEndian};
 use std::alloc::{AllocError, Global};
+use vg_numbers::{put_u16, put_u32, put_u64};
 
 /// A part's descriptor, and `next` the place of the one that comes after it, if one does.
 fn descriptor_of(part: Part, more: bool, next: u16) -> Descriptor
@@ -199,33 +198,6 @@ fn longer(part: Part) -> Part
     }
 }
 
-#[tactic(auto, unfolding(crate::specs::Numbers::le))]
-fn put_u16(out: &mut Vec<u8>, n: u16) -> Result<(), AllocError>
-    ensures { OnOk result (out.new.items ≡ out.old.items ++ le 2 n) }
-{
-    let mut field = [0u8; 2];
-    LittleEndian::write_u16(&mut field, n);
-    out.extend_from_slice(&field)
-}
-
-#[tactic(auto, unfolding(crate::specs::Numbers::le))]
-fn put_u32(out: &mut Vec<u8>, n: u32) -> Result<(), AllocError>
-    ensures { OnOk result (out.new.items ≡ out.old.items ++ le 4 n) }
-{
-    let mut field = [0u8; 4];
-    LittleEndian::write_u32(&mut field, n);
-    out.extend_from_slice(&field)
-}
-
-#[tactic(auto, unfolding(crate::specs::Numbers::le))]
-fn put_u64(out: &mut Vec<u8>, n: u64) -> Result<(), AllocError>
-    ensures { OnOk result (out.new.items ≡ out.old.items ++ le 8 n) }
-{
-    let mut field = [0u8; 8];
-    LittleEndian::write_u64(&mut field, n);
-    out.extend_from_slice(&field)
-}
-
 /// Adds the bytes of a descriptor, if there is one.
 #[tactic(auto, unfolding(crate::specs::Made::bytes_of))]
 fn put(out: &mut Vec<u8>, descriptor: Option<Descriptor>) -> Result<(), AllocError>
@@ -260,7 +232,10 @@ fn bad_tables(alloc: Global, fault: ChainFault, extent: &Extent) -> Result<Vec<u
     match fault {
         ChainFault::Nested => {
             let mut out = Vec::new(alloc);
-            put(&mut out, Some(referring(extent, DESCRIPTOR_SIZE, INDIRECT, 0)))?;
+            put(
+                &mut out,
+                Some(referring(extent, DESCRIPTOR_SIZE, INDIRECT, 0)),
+            )?;
             Ok(out)
         }
         ChainFault::NextWithIndirect => table_of(alloc, false, extent),
