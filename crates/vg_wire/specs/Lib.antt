@@ -1,3 +1,4 @@
+pub mod Queues
 pub mod Kinds
 pub mod Header
 pub mod Rect
