@@ -1,7 +1,7 @@
 -- The limits that each script keeps.
-use Rattle.std.specs.Prelude.{ℕ, ℤ, pos, negsuc, ◌*◌, ◌==◌, ◌<◌, ◌≤◌, List, [], ◌∷◌, length, sum_by, count_by, All, IsTrue}
+use Rattle.std.specs.Prelude.{ℕ, ℤ, pos, negsuc, ◌*◌, ◌<◌, ◌≤◌, is_some, List, [], ◌∷◌, length, sum_by, count_by, All, IsTrue}
 use Rattle.std.specs.Bool.{⊤}
-use Rattle.std.specs.List.{list_any}
+use Rattle.vg_formats.specs.Formats.{format_of}
 use Rattle.vg_chain.specs.declared.shape.Shape.{Shape}
 use Rattle.vg_chain.specs.declared.shape.Shape.TheVariants.{Pieces}
 use Rattle.vg_chain.specs.Space.{most_room}
@@ -15,9 +15,9 @@ use Rattle.vg_calls.specs.declared.call.Call.TheVariants.{Info, Edid, Buffer, St
 abbrev pub IsBetween : ℕ → ℕ → ℕ → Type 0
 IsBetween low high n = (low ≤ n) × (n ≤ high)
 
--- The codes of the eight formats.
+-- The code of a format.
 abbrev pub IsFormatCode : ℕ → Type 0
-IsFormatCode code = IsTrue (list_any (λ c. code == c) (1 ∷ 2 ∷ 3 ∷ 4 ∷ 67 ∷ 68 ∷ 121 ∷ 134 ∷ []))
+IsFormatCode code = IsTrue (is_some (format_of code))
 
 -- A request in pieces has 2 to 8 of them.
 abbrev pub ShapeInLimits : Shape → Type 0
