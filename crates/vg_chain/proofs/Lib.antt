@@ -1,4 +1,3 @@
-mod NumberLemmas
 mod TourLemmas
 mod OneWalk
 mod PartLemmas

@@ -6,26 +6,26 @@ use Rattle.vg_chain.specs.declared.chain.Chain.{Chain}
 use Rattle.vg_chain.specs.declared.chain.ChainFault.TheVariants.{Loop, Nested, NextWithIndirect, TableLength, Order, Range}
 use Rattle.vg_chain.specs.declared.descriptor.Descriptor.{Descriptor}
 use Rattle.vg_chain.specs.declared.descriptor.Segment.{Segment}
-use Rattle.vg_chain.specs.Descriptor.{has_next, is_writable, is_indirect}
+use Rattle.vg_chain.specs.Descriptor.{NEXT, WRITE, INDIRECT, has_next, is_writable, is_indirect}
 use Rattle.vg_chain.specs.Memory.{Memory, lies_in, is_in_range}
 use Rattle.vg_chain.specs.Fault.{fault_of, is_bad_length}
 use Rattle.vg_chain.specs.Walk.{Visit, there, goes_on, visit_after, Visits, was_met, read_of, written_of, all_read, all_written, fault_at, AreClean, IsChain}
 use Rattle.vg_chain.specs.declared.part.Part.{Part}
 use Rattle.vg_chain.specs.Made.{flags_of, last_of, joined, linked, Stands, AreOther, AreApart, segment_in, reads, writes}
 
-bit_indirect : (writes more : Bool) → eqb (flags_of writes more / 4 % 2) 1 ≡ false
+bit_indirect : (writes more : Bool) → eqb (flags_of writes more / INDIRECT % 2) 1 ≡ false
 bit_indirect true true = refl
 bit_indirect true false = refl
 bit_indirect false true = refl
 bit_indirect false false = refl
 
-bit_write : (writes more : Bool) → eqb (flags_of writes more / 2 % 2) 1 ≡ writes
+bit_write : (writes more : Bool) → eqb (flags_of writes more / WRITE % 2) 1 ≡ writes
 bit_write true true = refl
 bit_write true false = refl
 bit_write false true = refl
 bit_write false false = refl
 
-bit_next : (writes more : Bool) → eqb (flags_of writes more % 2) 1 ≡ more
+bit_next : (writes more : Bool) → eqb (flags_of writes more / NEXT % 2) 1 ≡ more
 bit_next true true = refl
 bit_next true false = refl
 bit_next false true = refl

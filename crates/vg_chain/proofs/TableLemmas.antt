@@ -1,28 +1,17 @@
-use Rattle.std.proofs.Common.{◌≡◌, ℕ, zero, suc, ◌+◌, ◌-◌, ◌*◌, ◌/◌, ◌%◌, ◌^◌, ◌<◌, ◌≤◌, Bool, true, false, not, ◌||◌, cond, eqb, ltb, Some, None, List, [], ◌∷◌, ◌++◌, length, map, drop, refl, sym, ap, subst, ◌∙◌, arith, slice_get, append_assoc, length-append}
+use Rattle.std.proofs.Common.{◌≡◌, ℕ, zero, suc, ◌+◌, ◌-◌, ◌*◌, ◌/◌, ◌%◌, ◌^◌, ◌<◌, ◌≤◌, Bool, true, false, not, ◌||◌, cond, eqb, ltb, Some, None, List, [], ◌∷◌, ◌++◌, length, map, drop, refl, subst, arith, slice_get, append_assoc, length-append}
 use Rattle.std.specs.List.{range_with_len}
-use Rattle.std.proofs.lemmas.List.{drop_at}
 use Rattle.std.proofs.lemmas.Bool.{ne_eqb}
 use Rattle.std.proofs.lemmas.Bool.Decides.{nat_tests}
-use Rattle.byteorder.specs.Endian.{little_bytes, little_from}
-use Rattle.byteorder.specs.Numbers.{length-bytes_low_first, little_number-reads_back}
 use Rattle.vg_chain.specs.declared.descriptor.Descriptor.{Descriptor}
-use Rattle.vg_chain.specs.Numbers.{number_at, le}
+use Rattle.vg_numbers.specs.Numbers.{number_at, le}
 use Rattle.vg_chain.specs.Descriptor.{descriptor_at, descriptors_in}
 use Rattle.vg_chain.specs.Memory.{Memory, lies_in, table_of}
 use Rattle.vg_chain.specs.Fault.{fault_of}
 use Rattle.vg_chain.specs.declared.part.Part.{Part}
 use Rattle.vg_chain.specs.Made.{flags_of, linked, in_table, bytes_of, table_bytes, referring, Stands, AreOther, AreApart}
-use Rattle.vg_chain.proofs.NumberLemmas.{field_at}
+use Rattle.vg_numbers.proofs.NumberLemmas.{length-le, number_at-le}
 use Rattle.vg_chain.proofs.PartLemmas.{AreFine}
 use Rattle.vg_chain.proofs.PieceLemmas.{lies}
-
--- a field that stands behind others is read as itself
-number_at-bytes : (k : ℕ) (front rest : List ℕ) (at n : ℕ) → length front ≡ at → n < 256 ^ k → number_at k at (front ++ (le k n ++ rest)) ≡ n
-unfolding le
-number_at-bytes k front rest at n e h =
-    sym (field_at k at (front ++ (little_bytes k n ++ rest)))
-    ∙ ap (λ xs. little_from 0 k xs) (drop_at front (little_bytes k n ++ rest) at e)
-    ∙ little_number-reads_back k n rest h
 
 -- a descriptor whose numbers fit its bytes
 pub record IsDescriptor (d : Descriptor) : Type 0 where
@@ -35,13 +24,9 @@ abbrev pub AreDescriptors : List Descriptor → Type 0
 AreDescriptors [] = Unit {0}
 AreDescriptors (d ∷ more) = IsDescriptor d × AreDescriptors more
 
-long : (k n : ℕ) → length (le k n) ≡ k
-unfolding le
-long k n = length-bytes_low_first 0 k n
-
 pub length-bytes_of : (d : Descriptor) → length (bytes_of d) ≡ 16
 unfolding bytes_of
-length-bytes_of d = simp length-append (omega (arith, long 8 d.addr, long 4 d.len, long 2 d.flags, long 2 d.next))
+length-bytes_of d = simp length-append (omega (arith, length-le 8 d.addr, length-le 4 d.len, length-le 2 d.flags, length-le 2 d.next))
 
 pub length-table_bytes : (table : List Descriptor) → length (table_bytes table) ≡ 16 * length table
 length-table_bytes [] = refl
@@ -56,13 +41,13 @@ descriptor_at-bytes_of d front rest at here fits =
     let f = le 2 d.flags in
     let n = le 2 d.next in
     let bytes : List ℕ = front ++ ((((a ++ l) ++ f) ++ n) ++ rest) in
-    let one : length (front ++ a) ≡ at + 8 = simp length-append (omega (arith, long 8 d.addr)) in
-    let two : length ((front ++ a) ++ l) ≡ at + 12 = simp length-append (omega (arith, long 8 d.addr, long 4 d.len)) in
-    let three : length (((front ++ a) ++ l) ++ f) ≡ at + 14 = simp length-append (omega (arith, long 8 d.addr, long 4 d.len, long 2 d.flags)) in
-    let addr : number_at 8 at bytes ≡ d.addr = simp append_assoc (number_at-bytes 8 front (l ++ (f ++ (n ++ rest))) at d.addr here (omega (arith, fits.addr))) in
-    let len : number_at 4 (at + 8) bytes ≡ d.len = simp append_assoc (simp append_assoc at (number_at-bytes 4 (front ++ a) (f ++ (n ++ rest)) (at + 8) d.len one (omega (arith, fits.len)))) in
-    let flags : number_at 2 (at + 12) bytes ≡ d.flags = simp append_assoc (simp append_assoc at (number_at-bytes 2 ((front ++ a) ++ l) (n ++ rest) (at + 12) d.flags two (omega (arith, fits.flags)))) in
-    let next : number_at 2 (at + 14) bytes ≡ d.next = simp append_assoc (simp append_assoc at (number_at-bytes 2 (((front ++ a) ++ l) ++ f) rest (at + 14) d.next three (omega (arith, fits.next)))) in
+    let one : length (front ++ a) ≡ at + 8 = simp length-append (omega (arith, length-le 8 d.addr)) in
+    let two : length ((front ++ a) ++ l) ≡ at + 12 = simp length-append (omega (arith, length-le 8 d.addr, length-le 4 d.len)) in
+    let three : length (((front ++ a) ++ l) ++ f) ≡ at + 14 = simp length-append (omega (arith, length-le 8 d.addr, length-le 4 d.len, length-le 2 d.flags)) in
+    let addr : number_at 8 at bytes ≡ d.addr = simp append_assoc (number_at-le 8 front (l ++ (f ++ (n ++ rest))) at d.addr here (omega (arith, fits.addr))) in
+    let len : number_at 4 (at + 8) bytes ≡ d.len = simp append_assoc (simp append_assoc at (number_at-le 4 (front ++ a) (f ++ (n ++ rest)) (at + 8) d.len one (omega (arith, fits.len)))) in
+    let flags : number_at 2 (at + 12) bytes ≡ d.flags = simp append_assoc (simp append_assoc at (number_at-le 2 ((front ++ a) ++ l) (n ++ rest) (at + 12) d.flags two (omega (arith, fits.flags)))) in
+    let next : number_at 2 (at + 14) bytes ≡ d.next = simp append_assoc (simp append_assoc at (number_at-le 2 (((front ++ a) ++ l) ++ f) rest (at + 14) d.next three (omega (arith, fits.next)))) in
     rw (addr, len, flags, next) refl
 
 -- the descriptors that were written one after another

@@ -2,17 +2,34 @@ use Rattle.std.specs.Prelude.{ℕ, ◌+◌, ◌*◌, ◌/◌, ◌%◌, ◌==◌,
 use Rattle.std.specs.List.{range_with_len}
 use Rattle.vg_chain.specs.declared.descriptor.Descriptor.{Descriptor}
 use Rattle.vg_chain.specs.declared.descriptor.Segment.{Segment}
-use Rattle.vg_chain.specs.Numbers.{number_at}
+use Rattle.vg_numbers.specs.Numbers.{number_at}
 
--- The flags of a descriptor: bit 0 NEXT, bit 1 WRITE, bit 2 INDIRECT (VIRTIO 1.2, 2.7.5).
+-- The flags of a descriptor (VIRTIO 1.2, 2.7.5): bit 0 says that another descriptor comes next, bit 1 that the device
+-- writes, bit 2 that the descriptor refers to a table.
+abbrev pub NEXT : ℕ
+NEXT = 1
+
+abbrev pub WRITE : ℕ
+WRITE = 2
+
+abbrev pub INDIRECT : ℕ
+INDIRECT = 4
+
+abbrev pub has_flag : ℕ → Descriptor → Bool
+has_flag flag d = d.flags / flag % 2 == 1
+
 abbrev pub has_next : Descriptor → Bool
-has_next d = d.flags % 2 == 1
+has_next d = has_flag NEXT d
 
 abbrev pub is_writable : Descriptor → Bool
-is_writable d = d.flags / 2 % 2 == 1
+is_writable d = has_flag WRITE d
 
 abbrev pub is_indirect : Descriptor → Bool
-is_indirect d = d.flags / 4 % 2 == 1
+is_indirect d = has_flag INDIRECT d
+
+-- The bytes that a descriptor has in memory (VIRTIO 1.2, 2.7.5).
+abbrev pub descriptor_size : ℕ
+descriptor_size = 16
 
 -- A descriptor that refers to a table is neither readable nor writable, whatever its WRITE bit is (VIRTIO 1.2, 2.7.5.3.2).
 abbrev pub is_read : Descriptor → Bool
@@ -24,7 +41,7 @@ is_write d = not (is_indirect d) && is_writable d
 abbrev pub segment_of : Descriptor → Segment
 segment_of d = record { addr = d.addr; len = d.len }
 
--- The descriptor whose 16 bytes stand from place at (VIRTIO 1.2, 2.7.5, struct virtq_desc).
+-- The descriptor whose bytes stand from place at (VIRTIO 1.2, 2.7.5, struct virtq_desc).
 abbrev pub descriptor_at : ℕ → List ℕ → Descriptor
 descriptor_at at bytes = record {
   addr = number_at 8 at bytes;
@@ -35,4 +52,4 @@ descriptor_at at bytes = record {
 
 -- The n descriptors that stand one after another from the front (VIRTIO 1.2, 2.7.5.3, struct indirect_descriptor_table).
 abbrev pub descriptors_in : ℕ → List ℕ → List Descriptor
-descriptors_in n bytes = map (λ i. descriptor_at (16 * i) bytes) (range_with_len 0 n)
+descriptors_in n bytes = map (λ i. descriptor_at (descriptor_size * i) bytes) (range_with_len 0 n)

@@ -1,4 +1,4 @@
-pub mod Numbers
+pub mod Space
 pub mod Descriptor
 pub mod Memory
 pub mod Fault

@@ -1,4 +1,4 @@
-use Rattle.std.specs.Prelude.{◌≡◌, ◌≢◌, ℕ, zero, suc, ◌+◌, ◌-◌, ◌*◌, ◌/◌, ◌^◌, ◌≤◌, ◌==◌, Bool, true, false, Option, None, Some, Ok, Err, List, [], ◌∷◌, ◌++◌, length, drop, min, replicate, slice_get, slice_index, if◌then◌else◌}
+use Rattle.std.specs.Prelude.{◌≡◌, ◌≢◌, ℕ, zero, suc, ◌+◌, ◌-◌, ◌*◌, ◌/◌, ◌≤◌, ◌==◌, Bool, true, false, Option, None, Some, Ok, Err, List, [], ◌∷◌, ◌++◌, length, drop, min, replicate, slice_get, slice_index, if◌then◌else◌}
 use Rattle.std.specs.List.{range_with_len, flat_map}
 use Rattle.vg_chain.specs.declared.chain.Chain.{Chain}
 use Rattle.vg_chain.specs.declared.chain.ChainFault.TheVariants.{Index, Loop, Nested, NextWithIndirect, TableLength, Order, Range}
@@ -7,13 +7,15 @@ use Rattle.vg_chain.specs.declared.descriptor.Segment.{Segment}
 use Rattle.vg_chain.specs.declared.part.Part.{Part}
 use Rattle.vg_chain.specs.declared.shape.Shape.{Shape}
 use Rattle.vg_chain.specs.declared.shape.Shape.TheVariants.{Plain, Pieces, Indirect, Mixed, Bad}
-use Rattle.vg_chain.specs.Numbers.{le}
+use Rattle.vg_numbers.specs.Numbers.{le}
+use Rattle.vg_chain.specs.Space.{most_request, most_room, room_at, tables_at, header_size, IsPlaced}
+use Rattle.vg_chain.specs.Descriptor.{NEXT, WRITE, INDIRECT, descriptor_size}
 use Rattle.vg_chain.specs.Memory.{Memory, memory}
 use Rattle.vg_chain.specs.Walk.{Walks}
 
--- WRITE is bit 1, NEXT bit 0 (VIRTIO 1.2, 2.7.5).
+-- The flags of a part's descriptor.
 abbrev pub flags_of : Bool → Bool → ℕ
-flags_of writes more = (if writes then 2 else 0) + (if more then 1 else 0)
+flags_of writes more = (if writes then WRITE else 0) + (if more then NEXT else 0)
 
 -- The descriptor of a part after which none comes, and of one after which that at this place does.
 abbrev pub last_of : Part → Descriptor
@@ -38,7 +40,7 @@ pieces zero size addr n = []
 pieces (suc k) size addr n = if n == 0 then [] else (record { addr = addr; len = min size n; writes = false } ∷ pieces k size (addr + size) (n - size))
 
 abbrev pub room_of : ℕ → ℕ → List Part
-room_of r b = if r == 0 then [] else (record { addr = b + 49152; len = r; writes = true } ∷ [])
+room_of r b = if r == 0 then [] else (record { addr = room_at b; len = r; writes = true } ∷ [])
 
 -- Where there is no part at all, there is an empty one.
 abbrev pub or_empty : ℕ → List Part → List Part
@@ -49,11 +51,11 @@ or_empty b (part ∷ more) = part ∷ more
 abbrev pub parts_of : ℕ → ℕ → ℕ → ℕ → List Part
 parts_of k n r b = or_empty b (pieces k ((n + (k - 1)) / k) b n ++ room_of r b)
 
--- What is left of it after the first 24 bytes.
+-- What is left of it after its header.
 abbrev pub rest_of : ℕ → ℕ → ℕ → List Part
-rest_of n r b = pieces 1 (n - 24) (b + 24) (n - 24) ++ room_of r b
+rest_of n r b = pieces 1 (n - header_size) (b + header_size) (n - header_size) ++ room_of r b
 
--- A descriptor's 16 bytes (VIRTIO 1.2, 2.7.5), and those of a table.
+-- A descriptor's bytes (VIRTIO 1.2, 2.7.5), and those of a table.
 unfoldable pub bytes_of : Descriptor → List ℕ
 bytes_of d = le 8 d.addr ++ le 4 d.len ++ le 2 d.flags ++ le 2 d.next
 
@@ -66,7 +68,7 @@ in_table parts = linked parts (range_with_len 1 (length parts))
 
 -- A descriptor that refers to the table of so many bytes at base b.
 abbrev pub referring : ℕ → ℕ → ℕ → ℕ → Descriptor
-referring b len flags next = record { addr = b + 57344; len = len; flags = flags; next = next }
+referring b len flags next = record { addr = tables_at b; len = len; flags = flags; next = next }
 
 -- The descriptors in the ring, and the bytes of the tables.
 pub record Layout : Type 0 where
@@ -78,37 +80,38 @@ flat parts places = record { ring = linked parts (drop 1 places); tables = [] }
 
 abbrev pub in_parts : Part → List Part → ℕ → ℕ → Layout
 in_parts first rest b place = record {
-  ring = joined first place ∷ referring b (16 * length (in_table rest)) 4 0 ∷ [];
+  ring = joined first place ∷ referring b (descriptor_size * length (in_table rest)) INDIRECT 0 ∷ [];
   tables = table_bytes (in_table rest);
 }
 
 abbrev pub by_table : ℕ → List Part → ℕ → ℕ → Layout
 by_table b parts flags next = record {
-  ring = referring b (16 * length (in_table parts)) flags next ∷ [];
+  ring = referring b (descriptor_size * length (in_table parts)) flags next ∷ [];
   tables = table_bytes (in_table parts);
 }
 
--- The first 24 bytes of a request in the ring, and the rest by a table; where that table were empty, or the request is, all in the ring.
+-- The header of a request in the ring, and the rest by a table; where that table were empty, or the request is, all in the ring.
 abbrev pub mixed : ℕ → ℕ → ℕ → List Part → List ℕ → Layout
 mixed n r b [] places = flat (parts_of 1 n r b) places
 mixed n r b (part ∷ more) places =
     if n == 0 then flat (parts_of 1 n r b) places
-    else in_parts (record { addr = b; len = min 24 n; writes = false }) (part ∷ more) b (slice_index places 1)
+    else in_parts (record { addr = b; len = min header_size n; writes = false }) (part ∷ more) b (slice_index places 1)
 
 -- How a shape lays out a request of n bytes with room for r bytes at base b, in a queue of size q. The descriptors
--- in the ring stand at these places, the head first. No descriptor without NEXT tells a place.
+-- in the ring stand at these places, the head first. No descriptor without NEXT tells a place. A table of bad length ends
+-- within its second descriptor.
 abbrev pub made : Shape → ℕ → ℕ → ℕ → ℕ → List ℕ → Layout
 made Plain n r b q places = flat (parts_of 1 n r b) places
 made (Pieces k) n r b q places = flat (parts_of k n r b) places
-made Indirect n r b q places = by_table b (parts_of 1 n r b) 4 0
+made Indirect n r b q places = by_table b (parts_of 1 n r b) INDIRECT 0
 made Mixed n r b q places = mixed n r b (rest_of n r b) places
 made (Bad Index) n r b q places = record { ring = joined (record { addr = b; len = n; writes = false }) q ∷ []; tables = [] }
 made (Bad Loop) n r b q places = record { ring = joined (record { addr = b; len = n; writes = false }) (slice_index places 0) ∷ []; tables = [] }
-made (Bad Nested) n r b q places = record { ring = referring b 16 4 0 ∷ []; tables = table_bytes (referring b 16 4 0 ∷ []) }
-made (Bad NextWithIndirect) n r b q places = by_table b (parts_of 1 n r b) 5 (slice_index places 0)
-made (Bad TableLength) n r b q places = record { ring = referring b 24 4 0 ∷ []; tables = replicate 32 0 }
+made (Bad Nested) n r b q places = record { ring = referring b descriptor_size INDIRECT 0 ∷ []; tables = table_bytes (referring b descriptor_size INDIRECT 0 ∷ []) }
+made (Bad NextWithIndirect) n r b q places = by_table b (parts_of 1 n r b) (INDIRECT + NEXT) (slice_index places 0)
+made (Bad TableLength) n r b q places = record { ring = referring b (descriptor_size + 8) INDIRECT 0 ∷ []; tables = replicate (2 * descriptor_size) 0 }
 made (Bad Order) n r b q places = record {
-  ring = joined (record { addr = b + 49152; len = r; writes = true }) (slice_index places 1) ∷ last_of (record { addr = b; len = n; writes = false }) ∷ [];
+  ring = joined (record { addr = room_at b; len = r; writes = true }) (slice_index places 1) ∷ last_of (record { addr = b; len = n; writes = false }) ∷ [];
   tables = [];
 }
 made (Bad Range) n r b q places = record { ring = last_of (record { addr = b; len = n + 1; writes = false }) ∷ []; tables = [] }
@@ -138,9 +141,9 @@ IsCount (Bad fault) = Unit {0}
 
 -- A request, its room and its base that a shape can lay out in a queue of this size.
 pub record IsRequest (shape : Shape) (n r b q : ℕ) : Type 0 where
-  pub request : n ≤ 49152
-  pub room : r ≤ 8192
-  pub base : b + 65536 ≤ 2 ^ 64
+  pub request : n ≤ most_request
+  pub room : r ≤ most_room
+  pub base : IsPlaced b
   pub queue : 2 ≤ q
   pub count : IsCount shape
 
@@ -177,7 +180,7 @@ chain_of parts = record { readable = reads parts; writable = writes parts }
 -- The parts to which a shape's descriptors refer, in order, wherever the descriptors stand. A bad chain has none.
 abbrev pub mixed_parts : ℕ → ℕ → ℕ → List Part → List Part
 mixed_parts n r b [] = parts_of 1 n r b
-mixed_parts n r b (part ∷ more) = if n == 0 then parts_of 1 n r b else (record { addr = b; len = min 24 n; writes = false } ∷ part ∷ more)
+mixed_parts n r b (part ∷ more) = if n == 0 then parts_of 1 n r b else (record { addr = b; len = min header_size n; writes = false } ∷ part ∷ more)
 
 abbrev pub parts_in : Shape → ℕ → ℕ → ℕ → List Part
 parts_in Plain n r b = parts_of 1 n r b
@@ -192,7 +195,7 @@ chain_in shape n r b = chain_of (parts_in shape n r b)
 
 -- The walk comes to this chain, which is the request's bytes and the room's.
 abbrev pub GivesAll : Chain → Memory → List Descriptor → ℕ → ℕ → ℕ → ℕ → Type 0
-GivesAll chain m table head n r b = Walks m table head (Ok chain) × Covers b n chain.readable × Covers (b + 49152) r chain.writable
+GivesAll chain m table head n r b = Walks m table head (Ok chain) × Covers b n chain.readable × Covers (room_at b) r chain.writable
 
 -- What the walk of a shape's layout comes to: the fault of a bad one, else the shape's own segments, one by one.
 abbrev pub GivesIts : Shape → Memory → List Descriptor → ℕ → ℕ → ℕ → ℕ → Type 0
@@ -224,7 +227,7 @@ IsLinked parts at next d = (nexts : List ℕ) → slice_index nexts at ≡ next 
 abbrev pub AreTables : Shape → ℕ → ℕ → ℕ → List ℕ → Type 0
 AreTables shape n r b tables = (q : ℕ) (places : List ℕ) → (made shape n r b q places).tables ≡ tables
 
--- The parts in a table: all of them, or those after the first 24 bytes.
+-- The parts in a table: all of them, or those after the header.
 abbrev pub inner_of : Bool → ℕ → ℕ → ℕ → List Part
 inner_of rest n r b = if rest then rest_of n r b else parts_of 1 n r b
 
@@ -232,14 +235,10 @@ abbrev pub bytes_in : Option Descriptor → List ℕ
 bytes_in None = []
 bytes_in (Some d) = bytes_of d
 
--- A base above which a request, its room and its tables stand.
-abbrev pub IsPlaced : ℕ → Type 0
-IsPlaced b = b + 65536 ≤ 2 ^ 64
-
 -- Measures of a request and its room, and a base, for which there is space.
 pub record IsMeasured (n r b : ℕ) : Type 0 where
-  pub request : n ≤ 49152
-  pub room : r ≤ 8192
+  pub request : n ≤ most_request
+  pub room : r ≤ most_room
   pub base : IsPlaced b
 
 -- The descriptor of a part, if there is one, by whether another comes after it.

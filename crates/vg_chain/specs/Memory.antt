@@ -1,9 +1,10 @@
 use Rattle.std.specs.Prelude.{ℕ, ◌+◌, ◌-◌, ◌/◌, nat_le, Bool, ◌&&◌, List, length, drop, if◌then◌else◌}
 use Rattle.vg_chain.specs.declared.descriptor.Descriptor.{Descriptor}
-use Rattle.vg_chain.specs.Descriptor.{is_writable, is_indirect, descriptors_in}
+use Rattle.vg_chain.specs.Space.{room_at, tables_at}
+use Rattle.vg_chain.specs.Descriptor.{is_writable, is_indirect, descriptor_size, descriptors_in}
 
--- What a chain may refer to: the request's bytes from the base, the room for the response 49,152 bytes above it,
--- and the bytes of indirect tables 57,344 bytes above it.
+-- What a chain may refer to: the request's bytes from the base, the room for the response, and the bytes of indirect
+-- tables.
 pub record Memory : Type 0 where
   pub base : ℕ
   pub request : ℕ
@@ -20,9 +21,9 @@ lies_in start size addr len = nat_le start addr && nat_le (addr + len) (start + 
 -- Whether what a descriptor refers to is there.
 abbrev pub is_in_range : Memory → Descriptor → Bool
 is_in_range m d =
-    if is_indirect d then lies_in (m.base + 57344) (length m.tables) d.addr d.len
-    else (if is_writable d then lies_in (m.base + 49152) m.room d.addr d.len else lies_in m.base m.request d.addr d.len)
+    if is_indirect d then lies_in (tables_at m.base) (length m.tables) d.addr d.len
+    else (if is_writable d then lies_in (room_at m.base) m.room d.addr d.len else lies_in m.base m.request d.addr d.len)
 
 -- The table that a descriptor refers to.
 abbrev pub table_of : Memory → Descriptor → List Descriptor
-table_of m d = descriptors_in (d.len / 16) (drop (d.addr - (m.base + 57344)) m.tables)
+table_of m d = descriptors_in (d.len / descriptor_size) (drop (d.addr - tables_at m.base) m.tables)

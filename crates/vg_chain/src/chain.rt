@@ -6,8 +6,8 @@ use vg_list::Seq;
 /// Where a request, the room for its response and the indirect tables of its chain stand.
 #[derive(Clone, Copy, Debug)]
 pub struct Parts<'a> {
-    /// The address of the request's first byte. The room begins 49,152 bytes above it, the tables
-    /// 57,344 bytes.
+    /// The address of the request's first byte. The room begins `ROOM_OFFSET` bytes above it, the
+    /// tables `TABLES_OFFSET` bytes.
     pub base: u64,
     /// The number of the request's bytes.
     pub request: u32,
@@ -37,8 +37,8 @@ pub enum ChainFault {
     Nested,
     /// INDIRECT with NEXT (VIRTIO 1.2, 2.7.5.3.1).
     NextWithIndirect,
-    /// A table whose length is 0, is no multiple of 16, or is that of more descriptors than the queue
-    /// has (VIRTIO 1.2, 2.7.5.3.1).
+    /// A table whose length is 0, is no multiple of a descriptor's, or is that of more descriptors than
+    /// the queue has (VIRTIO 1.2, 2.7.5.3.1).
     TableLength,
     /// A readable segment after a writable one (VIRTIO 1.2, 2.7.4.2).
     Order,

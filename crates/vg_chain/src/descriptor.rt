@@ -2,11 +2,22 @@
 
 ghost use Rattle.std.specs.Prelude.{◌≡◌, ◌+◌, ◌*◌, ◌≤◌, length, IfOk};
 ghost use Rattle.vg_chain.specs.Descriptor as layout;
-ghost use Rattle.vg_chain.specs.Descriptor.{descriptors_in};
-ghost use Rattle.vg_chain.specs.Numbers.{number_at};
+ghost use Rattle.vg_chain.specs.Descriptor.{descriptor_size, descriptors_in};
 
-use byteorder::{ByteOrder, LittleEndian};
 use std::alloc::{AllocError, Global};
+use vg_numbers::{u16_at, u32_at, u64_at};
+
+/// The flag that says that another descriptor comes next.
+pub(crate) const NEXT: u16 = 1;
+
+/// The flag that says that the device writes.
+pub(crate) const WRITE: u16 = 2;
+
+/// The flag that says that the descriptor refers to a table.
+pub(crate) const INDIRECT: u16 = 4;
+
+/// How many bytes a descriptor has in memory.
+pub(crate) const DESCRIPTOR_SIZE: u32 = 16;
 
 /// A descriptor: an entry of the ring's table, or of an indirect one.
 #[derive(Clone, Copy, Debug, PartialEq, Eq)]
@@ -15,7 +26,7 @@ pub struct Descriptor {
     pub addr: u64,
     /// Its length in bytes.
     pub len: u32,
-    /// Bit 0 is NEXT, bit 1 WRITE, bit 2 INDIRECT.
+    /// `NEXT`, `WRITE` and `INDIRECT`, each where it is set.
     pub flags: u16,
     /// The place of the descriptor that comes next, where NEXT is set.
     pub next: u16,
@@ -30,51 +41,38 @@ pub struct Segment {
     pub len: u32,
 }
 
+/// Whether a flag is set.
+fn has_flag(flag: u16, descriptor: Descriptor) -> bool
+    requires { 1 ≤ flag }
+    ensures { result ≡ layout.has_flag flag descriptor }
+{
+    descriptor.flags / flag % 2 == 1
+}
+
 /// Whether NEXT is set.
 pub(crate) fn has_next(descriptor: Descriptor) -> bool
     ensures { result ≡ layout.has_next descriptor }
 {
-    descriptor.flags % 2 == 1
+    has_flag(NEXT, descriptor)
 }
 
 /// Whether WRITE is set.
 pub(crate) fn is_writable(descriptor: Descriptor) -> bool
     ensures { result ≡ layout.is_writable descriptor }
 {
-    descriptor.flags / 2 % 2 == 1
+    has_flag(WRITE, descriptor)
 }
 
 /// Whether INDIRECT is set.
 pub(crate) fn is_indirect(descriptor: Descriptor) -> bool
     ensures { result ≡ layout.is_indirect descriptor }
 {
-    descriptor.flags / 4 % 2 == 1
+    has_flag(INDIRECT, descriptor)
 }
 
-fn u16_at(bytes: &[u8], at: usize) -> u16
-    requires { at + 2 ≤ length bytes.now }
-    ensures { result ≡ number_at 2 at bytes.now }
-{
-    LittleEndian::read_u16(&bytes[at..])
-}
-
-fn u32_at(bytes: &[u8], at: usize) -> u32
-    requires { at + 4 ≤ length bytes.now }
-    ensures { result ≡ number_at 4 at bytes.now }
-{
-    LittleEndian::read_u32(&bytes[at..])
-}
-
-fn u64_at(bytes: &[u8], at: usize) -> u64
-    requires { at + 8 ≤ length bytes.now }
-    ensures { result ≡ number_at 8 at bytes.now }
-{
-    LittleEndian::read_u64(&bytes[at..])
-}
-
-/// The descriptor whose 16 bytes stand from place `at`.
+/// The descriptor whose bytes stand from place `at`.
 fn descriptor_at(bytes: &[u8], at: usize) -> Descriptor
-    requires { at + 16 ≤ length bytes.now }
+    requires { at + descriptor_size ≤ length bytes.now }
     ensures { result ≡ layout.descriptor_at at bytes.now }
 {
     Descriptor {
@@ -91,13 +89,13 @@ pub(crate) fn read_descriptors(
     bytes: &[u8],
     count: usize,
 ) -> Result<Vec<Descriptor>, AllocError>
-    requires { 16 * count ≤ length bytes.now }
+    requires { descriptor_size * count ≤ length bytes.now }
     ensures descriptors { IfOk result (λ table. table.items ≡ descriptors_in count bytes.now) }
     ensures count { IfOk result (λ table. length table.items ≡ count) }
 {
     let mut table = Vec::with_capacity(alloc, count)?;
     for place in 0..count {
-        table.push(descriptor_at(bytes, 16 * place))?;
+        table.push(descriptor_at(bytes, DESCRIPTOR_SIZE as usize * place))?;
     }
     Ok(table)
 }

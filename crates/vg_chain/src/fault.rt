@@ -6,19 +6,20 @@ ghost use Rattle.vg_chain.specs.Memory as range;
 ghost use Rattle.vg_chain.specs.Memory.{memory};
 
 use crate::chain::{ChainFault, Parts};
-use crate::descriptor::{Descriptor, has_next, is_indirect, is_writable};
+use crate::descriptor::{DESCRIPTOR_SIZE, Descriptor, has_next, is_indirect, is_writable};
+use crate::space::{ROOM_OFFSET, TABLES_OFFSET};
 
 /// Whether the length is none that a table in a queue of this size may have.
 fn is_bad_length(size: usize, descriptor: Descriptor) -> bool
     ensures { result ≡ rule.is_bad_length size descriptor }
 {
     descriptor.len == 0
-        || descriptor.len % 16 != 0
-        || u128::from(descriptor.len) > 16 * (size as u128)
+        || descriptor.len % DESCRIPTOR_SIZE != 0
+        || u128::from(descriptor.len) > u128::from(DESCRIPTOR_SIZE) * (size as u128)
 }
 
 /// Whether the descriptor's bytes lie in the `size` bytes that begin `offset` above the base.
-fn lies_in(base: u64, offset: u32, size: usize, descriptor: Descriptor) -> bool
+fn lies_in(base: u64, offset: u64, size: usize, descriptor: Descriptor) -> bool
     ensures { result ≡ range.lies_in (base + offset) size descriptor.addr descriptor.len }
 {
     let start = u128::from(base) + u128::from(offset);
@@ -31,9 +32,9 @@ fn is_in_range(parts: &Parts, descriptor: Descriptor) -> bool
     ensures { result ≡ range.is_in_range (memory parts.now.base parts.now.request parts.now.room parts.now.tables.now) descriptor }
 {
     if is_indirect(descriptor) {
-        lies_in(parts.base, 57344, parts.tables.len(), descriptor)
+        lies_in(parts.base, TABLES_OFFSET, parts.tables.len(), descriptor)
     } else if is_writable(descriptor) {
-        lies_in(parts.base, 49152, parts.room as usize, descriptor)
+        lies_in(parts.base, ROOM_OFFSET, parts.room as usize, descriptor)
     } else {
         lies_in(parts.base, 0, parts.request as usize, descriptor)
     }

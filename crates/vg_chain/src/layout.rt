@@ -1,27 +1,29 @@
 //! What a shape puts into the ring and into indirect tables.
 
 ghost use Rattle.std.specs.Prelude.{◌≡◌, ℕ, ◌+◌, ◌*◌, ◌≤◌, ◌<◌, ◌++◌, ◌∷◌, [], Some, true, length, slice_get, OnOk, IfOk, if◌then◌else◌};
-ghost use Rattle.vg_chain.specs.Numbers.{le};
 ghost use Rattle.vg_chain.specs.declared.shape.Shape.TheVariants.{Bad, Mixed};
+ghost use Rattle.vg_chain.specs.Space.{most_request, room_at};
+ghost use Rattle.vg_chain.specs.Descriptor.{descriptor_size};
 ghost use Rattle.vg_chain.specs.Made as made;
 ghost use Rattle.vg_chain.specs.Made.{parts_of, inner_of, in_table, joined, last_of, table_bytes, bytes_of, bytes_in, link_of, IsLinked, IsInRing, IsRequest, IsMeasured, AreTables, IsCount};
 
 use crate::chain::ChainFault;
-use crate::descriptor::Descriptor;
+use crate::descriptor::{DESCRIPTOR_SIZE, Descriptor, INDIRECT, NEXT, WRITE};
 use crate::part::{Extent, Part, count_parts, count_rest, part_of, rest_of};
 use crate::shape::Shape;
-use byteorder::{ByteOrder, LittleEndian};
+use crate::space::{HEADER_SIZE, ROOM_OFFSET, TABLES_OFFSET};
 use std::alloc::{AllocError, Global};
+use vg_numbers::{put_u16, put_u32, put_u64};
 
 /// A part's descriptor, and `next` the place of the one that comes after it, if one does.
 fn descriptor_of(part: Part, more: bool, next: u16) -> Descriptor
     ensures { result ≡ (if more then joined part next else last_of part) }
 {
-    let write = if part.writes { 2 } else { 0 };
+    let write = if part.writes { WRITE } else { 0 };
     Descriptor {
         addr: part.addr,
         len: part.len,
-        flags: if more { write + 1 } else { write },
+        flags: if more { write + NEXT } else { write },
         next: if more { next } else { 0 },
     }
 }
@@ -49,7 +51,7 @@ fn linked_at(most: u8, extent: &Extent, at: u16, next: u16) -> Option<Descriptor
     link(part, more, next)
 }
 
-/// How many descriptors a table has: of all parts, or of those after the first 24 bytes.
+/// How many descriptors a table has: of all parts, or of those after the header.
 fn count_inner(rest: bool, extent: &Extent) -> u16
     ensures count { result ≡ length (inner_of rest extent.now.request extent.now.room extent.now.base) }
     ensures bound { result ≤ 2 }
@@ -83,21 +85,21 @@ fn referring(extent: &Extent, len: u32, flags: u16, next: u16) -> Descriptor
     ensures { result ≡ made.referring extent.now.base len flags next }
 {
     Descriptor {
-        addr: extent.base + 57344,
+        addr: extent.base + TABLES_OFFSET,
         len,
         flags,
         next,
     }
 }
 
-/// A descriptor that refers to a table of all parts, or of those after the first 24 bytes.
+/// A descriptor that refers to a table of all parts, or of those after the header.
 fn to_table(rest: bool, extent: &Extent, flags: u16, next: u16) -> Descriptor
     requires { IsMeasured extent.now.request extent.now.room extent.now.base }
-    ensures { result ≡ made.referring extent.now.base (16 * length (in_table (inner_of rest extent.now.request extent.now.room extent.now.base))) flags next }
+    ensures { result ≡ made.referring extent.now.base (descriptor_size * length (in_table (inner_of rest extent.now.request extent.now.room extent.now.base))) flags next }
 {
     referring(
         extent,
-        16 * u32::from(count_inner(rest, extent)),
+        DESCRIPTOR_SIZE * u32::from(count_inner(rest, extent)),
         flags,
         next,
     )
@@ -131,13 +133,13 @@ fn mixed_at(extent: &Extent, at: u16, next: u16) -> Option<Descriptor>
     }
     let first = Part {
         addr: extent.base,
-        len: extent.request.min(24),
+        len: extent.request.min(HEADER_SIZE),
         writes: false,
     };
     either(
         at,
         descriptor_of(first, true, next),
-        to_table(true, extent, 4, 0),
+        to_table(true, extent, INDIRECT, 0),
     )
 }
 
@@ -161,9 +163,9 @@ fn bad_at(
     match fault {
         ChainFault::Index => only(at, descriptor_of(request, true, size)),
         ChainFault::Loop => only(at, descriptor_of(request, true, head)),
-        ChainFault::Nested => only(at, referring(extent, 16, 4, 0)),
-        ChainFault::NextWithIndirect => only(at, to_table(false, extent, 5, head)),
-        ChainFault::TableLength => only(at, referring(extent, 24, 4, 0)),
+        ChainFault::Nested => only(at, referring(extent, DESCRIPTOR_SIZE, INDIRECT, 0)),
+        ChainFault::NextWithIndirect => only(at, to_table(false, extent, INDIRECT + NEXT, head)),
+        ChainFault::TableLength => only(at, referring(extent, DESCRIPTOR_SIZE + 8, INDIRECT, 0)),
         ChainFault::Order => either(
             at,
             descriptor_of(room_part(extent), true, next),
@@ -176,10 +178,10 @@ fn bad_at(
 /// The part that is the room.
 fn room_part(extent: &Extent) -> Part
     requires { IsMeasured extent.now.request extent.now.room extent.now.base }
-    ensures { result ≡ record { addr = extent.now.base + 49152; len = extent.now.room; writes = true } }
+    ensures { result ≡ record { addr = room_at extent.now.base; len = extent.now.room; writes = true } }
 {
     Part {
-        addr: extent.base + 49152,
+        addr: extent.base + ROOM_OFFSET,
         len: extent.room,
         writes: true,
     }
@@ -187,7 +189,7 @@ fn room_part(extent: &Extent) -> Part
 
 /// A part with one byte more.
 fn longer(part: Part) -> Part
-    requires { part.len ≤ 49152 }
+    requires { part.len ≤ most_request }
     ensures { result ≡ record part { len = part.len + 1 } }
 {
     Part {
@@ -196,34 +198,7 @@ fn longer(part: Part) -> Part
     }
 }
 
-#[tactic(auto, unfolding(crate::specs::Numbers::le))]
-fn put_u16(out: &mut Vec<u8>, n: u16) -> Result<(), AllocError>
-    ensures { OnOk result (out.new.items ≡ out.old.items ++ le 2 n) }
-{
-    let mut field = [0u8; 2];
-    LittleEndian::write_u16(&mut field, n);
-    out.extend_from_slice(&field)
-}
-
-#[tactic(auto, unfolding(crate::specs::Numbers::le))]
-fn put_u32(out: &mut Vec<u8>, n: u32) -> Result<(), AllocError>
-    ensures { OnOk result (out.new.items ≡ out.old.items ++ le 4 n) }
-{
-    let mut field = [0u8; 4];
-    LittleEndian::write_u32(&mut field, n);
-    out.extend_from_slice(&field)
-}
-
-#[tactic(auto, unfolding(crate::specs::Numbers::le))]
-fn put_u64(out: &mut Vec<u8>, n: u64) -> Result<(), AllocError>
-    ensures { OnOk result (out.new.items ≡ out.old.items ++ le 8 n) }
-{
-    let mut field = [0u8; 8];
-    LittleEndian::write_u64(&mut field, n);
-    out.extend_from_slice(&field)
-}
-
-/// Adds the 16 bytes of a descriptor, if there is one.
+/// Adds the bytes of a descriptor, if there is one.
 #[tactic(auto, unfolding(crate::specs::Made::bytes_of))]
 fn put(out: &mut Vec<u8>, descriptor: Option<Descriptor>) -> Result<(), AllocError>
     ensures { OnOk result (out.new.items ≡ out.old.items ++ bytes_in descriptor) }
@@ -237,7 +212,7 @@ fn put(out: &mut Vec<u8>, descriptor: Option<Descriptor>) -> Result<(), AllocErr
     put_u16(out, descriptor.next)
 }
 
-/// The bytes of a table of all parts, or of those after the first 24 bytes.
+/// The bytes of a table of all parts, or of those after the header.
 fn table_of(alloc: Global, rest: bool, extent: &Extent) -> Result<Vec<u8>, AllocError>
     requires { IsMeasured extent.now.request extent.now.room extent.now.base }
     ensures { IfOk result (λ bytes. bytes.items ≡ table_bytes (in_table (inner_of rest extent.now.request extent.now.room extent.now.base))) }
@@ -257,11 +232,14 @@ fn bad_tables(alloc: Global, fault: ChainFault, extent: &Extent) -> Result<Vec<u
     match fault {
         ChainFault::Nested => {
             let mut out = Vec::new(alloc);
-            put(&mut out, Some(referring(extent, 16, 4, 0)))?;
+            put(
+                &mut out,
+                Some(referring(extent, DESCRIPTOR_SIZE, INDIRECT, 0)),
+            )?;
             Ok(out)
         }
         ChainFault::NextWithIndirect => table_of(alloc, false, extent),
-        ChainFault::TableLength => vec![in alloc; 0; 32],
+        ChainFault::TableLength => vec![in alloc; 0; 2 * DESCRIPTOR_SIZE as usize],
         _ => Ok(Vec::new(alloc)),
     }
 }
@@ -284,7 +262,7 @@ impl Shape {
         match *self {
             Shape::Plain => linked_at(1, extent, at, next),
             Shape::Pieces { n } => linked_at(n, extent, at, next),
-            Shape::Indirect => only(at, to_table(false, extent, 4, 0)),
+            Shape::Indirect => only(at, to_table(false, extent, INDIRECT, 0)),
             Shape::Mixed => mixed_at(extent, at, next),
             Shape::Bad { fault } => bad_at(fault, extent, size, head, at, next),
         }

@@ -9,6 +9,7 @@ mod laws;
 mod layout;
 mod part;
 mod shape;
+mod space;
 mod tour;
 
 pub use chain::{Chain, ChainFault, Parts};
@@ -16,4 +17,5 @@ pub use descriptor::{Descriptor, Segment};
 pub use laws::{a_layout_is_walked, a_walk_has_one_result};
 pub use part::Extent;
 pub use shape::Shape;
+pub use space::{MOST_ROOM, ROOM_OFFSET, SPACE, TABLES_OFFSET};
 pub use tour::walk;

@@ -2,13 +2,16 @@
 
 ghost use Rattle.std.specs.Prelude.{◌≡◌, ◌+◌, ◌-◌, ◌/◌, ◌≤◌, ◌++◌, length, slice_get};
 ghost use Rattle.vg_chain.specs.Made as made;
-ghost use Rattle.vg_chain.specs.Made.{pieces, room_of, parts_of, inner_of, AreSoMany, AreSoManyPieces, IsPlaced};
+ghost use Rattle.vg_chain.specs.Made.{pieces, room_of, parts_of, inner_of, AreSoMany, AreSoManyPieces};
+ghost use Rattle.vg_chain.specs.Space.{most_request, room_at, IsPlaced};
+
+use crate::space::{HEADER_SIZE, ROOM_OFFSET};
 
 /// Where a request stands, with the room for its response.
 #[derive(Clone, Copy, Debug, PartialEq, Eq)]
 pub struct Extent {
-    /// The address of the request's first byte. The room begins 49,152 bytes above it, the tables
-    /// 57,344 bytes.
+    /// The address of the request's first byte. The room begins `ROOM_OFFSET` bytes above it, the
+    /// tables `TABLES_OFFSET` bytes.
     pub base: u64,
     /// The number of the request's bytes.
     pub request: u32,
@@ -73,7 +76,7 @@ pub(crate) fn count_parts(most: u8, request: u32, room: u32) -> u16
 /// size, which make up `request` bytes, then the room.
 fn part_at(most: u8, size: u32, addr: u64, request: u32, extent: &Extent, at: u16) -> Option<Part>
     requires few { most ≤ 8 }
-    requires addr { addr + request ≤ extent.now.base + 49152 }
+    requires addr { addr + request ≤ room_at extent.now.base }
     requires base { IsPlaced extent.now.base }
     ensures { result ≡ slice_get (pieces most size addr request ++ room_of extent.now.room extent.now.base) at }
 {
@@ -87,7 +90,7 @@ fn part_at(most: u8, size: u32, addr: u64, request: u32, extent: &Extent, at: u1
         })
     } else if at == count && extent.room > 0 {
         Some(Part {
-            addr: extent.base + 49152,
+            addr: extent.base + ROOM_OFFSET,
             len: extent.room,
             writes: true,
         })
@@ -100,7 +103,7 @@ fn part_at(most: u8, size: u32, addr: u64, request: u32, extent: &Extent, at: u1
 pub(crate) fn part_of(most: u8, extent: &Extent, at: u16) -> Option<Part>
     requires some { 1 ≤ most }
     requires few { most ≤ 8 }
-    requires request { extent.now.request ≤ 49152 }
+    requires request { extent.now.request ≤ most_request }
     requires base { IsPlaced extent.now.base }
     ensures { result ≡ slice_get (parts_of most extent.now.request extent.now.room extent.now.base) at }
 {
@@ -115,14 +118,21 @@ pub(crate) fn part_of(most: u8, extent: &Extent, at: u16) -> Option<Part>
     part_at(most, size, extent.base, extent.request, extent, at)
 }
 
-/// The part at this place of those after the first 24 bytes.
+/// The part at this place of those after the header.
 pub(crate) fn rest_of(extent: &Extent, at: u16) -> Option<Part>
-    requires request { extent.now.request ≤ 49152 }
+    requires request { extent.now.request ≤ most_request }
     requires base { IsPlaced extent.now.base }
     ensures { result ≡ slice_get (made.rest_of extent.now.request extent.now.room extent.now.base) at }
 {
-    let left = extent.request.saturating_sub(24);
-    part_at(1, left, extent.base + 24, left, extent, at)
+    let left = extent.request.saturating_sub(HEADER_SIZE);
+    part_at(
+        1,
+        left,
+        extent.base + u64::from(HEADER_SIZE),
+        left,
+        extent,
+        at,
+    )
 }
 
 /// How many they are.
@@ -130,7 +140,7 @@ pub(crate) fn count_rest(extent: &Extent) -> u16
     ensures count { result ≡ length (made.rest_of extent.now.request extent.now.room extent.now.base) }
     ensures bound { result ≤ 2 }
 {
-    let left = extent.request.saturating_sub(24);
+    let left = extent.request.saturating_sub(HEADER_SIZE);
     let count = count_pieces(1, left, left);
     if extent.room > 0 { count + 1 } else { count }
 }

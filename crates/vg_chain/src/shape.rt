@@ -6,6 +6,7 @@ ghost use Rattle.vg_chain.specs.Made.{IsCount, IsNeeded};
 
 use crate::chain::ChainFault;
 use crate::part::count_parts;
+use crate::space::HEADER_SIZE;
 
 /// The shape of a descriptor chain.
 #[derive(Clone, Copy, Debug, PartialEq, Eq)]
@@ -18,7 +19,7 @@ pub enum Shape {
     Pieces { n: u8 },
     /// One descriptor that refers to a table of Plain's (VIRTIO 1.2, 2.7.5.3).
     Indirect,
-    /// A readable descriptor for the first 24 bytes, then one that refers to a table of the rest. It is
+    /// A readable descriptor for the header, then one that refers to a table of the rest. It is
     /// Plain where the request or that table would be empty.
     Mixed,
     /// A chain with this fault.
@@ -36,7 +37,7 @@ impl Shape {
             Shape::Pieces { n } => count_parts(n, request, room),
             Shape::Indirect => 1,
             Shape::Mixed => {
-                if request == 0 || (request <= 24 && room == 0) {
+                if request == 0 || (request <= HEADER_SIZE && room == 0) {
                     count_parts(1, request, room)
                 } else {
                     2

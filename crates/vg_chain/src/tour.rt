@@ -1,16 +1,19 @@
 //! The walk of a chain (VIRTIO 1.2, 2.7.5 and 2.7.5.3).
 
 ghost use Rattle.std.specs.Prelude.{◌≡◌, ◌+◌, ◌-◌, ◌*◌, ◌/◌, ◌<◌, ◌≤◌, ◌==◌, nat_lt, nat_le, true, false, Some, None, [], ◌++◌, length, slice_get, slice_set, slice_index_or, replicate, IfOk, OnOk, IsTrue};
+ghost use Rattle.vg_chain.specs.Space.{tables_at};
 ghost use Rattle.vg_chain.specs.Descriptor as layout;
+ghost use Rattle.vg_chain.specs.Descriptor.{descriptor_size};
 ghost use Rattle.vg_chain.specs.Memory.{memory, lies_in, table_of};
 ghost use Rattle.vg_chain.specs.Walk.{Walks, read_of, written_of};
 ghost use Rattle.vg_chain.specs.Tour.{table_now};
 
 use crate::chain::{Chain, ChainFault, Parts};
 use crate::descriptor::{
-    Descriptor, Segment, has_next, is_indirect, is_writable, read_descriptors,
+    DESCRIPTOR_SIZE, Descriptor, Segment, has_next, is_indirect, is_writable, read_descriptors,
 };
 use crate::fault::fault_of;
+use crate::space::TABLES_OFFSET;
 use smallvec::SmallVec;
 use std::alloc::{AllocError, Global};
 use vg_list::Seq;
@@ -114,15 +117,15 @@ impl Tour {
         parts: &Parts,
         descriptor: Descriptor,
     ) -> Result<(), AllocError>
-        requires { IsTrue (lies_in (parts.now.base + 57344) (length parts.now.tables.now) descriptor.addr descriptor.len) }
+        requires { IsTrue (lies_in (tables_at parts.now.base) (length parts.now.tables.now) descriptor.addr descriptor.len) }
         ensures segments { OnOk result ((self.new.readable.items ≡ self.old.readable.items) × (self.new.writable.items ≡ self.old.writable.items)) }
-        ensures marks { OnOk result (self.new.marks.items ≡ replicate (descriptor.len / 16) false) }
+        ensures marks { OnOk result (self.new.marks.items ≡ replicate (descriptor.len / descriptor_size) false) }
         ensures table { OnOk result (self.new.inner.items ≡ table_of (memory parts.now.base parts.now.request parts.now.room parts.now.tables.now) descriptor) }
-        ensures count { OnOk result (length self.new.inner.items ≡ descriptor.len / 16) }
+        ensures count { OnOk result (length self.new.inner.items ≡ descriptor.len / descriptor_size) }
         ensures place { OnOk result ((self.new.inside ≡ true) × (self.new.at ≡ 0)) }
     {
-        let count = (descriptor.len / 16) as usize;
-        let from = (descriptor.addr - parts.base - 57344) as usize;
+        let count = (descriptor.len / DESCRIPTOR_SIZE) as usize;
+        let from = (descriptor.addr - parts.base - TABLES_OFFSET) as usize;
         self.inner = read_descriptors(alloc, &parts.tables[from..], count)?;
         self.marks = SmallVec::from_elem(alloc, false, count)?;
         self.inside = true;

@@ -1,43 +1,67 @@
-use Rattle.std.specs.Prelude.{◌≡◌, ◌<◌, ◌/◌, ◌%◌, ◌^◌, ◌==◌, ◌&&◌, ℕ, Bool, false, not, ◌||◌}
+use Rattle.std.specs.Prelude.{◌≡◌, ◌<◌, ◌+◌, ◌/◌, ◌%◌, ◌^◌, ◌==◌, ◌&&◌, ℕ, Bool, false, not, ◌||◌}
 
--- The features that commands need (VIRTIO 1.2, 5.7.3), each by the value of its bit: VIRTIO_GPU_F_VIRGL is bit 0.
+-- The bits of the features that the device offers: those that commands need (VIRTIO 1.2, 5.7.3, VIRTIO_GPU_F_VIRGL and so on),
+-- and two that any device may have (VIRTIO 1.2, 6, VIRTIO_F_INDIRECT_DESC and VIRTIO_F_VERSION_1).
+abbrev pub VIRGL_BIT : ℕ
+VIRGL_BIT = 0
+
+abbrev pub EDID_BIT : ℕ
+EDID_BIT = 1
+
+abbrev pub RESOURCE_UUID_BIT : ℕ
+RESOURCE_UUID_BIT = 2
+
+abbrev pub RESOURCE_BLOB_BIT : ℕ
+RESOURCE_BLOB_BIT = 3
+
+abbrev pub CONTEXT_INIT_BIT : ℕ
+CONTEXT_INIT_BIT = 4
+
+abbrev pub INDIRECT_DESC_BIT : ℕ
+INDIRECT_DESC_BIT = 28
+
+abbrev pub VERSION_1_BIT : ℕ
+VERSION_1_BIT = 32
+
+-- The same features by the values of their bits, as a set has them.
 abbrev pub VIRGL : ℕ
-VIRGL = 1
+VIRGL = 2 ^ VIRGL_BIT
 
--- bit 1
 abbrev pub EDID : ℕ
-EDID = 2
+EDID = 2 ^ EDID_BIT
 
--- bit 2
 abbrev pub RESOURCE_UUID : ℕ
-RESOURCE_UUID = 4
+RESOURCE_UUID = 2 ^ RESOURCE_UUID_BIT
 
--- bit 3
 abbrev pub RESOURCE_BLOB : ℕ
-RESOURCE_BLOB = 8
+RESOURCE_BLOB = 2 ^ RESOURCE_BLOB_BIT
 
--- bit 4
 abbrev pub CONTEXT_INIT : ℕ
-CONTEXT_INIT = 16
+CONTEXT_INIT = 2 ^ CONTEXT_INIT_BIT
 
--- The features that the device offers (VIRTIO 1.2, 5.7.3 and 6): these, VIRTIO_F_INDIRECT_DESC (bit 28) and VIRTIO_F_VERSION_1
--- (bit 32).
+abbrev pub INDIRECT_DESC : ℕ
+INDIRECT_DESC = 2 ^ INDIRECT_DESC_BIT
+
+abbrev pub VERSION_1 : ℕ
+VERSION_1 = 2 ^ VERSION_1_BIT
+
+-- The set that the device offers.
 abbrev pub offered : ℕ
-offered = 0x11000001f
+offered = VIRGL + EDID + RESOURCE_UUID + RESOURCE_BLOB + CONTEXT_INIT + INDIRECT_DESC + VERSION_1
 
 -- Feature n is in a set of features, which has bit n for it (VIRTIO 1.2, 2.2).
 abbrev pub has : ℕ → ℕ → Bool
 has features n = features / 2 ^ n % 2 == 1
 
--- CONTEXT_INIT (bit 4) is in a set without VIRGL (bit 0), which it needs (VIRTIO 1.2, 5.7.3).
+-- CONTEXT_INIT is in a set without VIRGL, which it needs (VIRTIO 1.2, 5.7.3).
 abbrev pub lacks_virgl : ℕ → Bool
-lacks_virgl features = has features 4 && not (has features 0)
+lacks_virgl features = has features CONTEXT_INIT_BIT && not (has features VIRGL_BIT)
 
 -- What is wrong with feature n of a set that a driver accepts (VIRTIO 1.2, 2.2, 5.7.3 and 6.1): it is in the set and isn't
--- offered; it is CONTEXT_INIT, without VIRGL; or it is VERSION_1 (bit 32), which isn't in the set.
+-- offered; it is CONTEXT_INIT, without VIRGL; or it is VERSION_1, which isn't in the set.
 abbrev pub is_faulty : ℕ → ℕ → Bool
 is_faulty features n =
-    ((has features n && not (has offered n)) || (n == 4 && lacks_virgl features)) || (n == 32 && not (has features 32))
+    ((has features n && not (has offered n)) || (n == CONTEXT_INIT_BIT && lacks_virgl features)) || (n == VERSION_1_BIT && not (has features VERSION_1_BIT))
 
 -- A set with nothing wrong.
 pub record IsFaultless (features : ℕ) : Type 0 where

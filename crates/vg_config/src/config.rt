@@ -20,7 +20,7 @@ pub struct Config {
 
 impl Config {
     /// The 16 bytes of the configuration: the fields in their order, each of four bytes, the lowest first.
-    #[tactic(auto, unfolding(crate::specs::Config::config_bytes))]
+    #[tactic(auto, unfolding(crate::specs::Config::config_bytes, vg_numbers::specs::Numbers::le))]
     pub fn bytes(&self) -> [u8; 16]
         ensures { result ≡ config_bytes self.now }
     {

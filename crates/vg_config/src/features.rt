@@ -1,20 +1,43 @@
 //! The features that a device offers, by their names in the standard without its prefixes (VIRTIO 1.2, 5.7.3 and 6), each by the
 //! value of its bit in a set.
 
-/// Bit 0: 3D commands.
-pub const VIRGL: u64 = 0x1;
+pub(crate) const VIRGL_BIT: u32 = 0;
 
-/// Bit 1: GET_EDID.
-pub const EDID: u64 = 0x2;
+const EDID_BIT: u32 = 1;
 
-/// Bit 2: RESOURCE_ASSIGN_UUID.
-pub const RESOURCE_UUID: u64 = 0x4;
+const RESOURCE_UUID_BIT: u32 = 2;
 
-/// Bit 3: blobs.
-pub const RESOURCE_BLOB: u64 = 0x8;
+const RESOURCE_BLOB_BIT: u32 = 3;
 
-/// Bit 4: kinds of contexts, which need VIRGL.
-pub const CONTEXT_INIT: u64 = 0x10;
+pub(crate) const CONTEXT_INIT_BIT: u32 = 4;
 
-/// All that are offered: those above, VIRTIO_F_INDIRECT_DESC (bit 28) and VIRTIO_F_VERSION_1 (bit 32).
-pub const OFFERED: u64 = 0x1_1000_001f;
+const INDIRECT_DESC_BIT: u32 = 28;
+
+pub(crate) const VERSION_1_BIT: u32 = 32;
+
+/// 3D commands.
+pub const VIRGL: u64 = 1 << VIRGL_BIT;
+
+/// GET_EDID.
+pub const EDID: u64 = 1 << EDID_BIT;
+
+/// RESOURCE_ASSIGN_UUID.
+pub const RESOURCE_UUID: u64 = 1 << RESOURCE_UUID_BIT;
+
+/// Blobs.
+pub const RESOURCE_BLOB: u64 = 1 << RESOURCE_BLOB_BIT;
+
+/// Kinds of contexts, which need VIRGL.
+pub const CONTEXT_INIT: u64 = 1 << CONTEXT_INIT_BIT;
+
+/// Indirect tables of descriptors.
+pub const INDIRECT_DESC: u64 = 1 << INDIRECT_DESC_BIT;
+
+/// The standard from its version 1 on.
+pub const VERSION_1: u64 = 1 << VERSION_1_BIT;
+
+/// The features that commands need.
+const GPU: u64 = VIRGL | EDID | RESOURCE_UUID | RESOURCE_BLOB | CONTEXT_INIT;
+
+/// All that are offered.
+pub const OFFERED: u64 = GPU | INDIRECT_DESC | VERSION_1;

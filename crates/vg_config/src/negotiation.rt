@@ -5,15 +5,10 @@ ghost use Rattle.vg_config.specs.Features.{AreFaulty, IsFaultless, lacks_virgl};
 ghost use Rattle.vg_config.specs.Features as set;
 ghost use Rattle.vg_config.specs.Status.{first_stage, with_accepted, with_bit};
 
-use crate::features::OFFERED;
+use crate::features::{
+    CONTEXT_INIT, CONTEXT_INIT_BIT, OFFERED, VERSION_1, VERSION_1_BIT, VIRGL_BIT,
+};
 use std::marker::Model;
-
-/// The number of a feature, as those below.
-const VIRGL: u32 = 0;
-
-const CONTEXT_INIT: u32 = 4;
-
-const VERSION_1: u32 = 32;
 
 const ACKNOWLEDGE: u8 = 1;
 
@@ -23,8 +18,8 @@ const DRIVER_OK: u8 = 4;
 
 const FEATURES_OK: u8 = 8;
 
-/// The faulty bits of features that were refused: each that isn't offered, CONTEXT_INIT (bit 4) without
-/// VIRGL (bit 0), and VERSION_1 (bit 32) where it is missing.
+/// The faulty bits of features that were refused: each that isn't offered, CONTEXT_INIT without VIRGL,
+/// and VERSION_1 where it is missing.
 #[derive(Clone, Copy, Debug, PartialEq, Eq)]
 pub struct Refused {
     pub bits: u64,
@@ -56,10 +51,10 @@ fn has(features: u64, n: u32) -> bool
 
 /// CONTEXT_INIT where it is there without VIRGL.
 fn lone_context(features: u64) -> u64
-    ensures { result ≡ (if lacks_virgl features then 16 else 0) }
+    ensures { result ≡ (if lacks_virgl features then set.CONTEXT_INIT else 0) }
 {
-    if has(features, CONTEXT_INIT) && !has(features, VIRGL) {
-        1 << CONTEXT_INIT
+    if has(features, CONTEXT_INIT_BIT) && !has(features, VIRGL_BIT) {
+        CONTEXT_INIT
     } else {
         0
     }
@@ -67,12 +62,12 @@ fn lone_context(features: u64) -> u64
 
 /// VERSION_1 where it is missing.
 fn missing_version(features: u64) -> u64
-    ensures { result ≡ (if set.has features 32 then 0 else 2 ^ 32) }
+    ensures { result ≡ (if set.has features set.VERSION_1_BIT then 0 else set.VERSION_1) }
 {
-    if has(features, VERSION_1) {
+    if has(features, VERSION_1_BIT) {
         0
     } else {
-        1 << VERSION_1
+        VERSION_1
     }
 }
 
@@ -84,7 +79,7 @@ fn faulty_bits(features: u64) -> u64
 }
 
 impl Negotiation {
-    /// The features 0x11000001f are offered, none are accepted, and the status is ACKNOWLEDGE and DRIVER.
+    /// The features `OFFERED` are offered, none are accepted, and the status is ACKNOWLEDGE and DRIVER.
     pub fn offer() -> Negotiation
         ensures { result ≡ first_stage }
     {

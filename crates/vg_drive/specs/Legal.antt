@@ -1,9 +1,8 @@
-use Rattle.std.specs.Prelude.{◌≡◌, ◌≤◌, ◌+◌, ℕ, Bool, List, [], ◌∷◌, length, count_by, false, not}
+use Rattle.std.specs.Prelude.{◌≡◌, ◌≤◌, ◌+◌, ℕ, Bool, List, [], ◌∷◌, length, count_by, false}
 use Rattle.std.specs.List.{All, AllByRecursion}
 use Rattle.vg_machine.specs.Entries.{Entry}
-use Rattle.vg_history.specs.declared.entry.Entry.TheVariants as entries
-use Rattle.vg_machine.specs.Lines.{is_control}
-use Rattle.vg_machine.specs.Replay.{replay}
+use Rattle.vg_history.specs.Lines.{is_on_first, is_on_second}
+use Rattle.vg_machine.specs.Replay.{display, replay}
 use Rattle.vg_machine.specs.Order.{Sound, client_of}
 use Rattle.vg_script.specs.declared.types.Line.{Line}
 use Rattle.vg_script.specs.declared.types.Script.{Script}
@@ -36,14 +35,12 @@ pub record Legal (script : Script) (H : List Entry) : Type 0 where
   pub follows : FollowAll (setup_of script) 1 script.clients H
   pub clients : AllByRecursion (IsOfClients script) H
 
--- A command on the control queue, and on the cursor queue.
+-- A command on the control queue, which is the first of the display's queues, and on the cursor queue.
 abbrev pub is_on_control : Entry → Bool
-is_on_control (entries.Act client call act reply) = false
-is_on_control (entries.Command client call request reply) = is_control request.queue
+is_on_control entry = is_on_first display entry
 
 abbrev pub is_on_cursor : Entry → Bool
-is_on_cursor (entries.Act client call act reply) = false
-is_on_cursor (entries.Command client call request reply) = not (is_control request.queue)
+is_on_cursor entry = is_on_second display entry
 
 -- The journal of a history of the script: its setup, the history, how many of its commands are on each queue, and its frames.
 abbrev pub journal_of : Script → List Entry → Journal

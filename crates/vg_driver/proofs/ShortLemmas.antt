@@ -4,7 +4,7 @@ use Rattle.std.specs.Int.{cast_unsigned}
 use Rattle.vg_wire.specs.declared.two_d.Command2d.{Command2d}
 use Rattle.vg_wire.specs.declared.two_d.Command2d.TheVariants as two_d
 use Rattle.vg_wire.specs.TwoD.{body_of_2d}
-use Rattle.vg_wire.proofs.HeaderLemmas.{length-le32, length-le64}
+use Rattle.vg_numbers.proofs.NumberLemmas.{length-le}
 use Rattle.vg_wire.proofs.EntryLemmas.{length-entries_bytes}
 use Rattle.vg_wire.proofs.TwoDLemmas.{length-attach, length-body_of_2d, length-four, length-rect_bytes, length-two}
 use Rattle.vg_wire_ext.specs.declared.command.Command.{Command}
@@ -19,11 +19,11 @@ length-planes n = length-four n 0 0 0
 
 length-signed_bytes : (x : ℤ) → length (signed_bytes x) ≡ 4
 unfolding signed_bytes
-length-signed_bytes x = length-le32 (cast_unsigned w32 x)
+length-signed_bytes x = length-le 4 (cast_unsigned w32 x)
 
 length-position : (s : ℕ) (x y : ℤ) → length (position s x y) ≡ 16
 unfolding position
-length-position s x y = simp length-append (omega (arith, length-le32 s, length-signed_bytes x, length-signed_bytes y, length-le32 0))
+length-position s x y = simp length-append (omega (arith, length-le 4 s, length-signed_bytes x, length-signed_bytes y, length-le 4 0))
 
 short-2d : (command : Command2d) → IsShort (TwoD command) → length (body_of_2d command) ≤ 49128
 short-2d (two_d.Attach resource entries) short = omega (arith, length-attach resource entries, short)
@@ -43,13 +43,13 @@ short-body (Capset id version) short = omega (arith, length-two id version)
 short-body (Edid scanout) short = omega (arith, length-two scanout 0)
 short-body (AssignUuid resource) short = omega (arith, length-two resource 0)
 short-body (CreateBlob r m f i s es) short =
-    simp length-append (omega (arith, short, length-le32 r, length-le32 m, length-le32 f, length-le32 (length es), length-le64 i, length-le64 s, length-entries_bytes es))
+    simp length-append (omega (arith, short, length-le 4 r, length-le 4 m, length-le 4 f, length-le 4 (length es), length-le 8 i, length-le 8 s, length-entries_bytes es))
 short-body (SetScanoutBlob rect a b c d e f g) short =
-    simp length-append (omega (arith, length-rect_bytes rect, length-le32 a, length-le32 b, length-le32 c, length-le32 d, length-le32 e, length-le32 0, length-planes f, length-planes g))
-short-body (CtxCreate n c name) short = simp length-append (omega (arith, length-le32 n, length-le32 c, short))
+    simp length-append (omega (arith, length-rect_bytes rect, length-le 4 a, length-le 4 b, length-le 4 c, length-le 4 d, length-le 4 e, length-le 4 0, length-planes f, length-planes g))
+short-body (CtxCreate n c name) short = simp length-append (omega (arith, length-le 4 n, length-le 4 c, short))
 short-body CtxDestroy short = omega arith
 short-body (CtxAttach resource) short = omega (arith, length-two resource 0)
 short-body (CtxDetach resource) short = omega (arith, length-two resource 0)
 short-body (Submit size) short = omega (arith, length-two size 0)
-short-body (UpdateCursor s x y r h k) short = simp length-append (omega (arith, length-position s x y, length-le32 r, length-le32 h, length-le32 k, length-le32 0))
-short-body (MoveCursor s x y) short = simp length-append (omega (arith, length-position s x y, length-le32 0))
+short-body (UpdateCursor s x y r h k) short = simp length-append (omega (arith, length-position s x y, length-le 4 r, length-le 4 h, length-le 4 k, length-le 4 0))
+short-body (MoveCursor s x y) short = simp length-append (omega (arith, length-position s x y, length-le 4 0))

@@ -1,5 +1,6 @@
 -- What a client asks of the device: a command that goes a way, or bytes as they are.
 use Rattle.std.specs.Prelude.{◌≡◌, ℕ, ◌+◌, ◌≤◌, length, Option}
+use Rattle.vg_chain.specs.Space.{most_request, most_room}
 use Rattle.vg_chain.specs.Made.{IsCount, IsNeeded}
 use Rattle.vg_wire.specs.declared.request.Queue.{Queue}
 use Rattle.vg_ring.specs.Cargo.{IsLane}
@@ -32,7 +33,7 @@ denied_for holds (Raw queue room shape bytes) = denied_of holds queue bytes
 -- A command that can go its way; bytes of any kind; neither is longer, nor wants more room, than may be sent.
 abbrev pub IsAsk : Ask → Type 0
 IsAsk (Command way command) = MayGo way command × IsShort command
-IsAsk (Raw queue room shape bytes) = (length bytes ≤ 49152) × (room ≤ 8192) × IsCount shape
+IsAsk (Raw queue room shape bytes) = (length bytes ≤ most_request) × (room ≤ most_room) × IsCount shape
 
 -- It needs so many descriptors: a command's body isn't longer than leaves them as they are.
 abbrev pub IsNeededFor : Ask → ℕ → Type 0
@@ -44,8 +45,8 @@ pub record IsMadeFor (ask : Ask) (ordinal : ℕ) (request : Request) : Type 0 wh
   pub is : request ≡ request_for ask ordinal
   pub lane : IsLane request.queue request.lane
   pub lane_is : request.lane ≡ lane_of request.queue request.bytes
-  pub short : length request.bytes ≤ 49152
-  pub room : request.room ≤ 8192
+  pub short : length request.bytes ≤ most_request
+  pub room : request.room ≤ most_room
   pub count : IsCount request.shape
   pub needed : (count : ℕ) → IsNeededFor ask count → IsNeeded request.shape (length request.bytes) request.room count
   pub denied : (holds : Holds) → denied_of holds request.queue request.bytes ≡ denied_for holds ask

@@ -1,5 +1,6 @@
 -- A request that is published next, and what came back of one.
 use Rattle.std.specs.Prelude.{◌≡◌, ℕ, ◌+◌, ◌-◌, ◌^◌, ◌<◌, ◌≤◌, length, Option, Some, None}
+use Rattle.vg_chain.specs.Space.{most_request, most_room}
 use Rattle.vg_chain.specs.Made.{IsCount, IsNeeded}
 use Rattle.vg_ring.specs.Cargo.{IsLane, ParcelData}
 use Rattle.vg_ring.specs.Ends.{DriverLists, HasRoom}
@@ -17,8 +18,8 @@ pub record IsNext (holds : Holds) (lists : DriverLists) (request : Request) : Ty
   pub lane : IsLane request.queue request.lane
   pub lane_is : request.lane ≡ lane_of request.queue request.bytes
   pub ordinal : request.ordinal ≡ lane_count request.lane lists.published + 1
-  pub short : length request.bytes ≤ 49152
-  pub room : request.room ≤ 8192
+  pub short : length request.bytes ≤ most_request
+  pub room : request.room ≤ most_room
   pub count : IsCount request.shape
   pub needed : (count : ℕ) × IsNeeded request.shape (length request.bytes) request.room count × HasRoom lists count
   pub last : length lists.published < 2 ^ 63 - 1

@@ -1,6 +1,7 @@
 //! Publishing a request of a client.
 
 ghost use Rattle.std.specs.Prelude.{◌≡◌, ◌-◌, ◌^◌, ◌<◌, ◌≤◌, None, length, IfOk, MatchResult};
+ghost use Rattle.vg_chain.specs.Space.{most_request, most_room};
 ghost use Rattle.vg_chain.specs.Made.{IsCount};
 ghost use Rattle.vg_ring.specs.Cargo.{IsLane};
 ghost use Rattle.vg_driver.specs.Asks.{IsAsk, denied_for, queue_for, request_for};
@@ -18,8 +19,8 @@ use vg_ring::{OfQueue, Parcel, Tag};
 
 /// The parcel of a request, for this head. The request's bytes move to it.
 fn parcel_of(alloc: Global, head: u16, request: Request) -> Result<Parcel, AllocError>
-    requires short { length request.bytes ≤ 49152 }
-    requires room { request.room ≤ 8192 }
+    requires short { length request.bytes ≤ most_request }
+    requires room { request.room ≤ most_room }
     requires lane { IsLane request.queue request.lane }
     requires count { IsCount request.shape }
     ensures { IfOk result (λ parcel. IsParcelOf request head parcel) }

@@ -1,5 +1,5 @@
 use Rattle.std.specs.Prelude.{ℕ, ◌+◌, ◌-◌, ◌*◌, ◌/◌, ◌%◌, List, [], ◌∷◌, ◌++◌, sum, replicate}
-use Rattle.byteorder.specs.Endian.{little_bytes}
+use Rattle.vg_numbers.specs.Numbers.{le}
 
 -- The parts of the base block, in their order, with the bytes at which they stand (E-EDID 1.4, 3.3 to 3.11).
 
@@ -13,7 +13,7 @@ product = 0x58 ∷ 0xf0 ∷ 0x01 ∷ 0x00 ∷ []
 
 -- 12 to 15: serial number (3.4.3): the scanout, from 1
 abbrev pub serial : ℕ → List ℕ
-serial scanout = little_bytes 4 (scanout + 1)
+serial scanout = le 4 (scanout + 1)
 
 -- 16 to 19: week and year of manufacture (3.4.4), version and revision (3.5)
 abbrev pub version : List ℕ
@@ -39,7 +39,7 @@ pixel_clock width height = (width + 160) * (height + 23) * 60 / 10000
 -- high 4 bits of the width; the same of the height and its 23; front porches and widths of the pulses; sizes and borders; the signal
 abbrev pub detailed : ℕ → ℕ → List ℕ
 detailed width height =
-    little_bytes 2 (pixel_clock width height)
+    le 2 (pixel_clock width height)
     ++ (width % 256 ∷ 0xa0 ∷ width / 256 * 16 ∷ [])
     ++ (height % 256 ∷ 0x17 ∷ height / 256 * 16 ∷ [])
     ++ (0x30 ∷ 0x20 ∷ 0x35 ∷ []) ++ replicate 6 0x00 ++ (0x18 ∷ [])

@@ -50,7 +50,7 @@ fn checksum(bytes: &[u8]) -> u8
 }
 
 /// Bytes 0 to 126.
-#[tactic(auto, unfolding(crate::specs::Edid::unsummed))]
+#[tactic(auto, unfolding(crate::specs::Edid::unsummed, vg_numbers::specs::Numbers::le))]
 fn front(width: u32, height: u32, scanout: u32) -> [u8; 127]
     requires width { width ≤ 1920 }
     requires height { height ≤ 1200 }

@@ -1,5 +1,5 @@
 -- The pixel formats of VIRTIO 1.2, 5.7.6.8 (enum virtio_gpu_formats).
-use Rattle.std.specs.Prelude.{ℕ, ◌==◌, if◌then◌else◌, Option, Some, None, List, [], ◌∷◌, slice_index}
+use Rattle.std.specs.Prelude.{ℕ, ◌==◌, Option, List, [], ◌∷◌, find, slice_index}
 use Rattle.vg_formats.specs.declared.format.Format.{Format}
 use Rattle.vg_formats.specs.declared.format.Format.TheVariants.{B8G8R8A8, B8G8R8X8, A8R8G8B8, X8R8G8B8, R8G8B8A8, X8B8G8R8, A8B8G8R8, R8G8B8X8}
 
@@ -13,18 +13,12 @@ code_of X8B8G8R8 = 68
 code_of A8B8G8R8 = 121
 code_of R8G8B8X8 = 134
 
+abbrev pub formats : List Format
+formats = B8G8R8A8 ∷ B8G8R8X8 ∷ A8R8G8B8 ∷ X8R8G8B8 ∷ R8G8B8A8 ∷ X8B8G8R8 ∷ A8B8G8R8 ∷ R8G8B8X8 ∷ []
+
 -- The format of a code.
 abbrev pub format_of : ℕ → Option Format
-format_of code =
-    if code == 1 then Some B8G8R8A8
-    else if code == 2 then Some B8G8R8X8
-    else if code == 3 then Some A8R8G8B8
-    else if code == 4 then Some X8R8G8B8
-    else if code == 67 then Some R8G8B8A8
-    else if code == 68 then Some X8B8G8R8
-    else if code == 121 then Some A8B8G8R8
-    else if code == 134 then Some R8G8B8X8
-    else None
+format_of code = find (λ format. code == code_of format) formats
 
 -- The bytes B, G, R and A of a pixel, from its four bytes in memory, which stand in the order of the
 -- format's name. A format with X in place of A has none: its pixels are opaque, with A 255.

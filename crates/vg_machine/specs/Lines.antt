@@ -1,18 +1,12 @@
--- How a journal spells the display's acts and commands, and by which of its queues a command goes.
-use Rattle.std.specs.Prelude.{ℕ, Bool, true, false, List, ◌++◌, codes, decimal}
+-- How a journal spells the display's acts and commands.
+use Rattle.std.specs.Prelude.{ℕ, List, ◌++◌, codes, decimal}
 use Rattle.vg_text.specs.Text.{hex_text}
 use Rattle.vg_lines.specs.Text.{act_text, act_reply_text, fault_text, shape_text}
-use Rattle.vg_wire.specs.declared.request.Queue.{Queue}
-use Rattle.vg_wire.specs.declared.request.Queue.TheVariants.{Control, Cursor}
 use Rattle.vg_holds.specs.declared.act.Act.{Act}
 use Rattle.vg_holds.specs.declared.act.ActReply.{ActReply}
 use Rattle.vg_machine.specs.declared.history.Request.{Request}
 use Rattle.vg_machine.specs.declared.history.Reply.{Reply}
 use Rattle.vg_machine.specs.declared.history.Reply.TheVariants.{Fault, Response}
-
-abbrev pub is_control : Queue → Bool
-is_control Control = true
-is_control Cursor = false
 
 abbrev pub reply_text : Reply → List ℕ
 reply_text (Response bytes) = hex_text bytes

@@ -16,7 +16,8 @@ use Rattle.vg_machine.specs.ActStep.{act_step}
 use Rattle.vg_holds.specs.Holds.{denied_of, gives_up, update}
 use Rattle.vg_machine.specs.Step.{step}
 use Rattle.vg_machine.specs.Written.{asks_of, read_by, written_in}
-use Rattle.vg_machine.specs.Lines.{is_control, rest_of_act, rest_of_command}
+use Rattle.vg_wire.specs.Queues.{is_control}
+use Rattle.vg_machine.specs.Lines.{rest_of_act, rest_of_command}
 
 -- A request as its bytes say: the display after it, and the reply.
 abbrev pub plain_step : State → Request → State × Reply

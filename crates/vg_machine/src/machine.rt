@@ -8,7 +8,6 @@ use vg_chain::ChainFault;
 use vg_history::{Begun, Machine};
 use vg_holds::{Act, ActReply, Holds};
 use vg_text::Packed;
-use vg_wire::Queue;
 
 /// An entry of a display's history.
 pub type Entry = vg_history::Entry<Display>;
@@ -36,7 +35,8 @@ impl Machine for Display {
     ghost use Rattle.vg_holds.specs.Holds as holding;
     ghost use Rattle.vg_holds.specs.Holds.{denied_of};
     ghost use Rattle.vg_machine.specs.Replay.{request_step};
-    ghost use Rattle.vg_machine.specs.Lines.{is_control, rest_of_act, rest_of_command};
+    ghost use Rattle.vg_wire.specs.Queues.{is_control};
+    ghost use Rattle.vg_machine.specs.Lines.{rest_of_act, rest_of_command};
     ghost use Rattle.vg_machine.specs.Counted.{act-counts, keeps-allowed, request-counts};
     ghost use Rattle.vg_machine.specs.Written.{asks_of, read_by, written_in};
     ghost use Rattle.vg_machine.specs.Read.{reads-request};
@@ -131,10 +131,7 @@ impl Machine for Display {
     }
 
     fn by_first(request: &Request) -> bool {
-        match request.queue {
-            Queue::Control => true,
-            Queue::Cursor => false,
-        }
+        request.queue.is_control()
     }
 
     fn put_act(out: &mut Packed, act: &Act, reply: &ActReply) -> Result<(), AllocError> {

@@ -2,7 +2,7 @@ use Rattle.std.proofs.Common.{◌≡◌, ℕ, zero, suc, ◌+◌, ◌*◌, ◌^�
 use Rattle.std.specs.List.{range_with_len, flat_map}
 use Rattle.std.proofs.Math.Seq.{drop-append-add}
 use Rattle.std.proofs.lemmas.List.{drop-drop}
-use Rattle.vg_chain.specs.Numbers.{number, number_at, le}
+use Rattle.vg_numbers.specs.Numbers.{number, number_at, le}
 use Rattle.vg_ring.specs.Words.{available_index, used_index, available_place, used_place, image_of, IsAvailable, IsUsed}
 use Rattle.vg_ring.proofs.WordLemmas.{used_bytes}
 

@@ -1,6 +1,6 @@
 use Rattle.std.proofs.Common.{◌≡◌, ℕ, zero, suc, ◌+◌, ◌*◌, ◌/◌, ◌%◌, ◌^◌, ◌<◌, List, [], ◌∷◌, ◌++◌, map, slice_index, refl, ap, arith}
 use Rattle.std.specs.List.{range_with_len, flat_map}
-use Rattle.vg_chain.specs.Numbers.{le}
+use Rattle.vg_numbers.specs.Numbers.{le}
 use Rattle.vg_chain.specs.Made.{bytes_of, table_bytes}
 use Rattle.vg_ring.specs.Words.{addr_place, rest_place, descriptor_from, used_word}
 

@@ -1,5 +1,6 @@
 use Rattle.std.specs.Prelude.{◌≡◌, ℕ, ◌+◌, ◌*◌, ◌^◌, ◌≤◌, Option, None, Some, List, length, take}
 use Rattle.vg_chain.specs.declared.shape.Shape.{Shape}
+use Rattle.vg_chain.specs.Space.{space, most_request, most_room}
 use Rattle.vg_chain.specs.Made.{AreTables, IsMeasured}
 use Rattle.vg_asks.specs.declared.asked.Asked.{Asked}
 use Rattle.vg_asks.specs.Asks.{asked}
@@ -19,10 +20,10 @@ pub record ParcelData : Type 0 where
   pub tables : List ℕ
   pub response : List ℕ
 
--- The address of a request's first byte.
+-- The address of a request's first byte: each head of each queue has a space of its own.
 abbrev pub base_of : Queue → ℕ → ℕ
-base_of Control head = 2 ^ 48 + 65536 * head
-base_of Cursor head = 2 ^ 48 + 2 ^ 32 + 65536 * head
+base_of Control head = 2 ^ 48 + space * head
+base_of Cursor head = 2 ^ 48 + 2 ^ 32 + space * head
 
 -- The cursor queue is lane 65, and the lanes of the control queue are those up to 64.
 abbrev pub IsLane : Queue → ℕ → Type 0
@@ -30,8 +31,8 @@ IsLane Control lane = lane ≤ 64
 IsLane Cursor lane = lane ≡ 65
 
 pub record IsParcel (p : ParcelData) : Type 0 where
-  pub request : length p.request ≤ 49152
-  pub room : p.room ≤ 8192
+  pub request : length p.request ≤ most_request
+  pub room : p.room ≤ most_room
   pub response : length p.response ≤ p.room
   pub lane : IsLane p.queue p.lane
   pub tables : AreTables p.shape (length p.request) p.room (base_of p.queue p.head) p.tables

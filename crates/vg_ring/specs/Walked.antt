@@ -5,12 +5,13 @@ use Rattle.vg_chain.specs.declared.chain.ChainFault.{ChainFault}
 use Rattle.vg_chain.specs.declared.descriptor.Segment.{Segment}
 use Rattle.vg_chain.specs.declared.shape.Shape.{Shape}
 use Rattle.vg_chain.specs.declared.shape.Shape.TheVariants.{Plain, Pieces, Indirect, Mixed, Bad}
+use Rattle.vg_chain.specs.Space.{room_at}
 use Rattle.vg_chain.specs.Made.{Covers, chain_in}
 use Rattle.vg_ring.specs.Cargo.{ParcelData, base_of}
 
 -- The walk comes to this chain, which is n bytes of a request and r bytes of room, in order.
 abbrev pub GivesWhole : Chain → ℕ → ℕ → ℕ → Result Chain ChainFault → Type 0
-GivesWhole chain n r b walked = (walked ≡ Ok chain) × Covers b n chain.readable × Covers (b + 49152) r chain.writable
+GivesWhole chain n r b walked = (walked ≡ Ok chain) × Covers b n chain.readable × Covers (room_at b) r chain.writable
 
 -- What a walk answers where the shape stands in the ring as it was published: the shape's fault, or the shape's own segments,
 -- one by one, which are all bytes of the request and of the room.

@@ -1,7 +1,7 @@
 use Rattle.std.specs.Prelude.{◌≡◌, ℕ, ◌+◌, ◌*◌, ◌/◌, ◌%◌, ◌^◌, ◌<◌, List, ◌++◌, length, map, slice_index}
 use Rattle.std.specs.List.{range_with_len, flat_map}
 use Rattle.vg_chain.specs.declared.descriptor.Descriptor.{Descriptor}
-use Rattle.vg_chain.specs.Numbers.{le, number_at}
+use Rattle.vg_numbers.specs.Numbers.{le, number_at}
 
 -- Where a ring of size n has its words: the two indexes, two words for each descriptor, one for each available element
 -- and one for each used element (VIRTIO 1.2, 2.7.5, 2.7.6 and 2.7.8).

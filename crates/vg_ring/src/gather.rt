@@ -1,6 +1,7 @@
 //! Bytes that are read and written by the segments of a chain.
 
 ghost use Rattle.std.specs.Prelude.{◌≡◌, ℕ, ◌+◌, ◌≤◌, [], ◌∷◌, length, take, min, IfErr, IfOk};
+ghost use Rattle.vg_chain.specs.Space.{most_room};
 ghost use Rattle.vg_chain.specs.Made.{Covers};
 ghost use Rattle.vg_ring.specs.Walked.{IsFront};
 
@@ -59,7 +60,7 @@ fn gather(
 
 /// How many bytes the segments have.
 pub(crate) fn total(segments: &[Segment]) -> u32
-    requires { (addr : ℕ) × (room : ℕ) × Covers addr room segments.now × (room ≤ 8192) }
+    requires { (addr : ℕ) × (room : ℕ) × Covers addr room segments.now × (room ≤ most_room) }
     ensures { (addr room : ℕ) → Covers addr room segments.now → result ≡ room }
 {
     let mut total = 0;

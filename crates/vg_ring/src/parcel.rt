@@ -2,6 +2,7 @@
 
 ghost use Rattle.std.specs.Prelude.{◌≡◌, ◌+◌, ◌≤◌, ◌^◌, Ok, false, [], length, take, min, IfErr, IfOk};
 ghost use Rattle.vg_asks.specs.Asks.{asked};
+ghost use Rattle.vg_chain.specs.Space.{most_request, most_room, IsPlaced};
 ghost use Rattle.vg_chain.specs.Made.{Covers, IsCount, AreTables};
 ghost use Rattle.vg_ring.specs.Cargo.{IsLane, IsExtent, Tells, asked_of};
 ghost use Rattle.vg_ring.specs.Cargo as cargo;
@@ -11,7 +12,7 @@ use crate::gather::{read_by, scatter, total};
 use std::alloc::{AllocError, Global};
 use std::marker::Model;
 use std::snapshot::Snapshot;
-use vg_chain::{Chain, ChainFault, Extent, Parts, Segment, Shape};
+use vg_chain::{Chain, ChainFault, Extent, Parts, ROOM_OFFSET, SPACE, Segment, Shape};
 use vg_wire::Queue;
 
 /// The lane of a request and its number in that lane.
@@ -83,13 +84,13 @@ impl Model for Opened {
 /// The address of the first byte of a request.
 fn base_of(queue: Queue, head: u16) -> u64
     ensures base { result ≡ cargo.base_of queue head }
-    ensures small { result + 65536 ≤ 2 ^ 64 }
+    ensures small { IsPlaced result }
 {
     let from = match queue {
         Queue::Control => 0x1_0000_0000_0000,
         Queue::Cursor => 0x1_0001_0000_0000,
     };
-    from + 65536 * u64::from(head)
+    from + SPACE * u64::from(head)
 }
 
 /// Writes bytes into the room by its segments, which keeps its length.
@@ -113,8 +114,8 @@ impl Parcel {
         request: Vec<u8>,
         room: u32,
     ) -> Result<Parcel, AllocError>
-        requires request { length request.items ≤ 49152 }
-        requires room { room ≤ 8192 }
+        requires request { length request.items ≤ most_request }
+        requires room { room ≤ most_room }
         requires lane { IsLane queue tag.lane }
         requires count { IsCount shape }
         ensures parcel { IfOk result (λ p. p ≡ record { queue = queue; head = head; lane = tag.lane; ordinal = tag.ordinal; shape = shape; request = request.items; room = room; tables = p.tables; response = [] }) }
@@ -248,7 +249,7 @@ impl Opened {
         ensures count { result ≡ min (length bytes.now) self.old.room }
         ensures response { self.new ≡ record self.old { response = take result bytes.now } }
     {
-        let start = base_of(self.queue, self.head) + 49152;
+        let start = base_of(self.queue, self.head) + ROOM_OFFSET;
         let count = bytes.len().min(self.room.len());
         let writable = chain.writable.as_slice();
         write(&mut self.room, start, writable, &bytes[..count]);

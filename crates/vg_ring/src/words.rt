@@ -2,7 +2,7 @@
 
 ghost use Rattle.std.specs.Prelude.{◌≡◌, ℕ, ◌+◌, ◌*◌, ◌/◌, ◌%◌, ◌^◌, ◌<◌, ◌++◌, List, slice_index};
 ghost use Rattle.vg_chain.specs.Made.{table_bytes};
-ghost use Rattle.vg_chain.specs.Numbers.{le};
+ghost use Rattle.vg_numbers.specs.Numbers.{le};
 ghost use Rattle.vg_ring.specs.Words as layout;
 ghost use Rattle.vg_ring.specs.Words.{IsAvailable, IsUsed, descriptor_from, image_of, table_from};
 

@@ -53,11 +53,13 @@ fn respond(
         return unread(cargo);
     };
     match cargo.open(alloc, &walked) {
-        Ok(Opening {
-            command,
-            parcel,
-            pass,
-        }) => {
+        Ok(
+            Opening {
+                command,
+                parcel,
+                pass,
+            },
+        ) => {
             let (cargo, len) = answered(parcel, pass, &walked, command.bytes.as_slice());
             Back {
                 cargo,

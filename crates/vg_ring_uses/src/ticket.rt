@@ -1,6 +1,7 @@
 //! A pass that stands for no machine's.
 
 ghost use Rattle.std.specs.Prelude.{◌≡◌, ◌≤◌, None, true, false, [], length, take, min, IfOk};
+ghost use Rattle.vg_chain.specs.Space.{most_request, most_room};
 ghost use Rattle.vg_chain.specs.Made.{IsCount};
 ghost use Rattle.vg_ring.specs.Cargo.{IsLane, asked_of};
 ghost use Rattle.vg_ring.specs.Walked.{IsWalkOf};
@@ -67,8 +68,8 @@ pub fn ticketed(
     request: Vec<u8>,
     room: u32,
 ) -> Result<Cargo<Ticket>, AllocError>
-    requires request { length request.items ≤ 49152 }
-    requires room { room ≤ 8192 }
+    requires request { length request.items ≤ most_request }
+    requires room { room ≤ most_room }
     requires lane { IsLane queue tag.lane }
     requires count { IsCount shape }
     ensures parcel { IfOk result (λ c. c.parcel ≡ record { queue = queue; head = head; lane = tag.lane; ordinal = tag.ordinal; shape = shape; request = request.items; room = room; tables = c.parcel.tables; response = [] }) }

@@ -1,9 +1,10 @@
 -- The limits that each script keeps.
-use Rattle.std.specs.Prelude.{ℕ, ℤ, pos, negsuc, ◌*◌, ◌==◌, ◌<◌, ◌≤◌, List, [], ◌∷◌, length, sum_by, count_by, All, IsTrue}
+use Rattle.std.specs.Prelude.{ℕ, ℤ, pos, negsuc, ◌*◌, ◌<◌, ◌≤◌, is_some, List, [], ◌∷◌, length, sum_by, count_by, All, IsTrue}
 use Rattle.std.specs.Bool.{⊤}
-use Rattle.std.specs.List.{list_any}
+use Rattle.vg_formats.specs.Formats.{format_of}
 use Rattle.vg_chain.specs.declared.shape.Shape.{Shape}
 use Rattle.vg_chain.specs.declared.shape.Shape.TheVariants.{Pieces}
+use Rattle.vg_chain.specs.Space.{most_room}
 use Rattle.vg_calls.specs.declared.call.Call.{Call}
 use Rattle.vg_script.specs.declared.types.Feature.{Feature}
 use Rattle.vg_script.specs.declared.types.Line.{Line}
@@ -14,9 +15,9 @@ use Rattle.vg_calls.specs.declared.call.Call.TheVariants.{Info, Edid, Buffer, St
 abbrev pub IsBetween : ℕ → ℕ → ℕ → Type 0
 IsBetween low high n = (low ≤ n) × (n ≤ high)
 
--- The codes of the eight formats.
+-- The code of a format.
 abbrev pub IsFormatCode : ℕ → Type 0
-IsFormatCode code = IsTrue (list_any (λ c. code == c) (1 ∷ 2 ∷ 3 ∷ 4 ∷ 67 ∷ 68 ∷ 121 ∷ 134 ∷ []))
+IsFormatCode code = IsTrue (is_some (format_of code))
 
 -- A request in pieces has 2 to 8 of them.
 abbrev pub ShapeInLimits : Shape → Type 0
@@ -48,7 +49,7 @@ CallInLimits displays (Cursor scanout name x y hot_x hot_y) =
 CallInLimits displays (Move scanout x y) = (scanout < displays) × IsPosition x × IsPosition y
 CallInLimits displays (Uuid name) = ⊤
 CallInLimits displays (Close name) = ⊤
-CallInLimits displays (Raw queue room shape bytes) = IsBetween 0 8192 room × ShapeInLimits shape × IsBetween 0 4096 (length bytes)
+CallInLimits displays (Raw queue room shape bytes) = IsBetween 0 most_room room × ShapeInLimits shape × IsBetween 0 4096 (length bytes)
 
 abbrev pub ClientInLimits : ℕ → List Line → Type 0
 ClientInLimits displays lines = All (λ line. CallInLimits displays line.call) lines

@@ -1,17 +1,18 @@
 -- The lines of a client, one row for each word: what has to hold of how its numbers are spelled, of the limits
 -- and of the names, and which call it is. `displays` is how many displays there are, and `table` has the names
 -- that are defined before the line. A word or a count of arguments that the grammar doesn't know has no row.
-use Rattle.std.specs.Prelude.{ℕ, ◌*◌, ◌/◌, ◌==◌, ◌&&◌, ◌||◌, not, nat_lt, nat_le, Bool, true, is_none, List, [], ◌∷◌, length, Option, Some, None, Result, Ok, Err, if◌then◌else◌, codes, bytes_eq}
-use Rattle.std.specs.List.{list_any}
+use Rattle.std.specs.Prelude.{ℕ, ◌*◌, ◌/◌, ◌==◌, ◌&&◌, ◌||◌, not, nat_lt, nat_le, Bool, true, is_none, is_some, List, [], ◌∷◌, length, Option, Some, None, Result, Ok, Err, if◌then◌else◌, codes, bytes_eq}
 use Rattle.std.specs.Int.{is_in_range}
 use Rattle.vg_words.specs.declared.kind.Kind.{Kind}
 use Rattle.vg_words.specs.declared.kind.Kind.TheVariants.{Word, Number, Limit, Name}
 use Rattle.vg_formats.specs.declared.rect.Rect.{Rect}
+use Rattle.vg_formats.specs.Formats.{format_of}
 use Rattle.vg_wire.specs.declared.request.Queue.{Queue}
 use Rattle.vg_wire.specs.declared.request.Queue.TheVariants as queues
 use Rattle.vg_chain.specs.declared.shape.Shape.{Shape}
 use Rattle.vg_chain.specs.declared.shape.Shape.TheVariants.{Plain, Pieces, Indirect, Mixed, Bad}
 use Rattle.vg_chain.specs.declared.chain.ChainFault.TheVariants.{Index, Loop, Nested, NextWithIndirect, TableLength, Order, Range}
+use Rattle.vg_chain.specs.Space.{most_room}
 use Rattle.vg_calls.specs.declared.call.Call.{Call}
 use Rattle.vg_calls.specs.declared.call.Call.TheVariants.{Info, Edid, Buffer, Store, Load, Send, Flush, Take, Drop, Hide, Show, Flip, Cursor, Move, Uuid, Close, Raw}
 use Rattle.vg_calls.specs.declared.call.NameRef.{NameRef}
@@ -36,9 +37,9 @@ pub record Row : Type 0 where
 abbrev pub is_any : List ℕ → Bool
 is_any word = is_within 0 4294967295 word
 
--- The codes of the eight formats.
+-- The code of a format.
 abbrev pub is_format : List ℕ → Bool
-is_format word = list_any (λ code. value word == code) (1 ∷ 2 ∷ 3 ∷ 4 ∷ 67 ∷ 68 ∷ 121 ∷ 134 ∷ [])
+is_format word = is_some (format_of (value word))
 
 -- A count of bytes and how many times they are stored: each within its limits, and their product too.
 abbrev pub are_times : ℕ → List ℕ → Bool
@@ -260,7 +261,7 @@ shape_of word =
 unfoldable pub request_row : NameTable → Option Queue → Option Shape → (room hex : List ℕ) → Option Row
 request_row table (Some queue) (Some shape) room hex = Some (record {
   numbers = is_number room && is_hex_or_none hex;
-  limits = is_within 0 8192 room && nat_le (length hex / 2) 4096;
+  limits = is_within 0 most_room room && nat_le (length hex / 2) 4096;
   names = true;
   call = Raw queue (value room) shape (bytes_or_none hex);
   after = table;

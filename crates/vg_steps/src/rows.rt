@@ -12,8 +12,8 @@ ghost use Rattle.vg_steps.specs.Code.{table_of, Judges, Finds, Knows};
 use crate::names::{NameKind, Names};
 use std::alloc::Global;
 use vg_calls::{Call, NameRef};
-use vg_chain::{ChainFault, Shape};
-use vg_formats::Rect;
+use vg_chain::{ChainFault, MOST_ROOM, Shape};
+use vg_formats::{Format, Rect};
 use vg_wire::Queue;
 use vg_words::{
     Kind, Stop, both_spelled, bytes_or_none, hex_bytes, is, is_name, is_number, is_signed, limited,
@@ -339,7 +339,7 @@ pub(crate) fn raw(
     let shape = shape_of(shape)?;
     spelled(room)?;
     let bytes = bytes_or_none(alloc, hex)?;
-    let room = limited(room, 0, 8_192)?;
+    let room = limited(room, 0, MOST_ROOM)?;
     if hex.len() / 2 > 4_096 {
         return Err(Stop::Fault(Kind::Limit));
     }
@@ -474,9 +474,10 @@ fn format_code(number: &[u8]) -> Result<u32, Kind>
     requires { is_number number.now ≡ true }
     ensures { Yields (is_format number.now) (value number.now) Kind.Limit result }
 {
-    match value(number) {
-        code @ (1..=4 | 67 | 68 | 121 | 134) => Ok(code as u32),
-        _ => Err(Kind::Limit),
+    let code = limited(number, 0, u32::MAX)?;
+    match Format::of(code) {
+        Some(_) => Ok(code),
+        None => Err(Kind::Limit),
     }
 }
 

@@ -1,6 +1,7 @@
 -- What a call that is within its limits plans: few tasks, each within its limits, or what is denied.
 use Rattle.std.specs.Prelude.{◌≡◌, ◌≤◌, ◌<◌, ◌+◌, ℕ, List, [], ◌∷◌, length, Result, Ok, Err}
 use Rattle.std.specs.List.{AllByRecursion}
+use Rattle.vg_chain.specs.Space.{most_request, most_room}
 use Rattle.vg_chain.specs.Made.{IsCount}
 use Rattle.vg_holds.specs.declared.act.What.{What}
 use Rattle.vg_holds.specs.declared.holds.Holds.{Holds}
@@ -26,7 +27,7 @@ weights (task ∷ more) = weight_of task.change + weights more
 abbrev pub IsCallFit : ℕ → Call → Type 0
 IsCallFit displays (calls.Buffer width height format) = (width ≤ 640) × (height ≤ 480)
 IsCallFit displays (calls.Drop scanout) = scanout < displays
-IsCallFit displays (calls.Raw queue room shape bytes) = (length bytes ≤ 49152) × (room ≤ 8192) × IsCount shape
+IsCallFit displays (calls.Raw queue room shape bytes) = (length bytes ≤ most_request) × (room ≤ most_room) × IsCount shape
 IsCallFit displays call = Unit {0}
 
 -- What was made of a plan: its tasks, which are few and fit, or what is denied.

@@ -4,9 +4,9 @@ use Rattle.std.proofs.lemmas.List.{take_more, append-nil}
 use Rattle.std.proofs.lemmas.List.Elements.{All-head, All-tail, All-more}
 use Rattle.std.proofs.lemmas.List.Concat.{flat_map-append}
 use Rattle.vg_formats.specs.declared.entry.MemEntry.{MemEntry}
-use Rattle.vg_wire.specs.Numbers.{number_at, le32, le64}
+use Rattle.vg_numbers.specs.Numbers.{number_at, le}
 use Rattle.vg_wire.specs.Entries.{IsEntry, entry_at, entries_at, entry_bytes, entries_bytes}
-use Rattle.vg_wire.proofs.HeaderLemmas.{length-le32, length-le64, number_at-le32, number_at-le64}
+use Rattle.vg_numbers.proofs.NumberLemmas.{length-le, number_at-le}
 
 -- the bytes of one entry more
 pub bytes-more : (now before start : List ℕ) (entries : List MemEntry) (i : ℕ) (d : MemEntry) → i < length entries
@@ -22,7 +22,7 @@ fit-more entries i d inside so_far here = All-more IsEntry entries i d inside so
 
 pub length-entry_bytes : (entry : MemEntry) → length (entry_bytes entry) ≡ 16
 unfolding entry_bytes
-length-entry_bytes entry = simp length-append (omega (arith, length-le64 entry.addr, length-le32 entry.length, length-le32 0))
+length-entry_bytes entry = simp length-append (omega (arith, length-le 8 entry.addr, length-le 4 entry.length, length-le 4 0))
 
 pub length-entries_bytes : (entries : List MemEntry) → length (entries_bytes entries) ≡ 16 * length entries
 length-entries_bytes [] = refl
@@ -32,11 +32,11 @@ length-entries_bytes (entry ∷ more) = simp length-append (omega (arith, length
 entry_at-entry_bytes : (entry : MemEntry) (front rest : List ℕ) (at : ℕ) → length front ≡ at → IsEntry entry → entry_at at (front ++ (entry_bytes entry ++ rest)) ≡ entry
 unfolding entry_bytes
 entry_at-entry_bytes entry front rest at here fits =
-    let long : length (front ++ le64 entry.addr) ≡ at + 8 = simp length-append (omega (arith, length-le64 entry.addr)) in
-    let addr : number_at 8 at (front ++ ((le64 entry.addr ++ le32 entry.length ++ le32 0) ++ rest)) ≡ entry.addr =
-    simp append_assoc (number_at-le64 front (le32 entry.length ++ (le32 0 ++ rest)) at entry.addr here fits.addr) in
-    let size : number_at 4 (at + 8) (front ++ ((le64 entry.addr ++ le32 entry.length ++ le32 0) ++ rest)) ≡ entry.length =
-    simp append_assoc (simp append_assoc at (number_at-le32 (front ++ le64 entry.addr) (le32 0 ++ rest) (at + 8) entry.length long fits.length)) in
+    let long : length (front ++ le 8 entry.addr) ≡ at + 8 = simp length-append (omega (arith, length-le 8 entry.addr)) in
+    let addr : number_at 8 at (front ++ ((le 8 entry.addr ++ le 4 entry.length ++ le 4 0) ++ rest)) ≡ entry.addr =
+    simp append_assoc (number_at-le 8 front (le 4 entry.length ++ (le 4 0 ++ rest)) at entry.addr here fits.addr) in
+    let size : number_at 4 (at + 8) (front ++ ((le 8 entry.addr ++ le 4 entry.length ++ le 4 0) ++ rest)) ≡ entry.length =
+    simp append_assoc (simp append_assoc at (number_at-le 4 (front ++ le 8 entry.addr) (le 4 0 ++ rest) (at + 8) entry.length long fits.length)) in
     rw (addr, size) refl
 
 -- the entries that were written one after another

@@ -1,4 +1,3 @@
-pub mod Numbers
 pub mod HeaderLemmas
 pub mod EntryLemmas
 pub mod TwoDLemmas

@@ -1,36 +1,36 @@
 use Rattle.std.proofs.Common.{◌≡◌, ℕ, suc, zero, ◌+◌, ◌-◌, ◌*◌, ◌<◌, ◌≤◌, ◌^◌, List, [], ◌∷◌, ◌++◌, length, replicate, map, Some, None, false, refl, ap, sym, ◌∙◌, arith, append_assoc, length-append}
 use Rattle.std.specs.List.{flat_map, range_with_len}
-use Rattle.vg_wire.specs.Numbers.{number_at, le32}
+use Rattle.vg_numbers.specs.Numbers.{number_at, le}
 use Rattle.vg_wire.specs.Modes.{Mode, IsModes, FitsMode, AllFit, mode_bytes, modes_bytes, sixteen, slot_at, slots, slots_of, trimmed, before_trimmed, ends_in_none}
 use Rattle.std.proofs.lemmas.List.{append-nil, length-replicate}
-use Rattle.vg_wire.proofs.HeaderLemmas.{length-le32, number_at-le32}
+use Rattle.vg_numbers.proofs.NumberLemmas.{length-le, number_at-le}
 use Rattle.vg_wire.proofs.ModesLemmas.{trimmed-none, length-trimmed, length-slots_of, ends_in_none-trimmed}
 
 -- six numbers in a row
 six : ℕ → ℕ → ℕ → ℕ → ℕ → ℕ → List ℕ
-six a b c d e f = le32 a ++ le32 b ++ le32 c ++ le32 d ++ le32 e ++ le32 f
+six a b c d e f = le 4 a ++ le 4 b ++ le 4 c ++ le 4 d ++ le 4 e ++ le 4 f
 
 -- the third, the fourth and the fifth of six
 third : (front rest : List ℕ) (a b c d e f at : ℕ) → length front ≡ at → c < 2 ^ 32 → number_at 4 (at + 8) (front ++ (six a b c d e f ++ rest)) ≡ c
 unfolding six
 third front rest a b c d e f at here fits =
-    let long : length ((front ++ le32 a) ++ le32 b) ≡ at + 8 = simp length-append (omega (arith, length-le32 a, length-le32 b)) in
-    simp append_assoc (simp append_assoc at (number_at-le32 ((front ++ le32 a) ++ le32 b) (le32 d ++ (le32 e ++ (le32 f ++ rest))) (at + 8) c long fits))
+    let long : length ((front ++ le 4 a) ++ le 4 b) ≡ at + 8 = simp length-append (omega (arith, length-le 4 a, length-le 4 b)) in
+    simp append_assoc (simp append_assoc at (number_at-le 4 ((front ++ le 4 a) ++ le 4 b) (le 4 d ++ (le 4 e ++ (le 4 f ++ rest))) (at + 8) c long fits))
 
 fourth : (front rest : List ℕ) (a b c d e f at : ℕ) → length front ≡ at → d < 2 ^ 32 → number_at 4 (at + 12) (front ++ (six a b c d e f ++ rest)) ≡ d
 unfolding six
 fourth front rest a b c d e f at here fits =
-    let long : length (((front ++ le32 a) ++ le32 b) ++ le32 c) ≡ at + 12 = simp length-append (omega (arith, length-le32 a, length-le32 b, length-le32 c)) in
-    simp append_assoc (simp append_assoc at (number_at-le32 (((front ++ le32 a) ++ le32 b) ++ le32 c) (le32 e ++ (le32 f ++ rest)) (at + 12) d long fits))
+    let long : length (((front ++ le 4 a) ++ le 4 b) ++ le 4 c) ≡ at + 12 = simp length-append (omega (arith, length-le 4 a, length-le 4 b, length-le 4 c)) in
+    simp append_assoc (simp append_assoc at (number_at-le 4 (((front ++ le 4 a) ++ le 4 b) ++ le 4 c) (le 4 e ++ (le 4 f ++ rest)) (at + 12) d long fits))
 
 fifth : (front rest : List ℕ) (a b c d e f at : ℕ) → length front ≡ at → e < 2 ^ 32 → number_at 4 (at + 16) (front ++ (six a b c d e f ++ rest)) ≡ e
 unfolding six
 fifth front rest a b c d e f at here fits =
-    let long : length ((((front ++ le32 a) ++ le32 b) ++ le32 c) ++ le32 d) ≡ at + 16 = simp length-append (omega (arith, length-le32 a, length-le32 b, length-le32 c, length-le32 d)) in
-    simp append_assoc (simp append_assoc at (number_at-le32 ((((front ++ le32 a) ++ le32 b) ++ le32 c) ++ le32 d) (le32 f ++ rest) (at + 16) e long fits))
+    let long : length ((((front ++ le 4 a) ++ le 4 b) ++ le 4 c) ++ le 4 d) ≡ at + 16 = simp length-append (omega (arith, length-le 4 a, length-le 4 b, length-le 4 c, length-le 4 d)) in
+    simp append_assoc (simp append_assoc at (number_at-le 4 ((((front ++ le 4 a) ++ le 4 b) ++ le 4 c) ++ le 4 d) (le 4 f ++ rest) (at + 16) e long fits))
 
 none-six : mode_bytes None ≡ six 0 0 0 0 0 0
-unfolding six le32 mode_bytes
+unfolding six le mode_bytes
 none-six = refl
 
 some-six : (width height : ℕ) → mode_bytes (Some (width, height)) ≡ six 0 0 width height 1 0
@@ -39,7 +39,7 @@ some-six width height = refl
 
 length-six : (a b c d e f : ℕ) → length (six a b c d e f) ≡ 24
 unfolding six
-length-six a b c d e f = simp length-append (omega (arith, length-le32 a, length-le32 b, length-le32 c, length-le32 d, length-le32 e, length-le32 f))
+length-six a b c d e f = simp length-append (omega (arith, length-le 4 a, length-le 4 b, length-le 4 c, length-le 4 d, length-le 4 e, length-le 4 f))
 
 pub length-mode_bytes : (mode : Mode) → length (mode_bytes mode) ≡ 24
 length-mode_bytes None = ap length none-six ∙ length-six 0 0 0 0 0 0

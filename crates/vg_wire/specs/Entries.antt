@@ -1,7 +1,7 @@
 use Rattle.std.specs.Prelude.{ℕ, ◌+◌, ◌*◌, ◌^◌, ◌<◌, List, ◌++◌, map}
 use Rattle.std.specs.List.{flat_map, range_with_len}
 use Rattle.vg_formats.specs.declared.entry.MemEntry.{MemEntry}
-use Rattle.vg_wire.specs.Numbers.{number_at, le32, le64}
+use Rattle.vg_numbers.specs.Numbers.{number_at, le}
 
 -- The entry whose 16 bytes stand from place at (VIRTIO 1.2, 5.7.6.8, struct virtio_gpu_mem_entry).
 abbrev pub entry_at : ℕ → List ℕ → MemEntry
@@ -13,7 +13,7 @@ entries_at at n bytes = map (λ i. entry_at (at + 16 * i) bytes) (range_with_len
 
 -- An entry's 16 bytes, of which the last four are padding.
 unfoldable pub entry_bytes : MemEntry → List ℕ
-entry_bytes entry = le64 entry.addr ++ le32 entry.length ++ le32 0
+entry_bytes entry = le 8 entry.addr ++ le 4 entry.length ++ le 4 0
 
 -- The bytes of these entries, one after another.
 abbrev pub entries_bytes : List MemEntry → List ℕ

@@ -1,6 +1,6 @@
 use Rattle.std.specs.Prelude.{ℕ, ◌^◌, ◌<◌, List, [], ◌∷◌, ◌++◌, slice_index}
 use Rattle.vg_wire.specs.declared.header.Header.{Header}
-use Rattle.vg_wire.specs.Numbers.{number_at, le32, le64}
+use Rattle.vg_numbers.specs.Numbers.{number_at, le}
 
 -- The header that the first 24 bytes spell, each field at its place (VIRTIO 1.2, 5.7.6.7, struct virtio_gpu_ctrl_hdr).
 abbrev pub header_of : List ℕ → Header
@@ -15,7 +15,7 @@ header_of bytes = record {
 -- The one spelling of a header, with padding 0.
 unfoldable pub header_bytes : Header → List ℕ
 header_bytes header =
-    le32 header.kind ++ le32 header.flags ++ le64 header.fence_id ++ le32 header.ctx_id
+    le 4 header.kind ++ le 4 header.flags ++ le 8 header.fence_id ++ le 4 header.ctx_id
     ++ (header.ring_idx ∷ 0 ∷ 0 ∷ 0 ∷ [])
 
 -- A header whose fields fit their bytes, as each value of the type does.

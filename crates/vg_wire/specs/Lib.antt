@@ -1,4 +1,4 @@
-pub mod Numbers
+pub mod Queues
 pub mod Kinds
 pub mod Header
 pub mod Rect

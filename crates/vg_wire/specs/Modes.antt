@@ -1,6 +1,6 @@
 use Rattle.std.specs.Prelude.{◌≡◌, ◌≤◌, ◌<◌, ◌==◌, ℕ, ◌-◌, ◌+◌, ◌*◌, ◌^◌, Bool, false, if◌then◌else◌, Option, Some, None, is_none, List, [], ◌∷◌, ◌++◌, length, map, replicate}
 use Rattle.std.specs.List.{flat_map, range_with_len}
-use Rattle.vg_wire.specs.Numbers.{number_at, le32}
+use Rattle.vg_numbers.specs.Numbers.{number_at, le}
 
 -- A display's width and height in pixels, or none.
 abbrev pub Mode : Type 0
@@ -18,7 +18,7 @@ IsModes modes = (length modes ≤ 16) × (ends_in_none modes ≡ false)
 -- A mode's 24 bytes: its rectangle, enabled and flags; zeros for none (VIRTIO 1.2, 5.7.6.8, struct virtio_gpu_display_one).
 unfoldable pub mode_bytes : Mode → List ℕ
 mode_bytes None = replicate 24 0
-mode_bytes (Some (width, height)) = le32 0 ++ le32 0 ++ le32 width ++ le32 height ++ le32 1 ++ le32 0
+mode_bytes (Some (width, height)) = le 4 0 ++ le 4 0 ++ le 4 width ++ le 4 height ++ le 4 1 ++ le 4 0
 
 -- The modes of 16 scanouts: those past the last are none.
 abbrev pub sixteen : List Mode → List Mode

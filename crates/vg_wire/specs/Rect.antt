@@ -1,6 +1,6 @@
 use Rattle.std.specs.Prelude.{ℕ, ◌+◌, ◌^◌, ◌<◌, List, ◌++◌}
 use Rattle.vg_formats.specs.declared.rect.Rect.{Rect}
-use Rattle.vg_wire.specs.Numbers.{number_at, le32}
+use Rattle.vg_numbers.specs.Numbers.{number_at, le}
 
 -- The rectangle whose 16 bytes stand from place at (VIRTIO 1.2, 5.7.6.8, struct virtio_gpu_rect).
 abbrev pub rect_at : ℕ → List ℕ → Rect
@@ -13,7 +13,7 @@ rect_at at bytes = record {
 
 -- A rectangle's 16 bytes.
 unfoldable pub rect_bytes : Rect → List ℕ
-rect_bytes rect = le32 rect.x ++ le32 rect.y ++ le32 rect.width ++ le32 rect.height
+rect_bytes rect = le 4 rect.x ++ le 4 rect.y ++ le 4 rect.width ++ le 4 rect.height
 
 -- A rectangle whose numbers fit their bytes, as each value of the type does.
 pub record IsRect (rect : Rect) : Type 0 where

@@ -3,7 +3,7 @@ use Rattle.std.specs.List.{All}
 use Rattle.vg_wire.specs.declared.two_d.Command2d.{Command2d}
 use Rattle.vg_wire.specs.declared.two_d.Command2d.TheVariants.{DisplayInfo, Create2d, Unref, SetScanout, Flush, Transfer, Attach, Detach}
 use Rattle.vg_wire.specs.Kinds.{GET_DISPLAY_INFO, RESOURCE_ATTACH_BACKING, RESOURCE_CREATE_2D, RESOURCE_DETACH_BACKING, RESOURCE_FLUSH, RESOURCE_UNREF, SET_SCANOUT, TRANSFER_TO_HOST_2D}
-use Rattle.vg_wire.specs.Numbers.{number_at, le32, le64}
+use Rattle.vg_numbers.specs.Numbers.{number_at, le}
 use Rattle.vg_wire.specs.Rect.{rect_at, rect_bytes, IsRect}
 use Rattle.vg_wire.specs.Entries.{entries_at, entries_bytes, IsEntry}
 
@@ -78,13 +78,13 @@ kind_of_2d (Detach resource) = RESOURCE_DETACH_BACKING
 -- A command's fields, after the header, with padding 0.
 abbrev pub body_of_2d : Command2d → List ℕ
 body_of_2d DisplayInfo = []
-body_of_2d (Create2d resource format width height) = le32 resource ++ le32 format ++ le32 width ++ le32 height
-body_of_2d (Unref resource) = le32 resource ++ le32 0
-body_of_2d (SetScanout rect scanout resource) = rect_bytes rect ++ le32 scanout ++ le32 resource
-body_of_2d (Flush rect resource) = rect_bytes rect ++ le32 resource ++ le32 0
-body_of_2d (Transfer rect offset resource) = rect_bytes rect ++ le64 offset ++ le32 resource ++ le32 0
-body_of_2d (Attach resource entries) = le32 resource ++ le32 (length entries) ++ entries_bytes entries
-body_of_2d (Detach resource) = le32 resource ++ le32 0
+body_of_2d (Create2d resource format width height) = le 4 resource ++ le 4 format ++ le 4 width ++ le 4 height
+body_of_2d (Unref resource) = le 4 resource ++ le 4 0
+body_of_2d (SetScanout rect scanout resource) = rect_bytes rect ++ le 4 scanout ++ le 4 resource
+body_of_2d (Flush rect resource) = rect_bytes rect ++ le 4 resource ++ le 4 0
+body_of_2d (Transfer rect offset resource) = rect_bytes rect ++ le 8 offset ++ le 4 resource ++ le 4 0
+body_of_2d (Attach resource entries) = le 4 resource ++ le 4 (length entries) ++ entries_bytes entries
+body_of_2d (Detach resource) = le 4 resource ++ le 4 0
 
 -- A command whose number of entries fits nr_entries.
 abbrev pub FitsCount : Command2d → Type 0

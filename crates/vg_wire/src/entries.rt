@@ -5,10 +5,10 @@ ghost use Rattle.std.specs.List.{All};
 ghost use Rattle.vg_wire.specs.Entries as layout;
 ghost use Rattle.vg_wire.specs.Entries.{entries_at, entries_bytes, entry_bytes, IsEntry};
 
-use crate::fields::{put_u32, put_u64, u32_at, u64_at};
 use std::alloc::{AllocError, Global};
 use vg_formats::MemEntry;
 use vg_list::Seq;
+use vg_numbers::{put_u32, put_u64, u32_at, u64_at};
 
 /// Ranges of guest memory, in the order in which they make up a backing.
 pub type Entries = Seq<MemEntry>;

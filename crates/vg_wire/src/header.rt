@@ -3,8 +3,8 @@
 ghost use Rattle.std.specs.Prelude.{◌≡◌, ◌<◌, ◌++◌, length, OnOk, IsNone, IfSome, ◌↔◌};
 ghost use Rattle.vg_wire.specs.Header.{header_of, header_bytes, IsHeader};
 
-use crate::fields::{put_u32, put_u64, u32_at, u64_at};
 use std::alloc::AllocError;
+use vg_numbers::{put_u32, put_u64, u32_at, u64_at};
 
 /// A header: 24 bytes, of which the last three are padding.
 #[derive(Clone, Copy, Debug, PartialEq, Eq)]

@@ -5,7 +5,6 @@
 #![tactic(auto)]
 
 mod entries;
-mod fields;
 mod header;
 pub mod kinds;
 mod laws;
@@ -15,7 +14,6 @@ mod request;
 mod two_d;
 
 pub use entries::{Entries, put_entries, read_entries};
-pub use fields::{put_u32, put_u64, u32_at, u64_at};
 pub use header::{Header, put_header, read_header};
 pub use laws::what_is_written_is_read;
 pub use modes::{Modes, put_modes, read_modes};

@@ -4,9 +4,9 @@ ghost use Rattle.std.specs.Prelude.{◌≡◌, ◌++◌, ◌+◌, ◌≤◌, ◌
 ghost use Rattle.std.specs.List.{flat_map};
 ghost use Rattle.vg_wire.specs.Modes.{IsModes, mode_bytes, modes_bytes, slot_at, slots_of, trimmed};
 
-use crate::fields::{put_u32, u32_at};
 use std::alloc::{AllocError, Global};
 use std::marker::Model;
+use vg_numbers::{put_u32, u32_at};
 
 /// The size in pixels of each scanout's display, or none where a scanout is disabled, for at most 16
 /// scanouts from number 0. The last isn't none: scanouts after it are disabled.

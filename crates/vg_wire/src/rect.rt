@@ -4,9 +4,9 @@ ghost use Rattle.std.specs.Prelude.{◌≡◌, ◌+◌, ◌≤◌, ◌++◌, len
 ghost use Rattle.vg_wire.specs.Rect as layout;
 ghost use Rattle.vg_wire.specs.Rect.{rect_bytes, IsRect};
 
-use crate::fields::{put_u32, u32_at};
 use std::alloc::AllocError;
 use vg_formats::Rect;
+use vg_numbers::{put_u32, u32_at};
 
 /// The rectangle whose 16 bytes stand from place `at`.
 pub fn rect_at(bytes: &[u8], at: usize) -> Rect

@@ -9,6 +9,21 @@ pub enum Queue {
     Cursor,
 }
 
+impl Queue {
+    ghost use Rattle.std.specs.Prelude.{◌≡◌};
+    ghost use Rattle.vg_wire.specs.Queues as queues;
+
+    /// Whether it is the control queue.
+    pub fn is_control(self) -> bool
+        ensures { result ≡ queues.is_control self }
+    {
+        match self {
+            Queue::Control => true,
+            Queue::Cursor => false,
+        }
+    }
+}
+
 /// Why bytes are no request. The cases are tried in this order.
 #[derive(Clone, Copy, Debug, PartialEq, Eq)]
 pub enum Malformed {

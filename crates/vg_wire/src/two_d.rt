@@ -1,13 +1,12 @@
 //! The 2D commands (VIRTIO 1.2, 5.7.6.8).
 
 ghost use Rattle.std.specs.Prelude.{◌≡◌, ◌+◌, ◌*◌, ◌^◌, ◌<◌, ◌≤◌, ◌++◌, length, IfOk, OnOk, OnErr, IsSome, IfSome};
-ghost use Rattle.vg_wire.specs.Numbers.{le32};
+ghost use Rattle.vg_numbers.specs.Numbers.{le};
 ghost use Rattle.vg_wire.specs.declared.two_d.Command2d.TheVariants.{Create2d, SetScanout, Flush, Transfer, Attach};
 ghost use Rattle.vg_wire.specs.TwoD.{two_d_of, body_of_2d, whole, FitsCount, IsCommand2d};
 ghost use Rattle.vg_wire.specs.TwoD as layout;
 
 use crate::entries::{Entries, put_entries, read_entries};
-use crate::fields::{put_u32, put_u64, u32_at, u64_at};
 use crate::header::Header;
 use crate::kinds::{
     GET_DISPLAY_INFO, RESOURCE_ATTACH_BACKING, RESOURCE_CREATE_2D, RESOURCE_DETACH_BACKING,
@@ -16,6 +15,7 @@ use crate::kinds::{
 use crate::rect::{put_rect, rect_at};
 use std::alloc::{AllocError, Global};
 use vg_formats::{MemEntry, Rect};
+use vg_numbers::{put_u32, put_u64, u32_at, u64_at};
 
 /// A 2D command, without its header.
 #[derive(Debug, Drop, Clone, PartialEq)]
@@ -241,7 +241,7 @@ pub fn size_2d(command: &Command2d) -> usize
 
 /// Adds a resource's number and four bytes of padding.
 fn put_resource(out: &mut Vec<u8>, resource: u32) -> Result<(), AllocError>
-    ensures bytes { OnOk result (out.new.items ≡ out.old.items ++ (le32 resource ++ le32 0)) }
+    ensures bytes { OnOk result (out.new.items ≡ out.old.items ++ (le 4 resource ++ le 4 0)) }
     ensures fits { resource < 2 ^ 32 }
 {
     put_u32(out, resource)?;

@@ -6,13 +6,13 @@ use Rattle.vg_formats.specs.declared.rect.Rect.{Rect}
 use Rattle.vg_formats.specs.declared.entry.MemEntry.{MemEntry}
 use Rattle.vg_wire.specs.declared.two_d.Command2d.{Command2d}
 use Rattle.vg_wire.specs.declared.two_d.Command2d.TheVariants as two_d
-use Rattle.vg_wire.specs.Numbers.{number, number_at, le32, le64}
+use Rattle.vg_numbers.specs.Numbers.{number, number_at, le}
 use Rattle.vg_wire.specs.Rect.{rect_bytes}
 use Rattle.vg_wire.specs.Entries.{entries_at, entries_bytes}
 use Rattle.vg_wire.specs.TwoD.{body_of_2d, kind_of_2d, two_d_of, is_2d}
-use Rattle.vg_wire.proofs.HeaderLemmas.{length-le32, length-le64}
+use Rattle.vg_numbers.proofs.NumberLemmas.{length-le, number-le}
 use Rattle.vg_wire.proofs.EntryLemmas.{entries_at-entries_bytes, length-entries_bytes}
-use Rattle.vg_wire.proofs.TwoDLemmas.{number-le32, number-le64, rect_at-rect_bytes, whole_of, length-two, length-four, length-rect_bytes, length-body_of_2d, size_of_2d, two_d_of-body_of_2d}
+use Rattle.vg_wire.proofs.TwoDLemmas.{rect_at-rect_bytes, whole_of, length-two, length-four, length-rect_bytes, length-body_of_2d, size_of_2d, two_d_of-body_of_2d}
 use Rattle.vg_wire_ext.specs.declared.command.Command.{Command}
 use Rattle.vg_wire_ext.specs.declared.command.Command.TheVariants.{TwoD, CapsetInfo, Capset, Edid, AssignUuid, CreateBlob, SetScanoutBlob, CtxCreate, CtxDestroy, CtxAttach, CtxDetach, Submit, UpdateCursor, MoveCursor}
 use Rattle.vg_wire_ext.specs.Fields.{signed_at, signed_bytes, position, planes}
@@ -43,7 +43,7 @@ fits-unsigned (negsuc n) fits = omega arith
 
 number-signed : (x : ℤ) → FitsSigned w32 x → cast_signed w32 (number (signed_bytes x)) ≡ x
 unfolding signed_bytes
-number-signed x fits = ap (cast_signed w32) (number-le32 (cast_unsigned w32 x) (fits-unsigned x fits)) ∙ to_z-of_z w32 x fits
+number-signed x fits = ap (cast_signed w32) (number-le 4 (cast_unsigned w32 x) (fits-unsigned x fits)) ∙ to_z-of_z w32 x fits
 
 same_capset : {a a' b b' : ℕ} → a ≡ a' → b ≡ b' → Capset a b ≡ Capset a' b'
 same_capset a b = rw (a, b) refl
@@ -65,32 +65,32 @@ same_move : {a a' : ℕ} {x x' y y' : ℤ} → a ≡ a' → x ≡ x' → y ≡ y
 same_move a x y = rw (a, x, y) refl
 
 read-capset_info : (n : ℕ) → n < 2 ^ 32 → capset_info (command_body (CapsetInfo n)) ≡ CapsetInfo n
-unfolding capset_info number_at le32
-read-capset_info n fits = ap CapsetInfo (number-le32 n fits)
+unfolding capset_info number_at le
+read-capset_info n fits = ap CapsetInfo (number-le 4 n fits)
 
 read-capset : (id version : ℕ) → IsCommand (Capset id version) → capset (command_body (Capset id version)) ≡ Capset id version
-unfolding capset number_at le32
-read-capset id version fits = same_capset (number-le32 id fits.0) (number-le32 version fits.1)
+unfolding capset number_at le
+read-capset id version fits = same_capset (number-le 4 id fits.0) (number-le 4 version fits.1)
 
 read-edid : (n : ℕ) → n < 2 ^ 32 → edid (command_body (Edid n)) ≡ Edid n
-unfolding edid number_at le32
-read-edid n fits = ap Edid (number-le32 n fits)
+unfolding edid number_at le
+read-edid n fits = ap Edid (number-le 4 n fits)
 
 read-assign_uuid : (n : ℕ) → n < 2 ^ 32 → assign_uuid (command_body (AssignUuid n)) ≡ AssignUuid n
-unfolding assign_uuid number_at le32
-read-assign_uuid n fits = ap AssignUuid (number-le32 n fits)
+unfolding assign_uuid number_at le
+read-assign_uuid n fits = ap AssignUuid (number-le 4 n fits)
 
 read-ctx_attach : (n : ℕ) → n < 2 ^ 32 → ctx_attach (command_body (CtxAttach n)) ≡ CtxAttach n
-unfolding ctx_attach number_at le32
-read-ctx_attach n fits = ap CtxAttach (number-le32 n fits)
+unfolding ctx_attach number_at le
+read-ctx_attach n fits = ap CtxAttach (number-le 4 n fits)
 
 read-ctx_detach : (n : ℕ) → n < 2 ^ 32 → ctx_detach (command_body (CtxDetach n)) ≡ CtxDetach n
-unfolding ctx_detach number_at le32
-read-ctx_detach n fits = ap CtxDetach (number-le32 n fits)
+unfolding ctx_detach number_at le
+read-ctx_detach n fits = ap CtxDetach (number-le 4 n fits)
 
 read-submit : (n : ℕ) → n < 2 ^ 32 → submit (command_body (Submit n)) ≡ Submit n
-unfolding submit number_at le32
-read-submit n fits = ap Submit (number-le32 n fits)
+unfolding submit number_at le
+read-submit n fits = ap Submit (number-le 4 n fits)
 
 -- the six numbers in front of a blob's entries, however many bytes follow
 record BlobFields (r m f n i s : ℕ) (bytes : List ℕ) : Type 0 where
@@ -102,45 +102,45 @@ record BlobFields (r m f n i s : ℕ) (bytes : List ℕ) : Type 0 where
   size : number_at 8 24 bytes ≡ s
 
 blob-fields : (r m f n i s : ℕ) (rest : List ℕ) → r < 2 ^ 32 → m < 2 ^ 32 → f < 2 ^ 32 → n < 2 ^ 32 → i < 2 ^ 64 → s < 2 ^ 64
-    → BlobFields r m f n i s (le32 r ++ le32 m ++ le32 f ++ le32 n ++ le64 i ++ le64 s ++ rest)
-unfolding number_at le32 le64
+    → BlobFields r m f n i s (le 4 r ++ le 4 m ++ le 4 f ++ le 4 n ++ le 8 i ++ le 8 s ++ rest)
+unfolding number_at le
 blob-fields r m f n i s rest a b c d e g = record {
-  resource = number-le32 r a;
-  mem = number-le32 m b;
-  flags = number-le32 f c;
-  count = number-le32 n d;
-  blob_id = number-le64 i e;
-  size = number-le64 s g;
+  resource = number-le 4 r a;
+  mem = number-le 4 m b;
+  flags = number-le 4 f c;
+  count = number-le 4 n d;
+  blob_id = number-le 8 i e;
+  size = number-le 8 s g;
 }
 
 read-create_blob : (r m f i s : ℕ) (es : List MemEntry) → length es < 2 ^ 32 → IsCommand (CreateBlob r m f i s es) → create_blob (command_body (CreateBlob r m f i s es)) ≡ CreateBlob r m f i s es
-unfolding create_blob le32 le64
+unfolding create_blob le
 read-create_blob r m f i s es count fits =
     let fields = blob-fields r m f (length es) i s (entries_bytes es) fits.0 fits.1 fits.2 count fits.3 fits.4 in
-    let front : List ℕ = ((((le32 r ++ le32 m) ++ le32 f) ++ le32 (length es)) ++ le64 i) ++ le64 s in
-    let long : length front ≡ 32 = simp length-append (omega (arith, length-le32 r, length-le32 m, length-le32 f, length-le32 (length es), length-le64 i, length-le64 s)) in
+    let front : List ℕ = ((((le 4 r ++ le 4 m) ++ le 4 f) ++ le 4 (length es)) ++ le 8 i) ++ le 8 s in
+    let long : length front ≡ 32 = simp length-append (omega (arith, length-le 4 r, length-le 4 m, length-le 4 f, length-le 4 (length es), length-le 8 i, length-le 8 s)) in
     let listed = simp append_assoc at (entries_at-entries_bytes es front 32 long fits.5) in
     same_blob fields.resource fields.mem fields.flags fields.blob_id fields.size
     (ap (λ (n : ℕ). entries_at 32 n (command_body (CreateBlob r m f i s es))) fields.count ∙ listed)
 
 read-set_scanout_blob : (rect : Rect) (a b c d e f g : ℕ) → IsCommand (SetScanoutBlob rect a b c d e f g) → set_scanout_blob (command_body (SetScanoutBlob rect a b c d e f g)) ≡ SetScanoutBlob rect a b c d e f g
-unfolding set_scanout_blob planes number_at le32 rect_bytes
+unfolding set_scanout_blob planes number_at le rect_bytes
 read-set_scanout_blob rect a b c d e f g fits =
-    same_scanout (rect_at-rect_bytes rect (le32 a ++ le32 b ++ le32 c ++ le32 d ++ le32 e ++ le32 0 ++ planes f ++ planes g) fits.0)
-    (number-le32 a fits.1) (number-le32 b fits.2) (number-le32 c fits.3) (number-le32 d fits.4) (number-le32 e fits.5) (number-le32 f fits.6) (number-le32 g fits.7)
+    same_scanout (rect_at-rect_bytes rect (le 4 a ++ le 4 b ++ le 4 c ++ le 4 d ++ le 4 e ++ le 4 0 ++ planes f ++ planes g) fits.0)
+    (number-le 4 a fits.1) (number-le 4 b fits.2) (number-le 4 c fits.3) (number-le 4 d fits.4) (number-le 4 e fits.5) (number-le 4 f fits.6) (number-le 4 g fits.7)
 
 read-ctx_create : (n c : ℕ) (name : List ℕ) → IsCommand (CtxCreate n c name) → ctx_create (command_body (CtxCreate n c name)) ≡ CtxCreate n c name
-unfolding ctx_create number_at le32
-read-ctx_create n c name fits = same_context (number-le32 n fits.0) (number-le32 c fits.1) (take_all 64 name (omega (arith, fits.2)))
+unfolding ctx_create number_at le
+read-ctx_create n c name fits = same_context (number-le 4 n fits.0) (number-le 4 c fits.1) (take_all 64 name (omega (arith, fits.2)))
 
 read-update_cursor : (s : ℕ) (x y : ℤ) (r h k : ℕ) → IsCommand (UpdateCursor s x y r h k) → update_cursor (command_body (UpdateCursor s x y r h k)) ≡ UpdateCursor s x y r h k
-unfolding update_cursor position signed_at signed_bytes number_at le32
+unfolding update_cursor position signed_at signed_bytes number_at le
 read-update_cursor s x y r h k fits =
-    same_update (number-le32 s fits.0) (number-signed x fits.1) (number-signed y fits.2) (number-le32 r fits.3) (number-le32 h fits.4) (number-le32 k fits.5)
+    same_update (number-le 4 s fits.0) (number-signed x fits.1) (number-signed y fits.2) (number-le 4 r fits.3) (number-le 4 h fits.4) (number-le 4 k fits.5)
 
 read-move_cursor : (s : ℕ) (x y : ℤ) → IsCommand (MoveCursor s x y) → move_cursor (command_body (MoveCursor s x y)) ≡ MoveCursor s x y
-unfolding move_cursor position signed_at signed_bytes number_at le32
-read-move_cursor s x y fits = same_move (number-le32 s fits.0) (number-signed x fits.1) (number-signed y fits.2)
+unfolding move_cursor position signed_at signed_bytes number_at le
+read-move_cursor s x y fits = same_move (number-le 4 s fits.0) (number-signed x fits.1) (number-signed y fits.2)
 
 -- how many bytes are written of a command's fields
 abbrev pub size_of_command : Command → ℕ
@@ -165,11 +165,11 @@ length-planes n = length-four n 0 0 0
 
 length-signed_bytes : (x : ℤ) → length (signed_bytes x) ≡ 4
 unfolding signed_bytes
-length-signed_bytes x = length-le32 (cast_unsigned w32 x)
+length-signed_bytes x = length-le 4 (cast_unsigned w32 x)
 
 length-position : (s : ℕ) (x y : ℤ) → length (position s x y) ≡ 16
 unfolding position
-length-position s x y = simp length-append (omega (arith, length-le32 s, length-signed_bytes x, length-signed_bytes y, length-le32 0))
+length-position s x y = simp length-append (omega (arith, length-le 4 s, length-signed_bytes x, length-signed_bytes y, length-le 4 0))
 
 pub length-command_body : (command : Command) → IsCommand command → length (command_body command) ≡ size_of_command command
 length-command_body (TwoD command) good = length-body_of_2d command
@@ -178,17 +178,17 @@ length-command_body (Capset id version) good = length-two id version
 length-command_body (Edid scanout) good = length-two scanout 0
 length-command_body (AssignUuid resource) good = length-two resource 0
 length-command_body (CreateBlob r m f i s es) good =
-    simp length-append (omega (arith, length-le32 r, length-le32 m, length-le32 f, length-le32 (length es), length-le64 i, length-le64 s, length-entries_bytes es))
+    simp length-append (omega (arith, length-le 4 r, length-le 4 m, length-le 4 f, length-le 4 (length es), length-le 8 i, length-le 8 s, length-entries_bytes es))
 length-command_body (SetScanoutBlob rect a b c d e f g) good =
-    simp length-append (omega (arith, length-rect_bytes rect, length-le32 a, length-le32 b, length-le32 c, length-le32 d, length-le32 e, length-le32 0, length-planes f, length-planes g))
-length-command_body (CtxCreate n c name) good = simp length-append (omega (arith, length-le32 n, length-le32 c, good.2))
+    simp length-append (omega (arith, length-rect_bytes rect, length-le 4 a, length-le 4 b, length-le 4 c, length-le 4 d, length-le 4 e, length-le 4 0, length-planes f, length-planes g))
+length-command_body (CtxCreate n c name) good = simp length-append (omega (arith, length-le 4 n, length-le 4 c, good.2))
 length-command_body CtxDestroy good = refl
 length-command_body (CtxAttach resource) good = length-two resource 0
 length-command_body (CtxDetach resource) good = length-two resource 0
 length-command_body (Submit size) good = length-two size 0
 length-command_body (UpdateCursor s x y r h k) good =
-    simp length-append (omega (arith, length-position s x y, length-le32 r, length-le32 h, length-le32 k, length-le32 0))
-length-command_body (MoveCursor s x y) good = simp length-append (omega (arith, length-position s x y, length-le32 0))
+    simp length-append (omega (arith, length-position s x y, length-le 4 r, length-le 4 h, length-le 4 k, length-le 4 0))
+length-command_body (MoveCursor s x y) good = simp length-append (omega (arith, length-position s x y, length-le 4 0))
 
 -- what is written of a command's fields is read as itself
 pub command_of-command_body : (command : Command) → FitsEntries command → IsCommand command → command_of (command_kind command) (command_body command) ≡ Some command

@@ -2,10 +2,11 @@ use Rattle.std.proofs.Common.{◌≡◌, ℕ, ◌≤◌, List, [], ◌++◌, len
 use Rattle.std.proofs.lemmas.Bool.Decides.{nat_tests}
 use Rattle.std.proofs.lemmas.List.{length-replicate, drop_at, take_at, take_all}
 use Rattle.vg_wire.specs.declared.header.Header.{Header}
-use Rattle.vg_wire.specs.Numbers.{le32}
+use Rattle.vg_numbers.specs.Numbers.{le}
 use Rattle.vg_wire.specs.Header.{IsHeader, header_of, header_bytes}
 use Rattle.vg_wire.specs.Modes.{Mode, IsModes, modes_bytes, slots_of, trimmed}
-use Rattle.vg_wire.proofs.HeaderLemmas.{length-le32, length-header_bytes, header_of-header_bytes}
+use Rattle.vg_numbers.proofs.NumberLemmas.{length-le}
+use Rattle.vg_wire.proofs.HeaderLemmas.{length-header_bytes, header_of-header_bytes}
 use Rattle.vg_wire.proofs.SlotLemmas.{length-modes_bytes, read-modes_bytes, slots-modes}
 use Rattle.vg_wire_ext.specs.declared.response.Response.{Response}
 use Rattle.vg_wire_ext.specs.declared.response.Response.TheVariants.{Nodata, DisplayInfo, Edid, Uuid, Error}
@@ -13,7 +14,7 @@ use Rattle.vg_wire_ext.specs.Response.{IsResponse, FitsResponse, Spells, body_of
 
 length-edid_body : (block : List ℕ) → length block ≡ 128 → length (edid_body block) ≡ 1032
 unfolding edid_body
-length-edid_body block fits = simp length-append (omega (arith, length-le32 128, length-le32 0, length-replicate {A = ℕ} 896 0, fits))
+length-edid_body block fits = simp length-append (omega (arith, length-le 4 128, length-le 4 0, length-replicate {A = ℕ} 896 0, fits))
 
 -- how many bytes are written of a response
 abbrev pub size_of_response : Response → ℕ
@@ -47,10 +48,10 @@ error_body kind bytes low high = grind (arith, nat_tests)
 
 -- the block behind a header and its size is read as itself
 read-edid_body : (front block : List ℕ) → length front ≡ 24 → length block ≡ 128 → take 128 (drop 32 (front ++ edid_body block)) ≡ block
-unfolding edid_body le32
+unfolding edid_body le
 read-edid_body front block here fits =
-    let long : length ((front ++ le32 128) ++ le32 0) ≡ 32 = simp length-append (omega (arith, length-le32 128, length-le32 0)) in
-    let behind = simp append_assoc at (drop_at ((front ++ le32 128) ++ le32 0) (block ++ replicate 896 0) 32 long) in
+    let long : length ((front ++ le 4 128) ++ le 4 0) ≡ 32 = simp length-append (omega (arith, length-le 4 128, length-le 4 0)) in
+    let behind = simp append_assoc at (drop_at ((front ++ le 4 128) ++ le 4 0) (block ++ replicate 896 0) 32 long) in
     ap (take 128) behind ∙ take_at block (replicate 896 0) 128 fits
 
 read-uuid : (front bytes : List ℕ) → length front ≡ 24 → length bytes ≡ 16 → take 16 (drop 24 (front ++ bytes)) ≡ bytes

@@ -1,7 +1,7 @@
 use Rattle.std.specs.Prelude.{◌≡◌, ℕ, ◌+◌, ◌*◌, ◌^◌, ◌<◌, ◌==◌, Bool, ◌||◌, List, [], ◌++◌, length, take, drop, if◌then◌else◌, Option, Some, None, is_some, option_map, FitsSigned}
 use Rattle.std.specs.Int.{w32}
 use Rattle.std.specs.List.{All}
-use Rattle.vg_wire.specs.Numbers.{number_at, le32, le64}
+use Rattle.vg_numbers.specs.Numbers.{number_at, le}
 use Rattle.vg_wire.specs.Rect.{rect_at, rect_bytes, IsRect}
 use Rattle.vg_wire.specs.Entries.{entries_at, entries_bytes, IsEntry}
 use Rattle.vg_wire.specs.Kinds.{CTX_ATTACH_RESOURCE, CTX_CREATE, CTX_DESTROY, CTX_DETACH_RESOURCE, GET_CAPSET, GET_CAPSET_INFO, GET_EDID, MOVE_CURSOR, RESOURCE_ASSIGN_UUID, RESOURCE_CREATE_BLOB, SET_SCANOUT_BLOB, SUBMIT_3D, UPDATE_CURSOR}
@@ -137,22 +137,22 @@ command_kind (MoveCursor scanout x y) = MOVE_CURSOR
 -- 3, and all that follows the position of a MOVE_CURSOR.
 abbrev pub command_body : Command → List ℕ
 command_body (TwoD command) = body_of_2d command
-command_body (CapsetInfo index) = le32 index ++ le32 0
-command_body (Capset id version) = le32 id ++ le32 version
-command_body (Edid scanout) = le32 scanout ++ le32 0
-command_body (AssignUuid resource) = le32 resource ++ le32 0
+command_body (CapsetInfo index) = le 4 index ++ le 4 0
+command_body (Capset id version) = le 4 id ++ le 4 version
+command_body (Edid scanout) = le 4 scanout ++ le 4 0
+command_body (AssignUuid resource) = le 4 resource ++ le 4 0
 command_body (CreateBlob resource mem flags blob_id size entries) =
-    le32 resource ++ le32 mem ++ le32 flags ++ le32 (length entries) ++ le64 blob_id ++ le64 size ++ entries_bytes entries
+    le 4 resource ++ le 4 mem ++ le 4 flags ++ le 4 (length entries) ++ le 8 blob_id ++ le 8 size ++ entries_bytes entries
 command_body (SetScanoutBlob rect scanout resource width height format stride offset) =
-    rect_bytes rect ++ le32 scanout ++ le32 resource ++ le32 width ++ le32 height ++ le32 format ++ le32 0 ++ planes stride ++ planes offset
-command_body (CtxCreate nlen context_init name) = le32 nlen ++ le32 context_init ++ name
+    rect_bytes rect ++ le 4 scanout ++ le 4 resource ++ le 4 width ++ le 4 height ++ le 4 format ++ le 4 0 ++ planes stride ++ planes offset
+command_body (CtxCreate nlen context_init name) = le 4 nlen ++ le 4 context_init ++ name
 command_body CtxDestroy = []
-command_body (CtxAttach resource) = le32 resource ++ le32 0
-command_body (CtxDetach resource) = le32 resource ++ le32 0
-command_body (Submit size) = le32 size ++ le32 0
+command_body (CtxAttach resource) = le 4 resource ++ le 4 0
+command_body (CtxDetach resource) = le 4 resource ++ le 4 0
+command_body (Submit size) = le 4 size ++ le 4 0
 command_body (UpdateCursor scanout x y resource hot_x hot_y) =
-    position scanout x y ++ le32 resource ++ le32 hot_x ++ le32 hot_y ++ le32 0
-command_body (MoveCursor scanout x y) = position scanout x y ++ le32 0 ++ le32 0 ++ le32 0 ++ le32 0
+    position scanout x y ++ le 4 resource ++ le 4 hot_x ++ le 4 hot_y ++ le 4 0
+command_body (MoveCursor scanout x y) = position scanout x y ++ le 4 0 ++ le 4 0 ++ le 4 0 ++ le 4 0
 
 -- A command whose number of entries fits nr_entries.
 abbrev pub FitsEntries : Command → Type 0

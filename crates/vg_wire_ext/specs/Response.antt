@@ -1,7 +1,7 @@
 use Rattle.std.specs.Prelude.{◌≡◌, ◌≤◌, ◌<◌, ◌^◌, ◌==◌, ◌&&◌, ℕ, List, [], ◌++◌, length, take, drop, replicate, nat_le, if◌then◌else◌, Option, Some, None}
 use Rattle.vg_wire.specs.declared.header.Header.{Header}
 use Rattle.vg_wire.specs.Kinds.{ERR_INVALID_PARAMETER, ERR_UNSPEC, OK_DISPLAY_INFO, OK_EDID, OK_NODATA, OK_RESOURCE_UUID}
-use Rattle.vg_wire.specs.Numbers.{le32}
+use Rattle.vg_numbers.specs.Numbers.{le}
 use Rattle.vg_wire.specs.Header.{header_bytes}
 use Rattle.vg_wire.specs.Modes.{IsModes, AllFit, modes_bytes, slots_of, trimmed}
 use Rattle.vg_wire_ext.specs.declared.response.Response.{Response}
@@ -17,7 +17,7 @@ response_kind (Error code) = code
 
 -- struct virtio_gpu_resp_edid: size, padding, edid[1024], of which the block takes 128
 unfoldable pub edid_body : List ℕ → List ℕ
-edid_body block = le32 128 ++ le32 0 ++ block ++ replicate 896 0
+edid_body block = le 4 128 ++ le 4 0 ++ block ++ replicate 896 0
 
 -- What follows the header (VIRTIO 1.2, 5.7.6.8).
 abbrev pub response_body : Response → List ℕ

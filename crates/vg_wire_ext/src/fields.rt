@@ -2,11 +2,11 @@
 
 ghost use Rattle.std.specs.Prelude.{◌≡◌, ◌+◌, ◌≤◌, ◌<◌, ◌^◌, ◌++◌, length, OnOk, FitsSigned};
 ghost use Rattle.std.specs.Int.{w32};
-ghost use Rattle.vg_wire.specs.Numbers.{le32};
+ghost use Rattle.vg_numbers.specs.Numbers.{le};
 ghost use Rattle.vg_wire_ext.specs.Fields.{planes, position, signed_at, signed_bytes};
 
 use std::alloc::AllocError;
-use vg_wire::{put_u32, u32_at};
+use vg_numbers::{put_u32, u32_at};
 
 /// The signed number in the four bytes from place `at`, in two's complement.
 #[tactic(auto, unfolding(crate::specs::Fields::signed_at))]
@@ -59,7 +59,7 @@ pub(crate) fn put_planes(out: &mut Vec<u8>, first: u32) -> Result<(), AllocError
 
 /// Adds two numbers.
 pub(crate) fn put_two(out: &mut Vec<u8>, first: u32, second: u32) -> Result<(), AllocError>
-    ensures bytes { OnOk result (out.new.items ≡ out.old.items ++ (le32 first ++ le32 second)) }
+    ensures bytes { OnOk result (out.new.items ≡ out.old.items ++ (le 4 first ++ le 4 second)) }
     ensures first { first < 2 ^ 32 }
     ensures second { second < 2 ^ 32 }
 {

@@ -14,7 +14,8 @@ use vg_wire::kinds::{
     GET_EDID, MOVE_CURSOR, RESOURCE_ASSIGN_UUID, RESOURCE_CREATE_BLOB, SET_SCANOUT_BLOB, SUBMIT_3D,
     UPDATE_CURSOR,
 };
-use vg_wire::{Header, is_2d, read_2d, read_entries, rect_at, u32_at, u64_at};
+use vg_numbers::{u32_at, u64_at};
+use vg_wire::{Header, is_2d, read_2d, read_entries, rect_at};
 
 /// GET_CAPSET_INFO: eight bytes.
 #[tactic(auto, unfolding(crate::specs::Commands::capset_info))]

@@ -11,7 +11,8 @@ use std::alloc::{AllocError, Global};
 use vg_wire::kinds::{
     ERR_INVALID_PARAMETER, ERR_UNSPEC, OK_DISPLAY_INFO, OK_EDID, OK_NODATA, OK_RESOURCE_UUID,
 };
-use vg_wire::{Header, Modes, put_header, put_modes, put_u32, read_header, read_modes};
+use vg_numbers::put_u32;
+use vg_wire::{Header, Modes, put_header, put_modes, read_header, read_modes};
 
 /// A response, without its header.
 #[derive(Debug, Drop)]

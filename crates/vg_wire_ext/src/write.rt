@@ -8,7 +8,8 @@ use crate::command::Command;
 use crate::fields::{put_planes, put_position, put_two};
 use std::alloc::AllocError;
 use vg_formats::{MemEntry, Rect};
-use vg_wire::{put_2d, put_entries, put_rect, put_u32, put_u64, size_2d};
+use vg_numbers::{put_u32, put_u64};
+use vg_wire::{put_2d, put_entries, put_rect, size_2d};
 
 /// Adds the fields of RESOURCE_CREATE_BLOB.
 fn put_create_blob(

@@ -1,10 +1,18 @@
-//! One field of a request or a response: a number in its bytes, the lowest first.
+//! One number in its bytes, the lowest first.
 
 ghost use Rattle.std.specs.Prelude.{◌≡◌, ◌+◌, ◌≤◌, ◌++◌, length, OnOk};
-ghost use Rattle.vg_wire.specs.Numbers.{number_at, le32, le64};
+ghost use Rattle.vg_numbers.specs.Numbers.{number_at, le};
 
 use byteorder::{ByteOrder, LittleEndian};
 use std::alloc::AllocError;
+
+/// The number in the two bytes from place `at`.
+pub fn u16_at(bytes: &[u8], at: usize) -> u16
+    requires { at + 2 ≤ length bytes.now }
+    ensures { result ≡ number_at 2 at bytes.now }
+{
+    LittleEndian::read_u16(&bytes[at..])
+}
 
 /// The number in the four bytes from place `at`.
 pub fn u32_at(bytes: &[u8], at: usize) -> u32
@@ -22,10 +30,20 @@ pub fn u64_at(bytes: &[u8], at: usize) -> u64
     LittleEndian::read_u64(&bytes[at..])
 }
 
+/// Adds the two bytes of a number.
+#[tactic(auto, unfolding(crate::specs::Numbers::le))]
+pub fn put_u16(out: &mut Vec<u8>, n: u16) -> Result<(), AllocError>
+    ensures { OnOk result (out.new.items ≡ out.old.items ++ le 2 n) }
+{
+    let mut field = [0u8; 2];
+    LittleEndian::write_u16(&mut field, n);
+    out.extend_from_slice(&field)
+}
+
 /// Adds the four bytes of a number.
-#[tactic(auto, unfolding(crate::specs::Numbers::le32))]
+#[tactic(auto, unfolding(crate::specs::Numbers::le))]
 pub fn put_u32(out: &mut Vec<u8>, n: u32) -> Result<(), AllocError>
-    ensures { OnOk result (out.new.items ≡ out.old.items ++ le32 n) }
+    ensures { OnOk result (out.new.items ≡ out.old.items ++ le 4 n) }
 {
     let mut field = [0u8; 4];
     LittleEndian::write_u32(&mut field, n);
@@ -33,9 +51,9 @@ pub fn put_u32(out: &mut Vec<u8>, n: u32) -> Result<(), AllocError>
 }
 
 /// Adds the eight bytes of a number.
-#[tactic(auto, unfolding(crate::specs::Numbers::le64))]
+#[tactic(auto, unfolding(crate::specs::Numbers::le))]
 pub fn put_u64(out: &mut Vec<u8>, n: u64) -> Result<(), AllocError>
-    ensures { OnOk result (out.new.items ≡ out.old.items ++ le64 n) }
+    ensures { OnOk result (out.new.items ≡ out.old.items ++ le 8 n) }
 {
     let mut field = [0u8; 8];
     LittleEndian::write_u64(&mut field, n);

@@ -1,6 +1,0 @@
-use Rattle.std.proofs.Common.{◌∙◌}
-use Rattle.vg_chain.proofs.NumberLemmas.{field_at-rest}
-use Rattle.vg_chain.proofs.descriptor.u64_at.Goals as goal
-
-pub returns : goal.returns
-returns c = c.read_u64.ensures ∙ field_at-rest 8 c.args.at c.args.bytes.now

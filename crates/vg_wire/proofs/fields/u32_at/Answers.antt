@@ -1,6 +1,0 @@
-use Rattle.std.proofs.Common.{◌∙◌}
-use Rattle.vg_wire.proofs.Numbers.{field_at-rest}
-use Rattle.vg_wire.proofs.fields.u32_at.Goals as goal
-
-pub returns : goal.returns
-returns c = c.read_u32.ensures ∙ field_at-rest 4 c.args.at c.args.bytes.now
