@@ -7,6 +7,7 @@ ghost use Rattle.vg_wire_ext.specs.declared.response.Response.TheVariants as res
 ghost use Rattle.vg_machine.specs.Fits.{IfDone, IfWant, nodata};
 ghost use Rattle.vg_machine.specs.Step.{assign_step, attach_step, command_step, create_step, detach_step, edid_step, flush_step, set_scanout_step, transfer_step, unref_step};
 
+use crate::cursors::Update;
 use crate::display::Display;
 use crate::receive::receive;
 use crate::stop::{Stop, nodata};
@@ -73,7 +74,17 @@ impl Display {
                 resource,
                 hot_x,
                 hot_y,
-            } => self.update_cursor(alloc, *scanout, *x, *y, *resource, *hot_x, *hot_y),
+            } => {
+                let update = Update {
+                    scanout: *scanout,
+                    x: *x,
+                    y: *y,
+                    resource: *resource,
+                    hot_x: *hot_x,
+                    hot_y: *hot_y,
+                };
+                self.update_cursor(alloc, &update)
+            }
             Command::MoveCursor { scanout, x, y } => self.move_cursor(alloc, *scanout, *x, *y),
             _ => Err(Stop::Refused(ERR_UNSPEC)),
         }
