@@ -1,3 +1,4 @@
 pub mod DeniedLemmas
 pub mod ForeignLemmas
 pub mod FeatureLemmas
+pub mod GrowingLemmas

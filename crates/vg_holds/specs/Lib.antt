@@ -1,4 +1,3 @@
 pub mod Setup
 pub mod Holds
 pub mod Foreign
-pub mod Growing

@@ -24,7 +24,7 @@ use Rattle.vg_wire.specs.declared.two_d.Command2d.TheVariants.{DisplayInfo, Crea
 use Rattle.vg_resource.specs.declared.resource.Resource.{Resource}
 use Rattle.vg_wire_ext.specs.declared.response.Response.TheVariants as responses
 use Rattle.vg_transfer.specs.Backings.{attach, attach_refusals, detach, detach_refusals, detached}
-use Rattle.vg_machine.specs.Fits.{IfDone, IfWant, nodata}
+use Rattle.vg_machine.specs.Fits.{IfDone, nodata, response_of}
 use Rattle.vg_machine.specs.Receive.{receive, receive_refusal, with_received}
 use Rattle.vg_refusals.specs.Refusals.{refusal_of, unless_refused}
 use Rattle.vg_resource.specs.Resource.{create, create_refusals, remove, resource_at, unref_refusals, with_blank, without}
@@ -32,19 +32,10 @@ use Rattle.vg_scanout.specs.Scanout.{ScanoutState, are_too_many, bind, flush, fl
 use Rattle.vg_machine.specs.State.{State}
 use Rattle.vg_machine.specs.Step.{Keeps, acceptance, answer_of, answered, answered_by, answered_with, binding_of, command_step, effect_and_bytes, flush_step, refused_or_ran, request_refusals, set_scanout_step, two_d_step, undone_step}
 
--- a part's answer as a response
-abbrev pub response_of : Result (Unit {0}) ℕ → Response
-response_of (Ok done) = responses.Nodata
-response_of (Err code) = responses.Error code
-
--- what is said of that response is said of what the command came to, which isn't want of memory
+-- what is said of that response is said of what the command came to
 pub if-nodata : (done : Result (Unit {0}) ℕ) (P : Response → Type 0) → P (response_of done) → IfDone (nodata done) P
 if-nodata (Ok done) P p = p
 if-nodata (Err code) P p = p
-
-pub no-want : (done : Result (Unit {0}) ℕ) (P : Type 0) → IfWant (nodata done) P
-no-want (Ok done) P = tt
-no-want (Err code) P = tt
 
 -- what a part did by its own refusals is what the display does by them
 pub lifted : {S : Type 0} (around : S → State) (refusal : Option ℕ) (old new next : S) (done : Result (Unit {0}) ℕ)

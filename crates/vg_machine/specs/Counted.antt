@@ -1,6 +1,7 @@
--- A step of the display counts one entry, and leaves the setup as it was.
+-- A step of the display counts one entry, and leaves the setup as it was. These lemmas stand here and not in proofs/, since
+-- `impl Machine for Display` gives them as ghost members, and what a contract cites may not depend on its own crate's proofs/.
 use Rattle.std.proofs.Common.{◌≡◌, ◌+◌, ◌*◌, ◌==◌, refl, ℕ, Bool, true, false, cond, length, drop, Option, Some, None, List}
-use Rattle.std.specs.Prelude.{is_some, is_none}
+use Rattle.std.specs.Prelude.{is_some}
 use Rattle.vg_wire_ext.specs.declared.command.Command.{Command}
 use Rattle.vg_wire_ext.specs.declared.command.Command.TheVariants.{TwoD, CapsetInfo, Capset, Edid, AssignUuid, CreateBlob, SetScanoutBlob, CtxCreate, CtxDestroy, CtxAttach, CtxDetach, Submit, UpdateCursor, MoveCursor}
 use Rattle.vg_wire.specs.declared.request.Queue.{Queue}
@@ -15,8 +16,6 @@ use Rattle.vg_formats.specs.declared.rect.Rect.{Rect}
 use Rattle.vg_holds.specs.declared.act.Act.{Act}
 use Rattle.vg_holds.specs.declared.act.Act.TheVariants.{Enter, Reserve, Store, Load, Release, Free, Take, Drop, Denied, Leave}
 use Rattle.vg_holds.specs.declared.act.ActReply.{ActReply}
-use Rattle.vg_holds.specs.declared.act.What.{What}
-use Rattle.vg_holds.specs.declared.holds.Holds.{Holds}
 use Rattle.vg_share.specs.declared.share.ShareRefusal.{ShareRefusal}
 use Rattle.vg_resource.specs.declared.resource.Resource.{Resource}
 use Rattle.vg_machine.specs.ActStep.{act_step, effect_of, is_in_use, replied_by, shown_at}
@@ -27,8 +26,6 @@ use Rattle.vg_machine.specs.State.{State, counted}
 use Rattle.vg_refusals.specs.Refusals.{refusal_of}
 use Rattle.vg_machine.specs.Step.{answer_of, answered_with, command_step, ran, refused_or_ran, request_refusals, two_d_step, with_shown}
 use Rattle.vg_machine.specs.Replay.{request_step, shaped_step}
-use Rattle.vg_holds.specs.Holds.{denied_of, gives_up, update}
-use Rattle.vg_holds.specs.Growing.{still_allowed}
 
 -- the same setup, and as many entries
 pub record IsLike (old new : State) : Type 0 where
@@ -124,17 +121,3 @@ act-counts state client act = (act-like state client act).entries
 
 pub request-counts : (state : State) (request : Request) → (request_step state request).0.entries ≡ state.entries + 1
 request-counts state request = (request-like state request).entries
-
-none-by : (denied : Option What) → is_none denied ≡ true → denied ≡ None
-none-by (Some what) e = absurd (cc e)
-none-by None e = refl
-
-by-none : (denied : Option What) → denied ≡ None → is_none denied ≡ true
-by-none (Some what) e = absurd (cc e)
-by-none None e = refl
-
--- what may be asked may be asked still after an act that gives nothing up
-pub keeps-allowed : (holds : Holds) (act : Act) (reply : ActReply) (request : Request) → gives_up act ≡ false → is_none (denied_of holds request.queue request.bytes) ≡ true
-    → is_none (denied_of (update holds act reply) request.queue request.bytes) ≡ true
-keeps-allowed holds act reply request stays may =
-    by-none _ (still_allowed holds act reply request.queue request.bytes stays (none-by _ may))

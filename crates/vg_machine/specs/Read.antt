@@ -1,4 +1,4 @@
--- What a display's reply writes into the room is read there as the reply.
+-- What a display's reply writes into the room is read there as the reply. As in Counted, a ghost member cites this.
 use Rattle.std.proofs.Common.{◌≡◌, ◌∙◌, ap, refl, sym, subst, ℕ, List, length, take, ◌≤◌}
 use Rattle.std.proofs.Math.Nat.{min-eq_left, min-le_left}
 use Rattle.std.proofs.Math.Seq.{take-length}

@@ -1,15 +1,16 @@
 //! What the commands do (VIRTIO 1.2, 5.7.6.8), one function each, in the order of their codes. Those of the cursor queue stand in
 //! `cursors`.
 
-ghost use Rattle.std.specs.Prelude.{◌≡◌, ◌≢◌, IfOk, map, Some, ◌<◌, ◌-◌, ◌^◌, length};
+ghost use Rattle.std.specs.Prelude.{◌≡◌, ◌≢◌, true, IfOk, map, Some, ◌<◌, ◌-◌, ◌^◌, length};
 ghost use Rattle.vg_wire_ext.specs.Commands.{FitsEntries};
 ghost use Rattle.vg_wire_ext.specs.declared.response.Response.TheVariants as responses;
-ghost use Rattle.vg_machine.specs.Fits.{IfDone, IfWant, nodata};
+ghost use Rattle.vg_machine.specs.Fits.{IfDone, IfWant, response_of, takes_memory, told_by};
 ghost use Rattle.vg_machine.specs.Step.{assign_step, attach_step, command_step, create_step, detach_step, edid_step, flush_step, set_scanout_step, transfer_step, unref_step};
 
+use crate::cursors::Update;
 use crate::display::Display;
 use crate::receive::receive;
-use crate::stop::{Stop, nodata};
+use crate::stop::{Stop, nodata, or_refused};
 use std::alloc::{AllocError, Global};
 use vg_edid::edid;
 use vg_formats::{MemEntry, Rect};
@@ -21,13 +22,14 @@ use vg_wire::{Command2d, Modes};
 use vg_wire_ext::{Command, Response};
 
 impl Display {
-    /// Runs a command, and gives its response.
+    /// Runs a command, and gives its response. Only one that takes memory may want it.
     pub(crate) fn run(&mut self, alloc: Global, command: &Command) -> Result<Response, Stop>
         requires fresh { self.old.uuids.given < self.old.entries }
         requires entries { self.old.entries < 2 ^ 31 }
         requires count { FitsEntries command.now }
         ensures step { IfDone result (λ response. command_step self.old command.now ≡ (self.new, response)) }
         ensures err { IfWant result (self.new ≡ self.old) }
+        ensures memory { IfWant result (takes_memory command.now ≡ true) }
     {
         match command {
             Command::TwoD(Command2d::DisplayInfo) => self.display_info(alloc),
@@ -39,14 +41,14 @@ impl Display {
                     height,
                 },
             ) => self.create(alloc, *resource, *format, *width, *height),
-            Command::TwoD(Command2d::Unref { resource }) => self.unref(*resource),
+            Command::TwoD(Command2d::Unref { resource }) => nodata(self.unref(*resource)),
             Command::TwoD(
                 Command2d::SetScanout {
                     rect,
                     scanout,
                     resource,
                 },
-            ) => self.set_scanout(rect, *scanout, *resource),
+            ) => nodata(self.set_scanout(rect, *scanout, *resource)),
             Command::TwoD(Command2d::Flush { rect, resource }) => {
                 self.flush(alloc, rect, *resource)
             }
@@ -56,15 +58,15 @@ impl Display {
                     offset,
                     resource,
                 },
-            ) => self.transfer(rect, *offset, *resource),
+            ) => nodata(self.transfer(rect, *offset, *resource)),
             Command::TwoD(Command2d::Attach { resource, entries }) => {
                 self.attach(alloc, *resource, entries.as_slice())
             }
-            Command::TwoD(Command2d::Detach { resource }) => self.detach(*resource),
+            Command::TwoD(Command2d::Detach { resource }) => nodata(self.detach(*resource)),
             Command::CapsetInfo { .. } | Command::Capset { .. } => {
                 Err(Stop::Refused(ERR_INVALID_PARAMETER))
             }
-            Command::Edid { scanout } => self.edid(*scanout),
+            Command::Edid { scanout } => or_refused(self.edid(*scanout)),
             Command::AssignUuid { resource } => self.assign_uuid(*resource),
             Command::UpdateCursor {
                 scanout,
@@ -73,7 +75,17 @@ impl Display {
                 resource,
                 hot_x,
                 hot_y,
-            } => self.update_cursor(alloc, *scanout, *x, *y, *resource, *hot_x, *hot_y),
+            } => {
+                let update = Update {
+                    scanout: *scanout,
+                    x: *x,
+                    y: *y,
+                    resource: *resource,
+                    hot_x: *hot_x,
+                    hot_y: *hot_y,
+                };
+                self.update_cursor(alloc, &update)
+            }
             Command::MoveCursor { scanout, x, y } => self.move_cursor(alloc, *scanout, *x, *y),
             _ => Err(Stop::Refused(ERR_UNSPEC)),
         }
@@ -106,45 +118,40 @@ impl Display {
         nodata(done)
     }
 
-    fn unref(&mut self, resource: u32) -> Result<Response, Stop>
-        ensures step { IfDone result (λ response. unref_step self.old resource ≡ (self.new, response)) }
-        ensures err { IfWant result (self.new ≡ self.old) }
+    fn unref(&mut self, resource: u32) -> Result<(), u32>
+        ensures { unref_step self.old resource ≡ (self.new, response_of result) }
     {
-        if let Err(code) = self.resources.remove(resource) {
-            return Err(Stop::Refused(code));
-        }
+        self.resources.remove(resource)?;
         self.backings.remove(resource);
         self.uuids.forget(resource);
         self.scanouts.unbind_resource(resource);
-        Ok(Response::Nodata)
+        Ok(())
     }
 
-    fn set_scanout(&mut self, rect: &Rect, scanout: u32, resource: u32) -> Result<Response, Stop>
-        ensures step { IfDone result (λ response. set_scanout_step self.old rect.now scanout resource ≡ (self.new, response)) }
-        ensures err { IfWant result (self.new ≡ self.old) }
+    fn set_scanout(&mut self, rect: &Rect, scanout: u32, resource: u32) -> Result<(), u32>
+        ensures { set_scanout_step self.old rect.now scanout resource ≡ (self.new, response_of result) }
     {
         if self.setup.displays.len() <= scanout as usize {
-            return Err(Stop::Refused(ERR_INVALID_SCANOUT_ID));
+            return Err(ERR_INVALID_SCANOUT_ID);
         }
         if resource == 0 {
             self.scanouts.unbind(scanout);
-            return Ok(Response::Nodata);
+            return Ok(());
         }
         self.show(rect, scanout, resource)
     }
 
     /// Binds a scanout to a rectangle of a resource.
-    fn show(&mut self, rect: &Rect, scanout: u32, resource: u32) -> Result<Response, Stop>
+    fn show(&mut self, rect: &Rect, scanout: u32, resource: u32) -> Result<(), u32>
         requires scanout { scanout < length self.old.setup.displays }
         requires resource { resource ≢ 0 }
-        ensures step { IfDone result (λ response. set_scanout_step self.old rect.now scanout resource ≡ (self.new, response)) }
-        ensures err { IfWant result (self.new ≡ self.old) }
+        ensures { set_scanout_step self.old rect.now scanout resource ≡ (self.new, response_of result) }
     {
         let Some(surface) = self.resources.get(resource) else {
-            return Err(Stop::Refused(ERR_INVALID_RESOURCE_ID));
+            return Err(ERR_INVALID_RESOURCE_ID);
         };
         if rect.is_empty() || !rect.inside(surface.width, surface.height) {
-            return Err(Stop::Refused(ERR_INVALID_PARAMETER));
+            return Err(ERR_INVALID_PARAMETER);
         }
         let binding = Binding {
             resource,
@@ -155,7 +162,7 @@ impl Display {
             stride: 4 * surface.width,
             offset: 0,
         };
-        nodata(self.scanouts.bind(scanout, binding))
+        self.scanouts.bind(scanout, binding)
     }
 
     fn flush(&mut self, alloc: Global, rect: &Rect, resource: u32) -> Result<Response, Stop>
@@ -175,19 +182,17 @@ impl Display {
         nodata(done)
     }
 
-    fn transfer(&mut self, rect: &Rect, offset: u64, resource: u32) -> Result<Response, Stop>
-        ensures step { IfDone result (λ response. transfer_step self.old rect.now offset resource ≡ (self.new, response)) }
-        ensures err { IfWant result (self.new ≡ self.old) }
+    fn transfer(&mut self, rect: &Rect, offset: u64, resource: u32) -> Result<(), u32>
+        ensures { transfer_step self.old rect.now offset resource ≡ (self.new, response_of result) }
     {
-        let done = receive(
+        receive(
             &mut self.resources,
             resource,
             &self.pages,
             &self.backings,
             rect,
             offset,
-        );
-        nodata(done)
+        )
     }
 
     fn attach(
@@ -207,25 +212,24 @@ impl Display {
         nodata(done)
     }
 
-    fn detach(&mut self, resource: u32) -> Result<Response, Stop>
-        ensures step { IfDone result (λ response. detach_step self.old resource ≡ (self.new, response)) }
-        ensures err { IfWant result (self.new ≡ self.old) }
+    fn detach(&mut self, resource: u32) -> Result<(), u32>
+        ensures { detach_step self.old resource ≡ (self.new, response_of result) }
     {
         if self.resources.get(resource).is_none() {
-            return Err(Stop::Refused(ERR_INVALID_RESOURCE_ID));
+            return Err(ERR_INVALID_RESOURCE_ID);
         }
-        nodata(self.backings.detach(resource))
+        self.backings.detach(resource)
     }
 
     /// The EDID block of a scanout's display.
-    fn edid(&self, scanout: u32) -> Result<Response, Stop>
-        ensures step { IfDone result (λ response. edid_step self.now scanout ≡ (self.now, response)) }
+    fn edid(&self, scanout: u32) -> Result<Response, u32>
+        ensures { edid_step self.now scanout ≡ (self.now, told_by result) }
     {
         match self.setup.displays.as_slice().get(scanout as usize) {
             Some((width, height)) => Ok(Response::Edid {
                 block: edid(*width, *height, scanout),
             }),
-            None => Err(Stop::Refused(ERR_INVALID_SCANOUT_ID)),
+            None => Err(ERR_INVALID_SCANOUT_ID),
         }
     }
 

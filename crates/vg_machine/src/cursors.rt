@@ -23,6 +23,17 @@ use vg_wire_ext::Response;
 /// How many rows an image has, and how many columns, in pixels.
 const IMAGE_SIDE: u32 = 64;
 
+/// What UPDATE_CURSOR asks for: the pixels of a resource at a position of a scanout, and the hot spot in them.
+#[derive(Clone, Copy)]
+pub(crate) struct Update {
+    pub scanout: u32,
+    pub x: i32,
+    pub y: i32,
+    pub resource: u32,
+    pub hot_x: u32,
+    pub hot_y: u32,
+}
+
 /// What a command does to a cursor: an image of rows of 64 pixels, four bytes each, a position, and the hot spot in the image.
 #[derive(Drop)]
 pub(crate) enum Change {
@@ -45,19 +56,18 @@ pub(crate) enum Change {
 
 impl Display {
     /// Shows a resource's pixels as they are now, or hides the cursor with resource 0 (UPDATE_CURSOR).
-    pub(crate) fn update_cursor(
-        &mut self,
-        alloc: Global,
-        scanout: u32,
-        x: i32,
-        y: i32,
-        resource: u32,
-        hot_x: u32,
-        hot_y: u32,
-    ) -> Result<Response, Stop>
-        ensures step { IfDone result (λ response. cursor_step self.old scanout x y resource hot_x hot_y ≡ (self.new, response)) }
+    pub(crate) fn update_cursor(&mut self, alloc: Global, update: &Update) -> Result<Response, Stop>
+        ensures step { IfDone result (λ response. cursor_step self.old update.now.scanout update.now.x update.now.y update.now.resource update.now.hot_x update.now.hot_y ≡ (self.new, response)) }
         ensures err { IfWant result (self.new ≡ self.old) }
     {
+        let Update {
+            scanout,
+            x,
+            y,
+            resource,
+            hot_x,
+            hot_y,
+        } = *update;
         if self.setup.displays.len() <= scanout as usize {
             return Err(Stop::Refused(ERR_INVALID_SCANOUT_ID));
         }

@@ -37,7 +37,8 @@ impl Machine for Display {
     ghost use Rattle.vg_machine.specs.Replay.{request_step};
     ghost use Rattle.vg_wire.specs.Queues.{is_control};
     ghost use Rattle.vg_machine.specs.Lines.{rest_of_act, rest_of_command};
-    ghost use Rattle.vg_machine.specs.Counted.{act-counts, keeps-allowed, request-counts};
+    ghost use Rattle.vg_machine.specs.Counted.{act-counts, request-counts};
+    ghost use Rattle.vg_holds.proofs.GrowingLemmas.{keeps-allowed};
     ghost use Rattle.vg_machine.specs.Written.{asks_of, read_by, written_in};
     ghost use Rattle.vg_machine.specs.Read.{reads-request};
     ghost use Rattle.std.proofs.Common.{refl};
@@ -146,7 +147,7 @@ impl Machine for Display {
 
     ghost requests_count = { λ s q. request-counts s q };
 
-    ghost keeps_holds = { λ h a r q. keeps-allowed h a r q };
+    ghost keeps_holds = { λ h a r q. keeps-allowed h a r q.queue q.bytes };
 
     ghost work_asks = { λ j. refl };
 

@@ -7,7 +7,7 @@ ghost use Rattle.vg_machine.specs.Receive.{receive};
 use vg_formats::Rect;
 use vg_pages::Pages;
 use vg_resource::Resources;
-use vg_transfer::Backings;
+use vg_transfer::{Backings, Region};
 use vg_wire::kinds::ERR_INVALID_RESOURCE_ID;
 
 /// Copies a rectangle of the resource from its backing, of which the first byte is that at `offset`, or answers the code of
@@ -26,7 +26,12 @@ pub(crate) fn receive(
     let Some(resource) = resources.get(id) else {
         return Err(ERR_INVALID_RESOURCE_ID);
     };
-    let (width, height) = (resource.width, resource.height);
+    let region = Region {
+        rect: *rect,
+        offset,
+        width: resource.width,
+        height: resource.height,
+    };
     let pixels = resources.pixels_mut(id);
-    backings.transfer(pages, id, rect, offset, width, height, pixels)
+    backings.transfer(pages, id, &region, pixels)
 }

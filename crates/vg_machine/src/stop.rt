@@ -26,12 +26,22 @@ impl From<AllocError> for Stop {
     }
 }
 
-/// OK_NODATA, or the refusal of a part of the display.
+/// OK_NODATA, or the refusal of a part of the display or of a command that takes no memory.
 pub(crate) fn nodata(done: Result<(), u32>) -> Result<Response, Stop>
     ensures { result ≡ fits.nodata done }
 {
     match done {
         Ok(()) => Ok(Response::Nodata),
+        Err(code) => Err(Stop::Refused(code)),
+    }
+}
+
+/// A response, or the refusal of a command that takes no memory.
+pub(crate) fn or_refused(done: Result<Response, u32>) -> Result<Response, Stop>
+    ensures { result ≡ fits.or_refused done }
+{
+    match done {
+        Ok(response) => Ok(response),
         Err(code) => Err(Stop::Refused(code)),
     }
 }

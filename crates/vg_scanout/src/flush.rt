@@ -45,39 +45,36 @@ fn bytes_of_frame(panel: &Option<Panel>, resource: u32, rect: &Rect) -> u64
     }
 }
 
-/// The frames that a flush makes, behind these, and of each scanout what its screen stands on then, if it is another ground.
+/// What a flush shows, the same for each screen: a rectangle of a resource, whose bytes are `surface`, with the cursors, behind the
+/// frames of before. The new frames have the number `entry`.
+#[derive(Clone, Copy)]
+pub(crate) struct Flush<'a> {
+    pub entry: u64,
+    pub resource: u32,
+    pub rect: &'a Rect,
+    pub surface: &'a [u8],
+    pub cursors: &'a Cursors,
+    pub before: &'a [Frame],
+}
+
+/// The frames that a flush makes, behind those of before, and of each scanout what its screen stands on then, if it is another
+/// ground.
 pub(crate) fn make_frames(
     alloc: Global,
-    entry: u64,
-    resource: u32,
-    rect: &Rect,
-    surface: &[u8],
-    cursors: &Cursors,
-    before: &[Frame],
+    flush: &Flush,
     panels: &[Option<Panel>],
 ) -> Result<(Vec<Frame>, Vec<Option<Ground>>), AllocError>
     requires count { length panels.now < 2 ^ 32 }
-    requires cursors { length panels.now ≤ length cursors.now }
-    requires panels { ArePanels before.now panels.now }
-    requires surface { All (FitSurface resource (length surface.now)) (screens_in before.now panels.now) }
-    ensures frames { IfOk result (λ made. made.0.items ≡ new_frames entry resource rect.now surface.now cursors.now 0 (screens_in before.now panels.now)) }
-    ensures grounds { IfOk result (λ made. AreAnew resource rect.now surface.now before.now (before.now ++ made.0.items) made.1.items panels.now) }
+    requires cursors { length panels.now ≤ length flush.now.cursors.now }
+    requires panels { ArePanels flush.now.before.now panels.now }
+    requires surface { All (FitSurface flush.now.resource (length flush.now.surface.now)) (screens_in flush.now.before.now panels.now) }
+    ensures frames { IfOk result (λ made. made.0.items ≡ new_frames flush.now.entry flush.now.resource flush.now.rect.now flush.now.surface.now flush.now.cursors.now 0 (screens_in flush.now.before.now panels.now)) }
+    ensures grounds { IfOk result (λ made. AreAnew flush.now.resource flush.now.rect.now flush.now.surface.now flush.now.before.now (flush.now.before.now ++ made.0.items) made.1.items panels.now) }
 {
     let mut frames = Vec::new(alloc);
     let mut grounds = Vec::new(alloc);
     for i in 0..panels.len() {
-        let ground = add_frame(
-            alloc,
-            entry,
-            i as u32,
-            resource,
-            rect,
-            surface,
-            cursors,
-            before,
-            &mut frames,
-            &panels[i],
-        )?;
+        let ground = add_frame(alloc, flush, i as u32, &mut frames, &panels[i])?;
         grounds.push(ground)?;
     }
     Ok((frames, grounds))
@@ -86,35 +83,30 @@ pub(crate) fn make_frames(
 /// Makes the frame that a flush makes of a screen, if it makes one, and gives what the screen stands on then.
 fn add_frame(
     alloc: Global,
-    entry: u64,
+    flush: &Flush,
     scanout: u32,
-    resource: u32,
-    rect: &Rect,
-    surface: &[u8],
-    cursors: &Cursors,
-    before: &[Frame],
     frames: &mut Vec<Frame>,
     panel: &Option<Panel>,
 ) -> Result<Option<Ground>, AllocError>
-    requires scanout { scanout < length cursors.now }
-    requires panel { IsPanel before.now panel.now }
-    requires surface { FitSurface resource (length surface.now) (screen_in before.now panel.now) }
-    ensures frames { IfOk result (λ made. frames.new.items ≡ frames.old.items ++ new_frame entry resource rect.now surface.now cursors.now scanout (screen_in before.now panel.now)) }
-    ensures regrounded { IfOk result (λ made. IsAnew resource rect.now surface.now before.now (before.now ++ frames.new.items) made panel.now) }
+    requires scanout { scanout < length flush.now.cursors.now }
+    requires panel { IsPanel flush.now.before.now panel.now }
+    requires surface { FitSurface flush.now.resource (length flush.now.surface.now) (screen_in flush.now.before.now panel.now) }
+    ensures frames { IfOk result (λ made. frames.new.items ≡ frames.old.items ++ new_frame flush.now.entry flush.now.resource flush.now.rect.now flush.now.surface.now flush.now.cursors.now scanout (screen_in flush.now.before.now panel.now)) }
+    ensures regrounded { IfOk result (λ made. IsAnew flush.now.resource flush.now.rect.now flush.now.surface.now flush.now.before.now (flush.now.before.now ++ frames.new.items) made panel.now) }
 {
     let Some(panel) = panel else { return Ok(None) };
-    let Some(common) = panel.touched(resource, rect) else {
+    let Some(common) = panel.touched(flush.resource, flush.rect) else {
         return Ok(None)
     };
-    let screen = screen_after(alloc, panel, &common, surface, before)?;
-    let number = before.len() + frames.len();
+    let screen = screen_after(alloc, panel, &common, flush.surface, flush.before)?;
+    let number = flush.before.len() + frames.len();
     let (frame, ground) = picture_of(
         alloc,
-        entry,
+        flush.entry,
         scanout,
         number,
         &panel.binding,
-        cursors,
+        flush.cursors,
         screen,
     )?;
     frames.push(frame)?;

@@ -8,7 +8,7 @@ ghost use Rattle.vg_scanout.specs.Fits.{FitSurface, IsScreen};
 ghost use Rattle.vg_scanout.specs.Panels.{unbound_panel};
 ghost use Rattle.vg_scanout.specs.Scanout.{bind, binding_at, flush, snap, unbound, unbound_from};
 
-use crate::flush::{bytes_after, frame_of, make_frames, reground_each};
+use crate::flush::{Flush, bytes_after, frame_of, make_frames, reground_each};
 use crate::panel::{Ground, Panel};
 use std::alloc::{AllocError, Global};
 use std::marker::Model;
@@ -153,10 +153,15 @@ impl Scanouts {
         if bytes > MOST_FRAME_BYTES {
             return Ok(Err(ERR_OUT_OF_MEMORY));
         }
-        let before = self.frames.as_slice();
-        let (mut frames, mut grounds) = make_frames(
-            alloc, entry, resource, rect, surface, cursors, before, panels,
-        )?;
+        let flush = Flush {
+            entry,
+            resource,
+            rect,
+            surface,
+            cursors,
+            before: self.frames.as_slice(),
+        };
+        let (mut frames, mut grounds) = make_frames(alloc, &flush, panels)?;
         // What can fail comes before the first screen changes.
         self.frames.append(&mut frames)?;
         reground_each(self.panels.as_mut_slice(), grounds.as_mut_slice());

@@ -1,5 +1,5 @@
 -- What clients share beside the device: buffers of guest pages, and the leases of scanouts. All of it is our own.
-use Rattle.std.specs.Prelude.{◌≡◌, ℕ, ◌+◌, ◌≤◌, ◌==◌, Bool, true, false, not, nat_lt, if◌then◌else◌, List, [], ◌∷◌, length, take, Option, Some, None, is_some, option_map, slice_get}
+use Rattle.std.specs.Prelude.{◌≡◌, ℕ, ◌+◌, ◌≤◌, ◌==◌, ◌&&◌, Bool, true, false, not, nat_lt, if◌then◌else◌, List, [], ◌∷◌, length, take, Option, Some, None, is_some, slice_get}
 use Rattle.std.specs.List.{count_by, list_any, slice_set, All, AllPairs}
 use Rattle.std.specs.Ordering.{nat_cmp}
 use Rattle.std.specs.Map.{lookup, remove_entry, set_value}
@@ -73,13 +73,17 @@ place_refusal client key offset n share =
     ∷ (nat_lt buffer.geometry.bytes (offset + n), OutOfRange buffer.geometry.bytes)
     ∷ []))
 
+abbrev pub scanout_in : Option ℕ → ℕ
+scanout_in (Some scanout) = scanout
+scanout_in None = 0
+
 -- `shown` is the least scanout leased to the client that shows the buffer.
 abbrev pub release_refusal : ℕ → ℕ → Option ℕ → ShareState → Option ShareRefusal
 release_refusal client key shown share =
-    refused_by (buffer_at key share) (λ buffer.
-    if not (is_holder client buffer) then Some NotHeld
-    else if holds_once client buffer then option_map InUse shown
-    else None)
+    refused_by (buffer_at key share) (λ buffer. refusal_of (
+    (not (is_holder client buffer), NotHeld)
+    ∷ (holds_once client buffer && is_some shown, InUse (scanout_in shown))
+    ∷ []))
 
 -- The holders with one hold of the client less.
 abbrev pub holders_without : ℕ → List ℕ → List ℕ

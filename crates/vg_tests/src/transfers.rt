@@ -9,7 +9,7 @@ use std::test::Fail;
 use vg_formats::{MemEntry, Rect};
 use vg_pages::Pages;
 use vg_places::zeros;
-use vg_transfer::Backings;
+use vg_transfer::{Backings, Region};
 
 const START: u64 = 1_048_576;
 
@@ -71,7 +71,13 @@ fn send(
     let (width, height) = size;
     let count = 4 * width as usize * height as usize;
     let mut pixels = zeros(alloc, count)?;
-    let done = backings.transfer(pages, 1, rect, offset, width, height, pixels.as_mut_slice());
+    let region = Region {
+        rect: *rect,
+        offset,
+        width,
+        height,
+    };
+    let done = backings.transfer(pages, 1, &region, pixels.as_mut_slice());
     Ok((done.is_ok(), pixels))
 }
 

@@ -16,6 +16,16 @@ use vg_formats::{MemEntry, Rect};
 use vg_pages::Pages;
 use vg_wire::kinds::{ERR_INVALID_PARAMETER, ERR_UNSPEC};
 
+/// What a transfer copies: a rectangle of a resource of `width` by `height` pixels, four bytes each. The rectangle's first byte is
+/// that of number `offset` of the backing, and the others stand in the backing as they do in the resource.
+#[derive(Clone, Copy)]
+pub struct Region {
+    pub rect: Rect,
+    pub offset: u64,
+    pub width: u32,
+    pub height: u32,
+}
+
 /// The backings by the ids of their resources.
 #[derive(Debug, Drop)]
 pub struct Backings {
@@ -86,36 +96,34 @@ impl Backings {
         self.map.remove(&resource);
     }
 
-    /// Copies a rectangle of a resource of `width` by `height` pixels, four bytes each, row by row, from its backing, or
-    /// answers the code of its refusal: ERR_UNSPEC without a backing, ERR_INVALID_PARAMETER for a rectangle outside of the
-    /// resource, or bytes past the backing's end. The rectangle's first byte is that of number `offset`, and the others
-    /// stand in the backing as they do in the resource.
+    /// Copies a rectangle of a resource, row by row, from its backing, or answers the code of its refusal: ERR_UNSPEC without a
+    /// backing, ERR_INVALID_PARAMETER for a rectangle outside of the resource, or bytes past the backing's end.
     #[tactic(auto, unfolding(crate::specs::Backings::transfer))]
     pub fn transfer(
         &self,
         pages: &Pages,
         resource: u32,
-        rect: &Rect,
-        offset: u64,
-        width: u32,
-        height: u32,
+        region: &Region,
         pixels: &mut [u8],
     ) -> Result<(), u32>
         requires held { All (λ entry. AreHeld pages.now entry.1) self.now }
-        requires whole { length pixels.old ≡ 4 * width * height }
-        ensures done { (pixels.new, result) ≡ transfer true pages.now resource rect.now offset width height self.now pixels.old }
-        ensures pixels { OnOk result (CopiesRect rect.now offset width height (backing_bytes pages.now (entries_at resource self.now)) pixels.old pixels.new) }
+        requires whole { length pixels.old ≡ 4 * region.now.width * region.now.height }
+        ensures done { (pixels.new, result) ≡ transfer true pages.now resource region.now.rect region.now.offset region.now.width region.now.height self.now pixels.old }
+        ensures pixels { OnOk result (CopiesRect region.now.rect region.now.offset region.now.width region.now.height (backing_bytes pages.now (entries_at resource self.now)) pixels.old pixels.new) }
     {
         let Some(backing) = self.get(resource) else {
             return Err(ERR_UNSPEC);
         };
-        if !rect.inside(width, height) {
+        let rect = &region.rect;
+        if !rect.inside(region.width, region.height) {
             return Err(ERR_INVALID_PARAMETER);
         }
-        if !rect.is_empty() && u128::from(backing.length()) < end_of(rect, offset, width) {
+        if !rect.is_empty()
+            && u128::from(backing.length()) < end_of(rect, region.offset, region.width)
+        {
             return Err(ERR_INVALID_PARAMETER);
         }
-        copy_rect(backing, pages, rect, offset, width, pixels);
+        copy_rect(backing, pages, rect, region.offset, region.width, pixels);
         Ok(())
     }
 

@@ -3,4 +3,4 @@
 
 mod backings;
 
-pub use backings::Backings;
+pub use backings::{Backings, Region};

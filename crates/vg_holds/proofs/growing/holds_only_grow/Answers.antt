@@ -1,4 +1,4 @@
-use Rattle.vg_holds.specs.Growing.{still_allowed}
+use Rattle.vg_holds.proofs.GrowingLemmas.{still_allowed}
 use Rattle.vg_holds.proofs.growing.holds_only_grow.Goals as goal
 
 pub returns : goal.returns

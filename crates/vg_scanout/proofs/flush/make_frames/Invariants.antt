@@ -5,6 +5,6 @@ use Rattle.vg_scanout.proofs.flush.make_frames.Given as goal
 
 abbrev pub invariant-loop-i : goal.invariant-loop-i
 invariant-loop-i l =
-    (l.frames.items ++ new_frames l.entry l.resource l.rect l.surface l.cursors l.i (drop l.i (screens_in l.before l.panels)) ≡ new_frames l.entry l.resource l.rect l.surface l.cursors 0 (screens_in l.before l.panels))
+    (l.frames.items ++ new_frames l.flush.entry l.flush.resource l.flush.rect.now l.flush.surface.now l.flush.cursors.now l.i (drop l.i (screens_in l.flush.before.now l.panels)) ≡ new_frames l.flush.entry l.flush.resource l.flush.rect.now l.flush.surface.now l.flush.cursors.now 0 (screens_in l.flush.before.now l.panels))
     × (length l.grounds.items ≡ l.i)
-    × ((k : ℕ) → k < l.i → IsAnew l.resource l.rect l.surface l.before (l.before ++ l.frames.items) (get_or l.grounds.items k None) (get_or l.panels k None))
+    × ((k : ℕ) → k < l.i → IsAnew l.flush.resource l.flush.rect.now l.flush.surface.now l.flush.before.now (l.flush.before.now ++ l.frames.items) (get_or l.grounds.items k None) (get_or l.panels k None))

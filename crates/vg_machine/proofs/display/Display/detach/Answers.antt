@@ -2,7 +2,7 @@ use Rattle.std.proofs.Common.{◌≡◌, true, rules}
 use Rattle.std.specs.Prelude.{is_some}
 use Rattle.vg_resource.specs.Resource.{resource_at}
 use Rattle.std.proofs.Common.{}
-use Rattle.vg_machine.proofs.KeepLemmas.{if-nodata, no-want, lifted-detach}
+use Rattle.vg_machine.proofs.KeepLemmas.{lifted-detach}
 use Rattle.vg_machine.proofs.display.Display.detach.Goals as goal
 
 pub invariant_of-self : goal.invariant_of-self
@@ -25,10 +25,6 @@ pub returns : goal.returns
 returns c =
     let s = c.self.inside in
     let known : is_some (resource_at c.args.resource s.resources) ≡ true = search rules in
-    record {
-      step =
-          rw (c.nodata.ensures, ← c.self.view_is)
-          (if-nodata c.detach.result _ (lifted-detach (λ backings. record { setup = s.setup; entries = s.entries; memory = s.pages; resources = s.resources; backings = backings; uuids = s.uuids; cursors = s.cursors; scanouts = s.scanouts; share = s.share })
-          (is_some (resource_at c.args.resource s.resources)) c.args.resource s.backings c.detach.new.self c.detach.result known c.detach.ensures.done));
-      err = rw c.nodata.ensures (no-want c.detach.result _);
-    }
+    rw (← c.self.view_is)
+    (lifted-detach (λ backings. record { setup = s.setup; entries = s.entries; memory = s.pages; resources = s.resources; backings = backings; uuids = s.uuids; cursors = s.cursors; scanouts = s.scanouts; share = s.share })
+    (is_some (resource_at c.args.resource s.resources)) c.args.resource s.backings c.detach.new.self c.detach.result known c.detach.ensures.done)

@@ -18,4 +18,4 @@ edid-requires-clause-height c = let is = is_display c in (is.2, omega (arith, is
 pub returns-in-Some : goal.returns-in-Some
 returns-in-Some c =
     let at = c.in-Some.ensures.lookup in
-    record { step = edid-given c.args.self.now c.args.scanout c.as_slice.result.now c.in-Some.field-0.now c.edid.result (c.as_slice.ensures ∙ ap (λ (state : State). state.setup.displays) c.self.view_is) at.0 at.1 c.edid.ensures.block }
+    edid-given c.args.self.now c.args.scanout c.as_slice.result.now c.in-Some.field-0.now c.edid.result (c.as_slice.ensures ∙ ap (λ (state : State). state.setup.displays) c.self.view_is) at.0 at.1 c.edid.ensures.block

@@ -5,7 +5,7 @@ use Rattle.vg_formats.specs.Pixels.{is_empty, is_inside}
 use Rattle.std.proofs.Common.{rules, sym}
 use Rattle.vg_resource.specs.Resource.{resource_at}
 use Rattle.vg_machine.specs.Step.{binding_of}
-use Rattle.vg_machine.proofs.KeepLemmas.{if-nodata, no-want, step-show}
+use Rattle.vg_machine.proofs.KeepLemmas.{step-show}
 use Rattle.vg_machine.proofs.ShowingLemmas.{found-shown}
 use Rattle.vg_machine.proofs.BoundLemmas.{showing-bind, shows-binding, within-true}
 use Rattle.vg_machine.proofs.display.Display.show.Goals as goal
@@ -38,8 +38,5 @@ returns c =
     let there : nat_le (length s.setup.displays) c.args.scanout ≡ false = grind (arith, nat_tests) in
     let some : (c.args.resource == 0) ≡ false = grind (arith, nat_tests) in
     let fits : (is_empty c.args.rect.now || not (is_inside c.args.rect.now surface.width surface.height)) ≡ false = search rules in
-    record {
-      step = rw (c.nodata.ensures, ← c.self.view_is)
-          (if-nodata c.bind.result _ (step-show (record { setup = s.setup; entries = s.entries; memory = s.pages; resources = s.resources; backings = s.backings; uuids = s.uuids; cursors = s.cursors; scanouts = s.scanouts; share = s.share }) c.args.rect.now c.args.scanout c.args.resource surface c.bind.new.self c.bind.result there some (sym c.in-Some.ensures.value) fits c.bind.ensures));
-      err = rw c.nodata.ensures (no-want c.bind.result _);
-    }
+    rw (← c.self.view_is)
+    (step-show (record { setup = s.setup; entries = s.entries; memory = s.pages; resources = s.resources; backings = s.backings; uuids = s.uuids; cursors = s.cursors; scanouts = s.scanouts; share = s.share }) c.args.rect.now c.args.scanout c.args.resource surface c.bind.new.self c.bind.result there some (sym c.in-Some.ensures.value) fits c.bind.ensures)

@@ -1,5 +1,5 @@
 use Rattle.std.proofs.Common.{}
-use Rattle.vg_machine.proofs.KeepLemmas.{if-nodata, no-want, lifted-receive}
+use Rattle.vg_machine.proofs.KeepLemmas.{lifted-receive}
 use Rattle.vg_machine.proofs.ShowingLemmas.{all-showing, keeping-receive}
 use Rattle.vg_machine.proofs.display.Display.transfer.Goals as goal
 
@@ -7,13 +7,13 @@ pub invariant_of-self : goal.invariant_of-self
 invariant_of-self c =
     let was = c.self.invariant in
     let s = c.self.inside in
-    let keeping = keeping-receive s.pages c.args.resource c.args.rect.now c.args.offset s.backings s.resources c.receive-done.new.resources c.receive-done.result c.receive-done.ensures in
+    let keeping = keeping-receive s.pages c.args.resource c.args.rect.now c.args.offset s.backings s.resources c.receive.new.resources c.receive.result c.receive.ensures in
     record {
       setup = was.setup;
       pages = was.pages;
       backings = was.backings;
       screens = was.screens;
-      showing = all-showing s.resources c.receive-done.new.resources s.scanouts.screens keeping was.showing;
+      showing = all-showing s.resources c.receive.new.resources s.scanouts.screens keeping was.showing;
       leases = was.leases;
       share = was.share;
       reserved = was.reserved;
@@ -24,10 +24,6 @@ invariant_of-self c =
 pub returns : goal.returns
 returns c =
     let s = c.self.inside in
-    record {
-      step =
-          rw (c.nodata.ensures, ← c.self.view_is)
-          (if-nodata c.receive-done.result _ (lifted-receive (λ resources. record { setup = s.setup; entries = s.entries; memory = s.pages; resources = resources; backings = s.backings; uuids = s.uuids; cursors = s.cursors; scanouts = s.scanouts; share = s.share })
-          s.pages c.args.resource c.args.rect.now c.args.offset s.backings s.resources c.receive-done.new.resources c.receive-done.result c.receive-done.ensures));
-      err = rw c.nodata.ensures (no-want c.receive-done.result _);
-    }
+    rw (← c.self.view_is)
+    (lifted-receive (λ resources. record { setup = s.setup; entries = s.entries; memory = s.pages; resources = resources; backings = s.backings; uuids = s.uuids; cursors = s.cursors; scanouts = s.scanouts; share = s.share })
+    s.pages c.args.resource c.args.rect.now c.args.offset s.backings s.resources c.receive.new.resources c.receive.result c.receive.ensures)

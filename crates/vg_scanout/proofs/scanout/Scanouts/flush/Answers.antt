@@ -30,7 +30,7 @@ made : (c : goal.After-drop-frames-2) → c.append.new.self.items ≡ c.self.ins
 made c =
     let a = c.args in
     let new : c.in_ok-frames.frames.items ≡ new_frames a.entry a.resource a.rect.now a.surface.now a.cursors.now 0 (screens_in c.self.inside.frames.items c.self.inside.panels.items) =
-    rw (← c.as_slice-before.ensures.value, ← c.as_slice-panels.ensures.value) c.in_ok-frames.ensures.frames
+    rw (← c.as_slice.ensures.value, ← c.as_slice-panels.ensures.value) c.in_ok-frames.ensures.frames
     in
     c.in_ok-append.ensures.items ∙ ap (λ fs. c.self.inside.frames.items ++ fs) new
 
@@ -42,8 +42,8 @@ stand c =
     let panels = c.self.inside.panels.items in
     let on : c.as_mut_slice-2.result.now ≡ c.in_ok-frames.grounds.items = c.as_mut_slice-2.ensures.value in
     let anew : AreAnew a.resource a.rect.now a.surface.now frames (frames ++ c.in_ok-frames.frames.items) c.in_ok-frames.grounds.items panels =
-    subst (λ (fs : List Frame). AreAnew a.resource a.rect.now a.surface.now fs (fs ++ c.in_ok-frames.frames.items) c.in_ok-frames.grounds.items panels) c.as_slice-before.ensures.value
-    (subst (λ (ps : List (Option Panel)). AreAnew a.resource a.rect.now a.surface.now c.as_slice-before.result.now (c.as_slice-before.result.now ++ c.in_ok-frames.frames.items) c.in_ok-frames.grounds.items ps)
+    subst (λ (fs : List Frame). AreAnew a.resource a.rect.now a.surface.now fs (fs ++ c.in_ok-frames.frames.items) c.in_ok-frames.grounds.items panels) c.as_slice.ensures.value
+    (subst (λ (ps : List (Option Panel)). AreAnew a.resource a.rect.now a.surface.now c.as_slice.result.now (c.as_slice.result.now ++ c.in_ok-frames.frames.items) c.in_ok-frames.grounds.items ps)
     c.as_slice-panels.ensures.value c.in_ok-frames.ensures.grounds)
     in
     let re : AreRegrounded c.in_ok-frames.grounds.items panels (now_panels c) =

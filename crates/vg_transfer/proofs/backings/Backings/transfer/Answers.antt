@@ -17,15 +17,15 @@ copy_rect-requires-clause-held c =
 pub returns-clause-pixels : goal.returns-clause-pixels
 returns-clause-pixels c =
     let memory = c.args.pages.now in
-    let rect = c.args.rect.now in
+    let rect = c.args.region.now.rect in
     let backing = c.in-Some.backing.now in
     let found : Some backing ≡ backing_at c.args.resource c.args.self.now = c.in-Some.ensures.value in
     let all = All-lookup (AreHeld memory) _ c.args.self.now c.requires.held in
     let held = subst (λ found. IfSome found (AreHeld memory)) (sym found) all in
-    let source : (is_empty rect ≡ true) ⊎ (transfer_end rect c.args.offset c.args.width ≤ total backing) = search rules in
-    let inside : not (is_inside rect c.args.width c.args.height) ≡ false = ap not (sym c.inside.ensures.value ∙ c.if-not-inside.false) in
-    let few = few-by rect (transfer_end rect c.args.offset c.args.width) (total backing) source in
-    let copies = copies-in memory backing rect c.args.offset c.args.width c.args.height c.args.pixels.now c.requires.whole held inside few in
-    subst (λ (entries : List MemEntry). CopiesRect rect c.args.offset c.args.width c.args.height (backing_bytes memory entries) c.args.pixels.now c.copy_rect.new.pixels)
+    let source : (is_empty rect ≡ true) ⊎ (transfer_end rect c.args.region.now.offset c.args.region.now.width ≤ total backing) = search rules in
+    let inside : not (is_inside rect c.args.region.now.width c.args.region.now.height) ≡ false = ap not (sym c.inside.ensures.value ∙ c.if-not-inside.false) in
+    let few = few-by rect (transfer_end rect c.args.region.now.offset c.args.region.now.width) (total backing) source in
+    let copies = copies-in memory backing rect c.args.region.now.offset c.args.region.now.width c.args.region.now.height c.args.pixels.now c.requires.whole held inside few in
+    subst (λ (entries : List MemEntry). CopiesRect rect c.args.region.now.offset c.args.region.now.width c.args.region.now.height (backing_bytes memory entries) c.args.pixels.now c.copy_rect.new.pixels)
     (ap (λ o. unwrap_or o []) found)
-    (subst (λ pixels. CopiesRect rect c.args.offset c.args.width c.args.height (backing_bytes memory backing) c.args.pixels.now pixels) (sym c.copy_rect.ensures) copies)
+    (subst (λ pixels. CopiesRect rect c.args.region.now.offset c.args.region.now.width c.args.region.now.height (backing_bytes memory backing) c.args.pixels.now pixels) (sym c.copy_rect.ensures) copies)

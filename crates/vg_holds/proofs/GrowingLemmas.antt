@@ -1,6 +1,6 @@
 -- What a client holds only grows until it gives something up.
 use Rattle.std.proofs.Common.{◌≡◌, ℕ, ◌==◌, ◌^◌, Bool, true, false, List, [], ◌∷◌, ◌++◌, refl, sym, ap, ◌∙◌, Some, None, Ok, Err}
-use Rattle.std.specs.Prelude.{◌||◌, ◌&&◌, not, nat_le, if◌then◌else◌, Option, Result}
+use Rattle.std.specs.Prelude.{◌||◌, ◌&&◌, not, is_none, nat_le, if◌then◌else◌, Option, Result}
 use Rattle.std.proofs.lemmas.List.Folds.{list_any-append}
 use Rattle.std.specs.List.{list_any}
 use Rattle.vg_wire.specs.declared.header.Header.{Header}
@@ -16,7 +16,7 @@ use Rattle.vg_holds.specs.declared.act.What.{What}
 use Rattle.vg_holds.specs.declared.act.What.TheVariants.{Name, Resource, Scanout, Context, Page}
 use Rattle.vg_holds.specs.declared.holds.Holds.{Holds}
 use Rattle.vg_share.specs.Lists.{is_number}
-use Rattle.vg_holds.specs.Holds.{Allowed, denied_request, first_denied, gives_up, has_key, has_number, has_page, is_allowed, is_creating, key_of, names_of, update}
+use Rattle.vg_holds.specs.Holds.{Allowed, denied_of, denied_request, first_denied, gives_up, has_key, has_number, has_page, is_allowed, is_creating, key_of, names_of, update}
 
 false_is_true : false ≡ true → ⊥
 false_is_true e = absurd (cc e)
@@ -110,3 +110,16 @@ grows h Leave reply e = absurd (false_is_true (sym e))
 
 pub still_allowed : (h : Holds) (act : Act) (reply : ActReply) (queue : Queue) (bytes : List ℕ) → gives_up act ≡ false → Allowed h queue bytes → Allowed (update h act reply) queue bytes
 still_allowed h act reply queue bytes e may = still_none h (update h act reply) (grows h act reply e) (request_of queue bytes) may
+
+none-by : (denied : Option What) → is_none denied ≡ true → denied ≡ None
+none-by (Some what) e = absurd (cc e)
+none-by None e = refl
+
+by-none : (denied : Option What) → denied ≡ None → is_none denied ≡ true
+by-none (Some what) e = absurd (cc e)
+by-none None e = refl
+
+-- the same as a test, which the machine's law has
+pub keeps-allowed : (holds : Holds) (act : Act) (reply : ActReply) (queue : Queue) (bytes : List ℕ) → gives_up act ≡ false → is_none (denied_of holds queue bytes) ≡ true
+    → is_none (denied_of (update holds act reply) queue bytes) ≡ true
+keeps-allowed holds act reply queue bytes stays may = by-none _ (still_allowed holds act reply queue bytes stays (none-by _ may))
