@@ -100,7 +100,7 @@ impl<M: Machine, B: Naming> ClientToken<M, B> {
         ensures { MatchResult result (λ r. Acted M.Machine self.old act self.new r.0 r.1) (λ _. Watched M.Machine self.old self.new) }
     {
         next_call(rt, self.used);
-        match enter(
+        let done = enter(
             rt,
             alloc,
             &book.table,
@@ -109,13 +109,9 @@ impl<M: Machine, B: Naming> ClientToken<M, B> {
             self.used,
             &mut self.holds,
             act,
-        ) {
-            Ok(done) => {
-                self.used += 1;
-                Ok(done)
-            }
-            Err(none) => Err(none),
-        }
+        )?;
+        self.used += 1;
+        Ok(done)
     }
 
     /// Makes a pass for a request that the client's holds allow, under its next number. It waits for nobody.
