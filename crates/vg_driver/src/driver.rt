@@ -154,16 +154,6 @@ impl<B: vg_book::Naming, N: Rings> Driver<B, N> {
         })
     }
 
-    /// The control queue.
-    pub fn control(&self) -> &Mutex<Half<Display, B, ControlOf<N>>> {
-        &self.control
-    }
-
-    /// The cursor queue.
-    pub fn cursor(&self) -> &Mutex<Half<Display, B, CursorOf<N>>> {
-        &self.cursor
-    }
-
     /// Submits what a client asks. It waits for its queue's lock, and for free descriptors. For want of memory nothing was
     /// published.
     pub fn submit<R: Wait>(
