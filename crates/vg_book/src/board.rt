@@ -42,7 +42,7 @@ pub struct Finished<M: Machine> {
     pub place: u64,
 }
 
-/// What a client knows of its own calls. Of these structs no value is made: only contracts read them.
+/// What a client knows of its own calls. Of this struct, `Finished` and `View` no value is made: only contracts read them.
 pub struct Account<M: Machine> {
     pub number: u32,
     /// What it held before its first act, and holds now.
@@ -59,6 +59,7 @@ pub struct Account<M: Machine> {
 }
 
 /// How many commands of a lane were run.
+#[derive(Clone, Copy)]
 pub struct Counted {
     pub lane: u32,
     pub count: u64,

@@ -9,7 +9,7 @@ use crate::book::Book;
 use crate::note::Note;
 use crate::pass::{DonePass, Pass};
 use crate::seats::{draw, give_up, hand, join, settle, twin};
-use crate::steps::enter;
+use crate::steps::{Caller, enter};
 use crate::turn::look;
 use crossbeam_utils::Backoff;
 use std::alloc::{AllocError, Global};
@@ -100,22 +100,14 @@ impl<M: Machine, B: Naming> ClientToken<M, B> {
         ensures { MatchResult result (λ r. Acted M.Machine self.old act self.new r.0 r.1) (λ _. Watched M.Machine self.old self.new) }
     {
         next_call(rt, self.used);
-        match enter(
-            rt,
-            alloc,
-            &book.table,
-            &mut self.seat,
-            self.number,
-            self.used,
-            &mut self.holds,
-            act,
-        ) {
-            Ok(done) => {
-                self.used += 1;
-                Ok(done)
-            }
-            Err(none) => Err(none),
-        }
+        let caller = Caller {
+            number: self.number,
+            used: self.used,
+        };
+        let holds = &mut self.holds;
+        let done = enter(rt, alloc, &book.table, &mut self.seat, caller, holds, act)?;
+        self.used += 1;
+        Ok(done)
     }
 
     /// Makes a pass for a request that the client's holds allow, under its next number. It waits for nobody.

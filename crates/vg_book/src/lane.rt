@@ -4,7 +4,7 @@ ghost use Rattle.std.specs.Prelude.{◌≡◌, ℕ, ◌+◌, false, [], ◌∷�
 ghost use Rattle.vg_book.specs.Turns.{Sits, counted};
 ghost use Rattle.vg_book.specs.Tokens.{lane_value, Ran, Stays};
 
-use crate::board::{Naming, Place};
+use crate::board::{Counted, Naming, Order, Place};
 use crate::book::Book;
 use crate::pass::{DonePass, Pass};
 use crate::seats::{hand, join};
@@ -69,17 +69,16 @@ impl<M: Machine, B: Naming> LaneToken<M, B> {
         let asked = Snapshot::of(&request);
         let tag = M::tag(&request);
         join(&book.table, &mut self.seat, seat);
-        match answer(
-            rt,
-            alloc,
-            &book.table,
-            &mut self.seat,
-            self.lane,
-            self.count,
+        let lane = Counted {
+            lane: self.lane,
+            count: self.count,
+        };
+        let order = Order {
             client,
             call,
             request,
-        ) {
+        };
+        match answer(rt, alloc, &book.table, &mut self.seat, lane, order) {
             Ok((place, reply)) => {
                 self.count += 1;
                 let seat = hand(&book.table, &mut self.seat);

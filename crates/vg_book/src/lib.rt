@@ -29,6 +29,6 @@ pub use client::ClientToken;
 pub use lane::LaneToken;
 pub use laws::{entries_in_step, history_in_step};
 pub use note::Note;
-pub use outcome::{Carried, Ran};
+pub use outcome::Carried;
 pub use pass::{DonePass, Pass};
 pub use root::Root;

@@ -4,13 +4,6 @@ use crate::board::Naming;
 use crate::pass::{DonePass, Pass};
 use vg_history::{Machine, Tagged};
 
-/// What a lane makes of a pass: it was run, or there was no memory for it.
-#[derive(Drop)]
-pub enum Ran<M: Machine, B: Naming> {
-    Done(DonePass<M, B>),
-    Unrun(Pass<M, B>),
-}
-
 /// A pass on its way out, or one on its way back, run or unrun.
 #[derive(Drop)]
 pub enum Carried<M: Machine, B: Naming> {

@@ -38,7 +38,7 @@ use Rattle.vg_client.specs.Outcomes.{HasPlayed, IsNumbered, last_given}
 use Rattle.vg_tasks.specs.Table.{page_entry}
 use Rattle.vg_driver.specs.Tickets.{Token}
 use Rattle.vg_client.specs.Accounts.{IsAccount, IsActive, IsAdded, IsAddedAct, IsPresent, IsUnadded, leaves, mine_of}
-use Rattle.vg_client.proofs.HoldsLemmas.{updated-kept}
+use Rattle.vg_client.proofs.HoldsLemmas.{updated-displays}
 use Rattle.vg_client.proofs.OutcomeLemmas.{played-more}
 use Rattle.vg_client.proofs.OwnLemmas.{all-more}
 use Rattle.vg_tasks.proofs.TaskLemmas.{fit-append, weights-append}
@@ -139,7 +139,7 @@ small-more used used' known known' task entry small next learns =
     let P : Known → Type 0 = λ k. IsSmall used' k in
     let names = names-little task.change (given_of entry) known.names small.current in
     subst P (sym learns) (record {
-      few_displays = let same = (updated-kept known.holds entry).displays in omega (arith, same, small.few_displays);
+      few_displays = let same = updated-displays known.holds entry in omega (arith, same, small.few_displays);
       current = names.0;
       made = omega (arith, names.1, small.made, next);
       scanouts = let same = shows-length task.change (given_of entry) known.shows in omega (arith, same, small.scanouts);
@@ -243,7 +243,7 @@ playing-more stops tasks0 client0 client client' client'' left left1 left' gathe
       mine = playing.mine ++ entry ∷ [];
       on = record {
         added = added;
-        displays = ap (λ (k : Known). k.holds.displays) learns ∙ (updated-kept client.token.account.holds entry).displays ∙ playing.on.displays;
+        displays = ap (λ (k : Known). k.holds.displays) learns ∙ updated-displays client.token.account.holds entry ∙ playing.on.displays;
         made = omega (arith, little.2, made_is, playing.on.made);
         ready = record {
           active = subst (λ (t : Token). IsActive t) (sym same) done.active;

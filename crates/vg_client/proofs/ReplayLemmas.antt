@@ -10,7 +10,7 @@ pub agrees-last : (state : State) (H : List Entry) (entry : Entry) → AgreesFro
 agrees-last state [] entry agrees = agrees.0
 agrees-last state (first ∷ more) entry agrees = agrees-last (after state first) more entry agrees.1
 
-pub fold-more : {A B : Type 0} (f : B → A → B) (a : B) (xs : List A) (x : A) → fold f a (xs ++ x ∷ []) ≡ f (fold f a xs) x
+fold-more : {A B : Type 0} (f : B → A → B) (a : B) (xs : List A) (x : A) → fold f a (xs ++ x ∷ []) ≡ f (fold f a xs) x
 fold-more f a [] x = refl
 fold-more f a (first ∷ more) x = fold-more f (f a first) more x
 

@@ -125,10 +125,8 @@ impl<B: Naming> Client<B> {
             return (caller.token, Err(AllocError));
         }
         let mut caller = caller;
-        match end(rt, alloc, book, driver, &mut caller) {
-            Ok(number) => (caller.token, Ok(number)),
-            Err(_) => (caller.token, Err(AllocError)),
-        }
+        let ended = end(rt, alloc, book, driver, &mut caller);
+        (caller.token, ended)
     }
 
     /// A note that has seen what the client has.

@@ -1,20 +1,20 @@
 -- Several clients' own entries make one legal history.
-use Rattle.std.proofs.Common.{◌≡◌, inl, inr, ◌+◌, ◌<◌, ◌≤◌, ◌==◌, ◌∙◌, sym, ap, refl, subst, arith, eq-eqb, ℕ, zero, suc, Bool, true, false, cond, List, [], ◌∷◌, ◌++◌, length, map, append_assoc, append-nil}
+use Rattle.std.proofs.Common.{◌≡◌, ◌≢◌, inl, inr, ◌+◌, ◌<◌, ◌≤◌, ◌==◌, ◌∙◌, sym, ap, refl, subst, arith, eq-eqb, true≢false, ℕ, zero, suc, Bool, true, false, cond, List, [], ◌∷◌, ◌++◌, length, map, append_assoc, append-nil}
 use Rattle.std.specs.List.{AllByRecursion, fold, range_with_len}
 use Rattle.std.proofs.lemmas.List.{length-map}
 use mathlib.Core.List.{map-append}
 use mathlib.Core.Logic.{dite}
 use native.Mathlib.Decide.{ℕ_discrete}
 use Rattle.vg_history.specs.declared.entry.Entry.TheVariants as entries
-use Rattle.vg_history.specs.History.{Ordered, ordinals}
+use Rattle.vg_history.specs.History.{Ordered, holds_after, ordinals, updated}
 use Rattle.vg_history.specs.Lists.{Has}
-use Rattle.vg_history.proofs.HistoryLemmas.{ordinals_append}
+use Rattle.vg_history.proofs.HistoryLemmas.{ordinals_append, updated_other}
 use Rattle.vg_book.specs.Own.{own}
 use Rattle.vg_holds.specs.declared.holds.Holds.{Holds}
 use Rattle.vg_holds.specs.declared.setup.Setup.{Setup}
 use Rattle.vg_machine.specs.Entries.{Entry}
 use Rattle.vg_holds.specs.Holds.{first_holds}
-use Rattle.vg_machine.specs.Order.{AreAllowed, AreInOrder, IsAllowed, IsInOrder, LaneOrder, Sound, by_call, call_of, client_of, holds_after, holds_of, is_of_lane, of_client, updated}
+use Rattle.vg_machine.specs.Order.{AreAllowed, AreInOrder, IsAllowed, IsInOrder, LaneOrder, Sound, by_call, call_of, client_of, holds_of, is_of_lane, of_client}
 use Rattle.vg_machine.specs.Replay.{Agrees, display}
 use Rattle.vg_script.specs.declared.types.Line.{Line}
 use Rattle.vg_part.specs.Follows.{AreInPlace, Follows, GivesCalls}
@@ -23,7 +23,6 @@ use Rattle.vg_drive.specs.Kept.{KeptAll}
 use Rattle.vg_drive.specs.Legal.{FollowAll}
 use Rattle.vg_client.specs.Own.{AreInOwnOrder, IsInOwnOrder, IsOnItsLane, IsOwn}
 use Rattle.vg_drive.specs.Run.{IsOwned}
-use Rattle.vg_client.proofs.HoldsLemmas.{fold-client}
 use Rattle.vg_session.proofs.RangeLemmas.{upto-range}
 use Rattle.vg_drive.proofs.OrderLemmas.{in_order, in_place-numbered, numbered-sorted}
 
@@ -109,21 +108,21 @@ lane-order H before rest (entries.Command client call request reply) is ordered 
 
 -- what a client holds is told by its own entries
 abbrev IsTold : ℕ → List Entry → Holds → Type 0
-IsTold client H holds = holds.client ≡ client → fold holds_after holds H ≡ fold holds_after holds (of_client client H)
+IsTold client H holds = holds_after display client holds H ≡ holds_after display client holds (of_client client H)
 
 holds-told : (client : ℕ) (H : List Entry) (holds : Holds) → IsTold client H holds
-holds-told client [] holds is = refl
-holds-told client (first ∷ more) holds is = by_test (client_of first == client) refl (holds-told client more)
+holds-told client [] holds = refl
+holds-told client (first ∷ more) holds = by_test (client_of first == client) refl (holds-told client more)
   where
     by_test : (b : Bool) → (client_of first == client) ≡ b → ((h : Holds) → IsTold client more h)
-        → fold holds_after (holds_after holds first) more ≡ fold holds_after holds (cond b (first ∷ of_client client more) (of_client client more))
-    by_test true e all = all (holds_after holds first) (fold-client holds (first ∷ []) ∙ is)
+        → holds_after display client (updated display client holds first) more ≡ holds_after display client holds (cond b (first ∷ of_client client more) (of_client client more))
+    by_test true e all = all (updated display client holds first)
     by_test false e all =
-        let other : (client_of first == holds.client) ≡ false = ap (λ (n : ℕ). client_of first == n) is ∙ e in
-        ap (λ (b : Bool). fold holds_after (cond b (updated holds first) holds) more) other ∙ all holds is
+        let other : client_of first ≢ client = λ same. true≢false (sym (eq-eqb (client_of first) client same) ∙ e) in
+        ap (λ (h : Holds). holds_after display client h more) (updated_other display client holds first other) ∙ all holds
 
 holds-own : (setup : Setup) (client : ℕ) (H : List Entry) → holds_of setup client H ≡ holds_of setup client (of_client client H)
-holds-own setup client H = holds-told client H (first_holds setup client) refl
+holds-own setup client H = holds-told client H (first_holds setup client)
 
 none-long : {X : Type 0} (xs : List X) → length xs ≡ 0 → xs ≡ []
 none-long [] is = refl

@@ -25,12 +25,20 @@ use vg_machine::{Display, Setup};
 use vg_part::setup_of;
 use vg_ring::{ControlOf, CursorOf, DeviceEnd, Made, Ring, Rings};
 use vg_script::Script;
-use vg_session::{Closed, close, run_threads};
+use vg_session::{Closed, Shared, close, run_threads};
 use vg_wire::Queue;
 use vg_worker::Gate;
 
 /// How many lanes there are: the control queue's without a ring index, one for each of 64 ring indices, and the cursor queue's.
 const LANES: u32 = 66;
+
+/// A display in a book that was just opened, and two rings that were just made.
+#[derive(Drop)]
+pub struct Device<B: Naming> {
+    pub opened: Opened<Display>,
+    pub control: Made<Carried<Display, B>>,
+    pub cursor: Made<Carried<Display, B>>,
+}
 
 /// What a run leaves: its journal, and the device's ends of both rings.
 #[derive(Drop)]
@@ -80,18 +88,19 @@ fn with_rings<B: Naming + Send + Sync, G: Gate, R: Threads + Wait + Sync>(
 {
     let control = Ring::make::<Carried<Display, B>>(alloc, Queue::Control, 64)?;
     let cursor = Ring::make::<Carried<Display, B>>(alloc, Queue::Cursor, 16)?;
-    journal_in::<B, Brand, G, R>(
-        rt, alloc, opened, control, cursor, setup, script, workers, gate,
-    )
+    let device = Device {
+        opened,
+        control,
+        cursor,
+    };
+    journal_in::<B, Brand, G, R>(rt, alloc, device, setup, script, workers, gate)
 }
 
-/// The same in a book and over rings that were just made, under their names, of whose ends nothing is left.
+/// The same in a book and over rings under their names, of whose ends nothing is left.
 fn journal_in<B: Naming + Send + Sync, N: Rings + Send + Sync, G: Gate, R: Threads + Wait + Sync>(
     rt: &R,
     alloc: Global,
-    opened: Opened<Display>,
-    control: Made<Carried<Display, B>>,
-    cursor: Made<Carried<Display, B>>,
+    device: Device<B>,
     setup: Setup,
     script: Script,
     workers: u32,
@@ -100,27 +109,23 @@ fn journal_in<B: Naming + Send + Sync, N: Rings + Send + Sync, G: Gate, R: Threa
     requires limits { ScriptInLimits script }
     requires workers { (1 ≤ workers) × (workers ≤ 8) }
     requires setup { setup ≡ setups.setup_of script }
-    requires book { (opened.table ≡ B.table) × (opened.lanes ≡ 66) }
-    requires start { opened.start ≡ Some (start setup) }
-    requires control { (control.table ≡ N.control) × (control.queue ≡ queues.Control) }
-    requires cursor { (cursor.table ≡ N.cursor) × (cursor.queue ≡ queues.Cursor) }
+    requires book { (device.opened.table ≡ B.table) × (device.opened.lanes ≡ 66) }
+    requires start { device.opened.start ≡ Some (start setup) }
+    requires control { (device.control.table ≡ N.control) × (device.control.queue ≡ queues.Control) }
+    requires cursor { (device.cursor.table ≡ N.cursor) × (device.cursor.queue ≡ queues.Cursor) }
     ensures journal { IfOk result (IsLegalJournal script) }
     ensures completed { IfOk result (λ journal. (control cursor : DeviceLists) × HaveCompleted journal.entries control cursor) }
 {
-    let driven = drive_in::<B, N, G, R>(
-        rt, alloc, opened, control, cursor, setup, script, workers, gate,
-    )?;
+    let driven = drive_in::<B, N, G, R>(rt, alloc, device, setup, script, workers, gate)?;
     let Driven { journal, .. } = driven;
     Ok(journal)
 }
 
-/// The same in a book and over rings that were just made, under their names.
+/// The same in a book and over rings under their names.
 pub fn drive_in<B: Naming + Send + Sync, N: Rings + Send + Sync, G: Gate, R: Threads + Wait + Sync>(
     rt: &R,
     alloc: Global,
-    opened: Opened<Display>,
-    control: Made<Carried<Display, B>>,
-    cursor: Made<Carried<Display, B>>,
+    device: Device<B>,
     setup: Setup,
     script: Script,
     workers: u32,
@@ -129,22 +134,31 @@ pub fn drive_in<B: Naming + Send + Sync, N: Rings + Send + Sync, G: Gate, R: Thr
     requires limits { ScriptInLimits script }
     requires workers { (1 ≤ workers) × (workers ≤ 8) }
     requires setup { setup ≡ setups.setup_of script }
-    requires book { (opened.table ≡ B.table) × (opened.lanes ≡ 66) }
-    requires start { opened.start ≡ Some (start setup) }
-    requires control { (control.table ≡ N.control) × (control.queue ≡ queues.Control) }
-    requires cursor { (cursor.table ≡ N.cursor) × (cursor.queue ≡ queues.Cursor) }
+    requires book { (device.opened.table ≡ B.table) × (device.opened.lanes ≡ 66) }
+    requires start { device.opened.start ≡ Some (start setup) }
+    requires control { (device.control.table ≡ N.control) × (device.control.queue ≡ queues.Control) }
+    requires cursor { (device.cursor.table ≡ N.cursor) × (device.cursor.queue ≡ queues.Cursor) }
     ensures journal { IfOk result (λ driven. IsLegalJournal script driven.journal) }
     ensures completed { IfOk result (λ driven. HaveCompleted driven.journal.entries driven.control driven.cursor) }
 {
     // Laws, and no work: the history has each client's entries as it made them, and so it is one that the clients can have.
     history_in_step::<Display>();
     clients_make_one_history();
+    let Device {
+        opened,
+        control,
+        cursor,
+    } = device;
     let (book, root, tokens) = opened.named::<B>(alloc)?;
     let mut root = root;
     let (driver, front) = ends::<B, N>(alloc, control, cursor, tokens)?;
-    let front = run_threads(
-        rt, alloc, &book, &driver, &mut root, front, &setup, script, workers, gate,
-    )?;
+    let shared = Shared {
+        alloc,
+        book: &book,
+        driver: &driver,
+        gate,
+    };
+    let front = run_threads(rt, shared, &mut root, front, &setup, script, workers)?;
     let closed = close(rt, book, root, driver, front)?;
     let Closed {
         history,

@@ -5,5 +5,5 @@ mod driving;
 mod journal;
 mod laws;
 
-pub use driving::{Driven, drive, drive_in};
+pub use driving::{Device, Driven, drive, drive_in};
 pub use laws::{at_most_one_history, clients_make_one_history, nothing_without_clients};

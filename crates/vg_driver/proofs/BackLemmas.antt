@@ -4,8 +4,8 @@ use Rattle.std.specs.List.{position, position_or_len}
 use Rattle.std.proofs.lemmas.Bool.{and_parts, eqb-true}
 use Rattle.std.proofs.lemmas.Bool.Decides.{nat_tests}
 use Rattle.std.proofs.lemmas.List.Sums.{passes_at_first}
-use Rattle.vg_book.specs.declared.outcome.Ran.{Ran}
-use Rattle.vg_book.specs.declared.outcome.Ran.TheVariants as outcomes
+use Rattle.vg_book.specs.declared.outcome.Carried.{Carried}
+use Rattle.vg_book.specs.declared.outcome.Carried.TheVariants as carried
 use Rattle.vg_driver.specs.Halves.{IsOf, is_of}
 
 -- the first place that passes, where there is one
@@ -17,11 +17,12 @@ place_is p xs i is = by_test (nat_lt (position_or_len p xs) (length xs)) refl is
     by_test false e same = cc
 
 module _ {M B S A R Q P H W : Type 0} where
-  of_call : (client call : ℕ) (ran : Ran M B S A R Q P H W) → is_of client call ran ≡ true → IsOf client call ran
-  of_call client call (outcomes.Done f) is = let both = and_parts (f.order.client == client) (f.order.call == call) is in (eqb-true _ _ both.0, eqb-true _ _ both.1)
-  of_call client call (outcomes.Unrun p) is = let both = and_parts (p.order.client == client) (p.order.call == call) is in (eqb-true _ _ both.0, eqb-true _ _ both.1)
+  of_call : (client call : ℕ) (back : Carried M B S A R Q P H W) → is_of client call back ≡ true → IsOf client call back
+  of_call client call (carried.Wanted p) is = let both = and_parts (p.order.client == client) (p.order.call == call) is in (eqb-true _ _ both.0, eqb-true _ _ both.1)
+  of_call client call (carried.Done f) is = let both = and_parts (f.order.client == client) (f.order.call == call) is in (eqb-true _ _ both.0, eqb-true _ _ both.1)
+  of_call client call (carried.Unrun p) is = let both = and_parts (p.order.client == client) (p.order.call == call) is in (eqb-true _ _ both.0, eqb-true _ _ both.1)
 
-  pub found_of : (client call : ℕ) (xs : List (Ran M B S A R Q P H W)) (i : ℕ) (x : Ran M B S A R Q P H W) → Some i ≡ position (is_of client call) xs → x ≡ get_or xs i x → IsOf client call x
+  pub found_of : (client call : ℕ) (xs : List (Carried M B S A R Q P H W)) (i : ℕ) (x : Carried M B S A R Q P H W) → Some i ≡ position (is_of client call) xs → x ≡ get_or xs i x → IsOf client call x
   found_of client call xs i x at is =
       let first = place_is (is_of client call) xs i at in
       of_call client call x (ap (is_of client call) (is ∙ ap (λ n. get_or xs n x) first.1) ∙ passes_at_first (is_of client call) xs x first.0)

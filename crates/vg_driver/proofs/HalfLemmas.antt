@@ -10,8 +10,9 @@ use Rattle.vg_history.specs.History.{HasFence}
 use Rattle.vg_history.specs.Lists.{Has}
 use Rattle.vg_history.specs.declared.entry.Entry.{Entry}
 use Rattle.vg_history.proofs.ListLemmas.{has_prefix, has_snoc, prefix_self, prefix_trans}
-use Rattle.vg_book.specs.declared.outcome.Ran.{Ran}
-use Rattle.vg_book.specs.declared.outcome.Ran.TheVariants as outcomes
+use Rattle.vg_book.specs.declared.outcome.Carried.{Carried}
+use Rattle.vg_book.specs.declared.outcome.Carried.TheVariants as carried
+use Rattle.vg_book.specs.Outcomes.{asks_of, tag_of}
 use Rattle.vg_book.specs.Tokens.{Done, Noted, Rooted, TakesIn, finished_of}
 use Rattle.vg_book.specs.Views.{entry_of}
 use Rattle.vg_asks.specs.declared.asked.Asked.{Asked}
@@ -24,7 +25,7 @@ use Rattle.vg_ring.specs.Cargo as cargoes
 use Rattle.vg_ring.specs.Ends.{DriverLists, Publishes, Reaps}
 use Rattle.vg_ring.specs.Entries.{IsDone}
 use Rattle.vg_ring.specs.Making.{IsNewDriver}
-use Rattle.vg_driver.specs.Halves.{AreBack, AreHeard, AreKnown, HasFor, HasHeard, HasJoined, HeardData, Hears, IsHalf, IsHeard, IsJoined, IsKnown, NoteKnows, asked_in, asked_of, seen_by, tag_of, top_of, unheard}
+use Rattle.vg_driver.specs.Halves.{AreBack, AreHeard, AreKnown, HasFor, HasHeard, HasJoined, HeardData, Hears, IsHalf, IsHeard, IsJoined, IsKnown, NoteKnows, asked_in, seen_by, top_of, unheard}
 
 -- what a call promises where it didn't fail
 pub fits_of : {T E : Type 0} (r : Result T E) (n m : ℕ) → is_err r ≡ false → OnOk r (n ≤ m) → n ≤ m
@@ -36,9 +37,9 @@ lane_small Control lane is = omega (arith, is)
 lane_small Cursor lane is = omega (arith, is)
 
 -- a note of what came back run knows the lane up to it
-pub fence_at : {M B S A R Q P H W : Type 0} (g : Ghosts M S A R Q P H W) (ran : Ran M B S A R Q P H W) (f : Done M S A R Q P H W) (lane ordinal : ℕ) (seen : List (Entry M S A R Q P H W)) → ran ≡ outcomes.Done f → tag_of g ran ≡ (lane, ordinal)
+pub fence_at : {M B S A R Q P H W : Type 0} (g : Ghosts M S A R Q P H W) (back : Carried M B S A R Q P H W) (f : Done M S A R Q P H W) (lane ordinal : ℕ) (seen : List (Entry M S A R Q P H W)) → back ≡ carried.Done f → tag_of g back ≡ (lane, ordinal)
     → HasFence g (g.tagged f.order.request).0 (g.tagged f.order.request).1 seen → HasFence g lane ordinal seen
-fence_at g ran f lane ordinal seen is tag fence = subst (λ (t : ℕ × ℕ). HasFence g t.0 t.1 seen) (ap (tag_of g) (sym is) ∙ tag) fence
+fence_at g back f lane ordinal seen is tag fence = subst (λ (t : ℕ × ℕ). HasFence g t.0 t.1 seen) (ap (tag_of g) (sym is) ∙ tag) fence
 
 module _ {M S A R Q P H W : Type 0} (g : Ghosts M S A R Q P H W) where
   abbrev E : Type 0
@@ -67,13 +68,13 @@ module _ {M S A R Q P H W : Type 0} (g : Ghosts M S A R Q P H W) where
   for_more tag asks es fs more t = (t.0, t.1, t.2, t.3, has_prefix es fs _ more t.4, t.5, t.6)
 
   -- the command of what came back run stands in what its note has seen
-  stands_in : {B : Type 0} (ran : Ran M B S A R Q P H W) (f : Done M S A R Q P H W) (es fs : List E) → ran ≡ outcomes.Done f → Has es (entry_of (finished_of g f)) → IsPrefix es fs → HasFor g (tag_of g ran) (asked_of g ran) fs
-  stands_in ran f es fs is has more = (f.order.client, f.order.call, f.order.request, f.reply, has_prefix es fs _ more has, sym (ap (tag_of g) is), sym (ap (asked_of g) is))
+  stands_in : {B : Type 0} (back : Carried M B S A R Q P H W) (f : Done M S A R Q P H W) (es fs : List E) → back ≡ carried.Done f → Has es (entry_of (finished_of g f)) → IsPrefix es fs → HasFor g (tag_of g back) (asks_of g back) fs
+  stands_in back f es fs is has more = (f.order.client, f.order.call, f.order.request, f.reply, has_prefix es fs _ more has, sym (ap (tag_of g) is), sym (ap (asks_of g) is))
 
   -- a lane hears of what came back run
-  pub hears_done : {B : Type 0} (old : HeardData M S A R Q P H W) (ran : Ran M B S A R Q P H W) (f : Done M S A R Q P H W) (ordinal top known : ℕ) (es : List E) (note : Noted M S A R Q P H W) → top ≡ max ordinal old.top → ran ≡ outcomes.Done f → Has es (entry_of (finished_of g f)) → IsPrefix es note.seen
-      → IsPrefix (seen_by old.note) note.seen → Hears g old ran ordinal (record { lane = old.lane; top = top; known = known; note = Some note; unrun = old.unrun })
-  hears_done old ran f ordinal top known es note top_is is has more seen = record { lane = refl; top = top_is; more = seen; run = λ run. (run, stands_in ran f es note.seen is has more) }
+  pub hears_done : {B : Type 0} (old : HeardData M S A R Q P H W) (back : Carried M B S A R Q P H W) (f : Done M S A R Q P H W) (ordinal top known : ℕ) (es : List E) (note : Noted M S A R Q P H W) → top ≡ max ordinal old.top → back ≡ carried.Done f → Has es (entry_of (finished_of g f)) → IsPrefix es note.seen
+      → IsPrefix (seen_by old.note) note.seen → Hears g old back ordinal (record { lane = old.lane; top = top; known = known; note = Some note; unrun = old.unrun })
+  hears_done old back f ordinal top known es note top_is is has more seen = record { lane = refl; top = top_is; more = seen; run = λ run. (run, stands_in back f es note.seen is has more) }
 
 -- one answer more
 top_of-snoc : (lane : ℕ) (xs : List Answer) (a : Answer) → top_of lane (xs ++ a ∷ []) ≡ cond (a.entry.lane == lane) (max a.entry.ordinal (top_of lane xs)) (top_of lane xs)
@@ -100,17 +101,17 @@ has_at_place (x ∷ xs) (suc i) d less = inr (has_at_place xs i d (omega (arith,
 
 module _ {M S A R Q P H W : Type 0} (g : Ghosts M S A R Q P H W) where
   -- what is known of an answer still is, once more of its lane came back
-  known_still : {B : Type 0} (answer : Answer) (old new : HeardData M S A R Q P H W) (ran : Ran M B S A R Q P H W) (ordinal : ℕ) → Hears g old ran ordinal new → IsKnown g answer old → IsKnown g answer new
-  known_still answer old new ran ordinal hears known = (known.0, λ run. for_more g (answer.entry.lane, answer.entry.ordinal) (asked_in answer.entry) (seen_by old.note) (seen_by new.note) hears.more (known.1 (hears.run run).0))
+  known_still : {B : Type 0} (answer : Answer) (old new : HeardData M S A R Q P H W) (back : Carried M B S A R Q P H W) (ordinal : ℕ) → Hears g old back ordinal new → IsKnown g answer old → IsKnown g answer new
+  known_still answer old new back ordinal hears known = (known.0, λ run. for_more g (answer.entry.lane, answer.entry.ordinal) (asked_in answer.entry) (seen_by old.note) (seen_by new.note) hears.more (known.1 (hears.run run).0))
 
   -- an answer is known once it came back
-  known_now : {B C : Type 0} (wanted : C → Bool) (answer : Answer) (cargo : CargoData C) (old new : HeardData M S A R Q P H W) (ran : Ran M B S A R Q P H W) (ordinal : ℕ) → IsDone wanted answer cargo → tag_of g ran ≡ (cargo.parcel.lane, cargo.parcel.ordinal) → asked_of g ran ≡ cargoes.asked_of cargo.parcel
-      → cargo.parcel.lane < 66 → Hears g old ran ordinal new → IsKnown g answer new
-  known_now wanted answer cargo old new ran ordinal done tag asks small hears =
+  known_now : {B C : Type 0} (wanted : C → Bool) (answer : Answer) (cargo : CargoData C) (old new : HeardData M S A R Q P H W) (back : Carried M B S A R Q P H W) (ordinal : ℕ) → IsDone wanted answer cargo → tag_of g back ≡ (cargo.parcel.lane, cargo.parcel.ordinal) → asks_of g back ≡ cargoes.asked_of cargo.parcel
+      → cargo.parcel.lane < 66 → Hears g old back ordinal new → IsKnown g answer new
+  known_now wanted answer cargo old new back ordinal done tag asks small hears =
       let lane : cargo.parcel.lane ≡ answer.entry.lane = ap (λ e. e.lane) done.entry in
-      let tags : tag_of g ran ≡ (answer.entry.lane, answer.entry.ordinal) = tag ∙ ap (λ e. (e.lane, e.ordinal)) done.entry in
-      let asked : asked_of g ran ≡ asked_in answer.entry = asks ∙ ap asked_in done.entry in
-      (subst (λ n. n < 66) lane small, λ run. subst (λ t. HasFor g t (asked_in answer.entry) (seen_by new.note)) tags (subst (λ a. HasFor g (tag_of g ran) a (seen_by new.note)) asked (hears.run run).1))
+      let tags : tag_of g back ≡ (answer.entry.lane, answer.entry.ordinal) = tag ∙ ap (λ e. (e.lane, e.ordinal)) done.entry in
+      let asked : asks_of g back ≡ asked_in answer.entry = asks ∙ ap asked_in done.entry in
+      (subst (λ n. n < 66) lane small, λ run. subst (λ t. HasFor g t (asked_in answer.entry) (seen_by new.note)) tags (subst (λ a. HasFor g (tag_of g back) a (seen_by new.note)) asked (hears.run run).1))
 
   module _ (queue : Queue) (old : DriverLists) (replies room : ℕ) (heard : List (HeardData M S A R Q P H W)) (k : IsHalf g queue old replies room heard) where
     -- the lane's place
@@ -119,8 +120,8 @@ module _ {M S A R Q P H W : Type 0} (g : Ghosts M S A R Q P H W) where
 
     -- what came back is known, once a reply was taken
     known_reaped : {B C : Type 0} (wanted : C → Bool) (cargo : CargoData C) (a : Answer) → IsDone wanted a cargo → (lane ordinal : ℕ) → lane ≡ cargo.parcel.lane → ordinal ≡ cargo.parcel.ordinal → lane < 66 → (at h : HeardData M S A R Q P H W) → at ≡ get_or heard lane at
-        → (ran : Ran M B S A R Q P H W) → tag_of g ran ≡ (lane, ordinal) → asked_of g ran ≡ cargoes.asked_of cargo.parcel → Hears g at ran ordinal h → AreKnown g (old.reaped ++ a ∷ []) (set heard lane h)
-    known_reaped wanted cargo a done lane ordinal lane_is ordinal_is less at h at_is ran tag asks hears answer has =
+        → (back : Carried M B S A R Q P H W) → tag_of g back ≡ (lane, ordinal) → asks_of g back ≡ cargoes.asked_of cargo.parcel → Hears g at back ordinal h → AreKnown g (old.reaped ++ a ∷ []) (set heard lane h)
+    known_reaped wanted cargo a done lane ordinal lane_is ordinal_is less at h at_is back tag asks hears answer has =
         let long : lane < length heard = (let lanes = k.lanes in omega (arith, less, lanes)) in
         let here : get_or (set heard lane h) lane (unheard 0) ≡ h = get_or-set_same heard lane h (unheard 0) long in
         elim (has_snoc old.reaped a answer has) [
@@ -129,14 +130,14 @@ module _ {M S A R Q P H W : Type 0} (g : Ghosts M S A R Q P H W) where
                 | inl same ↦ (
                     let was : get_or heard answer.entry.lane (unheard 0) ≡ at = ap (λ n. get_or heard n (unheard 0)) same ∙ (get_or_default heard lane (unheard 0) at long ∙ sym at_is) in
                     let is : get_or (set heard lane h) answer.entry.lane (unheard 0) ≡ h = ap (λ n. get_or (set heard lane h) n (unheard 0)) same ∙ here in
-                    subst (IsKnown g answer) (sym is) (known_still answer at h ran ordinal hears (subst (IsKnown g answer) was (k.known answer before)))
+                    subst (IsKnown g answer) (sym is) (known_still answer at h back ordinal hears (subst (IsKnown g answer) was (k.known answer before)))
                     )
                 | inr not ↦ subst (IsKnown g answer) (sym (get_or-set_other heard lane answer.entry.lane h (unheard 0) not)) (k.known answer before)
               ]
               )
           | inr last ↦ (
-              let tags : tag_of g ran ≡ (cargo.parcel.lane, cargo.parcel.ordinal) = tag ∙ (λ i. (lane_is i, ordinal_is i)) in
-              let known = known_now wanted a cargo at h ran ordinal done tags asks (subst (λ n. n < 66) lane_is less) hears in
+              let tags : tag_of g back ≡ (cargo.parcel.lane, cargo.parcel.ordinal) = tag ∙ (λ i. (lane_is i, ordinal_is i)) in
+              let known = known_now wanted a cargo at h back ordinal done tags asks (subst (λ n. n < 66) lane_is less) hears in
               let is : get_or (set heard lane h) a.entry.lane (unheard 0) ≡ h = ap (λ n. get_or (set heard lane h) n (unheard 0)) (sym (lane_is ∙ ap (λ e. e.lane) done.entry)) ∙ here in
               subst (λ (x : Answer). IsKnown g x (get_or (set heard lane h) x.entry.lane (unheard 0))) last (subst (IsKnown g a) (sym is) known)
               )
@@ -144,8 +145,8 @@ module _ {M S A R Q P H W : Type 0} (g : Ghosts M S A R Q P H W) where
 
     -- a reply was taken
     pub half_reaped : {B C : Type 0} (wanted : C → Bool) (head len : ℕ) (cargo : CargoData C) (new : DriverLists) → Reaps wanted old head len cargo new → (lane ordinal : ℕ) → lane ≡ cargo.parcel.lane → ordinal ≡ cargo.parcel.ordinal
-        → lane < 66 → (at h : HeardData M S A R Q P H W) → at ≡ get_or heard lane at → (ran : Ran M B S A R Q P H W) → tag_of g ran ≡ (lane, ordinal) → asked_of g ran ≡ cargoes.asked_of cargo.parcel → Hears g at ran ordinal h → (replies' room' : ℕ) → replies' ≡ replies + 1 → room ≤ room' → IsHalf g queue new replies' room' (set heard lane h)
-    half_reaped wanted head len cargo new r lane ordinal lane_is ordinal_is less at h at_is ran tag asks hears replies' room' more wide =
+        → lane < 66 → (at h : HeardData M S A R Q P H W) → at ≡ get_or heard lane at → (back : Carried M B S A R Q P H W) → tag_of g back ≡ (lane, ordinal) → asks_of g back ≡ cargoes.asked_of cargo.parcel → Hears g at back ordinal h → (replies' room' : ℕ) → replies' ≡ replies + 1 → room ≤ room' → IsHalf g queue new replies' room' (set heard lane h)
+    half_reaped wanted head len cargo new r lane ordinal lane_is ordinal_is less at h at_is back tag asks hears replies' room' more wide =
         let a = r.answer in
         let at_ok = at_lane lane at less at_is in
         let entry_lane : lane ≡ a.entry.lane = lane_is ∙ ap (λ e. e.lane) r.done.entry in
@@ -170,7 +171,7 @@ module _ {M S A R Q P H W : Type 0} (g : Ghosts M S A R Q P H W) where
                 (was.0, was.1 ∙ (sym (top_there other old.reaped a (λ e. not (sym e ∙ sym entry_lane))) ∙ ap (top_of other) (sym r.reaped)))
                 )
           ];
-          known = subst (λ xs. AreKnown g xs (set heard lane h)) (sym r.reaped) (known_reaped wanted cargo a r.done lane ordinal lane_is ordinal_is less at h at_is ran tag asks hears);
+          known = subst (λ xs. AreKnown g xs (set heard lane h)) (sym r.reaped) (known_reaped wanted cargo a r.done lane ordinal lane_is ordinal_is less at h at_is back tag asks hears);
         }
 
     -- a cargo was published, and there is room for its reply

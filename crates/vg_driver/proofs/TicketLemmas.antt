@@ -5,6 +5,7 @@ use Rattle.vg_history.specs.declared.entry.Entry.{Entry}
 use Rattle.vg_history.specs.Entries.{call_of}
 use Rattle.vg_history.specs.Lists.{Has, times, upto}
 use Rattle.vg_history.proofs.ListLemmas.{has_map, times_append, times_has, upto_one}
+use Rattle.vg_book.specs.Outcomes.{asks_of, told_by}
 use Rattle.vg_book.specs.Tokens.{TakesBack, TakesUnrun, finished_of}
 use Rattle.vg_book.specs.Views.{calls, entry_of, given_up, order_call, settled, without}
 use Rattle.vg_holds.specs.declared.act.Act.{Act}
@@ -16,14 +17,14 @@ use Rattle.vg_machine.specs.State.{State}
 use Rattle.vg_machine.specs.Replay.{display}
 use Rattle.vg_driver.specs.declared.ticket.Ticket.{Ticket}
 use Rattle.vg_chain.specs.declared.shape.Shape.{Shape}
-use Rattle.vg_book.specs.declared.outcome.Ran.{Ran}
-use Rattle.vg_book.specs.declared.outcome.Ran.TheVariants as outcomes
+use Rattle.vg_ring.specs.Cargo.{Tells}
+use Rattle.vg_book.specs.declared.outcome.Carried.{Carried}
+use Rattle.vg_book.specs.declared.outcome.Carried.TheVariants as carried
 use Rattle.vg_machine.specs.Written.{read_by, written_in}
-use Rattle.vg_driver.specs.Halves.{IsTold, asked_of}
 use Rattle.vg_driver.specs.Tickets.{Account, DonePass, IsOf, IsOut, Order, Pass, Token}
 
 abbrev Back : Type 0 → Type 0
-Back B = Ran State B State Act ActReply Request Reply Holds Request
+Back B = Carried State B State Act ActReply Request Reply Holds Request
 
 abbrev En : Type 0
 En = Entry State State Act ActReply Request Reply Holds Request
@@ -77,9 +78,9 @@ ticket_unrun old ticket p new (order, has, is) call t =
     subst (IsOf ticket) (sym same) is
 
 -- what is read in the room of a command that was run is its entry's reply
-pub reply_done : {B : Type 0} (f : DonePass) (ran : Back B) (shape : Shape) (bytes : List ℕ) → ran ≡ outcomes.Done f → (asked_of display ran).shape ≡ shape → IsTold display ran bytes
+pub reply_done : {B : Type 0} (f : DonePass) (back : Back B) (shape : Shape) (bytes : List ℕ) → back ≡ carried.Done f → (asks_of display back).shape ≡ shape → Tells (told_by display back) bytes
     → read_by f.order.request.shape (written_in f.order.request.room f.reply) ≡ f.reply → read_by shape bytes ≡ f.reply
-reply_done f ran shape bytes is shape_is told read =
-    let same : f.order.request.shape ≡ shape = subst (λ (r : Back _). (asked_of display r).shape ≡ shape) is shape_is in
-    let bytes_are : bytes ≡ written_in f.order.request.room f.reply = subst (λ (r : Back _). IsTold display r bytes) is told in
+reply_done f back shape bytes is shape_is told read =
+    let same : f.order.request.shape ≡ shape = subst (λ (r : Back _). (asks_of display r).shape ≡ shape) is shape_is in
+    let bytes_are : bytes ≡ written_in f.order.request.room f.reply = subst (λ (r : Back _). Tells (told_by display r) bytes) is told in
     ap (λ (s : Shape). read_by s bytes) (sym same) ∙ ap (read_by f.order.request.shape) bytes_are ∙ read

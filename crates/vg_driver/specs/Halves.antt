@@ -6,8 +6,9 @@ use Rattle.vg_history.specs.declared.entry.Entry.{Entry}
 use Rattle.vg_history.specs.declared.entry.Entry.TheVariants.{Command}
 use Rattle.vg_history.specs.History.{HasFence}
 use Rattle.vg_history.specs.Lists.{Has}
-use Rattle.vg_book.specs.declared.outcome.Ran.{Ran}
-use Rattle.vg_book.specs.declared.outcome.Ran.TheVariants as outcomes
+use Rattle.vg_book.specs.declared.outcome.Carried.{Carried}
+use Rattle.vg_book.specs.declared.outcome.Carried.TheVariants as carried
+use Rattle.vg_book.specs.Outcomes.{asks_of, tag_of}
 use Rattle.vg_book.specs.Tokens.{Client, Drawn, Noted, Passed, Rooted}
 use Rattle.vg_chain.specs.declared.shape.Shape.{Shape}
 use Rattle.vg_chain.specs.Made.{IsCount, IsNeeded}
@@ -16,7 +17,7 @@ use Rattle.vg_ring.specs.declared.views.Answer.{Answer}
 use Rattle.vg_ring.specs.declared.views.Entry as ring
 use Rattle.vg_asks.specs.declared.asked.Asked.{Asked}
 use Rattle.vg_asks.specs.Asks.{asked}
-use Rattle.vg_ring.specs.Cargo.{ParcelData, Tells}
+use Rattle.vg_ring.specs.Cargo.{ParcelData}
 use Rattle.vg_ring.specs.Ends.{DriverLists, HasRoom}
 use Rattle.vg_ring.specs.Entries.{lane_count}
 
@@ -94,33 +95,17 @@ module _ {M S A R Q P H W : Type 0} where
 
 module _ {M B S A R Q P H W : Type 0} where
   -- What came back is of this call of this client.
-  abbrev pub IsOf : ℕ → ℕ → Ran M B S A R Q P H W → Type 0
-  IsOf client call (outcomes.Done f) = (f.order.client ≡ client) × (f.order.call ≡ call)
-  IsOf client call (outcomes.Unrun p) = (p.order.client ≡ client) × (p.order.call ≡ call)
+  abbrev pub IsOf : ℕ → ℕ → Carried M B S A R Q P H W → Type 0
+  IsOf client call (carried.Wanted p) = (p.order.client ≡ client) × (p.order.call ≡ call)
+  IsOf client call (carried.Done f) = (f.order.client ≡ client) × (f.order.call ≡ call)
+  IsOf client call (carried.Unrun p) = (p.order.client ≡ client) × (p.order.call ≡ call)
 
-  abbrev pub is_of : ℕ → ℕ → Ran M B S A R Q P H W → Bool
-  is_of client call (outcomes.Done f) = (f.order.client == client) && (f.order.call == call)
-  is_of client call (outcomes.Unrun p) = (p.order.client == client) && (p.order.call == call)
+  abbrev pub is_of : ℕ → ℕ → Carried M B S A R Q P H W → Bool
+  is_of client call (carried.Wanted p) = (p.order.client == client) && (p.order.call == call)
+  is_of client call (carried.Done f) = (f.order.client == client) && (f.order.call == call)
+  is_of client call (carried.Unrun p) = (p.order.client == client) && (p.order.call == call)
 
 module _ {M S A R Q P H W : Type 0} (g : Ghosts M S A R Q P H W) where
-  -- The lane and the ordinal of what came back.
-  abbrev pub tag_of : {B : Type 0} → Ran M B S A R Q P H W → ℕ × ℕ
-  tag_of (outcomes.Done f) = g.tagged f.order.request
-  tag_of (outcomes.Unrun p) = g.tagged p.order.request
-
-  -- What was asked by what came back, and what is told of the room.
-  abbrev pub asked_of : {B : Type 0} → Ran M B S A R Q P H W → Asked
-  asked_of (outcomes.Done f) = g.asks f.order.request
-  asked_of (outcomes.Unrun p) = g.asks p.order.request
-
-  abbrev pub told_of : {B : Type 0} → Ran M B S A R Q P H W → Option (List ℕ)
-  told_of (outcomes.Done f) = Some (g.written f.order.request f.reply)
-  told_of (outcomes.Unrun p) = None
-
-  -- These bytes are what is told.
-  abbrev pub IsTold : {B : Type 0} → Ran M B S A R Q P H W → List ℕ → Type 0
-  IsTold ran bytes = Tells (told_of ran) bytes
-
   -- The note knows the lane up to this ordinal; where there is none, that is 0.
   abbrev pub NoteKnows : ℕ → ℕ → Option (Noted M S A R Q P H W) → Type 0
   NoteKnows lane known None = known ≡ 0
@@ -146,11 +131,11 @@ module _ {M S A R Q P H W : Type 0} (g : Ghosts M S A R Q P H W) where
   AreKnown reaped heard = (answer : Answer) → Has reaped answer → IsKnown answer (get_or heard answer.entry.lane (unheard 0))
 
   -- A command of the lane came back.
-  pub record Hears {B : Type 0} (old : HeardData M S A R Q P H W) (ran : Ran M B S A R Q P H W) (ordinal : ℕ) (new : HeardData M S A R Q P H W) : Type 0 where
+  pub record Hears {B : Type 0} (old : HeardData M S A R Q P H W) (back : Carried M B S A R Q P H W) (ordinal : ℕ) (new : HeardData M S A R Q P H W) : Type 0 where
     pub lane : new.lane ≡ old.lane
     pub top : new.top ≡ max ordinal old.top
     pub more : IsPrefix (seen_by old.note) (seen_by new.note)
-    pub run : new.unrun ≡ false → (old.unrun ≡ false) × HasFor (tag_of ran) (asked_of ran) (seen_by new.note)
+    pub run : new.unrun ≡ false → (old.unrun ≡ false) × HasFor (tag_of g back) (asks_of g back) (seen_by new.note)
 
   -- What a half keeps: there is room for all replies that are still to come, and the lanes know what came back.
   pub record IsHalf (queue : Queue) (lists : DriverLists) (replies room : ℕ) (heard : List (HeardData M S A R Q P H W)) : Type 0 where

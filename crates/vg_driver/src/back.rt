@@ -1,67 +1,51 @@
 //! What came back of a command, run or unrun.
 
-ghost use Rattle.std.specs.Prelude.{◌≡◌, ◌≤◌, ◌<◌, ◌∷◌, true, false, length, IfSome, IsPermutation, MatchOption, vec_len, vec_capacity};
+ghost use Rattle.std.specs.Prelude.{◌≡◌, ◌≤◌, ◌<◌, ◌∷◌, length, IfSome, IsPermutation, MatchOption, vec_len, vec_capacity};
 ghost use Rattle.std.specs.List.{position};
-ghost use Rattle.vg_ring.specs.Cargo as cargoes;
-ghost use Rattle.vg_driver.specs.Halves.{Hears, IsOf, IsTold, asked_of, tag_of};
+ghost use Rattle.vg_book.specs.Outcomes.{asks_of, tag_of, told_by};
+ghost use Rattle.vg_ring.specs.Cargo.{Tells, asked_of};
+ghost use Rattle.vg_driver.specs.Halves.{Hears, IsOf};
 ghost use Rattle.vg_driver.specs.Halves as halves;
 
 use crate::heard::Heard;
 use std::marker::Model;
-use vg_book::{Book, Carried, Naming, Ran};
+use vg_book::{Book, Carried, Naming};
 use vg_chain::Shape;
-use vg_history::{Machine, Tagged};
+use vg_history::Machine;
 use vg_ring::Cargo;
 
-/// What became of a command, with the shape of its chain and what is in the room for its response. A clause sees the first alone.
+/// The pass of a command that came back, with the shape of its chain and what is in the room for its response. A clause sees the
+/// pass alone.
 #[derive(Drop)]
 pub(crate) struct Back<M: Machine, B: Naming> {
-    ran: Ran<M, B>,
+    pass: Carried<M, B>,
     shape: Shape,
     bytes: Vec<u8>,
 }
 
 impl<M: Machine, B: Naming> Model for Back<M, B> {
     ghost use Rattle.std.specs.Prelude.{◌≡◌};
-    ghost use Rattle.vg_book.specs.declared.outcome.Ran as outcomes;
-    ghost use Rattle.vg_driver.specs.Halves.{IsTold, asked_of};
+    ghost use Rattle.vg_book.specs.declared.outcome.Carried as carried;
+    ghost use Rattle.vg_book.specs.Outcomes.{asks_of, told_by};
+    ghost use Rattle.vg_ring.specs.Cargo.{Tells};
 
-    ghost Value = { outcomes.Ran M B M.State M.Act M.ActReply M.Request M.Reply M.Holds M.Job };
+    ghost Value = { carried.Carried M B M.State M.Act M.ActReply M.Request M.Reply M.Holds M.Job };
 
-    ghost view = { λ r. r.ran };
+    ghost view = { λ b. b.pass };
 
-    ghost invariant = { λ r. ((asked_of M.Machine r.ran).shape ≡ r.shape) × IsTold M.Machine r.ran r.bytes.items };
-}
-
-/// What a pass on its way back has become.
-fn came_back<M: Machine, B: Naming>(pass: Carried<M, B>) -> Ran<M, B>
-    requires { ⟦<Carried<M, B> as Tagged>⟧.is_wanted pass ≡ false }
-    ensures tag { tag_of M.Machine result ≡ ⟦<Carried<M, B> as Tagged>⟧.tagged pass }
-    ensures asked { asked_of M.Machine result ≡ ⟦<Carried<M, B> as Tagged>⟧.asks pass }
-    ensures told { halves.told_of M.Machine result ≡ ⟦<Carried<M, B> as Tagged>⟧.told pass }
-{
-    match pass {
-        Carried::Done(done) => Ran::Done(done),
-        Carried::Unrun(pass) => Ran::Unrun(pass),
-        Carried::Wanted(_) => unreachable!(),
-    }
+    ghost invariant = { λ b. ((asks_of M.Machine b.pass).shape ≡ b.shape) × Tells (told_by M.Machine b.pass) b.bytes.items };
 }
 
 impl<M: Machine, B: Naming> Back<M, B> {
     /// What a cargo has brought back, with the used length. It takes no memory.
     pub(crate) fn of(cargo: Cargo<Carried<M, B>>, len: u32) -> Back<M, B>
-        requires back { ⟦<Carried<M, B> as Tagged>⟧.is_wanted cargo.pass ≡ false }
-        requires len { length cargo.parcel.response ≡ len }
-        ensures tag { tag_of M.Machine result ≡ ⟦<Carried<M, B> as Tagged>⟧.tagged cargo.pass }
-        ensures asked { asked_of M.Machine result ≡ cargoes.asked_of cargo.parcel }
+        requires { length cargo.parcel.response ≡ len }
+        ensures pass { result ≡ cargo.pass }
+        ensures asked { asks_of M.Machine result ≡ asked_of cargo.parcel }
     {
         let (parcel, pass) = cargo.apart();
         let (shape, bytes) = parcel.into_response(len);
-        Back {
-            ran: came_back(pass),
-            shape,
-            bytes,
-        }
+        Back { pass, shape, bytes }
     }
 
     /// Its lane hears of it.
@@ -70,26 +54,28 @@ impl<M: Machine, B: Naming> Back<M, B> {
         ensures hears { Hears M.Machine heard.old self.old ordinal heard.new }
         ensures same { self.new ≡ self.old }
     {
-        heard.hear(book, &mut self.ran, ordinal);
+        heard.hear(book, &mut self.pass, ordinal);
     }
 
-    /// What became of the command, the shape of its chain, and what is in the room.
-    pub(crate) fn apart(self) -> (Ran<M, B>, Shape, Vec<u8>)
-        ensures ran { result.0 ≡ self }
-        ensures shape { (asked_of M.Machine self).shape ≡ result.1 }
-        ensures told { IsTold M.Machine self result.2.items }
+    /// The command's pass, the shape of its chain, and what is in the room.
+    pub(crate) fn apart(self) -> (Carried<M, B>, Shape, Vec<u8>)
+        ensures pass { result.0 ≡ self }
+        ensures shape { (asks_of M.Machine self).shape ≡ result.1 }
+        ensures told { Tells (told_by M.Machine self) result.2.items }
     {
-        let Back { ran, shape, bytes } = self;
-        (ran, shape, bytes)
+        let Back { pass, shape, bytes } = self;
+        (pass, shape, bytes)
     }
 
     /// Whether it came of the client's call.
     fn is_of(&self, client: u32, call: u64) -> bool
         ensures { result ≡ halves.is_of client call self.now }
     {
-        match &self.ran {
-            Ran::Done(done) => done.client() == client && done.call() == call,
-            Ran::Unrun(pass) => pass.client() == client && pass.call() == call,
+        match &self.pass {
+            Carried::Done(done) => done.client() == client && done.call() == call,
+            Carried::Wanted(pass) | Carried::Unrun(pass) => {
+                pass.client() == client && pass.call() == call
+            }
         }
     }
 }

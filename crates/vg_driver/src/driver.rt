@@ -18,7 +18,7 @@ use crate::ticket::{Answer, Ticket};
 use crossbeam_utils::Backoff;
 use std::alloc::{AllocError, Global};
 use std::sync::{Mutex, Wait};
-use vg_book::{Book, Carried, ClientToken, Ran, Root};
+use vg_book::{Book, Carried, ClientToken, Root};
 use vg_chain::Shape;
 use vg_list::Seq;
 use vg_machine::{Display, Reply};
@@ -119,9 +119,9 @@ fn settle<B: vg_book::Naming>(
     requires of { IsOf token.old.account.number ticket.call back }
     ensures { MatchResult result (λ answer. Finished token.old ticket answer token.new) (λ _. Spent token.old ticket token.new) }
 {
-    let (ran, shape, bytes) = back.apart();
-    match ran {
-        Ran::Done(done) => {
+    let (pass, shape, bytes) = back.apart();
+    match pass {
+        Carried::Done(done) => {
             done.can_be_read();
             let entry = token.take_back(book, done);
             Ok(Answer {
@@ -129,7 +129,7 @@ fn settle<B: vg_book::Naming>(
                 reply: reply_in(shape, bytes),
             })
         }
-        Ran::Unrun(pass) => {
+        Carried::Wanted(pass) | Carried::Unrun(pass) => {
             token.take_unrun(book, pass);
             Err(AllocError)
         }

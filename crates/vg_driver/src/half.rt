@@ -118,9 +118,7 @@ impl<M: Machine, B: vg_book::Naming, Q: vg_ring::Naming + OfQueue> Half<M, B, Q>
         ensures { MatchResult result (λ call. IsSent M.Machine token.old request.value token.new call) (λ _. token.new ≡ token.old) }
     {
         let out = self.end.published() - self.end.reaped();
-        if self.replies.reserve(out as usize + 1).is_err() {
-            return Err(AllocError);
-        }
+        self.replies.reserve(out as usize + 1)?;
         let Tag { lane, ordinal } = parcel.tag();
         let pass = token.pass_of(book, request, (lane, ordinal));
         let call = pass.call();

@@ -2,11 +2,12 @@
 
 ghost use Rattle.std.specs.Prelude.{◌≡◌, false, OnOk};
 ghost use mathlib.Core.List.{IsPrefix};
-ghost use Rattle.vg_driver.specs.Halves.{HasHeard, Hears, seen_by, tag_of, unheard};
+ghost use Rattle.vg_book.specs.Outcomes.{tag_of};
+ghost use Rattle.vg_driver.specs.Halves.{HasHeard, Hears, seen_by, unheard};
 
 use std::alloc::AllocError;
 use std::marker::Model;
-use vg_book::{Book, Naming, Note, Ran, Root};
+use vg_book::{Book, Carried, Naming, Note, Root};
 use vg_history::Machine;
 
 /// A lane's greatest ordinal that came back, run or not, a note that knows the lane's commands up to some ordinal and all that
@@ -45,18 +46,18 @@ impl<M: Machine, B: Naming> Heard<M, B> {
     }
 
     /// A command of the lane came back.
-    pub(crate) fn hear(&mut self, book: &Book<M, B>, ran: &mut Ran<M, B>, ordinal: u64)
-        requires { tag_of M.Machine ran.old ≡ (self.old.lane, ordinal) }
-        ensures hears { Hears M.Machine self.old ran.old ordinal self.new }
-        ensures same { ran.new ≡ ran.old }
+    pub(crate) fn hear(&mut self, book: &Book<M, B>, pass: &mut Carried<M, B>, ordinal: u64)
+        requires { tag_of M.Machine pass.old ≡ (self.old.lane, ordinal) }
+        ensures hears { Hears M.Machine self.old pass.old ordinal self.new }
+        ensures same { pass.new ≡ pass.old }
     {
         self.top = ordinal.max(self.top);
-        match ran {
-            Ran::Done(done) => {
+        match pass {
+            Carried::Done(done) => {
                 self.note = Some(with_known(book, done.note(book), self.note.take()));
                 self.known = ordinal.max(self.known);
             }
-            Ran::Unrun(_) => self.unrun = true,
+            Carried::Wanted(_) | Carried::Unrun(_) => self.unrun = true,
         }
     }
 

@@ -3,18 +3,15 @@ use Rattle.vg_config.specs.Features.{EDID, RESOURCE_BLOB, RESOURCE_UUID, VIRGL}
 use Rattle.vg_holds.specs.declared.setup.Setup.{Setup}
 use Rattle.vg_scanout.specs.declared.scanout.Frame.{Frame}
 use Rattle.vg_text.specs.Text.{numbered}
-use Rattle.vg_lines.specs.Text.{act_text, act_reply_text}
+use Rattle.vg_history.specs.Lines as history
 use Rattle.vg_machine.specs.Entries.{Entry}
-use Rattle.vg_machine.specs.Lines.{reply_text, request_text}
-use Rattle.vg_history.specs.declared.entry.Entry.TheVariants as entries
+use Rattle.vg_machine.specs.Replay.{display}
 use Rattle.vg_journal.specs.declared.journal.Journal.{Journal}
 
--- `N C K act TEXT = REPLY`, and `N C K cmd LANE ORDINAL ROOM SHAPE HEX = HEX` or `.. = fault SHAPE`
-unfoldable pub entry_line : ℕ → Entry → List ℕ
-entry_line n (entries.Act client call act reply) =
-    decimal n ++ codes " " ++ decimal client ++ codes " " ++ decimal call ++ codes " act " ++ act_text act ++ codes " = " ++ act_reply_text reply ++ codes "\n"
-entry_line n (entries.Command client call request reply) =
-    decimal n ++ codes " " ++ decimal client ++ codes " " ++ decimal call ++ codes " cmd " ++ request_text request ++ codes " = " ++ reply_text reply ++ codes "\n"
+-- The line of an entry, as the display's history has it: `N C K act TEXT = REPLY`, and `N C K cmd LANE ORDINAL ROOM SHAPE HEX = HEX`
+-- or `.. = fault SHAPE`.
+abbrev pub entry_line : ℕ → Entry → List ℕ
+entry_line = history.entry_line display
 
 -- `display S W H`
 unfoldable pub display_line : ℕ → ℕ × ℕ → List ℕ

@@ -73,7 +73,6 @@ fn put_left_out(out: &mut Packed, accepted: u64, bit: u64, name: &[u8]) -> Resul
 }
 
 /// Adds the line of the entry with this number.
-#[tactic(auto, using(crate::proofs::LineLemmas::line_is))]
 pub(crate) fn put_entry(out: &mut Packed, number: u64, entry: &Entry) -> Result<(), AllocError>
     ensures { OnOk result (out.new ≡ out.old ++ entry_line number entry.now) }
 {

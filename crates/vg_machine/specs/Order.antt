@@ -1,21 +1,22 @@
 use Rattle.std.specs.Prelude.{◌≡◌, ◌≢◌, ◌≤◌, ◌<◌, ◌+◌, ◌-◌, ◌==◌, ℕ, Bool, true, false, List, [], ◌∷◌, ◌++◌, map, filter, count_by, nat_le, if◌then◌else◌}
-use Rattle.std.specs.List.{range_with_len, AllByRecursion, fold}
+use Rattle.std.specs.List.{range_with_len, AllByRecursion}
 use Rattle.vg_holds.specs.declared.setup.Setup.{Setup}
 use Rattle.vg_holds.specs.declared.act.Act.TheVariants.{Enter, Leave}
-use Rattle.vg_history.specs.Entries as history
+use Rattle.vg_history.specs.Entries as numbers
+use Rattle.vg_history.specs.History as history
 use Rattle.vg_machine.specs.Entries.{Entry}
 use Rattle.vg_history.specs.declared.entry.Entry.TheVariants as entries
 use Rattle.vg_machine.specs.Lane.{lane_of}
 use Rattle.vg_holds.specs.declared.act.Act.TheVariants as acts
 use Rattle.vg_holds.specs.declared.holds.Holds.{Holds}
 use Rattle.vg_holds.specs.Holds.{Allowed, Deniable, first_holds, gives_up, update}
-use Rattle.vg_machine.specs.Replay.{Agrees}
+use Rattle.vg_machine.specs.Replay.{Agrees, display}
 
 abbrev pub client_of : Entry → ℕ
-client_of entry = history.client_of entry
+client_of entry = numbers.client_of entry
 
 abbrev pub call_of : Entry → ℕ
-call_of entry = history.call_of entry
+call_of entry = numbers.call_of entry
 
 abbrev pub is_of_lane : ℕ → Entry → Bool
 is_of_lane lane (entries.Act client call act reply) = false
@@ -86,13 +87,9 @@ abbrev pub updated : Holds → Entry → Holds
 updated holds (entries.Act client call act reply) = update holds act reply
 updated holds (entries.Command client call request reply) = holds
 
--- What the client of these holds holds after an entry of any client.
-abbrev pub holds_after : Holds → Entry → Holds
-holds_after holds entry = if client_of entry == holds.client then updated holds entry else holds
-
--- What a client holds after these entries.
+-- What a client holds after these entries of any clients.
 abbrev pub holds_of : Setup → ℕ → List Entry → Holds
-holds_of setup client H = fold holds_after (first_holds setup client) H
+holds_of setup client H = history.holds_after display client (first_holds setup client) H
 
 -- A command is one that its client may ask, by what it holds; and what a client was denied is something that it may be denied.
 abbrev pub IsAllowed : Holds → Entry → Type 0

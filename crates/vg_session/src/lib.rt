@@ -6,4 +6,4 @@ mod closing;
 mod threads;
 
 pub use closing::{Closed, close};
-pub use threads::run_threads;
+pub use threads::{Shared, run_threads};

@@ -23,6 +23,15 @@ use vg_ring::Rings;
 use vg_script::{Line, Script};
 use vg_worker::{Gate, Worker};
 
+/// What clients and workers are given, each of them the same.
+#[derive(Drop)]
+pub struct Shared<'a, G: Gate, B: Naming, N: Rings> {
+    pub alloc: Global,
+    pub book: &'a Book<Display, B>,
+    pub driver: &'a Driver<B, N>,
+    pub gate: &'a G,
+}
+
 /// A client that is to perform its part of a script.
 #[derive(Drop)]
 struct Performing<'a, B: Naming, N: Rings> {
@@ -61,15 +70,12 @@ pub fn run_threads<
     R: Threads + Wait + Sync,
 >(
     rt: &R,
-    alloc: Global,
-    book: &Book<Display, B>,
-    driver: &Driver<B, N>,
+    shared: Shared<'_, G, B, N>,
     root: &mut Root<Display, B>,
     front: Front<Carried<Display, B>, LaneToken<Display, B>, N>,
     setup: &Setup,
     script: Script,
     workers: u32,
-    gate: &G,
 ) -> Result<Front<Carried<Display, B>, LaneToken<Display, B>, N>, AllocError>
     requires limits { ScriptInLimits script }
     requires setup { setup.now ≡ setups.setup_of script }
@@ -77,6 +83,12 @@ pub fn run_threads<
     ensures joined { OnOk result (HaveAllJoined script root.new) }
     ensures still { IfOk result IsStill }
 {
+    let Shared {
+        alloc,
+        book,
+        driver,
+        gate,
+    } = shared;
     let front = Mutex::new(front);
     let stop = AtomicBool::new(false);
     let count = useful_workers(&script, workers);

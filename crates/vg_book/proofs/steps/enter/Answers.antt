@@ -17,7 +17,7 @@ store-requires g c = let t = c.take_turn_to.ensures.ready in let m = c.args.seat
     let k = c.in-Ok.ensures.ok t.turn.taken.core (turn_hand g.M.Machine m n t.turn) in (
       c.act_in_hand.ensures.id ∙ (c.take_turn_to.ensures.id ∙ c.requires.table.0),
       omega (arith, c.requires.table.1),
-      enters_of g.M.Machine g.met.M.Machine.keeps_holds g.met.M.Machine.acts_count _ _ _ m n c.act_in_hand.new.seat.me c.args.number c.args.used c.args.holds.now c.args.act k.0 c.act_in_hand.new.holds c.in-Ok.done.0 c.in-Ok.done.1
+      enters_of g.M.Machine g.met.M.Machine.keeps_holds g.met.M.Machine.acts_count _ _ _ m n c.act_in_hand.new.seat.me c.args.caller.number c.args.caller.used c.args.holds.now c.args.act k.0 c.act_in_hand.new.holds c.in-Ok.done.0 c.in-Ok.done.1
           c.requires.client t.turn.taken c.act_in_hand.ensures.view k.1 k.2 c.requires.gives,
     )
 
@@ -33,7 +33,7 @@ pub returns-in-Ok : goal.returns-in-Ok
 returns-in-Ok g c = let t = c.take_turn_to.ensures.ready in let m = c.args.seat.now.me in let n = c.take_turn_to.new.seat.me in
     let k = c.in-Ok.ensures.ok t.turn.taken.core (turn_hand g.M.Machine m n t.turn) in record {
       id = c.store.ensures.0 ∙ (c.act_in_hand.ensures.id ∙ c.take_turn_to.ensures.id);
-      ok = entered_of g.M.Machine m n c.act_in_hand.new.seat.me c.store.new.seat.me c.args.number c.args.used c.args.holds.now c.args.act k.0 c.act_in_hand.new.holds c.in-Ok.done.0 c.in-Ok.done.1
+      ok = entered_of g.M.Machine m n c.act_in_hand.new.seat.me c.store.new.seat.me c.args.caller.number c.args.caller.used c.args.holds.now c.args.act k.0 c.act_in_hand.new.holds c.in-Ok.done.0 c.in-Ok.done.1
           c.requires.client t.turn.taken c.act_in_hand.ensures.view k.1 k.2 c.store.ensures.2;
       err = tt;
     }

@@ -1,5 +1,4 @@
 use Rattle.std.proofs.Common.{arith, refl, ◌∙◌}
-use Rattle.vg_book.specs.Turns.{counted, order}
 use Rattle.vg_book.proofs.StepLemmas.{lane_may, turn_hand, turn_room, lane_clear, leaves_whole, answers_of, answered_of, lends_of, begun_of, back_taken, looked_of}
 use Rattle.vg_book.proofs.HandLemmas.{whole_of, lent_of}
 use Rattle.vg_book.proofs.TurnLemmas.{gives_of}
@@ -13,11 +12,11 @@ take_turn_for-requires-clause-clear g c = c.requires.lane.clear
 
 pub begin_in_hand-requires-clause-hand : goal.begin_in_hand-requires-clause-hand
 begin_in_hand-requires-clause-hand g c = let t = c.take_turn_for.ensures.ready in let m = c.args.seat.now.me in let n = c.take_turn_for.new.seat.me in
-    (t.turn.taken.core, turn_hand g.M.Machine m n t.turn, turn_room g.M.Machine m n t.turn, t.unblocked, lane_clear g.M.Machine m n (counted g.M.Machine c.args.lane c.args.count) (order g.M.Machine c.args.client c.args.call c.args.request) c.requires.lane t.turn.taken c.requires.tag)
+    (t.turn.taken.core, turn_hand g.M.Machine m n t.turn, turn_room g.M.Machine m n t.turn, t.unblocked, lane_clear g.M.Machine m n c.args.lane c.args.order c.requires.lane t.turn.taken c.requires.tag)
 
 pub store-requires : goal.store-requires
 store-requires g c = let t = c.take_turn_for.ensures.ready in let m = c.args.seat.now.me in let n = c.take_turn_for.new.seat.me in
-    let l = counted g.M.Machine c.args.lane c.args.count in let o = order g.M.Machine c.args.client c.args.call c.args.request in
+    let l = c.args.lane in let o = c.args.order in
     let k = whole_of _ _ _ c.in-Ok-Whole.field-0-is c.in-Ok-Whole.ensures.whole t.turn.taken.core (turn_hand g.M.Machine m n t.turn) in (
       c.begin_in_hand.ensures.id ∙ (c.take_turn_for.ensures.id ∙ c.requires.table.0),
       omega (arith, c.requires.table.1),
@@ -27,7 +26,7 @@ store-requires g c = let t = c.take_turn_for.ensures.ready in let m = c.args.sea
 
 pub store-requires-in-Ok-Lent : goal.store-requires-in-Ok-Lent
 store-requires-in-Ok-Lent g c = let t = c.take_turn_for.ensures.ready in let m = c.args.seat.now.me in let n = c.take_turn_for.new.seat.me in
-    let l = counted g.M.Machine c.args.lane c.args.count in let o = order g.M.Machine c.args.client c.args.call c.args.request in
+    let l = c.args.lane in let o = c.args.order in
     let u = lent_of _ _ _ c.in-Ok-Lent.field-0-is c.in-Ok-Lent.ensures.lent in let k = u.1 t.turn.taken.core (turn_hand g.M.Machine m n t.turn) in (
       c.begin_in_hand.ensures.id ∙ (c.take_turn_for.ensures.id ∙ c.requires.table.0),
       omega (arith, c.requires.table.1),
@@ -44,7 +43,7 @@ store-requires-in-Err g c = let t = c.take_turn_for.ensures.ready in let m = c.a
 
 pub returns-in-Ok-Whole : goal.returns-in-Ok-Whole
 returns-in-Ok-Whole g c = let t = c.take_turn_for.ensures.ready in let m = c.args.seat.now.me in let n = c.take_turn_for.new.seat.me in
-    let l = counted g.M.Machine c.args.lane c.args.count in let o = order g.M.Machine c.args.client c.args.call c.args.request in
+    let l = c.args.lane in let o = c.args.order in
     let k = whole_of _ _ _ c.in-Ok-Whole.field-0-is c.in-Ok-Whole.ensures.whole t.turn.taken.core (turn_hand g.M.Machine m n t.turn) in record {
       id = c.store.ensures.0 ∙ (c.begin_in_hand.ensures.id ∙ c.take_turn_for.ensures.id);
       whole = answered_of g.M.Machine m n c.begin_in_hand.new.seat.me c.store.new.seat.me l o _ k.0 c.in-Ok-Whole.done.0 c.in-Ok-Whole.done.1
@@ -55,7 +54,7 @@ returns-in-Ok-Whole g c = let t = c.take_turn_for.ensures.ready in let m = c.arg
 
 pub returns-in-Ok-Lent : goal.returns-in-Ok-Lent
 returns-in-Ok-Lent g c = let t = c.take_turn_for.ensures.ready in let m = c.args.seat.now.me in let n = c.take_turn_for.new.seat.me in
-    let l = counted g.M.Machine c.args.lane c.args.count in let o = order g.M.Machine c.args.client c.args.call c.args.request in
+    let l = c.args.lane in let o = c.args.order in
     let u = lent_of _ _ _ c.in-Ok-Lent.field-0-is c.in-Ok-Lent.ensures.lent in let k = u.1 t.turn.taken.core (turn_hand g.M.Machine m n t.turn) in record {
       id = c.store-in-Ok-Lent.ensures.0 ∙ (c.begin_in_hand.ensures.id ∙ c.take_turn_for.ensures.id);
       whole = tt;

@@ -2,7 +2,7 @@ use Rattle.vg_drive.proofs.DriveLemmas.{is-run, lanes-new, legal-run}
 use Rattle.vg_drive.proofs.driving.drive_in.Goals as goal
 
 pub ends-requires-clause-tokens : goal.ends-requires-clause-tokens
-ends-requires-clause-tokens g c = lanes-new c.args.opened.start c.args.opened.lanes c.in_ok-book.tokens.items c.requires.book.1 c.in_ok-book.ensures.lanes
+ends-requires-clause-tokens g c = lanes-new c.args.device.opened.start c.args.device.opened.lanes c.in_ok-book.tokens.items c.requires.book.1 c.in_ok-book.ensures.lanes
 
 pub returns-clause-journal : goal.returns-clause-journal
 returns-clause-journal g c =

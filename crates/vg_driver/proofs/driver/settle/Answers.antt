@@ -6,19 +6,19 @@ use Rattle.vg_driver.proofs.driver.settle.Goals as goal
 pub returns-in-Done : goal.returns-in-Done
 returns-in-Done g c =
     let back = c.args.back in
-    let is = sym c.apart-ran.ensures.ran ∙ c.in-Done.is in
+    let is = sym c.apart-pass.ensures.pass ∙ c.in-Done.is in
     let of = subst (halves.IsOf c.args.token.now.account.number c.args.ticket.call) is c.requires.of in
     record {
       done = c.in-Done.done;
       back = c.take_back-entry.ensures.back;
       is = ticket_done c.args.token.now c.args.ticket c.in-Done.done c.take_back-entry.new.self c.requires.out of.1 c.take_back-entry.ensures.back;
       entry = c.take_back-entry.ensures.number;
-      reply = c.reply_in.ensures ∙ reply_done c.in-Done.done back c.apart-ran.result.1 c.apart-ran.result.2.items is c.apart-ran.ensures.shape c.apart-ran.ensures.told c.can_be_read.ensures;
+      reply = c.reply_in.ensures ∙ reply_done c.in-Done.done back c.apart-pass.result.1 c.apart-pass.result.2.items is c.apart-pass.ensures.shape c.apart-pass.ensures.told c.can_be_read.ensures;
     }
 
 pub returns-in-Unrun : goal.returns-in-Unrun
 returns-in-Unrun g c =
-    let of = subst (halves.IsOf c.args.token.now.account.number c.args.ticket.call) (sym c.apart-ran.ensures.ran ∙ c.in-Unrun.is) c.requires.of in
+    let of = subst (halves.IsOf c.args.token.now.account.number c.args.ticket.call) (sym c.apart-pass.ensures.pass ∙ c.in-Unrun.is) c.requires.of in
     record {
       pass = c.in-Unrun.pass;
       back = c.take_unrun.ensures;

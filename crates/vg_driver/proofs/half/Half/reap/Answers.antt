@@ -16,12 +16,12 @@ tell-requires g c =
     let d = c.self.inside in
     let small = lane_small c.in-Some.field-0.cargo.parcel.queue c.tag-lane.result.lane c.tag-lane.ensures.lane in
     let at = at_lane g.M.Machine g.Q.OfQueue.queue d.end (vec_len d.replies) (vec_capacity d.replies) d.heard.items c.self.invariant c.tag-lane.result.lane c.index_mut.result.now small c.index_mut.ensures.value in
-    c.of-reply.ensures.tag ∙ (c.tag-lane.ensures.pass ∙ ap (λ n. (n, c.tag-lane.result.ordinal)) (sym at.0))
+    ap (carried.tag_of g.M.Machine) c.of-reply.ensures.pass ∙ (c.tag-lane.ensures.pass ∙ ap (λ n. (n, c.tag-lane.result.ordinal)) (sym at.0))
 
 pub invariant_of-self-in-Some : goal.invariant_of-self-in-Some
 invariant_of-self-in-Some g c =
     let d = c.self.inside in
     let small = lane_small c.in-Some.field-0.cargo.parcel.queue c.tag-lane.result.lane c.tag-lane.ensures.lane in
     half_reaped g.M.Machine g.Q.OfQueue.queue d.end (vec_len d.replies) (vec_capacity d.replies) d.heard.items c.self.invariant (carried.is_wanted_pass g.M.Machine) c.in-Some.field-0.head c.in-Some.field-0.len c.in-Some.field-0.cargo c.reap.new.self c.in-Some.ensures
-    c.tag-lane.result.lane c.tag-lane.result.ordinal c.tag-lane.ensures.tag.0 c.tag-lane.ensures.tag.1 small c.index_mut.result.now c.tell.new.heard c.index_mut.ensures.value c.of-reply.result (c.of-reply.ensures.tag ∙ c.tag-lane.ensures.pass) c.of-reply.ensures.asked c.tell.ensures.hears
+    c.tag-lane.result.lane c.tag-lane.result.ordinal c.tag-lane.ensures.tag.0 c.tag-lane.ensures.tag.1 small c.index_mut.result.now c.tell.new.heard c.index_mut.ensures.value c.of-reply.result (ap (carried.tag_of g.M.Machine) c.of-reply.ensures.pass ∙ c.tag-lane.ensures.pass) c.of-reply.ensures.asked c.tell.ensures.hears
     (vec_len c.push_reserved.new.self) (vec_capacity c.push_reserved.new.self) c.push_reserved.ensures.len (let more = c.push_reserved.ensures.capacity in omega (arith, more))
