@@ -99,8 +99,14 @@ fn run<G: Passage, B: Naming, N: Rings, R: Wait>(
     requires walk { IsWalkOf cargo.parcel chain.now }
 {
     let mut token = token;
-    let Back { cargo, len, ran } =
-        answer_measured(rt, worker.alloc, worker.book, &mut token, chain, cargo);
+    let Back { cargo, len, ran } = answer_measured(
+        rt,
+        worker.alloc,
+        worker.book,
+        &mut token,
+        chain,
+        cargo,
+    );
     if ran {
         give_back(rt, worker.front, token, right, len, cargo);
     } else {
