@@ -36,6 +36,19 @@ takes_memory (UpdateCursor scanout x y resource hot_x hot_y) = true
 takes_memory (MoveCursor scanout x y) = true
 takes_memory _ = false
 
+-- The 2D commands that change something, unless they are refused.
+abbrev pub changes_2d : Command2d → Bool
+changes_2d DisplayInfo = false
+changes_2d _ = true
+
+-- The same of all commands.
+abbrev pub changes : Command → Bool
+changes (TwoD command) = changes_2d command
+changes (AssignUuid resource) = true
+changes (UpdateCursor scanout x y resource hot_x hot_y) = true
+changes (MoveCursor scanout x y) = true
+changes _ = false
+
 -- What a part of the display refused with a code, or did.
 abbrev pub nodata : Result Unit ℕ → Result Response Stop
 nodata (Ok done) = Ok responses.Nodata

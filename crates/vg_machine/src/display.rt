@@ -7,6 +7,7 @@ ghost use Rattle.vg_machine.specs.State.{counted, start};
 ghost use Rattle.vg_machine.specs.declared.history.Reply.TheVariants as replies;
 ghost use Rattle.vg_machine.specs.ActStep.{KeepsIfRefused, act_step};
 ghost use Rattle.vg_holds.specs.Holds.{update};
+ghost use Rattle.vg_machine.specs.Fits.{changes};
 ghost use Rattle.vg_machine.specs.Replay.{request_step};
 ghost use Rattle.vg_machine.specs.Step.{Keeps, acceptance, answer_header, answer_of, answered, command_step, effect_and_bytes, ran, step};
 
@@ -26,8 +27,8 @@ use vg_scanout::{Frame, Scanouts};
 use vg_share::Share;
 use vg_transfer::Backings;
 use vg_wire::kinds::ERR_UNSPEC;
-use vg_wire::{Header, Queue, read_header};
-use vg_wire_ext::{Command, Response, append_response, read_request};
+use vg_wire::{Command2d, Header, Queue, read_header};
+use vg_wire_ext::{Command, Response, append_response, read_request, write_response};
 
 /// A display device, and what its clients share beside it.
 #[derive(Drop)]
@@ -196,8 +197,8 @@ impl Display {
         done
     }
 
-    /// What a request does, and its response twice, as far as the room holds it. Memory for the response of a command that
-    /// changes something is taken before it runs.
+    /// What a request does, and its response twice, as far as the room holds it. What a command that changes something is
+    /// answered is written before it runs, so that memory for it is there.
     fn answer(
         &mut self,
         alloc: Global,
@@ -214,6 +215,10 @@ impl Display {
         let Some(command) = self.read(alloc, queue, request)? else {
             return write_answer(alloc, request, room, &Response::Error { code: ERR_UNSPEC });
         };
+        if !changes(&command) {
+            let told = self.outcome(alloc, &command)?;
+            return write_answer(alloc, request, room, &told);
+        }
         let accepted = write_answer(alloc, request, room, &self.acceptance(&command))?;
         match self.outcome(alloc, &command)? {
             Response::Nodata | Response::Uuid { .. } => Ok(accepted),
@@ -272,6 +277,20 @@ impl Display {
     }
 }
 
+/// Whether a command changes something, unless it is refused.
+fn changes(command: &Command) -> bool
+    ensures { result ≡ changes command.now }
+{
+    match command {
+        Command::TwoD(Command2d::DisplayInfo) => false,
+        Command::TwoD(_)
+        | Command::AssignUuid { .. }
+        | Command::UpdateCursor { .. }
+        | Command::MoveCursor { .. } => true,
+        _ => false,
+    }
+}
+
 /// A copy of the setup.
 fn copy_of(alloc: Global, setup: &Setup) -> Result<Setup, AllocError>
     ensures { IfOk result (λ copy. copy ≡ setup.now) }
@@ -318,10 +337,7 @@ fn ring_of(header: &Header) -> u8
     }
 }
 
-/// How many bytes the longest response has.
-const MOST_RESPONSE: usize = 1056;
-
-/// The response's bytes twice, as far as `room` holds them. What else such a room holds may be written over them without memory.
+/// The response's bytes twice, as far as `room` holds them. Without a room nothing is written, which takes no memory.
 fn write_answer(
     alloc: Global,
     request: &[u8],
@@ -331,13 +347,17 @@ fn write_answer(
     ensures bytes { IfOk result (λ twice. twice.0.items ≡ answered request.now room response.now) }
     ensures same { IfOk result (λ twice. twice.1.items ≡ twice.0.items) }
 {
-    let space = (room as usize).min(MOST_RESPONSE);
-    let bytes = Vec::with_capacity(alloc, space)?;
-    let copy = Vec::with_capacity(alloc, space)?;
-    rewrite_answer(request, room, response, (bytes, copy))
+    if room == 0 {
+        return Ok((Vec::new(alloc), Vec::new(alloc)));
+    }
+    let header = header_of_answer(request, response.kind());
+    let mut bytes = write_response(alloc, &header, response)?;
+    bytes.truncate(room as usize);
+    let copy = bytes.as_slice().to_vec(alloc)?;
+    Ok((bytes, copy))
 }
 
-/// As `write_answer`, in place of what stands in these two.
+/// As `write_answer`, in place of what stands in these two: that takes no memory where it is no longer.
 fn rewrite_answer(
     request: &[u8],
     room: u32,
@@ -349,13 +369,13 @@ fn rewrite_answer(
 {
     let (mut bytes, mut copy) = twice;
     bytes.clear();
-    append_response(
-        &mut bytes,
-        &header_of_answer(request, response.kind()),
-        response,
-    )?;
-    bytes.truncate(room as usize);
     copy.clear();
+    if room == 0 {
+        return Ok((bytes, copy));
+    }
+    let header = header_of_answer(request, response.kind());
+    append_response(&mut bytes, &header, response)?;
+    bytes.truncate(room as usize);
     copy.extend_from_slice(bytes.as_slice())?;
     Ok((bytes, copy))
 }

@@ -10,16 +10,16 @@ on_err (Err error) p = p
 
 pub returns-in-Nodata-clause-step : goal.returns-in-Nodata-clause-step
 returns-in-Nodata-clause-step c =
-    let expected = accepted-is c.args.self.now c.outcome.new.self c.in-Some.command c.in_ok-other.other c.in_ok-other.ensures.step c.in-Nodata.is in
-    answered-given c.args.self.now c.outcome.new.self c.args.queue c.args.request.now c.args.room _ c.in_ok-other.other c.in_ok-accepted.accepted.0.items
+    let expected = accepted-is c.args.self.now c.outcome-2.new.self c.in-Some.command c.in_ok-other.other c.in_ok-other.ensures.step c.in-Nodata.is in
+    answered-given c.args.self.now c.outcome-2.new.self c.args.queue c.args.request.now c.args.room _ c.in_ok-other.other c.in_ok-accepted.accepted.0.items
     (c.in_ok-command.ensures.answer ∙ ap (ran c.args.self.now) c.in-Some.is) c.in_ok-other.ensures.step
     (c.in_ok-accepted.ensures.bytes ∙ ap (answered c.args.request.now c.args.room) (c.acceptance.ensures ∙ expected))
 
 pub returns : goal.returns
 returns c = record {
   step =
-      answered-ok c.rewrite_answer.result (λ twice. twice.0.items) c.args.self.now c.outcome.new.self c.args.queue c.args.request.now c.args.room _ c.in_ok-other.other
+      answered-ok c.rewrite_answer.result (λ twice. twice.0.items) c.args.self.now c.outcome-2.new.self c.args.queue c.args.request.now c.args.room _ c.in_ok-other.other
       (c.in_ok-command.ensures.answer ∙ ap (ran c.args.self.now) c.in-Some.is) c.in_ok-other.ensures.step c.rewrite_answer.ensures.bytes;
   same = c.rewrite_answer.ensures.same;
-  err = on_err c.rewrite_answer.result (kept-given c.args.self.now c.outcome.new.self c.in-Some.command c.in_ok-other.other c.in_ok-other.ensures.step c.in_default-2.not-Nodata c.in_default-2.not-Uuid);
+  err = on_err c.rewrite_answer.result (kept-given c.args.self.now c.outcome-2.new.self c.in-Some.command c.in_ok-other.other c.in_ok-other.ensures.step c.in_default-2.not-Nodata c.in_default-2.not-Uuid);
 }
