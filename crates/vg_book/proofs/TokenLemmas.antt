@@ -1,5 +1,5 @@
 -- What the tokens keep, and what their calls tell.
-use Rattle.std.proofs.Common.{◌≡◌, inl, inr, ℕ, ◌+◌, ◌-◌, ◌≤◌, Bool, false, List, [], ◌∷◌, ◌++◌, map, length, refl, ap, sym, subst, ◌∙◌, arith, Option, length-append}
+use Rattle.std.proofs.Common.{◌≡◌, inl, inr, ℕ, ◌+◌, ◌-◌, ◌≤◌, Bool, true≢false, false, List, [], ◌∷◌, ◌++◌, map, length, refl, ap, sym, subst, ◌∙◌, arith, Option, Result, Ok, Err, IsErr, MatchResult, length-append}
 use mathlib.Core.List.{IsPrefix}
 use mathlib.Core.Option.{some}
 use lib.ListN.{get_elem?}
@@ -21,6 +21,11 @@ use Rattle.vg_book.specs.Turns.{Sits, IsClientSeat, EntersAct, own, order}
 use Rattle.vg_book.specs.Tokens.{Done, Passed, Noted, client_value, pass_value, ClientOk, Acted, Watched, Drawn, TakesBack, TakesUnrun, Meets, MeetsNote, note_value, finished_of}
 use Rattle.vg_book.specs.Kept as tokens
 use Rattle.vg_book.proofs.Updates.{length_without}
+
+-- what holds where a call failed, whatever the error is
+pub match_failed : {T E : Type 0} (r : Result T E) (Y : T → Type 0) (N : Type 0) → IsErr r → N → MatchResult r Y (λ e. N)
+match_failed (Ok x) Y N is n = absurd (true≢false (sym is))
+match_failed (Err e) Y N is n = n
 
 module _ {M S A R Q P H W : Type 0} (g : Ghosts M S A R Q P H W) where
   abbrev E : Type 0

@@ -104,8 +104,15 @@ impl<M: Machine, B: Naming> ClientToken<M, B> {
             number: self.number,
             used: self.used,
         };
-        let holds = &mut self.holds;
-        let done = enter(rt, alloc, &book.table, &mut self.seat, caller, holds, act)?;
+        let done = enter(
+            rt,
+            alloc,
+            &book.table,
+            &mut self.seat,
+            caller,
+            &mut self.holds,
+            act,
+        )?;
         self.used += 1;
         Ok(done)
     }

@@ -1,6 +1,5 @@
 -- What a half keeps, from call to call.
-use Rattle.std.proofs.Common.{◌≡◌, ◌≢◌, ℕ, ◌+◌, ◌-◌, ◌==◌, ◌<◌, ◌≤◌, Bool, zero, suc, true, false, cond, List, [], ◌∷◌, ◌++◌, Option, Some, None, Result, Ok, Err, is_err, max, set, get_or, length, inl, inr, refl, sym, ap, subst, ◌∙◌, arith, length-append, eq-eqb, ne_eqb, true≢false}
-use Rattle.std.specs.Prelude.{OnOk}
+use Rattle.std.proofs.Common.{◌≡◌, ◌≢◌, ℕ, ◌+◌, ◌-◌, ◌==◌, ◌<◌, ◌≤◌, Bool, zero, suc, true, false, cond, List, [], ◌∷◌, ◌++◌, Option, Some, None, max, set, get_or, length, inl, inr, refl, sym, ap, subst, ◌∙◌, arith, length-append, eq-eqb, ne_eqb}
 use Rattle.std.proofs.lemmas.Bool.{cases_eq, cases_lt}
 use Rattle.std.proofs.lemmas.List.{get_or-set_other, get_or-set_same, get_or_default, get_or_append_left, length-set}
 use Rattle.std.proofs.Math.Seq.{get_or-append_seam}
@@ -26,11 +25,6 @@ use Rattle.vg_ring.specs.Ends.{DriverLists, Publishes, Reaps}
 use Rattle.vg_ring.specs.Entries.{IsDone}
 use Rattle.vg_ring.specs.Making.{IsNewDriver}
 use Rattle.vg_driver.specs.Halves.{AreBack, AreHeard, AreKnown, HasFor, HasHeard, HasJoined, HeardData, Hears, IsHalf, IsHeard, IsJoined, IsKnown, NoteKnows, asked_in, seen_by, top_of, unheard}
-
--- what a call promises where it didn't fail
-pub fits_of : {T E : Type 0} (r : Result T E) (n m : ℕ) → is_err r ≡ false → OnOk r (n ≤ m) → n ≤ m
-fits_of (Ok x) n m not fits = fits
-fits_of (Err e) n m not fits = absurd (true≢false not)
 
 pub lane_small : (queue : Queue) (lane : ℕ) → IsLane queue lane → lane < 66
 lane_small Control lane is = omega (arith, is)

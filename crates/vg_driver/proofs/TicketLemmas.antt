@@ -1,5 +1,5 @@
 -- What came back of a call is the ticket's order.
-use Rattle.std.proofs.Common.{◌≡◌, inl, inr, ℕ, ◌==◌, ◌≤◌, Bool, true, false, cond, List, [], ◌∷◌, ◌++◌, map, refl, sym, ap, subst, ◌∙◌, arith, eq-eqb, true≢false}
+use Rattle.std.proofs.Common.{◌≡◌, ◌⊎◌, inl, inr, ℕ, ◌==◌, ◌≤◌, Bool, true, false, cond, List, [], ◌∷◌, ◌++◌, map, refl, sym, ap, subst, ◌∙◌, arith, eq-eqb, true≢false}
 use mathlib.Core.List.{map-append}
 use Rattle.vg_history.specs.declared.entry.Entry.{Entry}
 use Rattle.vg_history.specs.Entries.{call_of}
@@ -21,6 +21,7 @@ use Rattle.vg_ring.specs.Cargo.{Tells}
 use Rattle.vg_book.specs.declared.outcome.Carried.{Carried}
 use Rattle.vg_book.specs.declared.outcome.Carried.TheVariants as carried
 use Rattle.vg_machine.specs.Written.{read_by, written_in}
+use Rattle.vg_driver.specs.Halves as halves
 use Rattle.vg_driver.specs.Tickets.{Account, DonePass, IsOf, IsOut, Order, Pass, Token}
 
 abbrev Back : Type 0 → Type 0
@@ -76,6 +77,11 @@ ticket_unrun old ticket p new (order, has, is) call t =
     let none = none_spent n old.account.mine (without n old.account.out) old.account.spent old.account.used numbers in
     let same : p.order ≡ order = alone n old.account.out p.order order t.out has refl (is.call ∙ sym call) none in
     subst (IsOf ticket) (sym same) is
+
+-- what came back of a call and wasn't run has its number
+pub call_unrun : {B : Type 0} (back : Back B) (p : Pass) (client call : ℕ) → (back ≡ carried.Wanted p) ⊎ (back ≡ carried.Unrun p) → halves.IsOf client call back → p.order.call ≡ call
+call_unrun back p client call (inl is) of = (subst (halves.IsOf client call) is of).1
+call_unrun back p client call (inr is) of = (subst (halves.IsOf client call) is of).1
 
 -- what is read in the room of a command that was run is its entry's reply
 pub reply_done : {B : Type 0} (f : DonePass) (back : Back B) (shape : Shape) (bytes : List ℕ) → back ≡ carried.Done f → (asks_of display back).shape ≡ shape → Tells (told_by display back) bytes

@@ -1,8 +1,8 @@
-use Rattle.std.proofs.Common.{◌+◌, ◌-◌, ◌∙◌, ℕ, length, sym, ap, subst}
+use Rattle.std.proofs.Common.{◌+◌, ◌-◌, ◌≤◌, ◌∙◌, rules, ℕ, length, sym, ap, subst}
 use Rattle.std.specs.Prelude.{vec_len, vec_capacity}
 use Rattle.vg_chain.specs.Made.{IsNeeded}
 use Rattle.vg_ring.specs.Ends.{HasRoom}
-use Rattle.vg_driver.proofs.HalfLemmas.{half_sent, fits_of}
+use Rattle.vg_driver.proofs.HalfLemmas.{half_sent}
 use Rattle.vg_driver.proofs.half.Half.send.Goals as goal
 
 pub publish-requires-clause-room : goal.publish-requires-clause-room
@@ -13,7 +13,7 @@ publish-requires-clause-room g c =
 pub invariant_of-self-2 : goal.invariant_of-self-2
 invariant_of-self-2 g c =
     let d = c.self.inside in
-    let room = fits_of c.reserve.result (vec_len c.reserve.new.self + (c.published.result - c.reaped.result + 1)) (vec_capacity c.reserve.new.self) (sym c.is_err.ensures.value ∙ c.if-is_err.false) c.reserve.ensures.ok in
+    let room : vec_len c.reserve.new.self + (c.published.result - c.reaped.result + 1) ≤ vec_capacity c.reserve.new.self = search rules in
     half_sent g.M.Machine g.Q.OfQueue.queue d.end (vec_len d.replies) (vec_capacity d.replies) d.heard.items c.self.invariant c.args.shape c.load.result c.publish.new.self c.publish.ensures.published
     (vec_len c.reserve.new.self) (vec_capacity c.reserve.new.self) c.published.result c.reaped.result c.published.ensures c.reaped.ensures room
 
