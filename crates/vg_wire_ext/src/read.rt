@@ -9,12 +9,12 @@ ghost use Rattle.vg_wire_ext.specs.Commands.{by_row, command_of, row_of, FitsEnt
 use crate::command::Command;
 use crate::fields::i32_at;
 use std::alloc::{AllocError, Global};
+use vg_numbers::{u32_at, u64_at};
 use vg_wire::kinds::{
     CTX_ATTACH_RESOURCE, CTX_CREATE, CTX_DESTROY, CTX_DETACH_RESOURCE, GET_CAPSET, GET_CAPSET_INFO,
     GET_EDID, MOVE_CURSOR, RESOURCE_ASSIGN_UUID, RESOURCE_CREATE_BLOB, SET_SCANOUT_BLOB, SUBMIT_3D,
     UPDATE_CURSOR,
 };
-use vg_numbers::{u32_at, u64_at};
 use vg_wire::{Header, is_2d, read_2d, read_entries, rect_at};
 
 /// GET_CAPSET_INFO: eight bytes.

@@ -8,10 +8,10 @@ ghost use Rattle.vg_wire_ext.specs.Response as spelling;
 ghost use Rattle.vg_wire_ext.specs.Response.{FitsResponse, IsResponse, Spells, response_bytes, response_body, response_kind};
 
 use std::alloc::{AllocError, Global};
+use vg_numbers::put_u32;
 use vg_wire::kinds::{
     ERR_INVALID_PARAMETER, ERR_UNSPEC, OK_DISPLAY_INFO, OK_EDID, OK_NODATA, OK_RESOURCE_UUID,
 };
-use vg_numbers::put_u32;
 use vg_wire::{Header, Modes, put_header, put_modes, read_header, read_modes};
 
 /// A response, without its header.
