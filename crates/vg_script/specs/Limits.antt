@@ -1,5 +1,5 @@
 -- The limits that each script keeps.
-use Rattle.std.specs.Prelude.{ℕ, ℤ, pos, negsuc, ◌*◌, ◌<◌, ◌≤◌, is_some, List, [], ◌∷◌, length, sum_by, count_by, All, IsTrue}
+use Rattle.std.specs.Prelude.{ℕ, ℤ, pos, negsuc, ◌*◌, ◌<◌, ◌≤◌, is_some, List, length, sum_by, count_by, All, IsTrue}
 use Rattle.std.specs.Bool.{⊤}
 use Rattle.vg_formats.specs.Formats.{format_of}
 use Rattle.vg_chain.specs.declared.shape.Shape.{Shape}

@@ -1,7 +1,7 @@
 -- The lines of a client, one row for each word: what has to hold of how its numbers are spelled, of the limits
 -- and of the names, and which call it is. `displays` is how many displays there are, and `table` has the names
 -- that are defined before the line. A word or a count of arguments that the grammar doesn't know has no row.
-use Rattle.std.specs.Prelude.{ℕ, ◌*◌, ◌/◌, ◌==◌, ◌&&◌, ◌||◌, not, nat_lt, nat_le, Bool, true, is_none, is_some, List, [], ◌∷◌, length, Option, Some, None, Result, Ok, Err, if◌then◌else◌, codes, bytes_eq}
+use Rattle.std.specs.Prelude.{ℕ, ◌*◌, ◌/◌, ◌&&◌, ◌||◌, not, nat_lt, nat_le, Bool, true, is_none, is_some, List, length, Option, Some, None, Result, Ok, Err, if◌then◌else◌, codes, bytes_eq}
 use Rattle.std.specs.Int.{is_in_range}
 use Rattle.vg_words.specs.declared.kind.Kind.{Kind}
 use Rattle.vg_words.specs.declared.kind.Kind.TheVariants.{Word, Number, Limit, Name}
