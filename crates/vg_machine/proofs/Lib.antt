@@ -10,3 +10,4 @@ pub mod ReceiveLemmas
 pub mod PixelLemmas
 pub mod CursorLemmas
 pub mod FrameLemmas
+pub mod TellLemmas

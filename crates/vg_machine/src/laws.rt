@@ -1,14 +1,16 @@
 //! What commands mean for each pixel (VIRTIO 1.2, 5.7.6.8 and 5.7.6.10): laws on a display's own steps, each the contract of a
 //! function that does no work.
 
-ghost use Rattle.std.specs.Prelude.{◌≡◌, ◌+◌, ℕ};
+ghost use Rattle.std.specs.Prelude.{◌≡◌, ◌+◌, ◌*◌, ℕ, length};
 ghost use Rattle.vg_formats.specs.declared.rect.Rect.{Rect};
+ghost use Rattle.vg_resource.specs.declared.resource.Resource.{Resource};
 ghost use Rattle.vg_scanout.specs.FrameOf.{MakesFrames};
+ghost use Rattle.vg_scanout.specs.Scanout.{Screen};
 ghost use Rattle.vg_scanout.specs.Touched.{MakesTouched};
 ghost use Rattle.vg_wire_ext.specs.declared.command.Command.{Command};
 ghost use Rattle.vg_wire_ext.specs.declared.response.Response.TheVariants as responses;
 ghost use Rattle.vg_wire.specs.declared.two_d.Command2d.TheVariants as commands;
-ghost use Rattle.vg_machine.specs.Pixels.{CopiesEachPixel, ShowsEachPixel};
+ghost use Rattle.vg_machine.specs.Pixels.{CopiesEachPixel, ShowsEachPixel, ShowsScreen};
 ghost use Rattle.vg_machine.specs.State.{counted};
 ghost use Rattle.vg_machine.specs.Step.{command_step, two_d_step};
 
@@ -58,3 +60,11 @@ impl Display {
         a_flush_makes_frames_of_what_it_touches();
     }
 }
+
+/// A law, and no work: what `Display::a_flush_shows_each_pixel` says of a screen tells all its pixels, so that two screens of its
+/// size of which that is true have the same.
+pub fn each_pixel_tells_the_flush()
+    ensures { (id : ℕ) (rect : Rect) (resource : Resource) (old one other : Screen)
+        → length one.pixels ≡ 4 * old.binding.rect.width * old.binding.rect.height → length other.pixels ≡ 4 * old.binding.rect.width * old.binding.rect.height
+        → ShowsScreen id rect resource old one → ShowsScreen id rect resource old other → one.pixels ≡ other.pixels }
+{}

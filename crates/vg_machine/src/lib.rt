@@ -19,6 +19,7 @@ mod uuids;
 pub use display::Display;
 pub use history::{Reply, Request};
 pub use lane::lane_of;
+pub use laws::each_pixel_tells_the_flush;
 pub use machine::{Entry, History};
 pub use vg_holds::{
     Act, ActReply, Buffers, Holds, Setup, What, denied, denied_command, holds_only_grow,

@@ -1,2 +1,3 @@
 pub mod HeldLemmas
 pub mod CopyLemmas
+pub mod WholeLemmas

@@ -148,6 +148,13 @@ impl Backings {
     }
 }
 
+/// A law, and no work: what `a_transfer_copies_each_pixel` says tells all pixels of the resource, so that of two lists of its size
+/// of which that is true both are the same.
+pub fn each_pixel_tells_the_transfer()
+    ensures { (rect : Rect) (offset width height : ℕ) (bytes old one other : List ℕ) → length one ≡ 4 * width * height → length other ≡ 4 * width * height
+        → CopiesRect rect offset width height bytes old one → CopiesRect rect offset width height bytes old other → one ≡ other }
+{}
+
 /// Copies a rectangle of pixels, four bytes each, of a resource with `width` pixels a row. The first byte of its first row
 /// is that at `offset`, and the others stand as they do in the resource.
 fn copy_rect(
