@@ -125,8 +125,10 @@ impl<B: Naming> Client<B> {
             return (caller.token, Err(AllocError));
         }
         let mut caller = caller;
-        let ended = end(rt, alloc, book, driver, &mut caller);
-        (caller.token, ended)
+        match end(rt, alloc, book, driver, &mut caller) {
+            Ok(number) => (caller.token, Ok(number)),
+            Err(_) => (caller.token, Err(AllocError)),
+        }
     }
 
     /// A note that has seen what the client has.
