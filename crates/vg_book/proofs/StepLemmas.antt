@@ -23,7 +23,7 @@ use Rattle.vg_book.specs.declared.board.Order.{Order}
 use Rattle.vg_book.specs.declared.board.Account.{Account}
 use Rattle.vg_book.specs.declared.board.Counted.{Counted}
 use Rattle.vg_book.specs.Views.{wrote, ran, entered, counted_up, finished}
-use Rattle.vg_book.specs.Hands.{IsSameCore, IsLaneClear, ActsOn, RunsOn, RunsWhole, Lends, EndsOn}
+use Rattle.vg_book.specs.HandsWithin.{IsSameCore, IsLaneClear, ActsOn, RunsOn, RunsWhole, Lends, EndsOn}
 use Rattle.vg_book.specs.Tells as tells
 use Rattle.vg_book.specs.Turns.{Sits, SitsOut, IsClientSeat, EntersAct, RunsOrder, HasBegun, own}
 use Rattle.vg_book.proofs.Updates.{last_same}

@@ -1,7 +1,7 @@
 pub mod Views
 pub mod Kept
 pub mod Tells
-pub mod Hands
+pub mod HandsWithin
 pub mod Turns
 pub mod Tokens
 pub mod Opening

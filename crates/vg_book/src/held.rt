@@ -4,7 +4,7 @@ ghost use Rattle.std.specs.Prelude.{◌≡◌, ℕ, ◌+◌, ◌-◌, ◌^◌, �
 ghost use Rattle.vg_history.specs.Lists.{Has};
 ghost use Rattle.vg_history.specs.Begins.{IfLent, IfWhole};
 ghost use Rattle.vg_book.specs.declared.board.Slot.TheVariants.{Held};
-ghost use Rattle.vg_book.specs.Hands.{IsSameCore, IsLaneClear, ActsOn, RunsWhole, Lends, EndsOn};
+ghost use Rattle.vg_book.specs.HandsWithin.{IsSameCore, IsLaneClear, ActsOn, RunsWhole, Lends, EndsOn};
 
 use crate::board::{Core, Slot};
 use std::alloc::{AllocError, Global};

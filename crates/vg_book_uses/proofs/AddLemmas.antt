@@ -14,7 +14,7 @@ use Rattle.vg_book_uses.specs.declared.counter.Act.TheVariants.{Add}
 use Rattle.vg_book_uses.specs.declared.counter.Counter.{Counter}
 use Rattle.vg_book_uses.specs.declared.counter.Request.{Request}
 use Rattle.vg_book_uses.proofs.CrewLemmas.{Gives, found}
-use Rattle.vg_crew.specs.Jobs.{AllGive}
+use Rattle.vg_jobs.specs.Jobs.{AllGive}
 use Rattle.vg_book_uses.specs.Adding.{E, Cl, Ro, account_of, AreAdds, AreNew, HasAdded, HaveAllAdded, IsAddedBy, IsKnown, IsNew}
 
 adds_snoc : (client used k reply : ℕ) (es : List E) → AreAdds client used es → k ≡ (used + length es) + 1 → AreAdds client used (es ++ entries.Act client k (Add 1) reply ∷ [])

@@ -14,8 +14,8 @@ use Rattle.vg_book.specs.Tokens.{AllJoined, MakesClient, TakesIn}
 use Rattle.vg_book_uses.specs.declared.counter.Act.{Act}
 use Rattle.vg_book_uses.specs.declared.counter.Counter.{Counter}
 use Rattle.vg_book_uses.specs.declared.counter.Request.{Request}
-use Rattle.vg_crew.specs.Jobs.{AllGive}
-use Rattle.vg_crew.proofs.JobLemmas.{all_of_map, given_all, given_ok, given_same, ok_more}
+use Rattle.vg_jobs.specs.Jobs.{AllGive}
+use Rattle.vg_jobs.proofs.JobLemmas.{all_of_map, given_all, given_ok, given_same, ok_more}
 use Rattle.vg_book_uses.specs.Adding.{E, Cl, Ro, number_of, account_of, AreNew, HasTakenAll, IsNew, IsRootWith}
 
 pub all_one : {X : Type 0} (P : X → Type 0) (x : X) → P x → All P (x ∷ [])

@@ -8,7 +8,7 @@ use Rattle.vg_history.specs.Lists.{Has}
 use Rattle.vg_history.proofs.ListLemmas.{has_last, has_prefix, prefix_more, prefix_self, prefix_trans}
 use Rattle.std.specs.declared.alloc.AllocError.{AllocError}
 use Rattle.vg_book.specs.Tokens.{Acted, Watched}
-use Rattle.vg_crew.specs.Jobs.{AllGive}
+use Rattle.vg_jobs.specs.Jobs.{AllGive}
 use Rattle.vg_book_uses.specs.declared.counter.Act.{Act}
 use Rattle.vg_book_uses.specs.declared.counter.Act.TheVariants.{Add}
 use Rattle.vg_book_uses.specs.declared.counter.Counter.{Counter}

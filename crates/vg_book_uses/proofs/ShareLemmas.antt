@@ -17,7 +17,7 @@ use Rattle.vg_book_uses.specs.declared.counter.Act.{Act}
 use Rattle.vg_book_uses.specs.declared.counter.Act.TheVariants.{Add}
 use Rattle.vg_book_uses.specs.declared.counter.Counter.{Counter}
 use Rattle.vg_book_uses.specs.declared.counter.Request.{Request}
-use Rattle.vg_crew.specs.Jobs.{AllGive}
+use Rattle.vg_jobs.specs.Jobs.{AllGive}
 use Rattle.vg_book_uses.specs.Adding.{E, Cl, Ro, account_of, AreNew, IsNew}
 use Rattle.vg_book_uses.specs.Desks.{La, HasAsked, HasServed, IsLaneKnown}
 use Rattle.vg_book_uses.specs.Sharing.{counted_of, HasTakenLanes, HasTalked, HaveShared, IsSettled, MayTalk}

@@ -9,8 +9,8 @@ use std::marker::{Send, Sync};
 use std::sync::Wait;
 use std::thread::Threads;
 use vg_book::{Book, ClientToken, Naming, Opened, Root};
-use vg_crew::{Job, each};
 use vg_history::{History, Machine};
+use vg_jobs::{Job, each};
 
 /// Adds 1 so many times, for a client with nothing outstanding.
 pub fn add_times<B: Naming, R: Wait>(

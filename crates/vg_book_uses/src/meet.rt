@@ -14,8 +14,8 @@ use std::marker::{Model, Send, Sync};
 use std::sync::{Mutex, Wait};
 use std::thread::Threads;
 use vg_book::{Book, ClientToken, Naming, Note, Opened, Root};
-use vg_crew::{Job, each};
 use vg_history::{History, Machine};
+use vg_jobs::{Job, each};
 
 /// A note that has seen this call of this client.
 #[derive(Drop)]

@@ -14,8 +14,8 @@ use std::sync::atomic::AtomicBool;
 use std::sync::{Mutex, Wait};
 use std::thread::Threads;
 use vg_book::{Book, ClientToken, LaneToken, Naming, Opened, Root};
-use vg_crew::{Job, all};
 use vg_history::{History, Machine};
+use vg_jobs::{Job, all};
 
 /// A client that adds 1 by an act and asks a lane to add 1, so many times. It halts the desk that it is at in this round.
 #[derive(Drop)]

@@ -13,7 +13,7 @@ use Rattle.vg_chain.specs.Descriptor.{has_next, is_indirect, is_read}
 use Rattle.vg_chain.specs.Memory.{Memory, table_of, is_in_range}
 use Rattle.vg_chain.specs.Fault.{fault_of, is_bad_length}
 use Rattle.vg_chain.specs.Walk.{Visit, there, Visits, was_met, read_of, written_of, all_read, all_written, fault_at, AreClean, IsChain, IsFault}
-use Rattle.vg_chain.specs.Tour.{table_now, places_left}
+use Rattle.vg_chain.specs.TourWithin.{table_now, places_left}
 
 abbrev pub visit_now : List Descriptor → List Descriptor → Bool → ℕ → Visit
 visit_now ring inner inside at = record { table = table_now ring inner inside; inside = inside; at = at }

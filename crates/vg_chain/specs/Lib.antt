@@ -3,5 +3,5 @@ pub mod Descriptor
 pub mod Memory
 pub mod Fault
 pub mod Walk
-pub mod Tour
+pub mod TourWithin
 pub mod Made

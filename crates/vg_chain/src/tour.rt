@@ -6,7 +6,7 @@ ghost use Rattle.vg_chain.specs.Descriptor as layout;
 ghost use Rattle.vg_chain.specs.Descriptor.{descriptor_size};
 ghost use Rattle.vg_chain.specs.Memory.{memory, lies_in, table_of};
 ghost use Rattle.vg_chain.specs.Walk.{Walks, read_of, written_of};
-ghost use Rattle.vg_chain.specs.Tour.{table_now};
+ghost use Rattle.vg_chain.specs.TourWithin.{table_now};
 
 use crate::chain::{Chain, ChainFault, Parts};
 use crate::descriptor::{

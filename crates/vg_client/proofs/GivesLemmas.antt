@@ -1,10 +1,10 @@
 -- What a call gives at the least: an entry.
 use Rattle.std.proofs.Common.{◌≡◌, ◌≤◌, arith, ℕ, Bool, true, false, cond, List, [], ◌∷◌, length, length-append, subst, Option, Some, None, Result, Ok, Err, ℤ}
-use Rattle.vg_holds.specs.declared.act.What.{What}
-use Rattle.vg_holds.specs.declared.act.What.TheVariants.{Scanout}
-use Rattle.vg_holds.specs.declared.holds.Holds.{Holds}
+use Rattle.vg_client_holds.specs.declared.act.What.{What}
+use Rattle.vg_client_holds.specs.declared.act.What.TheVariants.{Scanout}
+use Rattle.vg_client_holds.specs.declared.holds.Holds.{Holds}
 use Rattle.vg_machine.specs.Entries.{Entry}
-use Rattle.vg_holds.specs.Holds.{has_number}
+use Rattle.vg_client_holds.specs.Holds.{has_number}
 use Rattle.vg_calls.specs.declared.call.Call.{Call}
 use Rattle.vg_calls.specs.declared.call.Call.TheVariants as calls
 use Rattle.vg_calls.specs.declared.call.NameRef.{NameRef}

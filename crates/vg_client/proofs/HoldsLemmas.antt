@@ -2,15 +2,15 @@
 use Rattle.std.proofs.Common.{◌≡◌, ◌∙◌, ap, refl, subst, sym, ℕ, List, [], ◌∷◌, ◌++◌, append_assoc, append-nil}
 use Rattle.vg_history.specs.History as history
 use Rattle.vg_history.proofs.HistoryLemmas.{holds_append, updated_own}
-use Rattle.vg_holds.specs.declared.setup.Setup.{Setup}
-use Rattle.vg_holds.specs.declared.holds.Holds.{Holds}
-use Rattle.vg_holds.specs.declared.act.Act.{Act}
-use Rattle.vg_holds.specs.declared.act.Act.TheVariants.{Reserve, Release, Free, Take, Drop}
-use Rattle.vg_holds.specs.declared.act.ActReply.{ActReply}
-use Rattle.vg_holds.specs.declared.act.ActReply.TheVariants as act_replies
+use Rattle.vg_client_holds.specs.declared.setup.Setup.{Setup}
+use Rattle.vg_client_holds.specs.declared.holds.Holds.{Holds}
+use Rattle.vg_client_holds.specs.declared.act.Act.{Act}
+use Rattle.vg_client_holds.specs.declared.act.Act.TheVariants.{Reserve, Release, Free, Take, Drop}
+use Rattle.vg_client_holds.specs.declared.act.ActReply.{ActReply}
+use Rattle.vg_client_holds.specs.declared.act.ActReply.TheVariants as act_replies
 use Rattle.vg_machine.specs.Entries.{Entry}
 use Rattle.vg_history.specs.declared.entry.Entry.TheVariants as entries
-use Rattle.vg_holds.specs.Holds.{first_holds, update}
+use Rattle.vg_client_holds.specs.Holds.{first_holds, update}
 use Rattle.vg_machine.specs.Order.{AreAllowed, IsAllowed, client_of, holds_of, updated}
 use Rattle.vg_machine.specs.Replay.{display}
 

@@ -1,10 +1,10 @@
 -- How many names a call defines.
 use Rattle.std.proofs.Common.{◌≡◌, ◌+◌, ap, refl, arith, ℕ, Bool, true, false, cond, List, [], ◌∷◌, ◌++◌, not, ◌||◌, Option, Some, None, Result, Ok, Err, ℤ}
-use Rattle.vg_holds.specs.declared.act.ActReply.TheVariants as act_replies
-use Rattle.vg_holds.specs.declared.act.What.{What}
-use Rattle.vg_holds.specs.declared.act.What.TheVariants.{Scanout}
-use Rattle.vg_holds.specs.declared.holds.Holds.{Holds}
-use Rattle.vg_holds.specs.Holds.{has_number}
+use Rattle.vg_client_holds.specs.declared.act.ActReply.TheVariants as act_replies
+use Rattle.vg_client_holds.specs.declared.act.What.{What}
+use Rattle.vg_client_holds.specs.declared.act.What.TheVariants.{Scanout}
+use Rattle.vg_client_holds.specs.declared.holds.Holds.{Holds}
+use Rattle.vg_client_holds.specs.Holds.{has_number}
 use Rattle.vg_machine.specs.Entries.{Entry}
 use Rattle.vg_calls.specs.declared.call.Call.{Call}
 use Rattle.vg_calls.specs.declared.call.Call.TheVariants as calls

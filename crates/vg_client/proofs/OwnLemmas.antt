@@ -1,7 +1,7 @@
 -- A client's own entries, and one more.
 use Rattle.std.proofs.Common.{◌≡◌, ◌+◌, ◌∙◌, sym, ap, subst, arith, ℕ, zero, suc, false, List, [], ◌∷◌, ◌++◌, length, map, append_assoc, append-nil, length-append}
 use Rattle.std.specs.List.{AllByRecursion, range_with_len}
-use Rattle.vg_holds.specs.declared.setup.Setup.{Setup}
+use Rattle.vg_client_holds.specs.declared.setup.Setup.{Setup}
 use Rattle.vg_machine.specs.Entries.{Entry}
 use Rattle.vg_machine.specs.Order.{IsAllowed, IsFirst, call_of, client_of, holds_of, is_leave}
 use Rattle.vg_client.specs.Own.{AreInOwnOrder, IsInOwnOrder, IsOnItsLane, IsOwn}

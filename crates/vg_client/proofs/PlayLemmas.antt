@@ -4,17 +4,17 @@ use Rattle.std.specs.Prelude.{IfErr, IfOk, OnErr, OnOk}
 use Rattle.std.specs.List.{AllByRecursion}
 use mathlib.Core.List.{IsPrefix}
 use Rattle.std.proofs.lemmas.List.{length-map, length-set}
-use Rattle.vg_holds.specs.declared.act.Act as the_act
-use Rattle.vg_holds.specs.declared.act.Act.TheVariants as acts
-use Rattle.vg_holds.specs.declared.act.ActReply.{ActReply}
-use Rattle.vg_holds.specs.declared.act.ActReply.TheVariants as act_replies
+use Rattle.vg_client_holds.specs.declared.act.Act as the_act
+use Rattle.vg_client_holds.specs.declared.act.Act.TheVariants as acts
+use Rattle.vg_client_holds.specs.declared.act.ActReply.{ActReply}
+use Rattle.vg_client_holds.specs.declared.act.ActReply.TheVariants as act_replies
 use Rattle.vg_history.specs.declared.entry.Entry.TheVariants.{Act, Command}
 use Rattle.vg_machine.specs.declared.history.Reply.{Reply}
 use Rattle.vg_machine.specs.declared.history.Request.{Request}
-use Rattle.vg_holds.specs.declared.act.What.{What}
+use Rattle.vg_client_holds.specs.declared.act.What.{What}
 use Rattle.vg_machine.specs.Entries.{Entry}
-use Rattle.vg_holds.specs.declared.holds.Holds.{Holds}
-use Rattle.vg_holds.specs.Holds.{Deniable}
+use Rattle.vg_client_holds.specs.declared.holds.Holds.{Holds}
+use Rattle.vg_client_holds.specs.Holds.{Deniable}
 use Rattle.vg_machine.specs.Order.{is_leave, updated}
 use Rattle.vg_calls.specs.declared.call.Call.{Call}
 use Rattle.vg_client.specs.declared.caller.Caller.{Caller}

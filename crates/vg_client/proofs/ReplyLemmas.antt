@@ -1,10 +1,10 @@
 -- The pages of a reply are few.
 use Rattle.std.proofs.Common.{◌≡◌, ◌≤◌, sym, subst, arith, ℕ, Bool, true, false, cond, List, length, take, Option, Some, None}
 use Rattle.std.proofs.lemmas.List.{length-take}
-use Rattle.vg_holds.specs.declared.act.Act.{Act}
-use Rattle.vg_holds.specs.declared.act.Act.TheVariants as acts
-use Rattle.vg_holds.specs.declared.act.ActReply.{ActReply}
-use Rattle.vg_holds.specs.declared.act.ActReply.TheVariants as act_replies
+use Rattle.vg_client_holds.specs.declared.act.Act.{Act}
+use Rattle.vg_client_holds.specs.declared.act.Act.TheVariants as acts
+use Rattle.vg_client_holds.specs.declared.act.ActReply.{ActReply}
+use Rattle.vg_client_holds.specs.declared.act.ActReply.TheVariants as act_replies
 use Rattle.vg_share.specs.declared.share.ShareRefusal.{ShareRefusal}
 use Rattle.vg_machine.specs.ActStep.{act_step, effect_of, replied_by}
 use Rattle.vg_share.specs.Cells.{pages_of}

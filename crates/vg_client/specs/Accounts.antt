@@ -3,15 +3,15 @@ use Rattle.std.specs.Prelude.{◌≡◌, ◌≤◌, ◌<◌, ◌+◌, ℕ, Bool,
 use Rattle.std.specs.List.{AllByRecursion}
 use mathlib.Core.List.{IsPrefix}
 use Rattle.vg_book.specs.Own.{IsInStep}
-use Rattle.vg_holds.specs.declared.setup.Setup.{Setup}
-use Rattle.vg_holds.specs.declared.act.Act as the_act
-use Rattle.vg_holds.specs.declared.act.Act.TheVariants.{Enter, Leave, Denied}
-use Rattle.vg_holds.specs.declared.act.ActReply.{ActReply}
+use Rattle.vg_client_holds.specs.declared.setup.Setup.{Setup}
+use Rattle.vg_client_holds.specs.declared.act.Act as the_act
+use Rattle.vg_client_holds.specs.declared.act.Act.TheVariants.{Enter, Leave, Denied}
+use Rattle.vg_client_holds.specs.declared.act.ActReply.{ActReply}
 use Rattle.vg_machine.specs.Entries.{Entry}
 use Rattle.vg_history.specs.declared.entry.Entry.TheVariants.{Act}
-use Rattle.vg_holds.specs.declared.holds.Holds.{Holds}
+use Rattle.vg_client_holds.specs.declared.holds.Holds.{Holds}
 use Rattle.vg_machine.specs.ActStep.{act_step}
-use Rattle.vg_holds.specs.Holds.{Deniable, first_holds}
+use Rattle.vg_client_holds.specs.Holds.{Deniable, first_holds}
 use Rattle.vg_machine.specs.State.{State, start}
 use Rattle.vg_machine.specs.Order.{holds_of, is_leave, updated}
 use Rattle.vg_driver.specs.Tickets.{Token}

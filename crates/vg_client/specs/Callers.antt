@@ -2,11 +2,11 @@
 use Rattle.std.specs.Prelude.{◌≡◌, ◌≤◌, ◌<◌, ◌+◌, ℕ, Bool, false, List, [], ◌∷◌, ◌++◌, length}
 use mathlib.Core.List.{IsPrefix}
 use Rattle.vg_machine.specs.Entries.{Entry}
-use Rattle.vg_holds.specs.declared.act.ActReply.{ActReply}
-use Rattle.vg_holds.specs.declared.act.ActReply.TheVariants.{Reserved}
-use Rattle.vg_holds.specs.declared.act.ActReply.TheVariants as act_replies
-use Rattle.vg_holds.specs.declared.act.Act.TheVariants.{Enter, Leave}
-use Rattle.vg_holds.specs.declared.setup.Setup.{Setup}
+use Rattle.vg_client_holds.specs.declared.act.ActReply.{ActReply}
+use Rattle.vg_client_holds.specs.declared.act.ActReply.TheVariants.{Reserved}
+use Rattle.vg_client_holds.specs.declared.act.ActReply.TheVariants as act_replies
+use Rattle.vg_client_holds.specs.declared.act.Act.TheVariants.{Enter, Leave}
+use Rattle.vg_client_holds.specs.declared.setup.Setup.{Setup}
 use Rattle.vg_history.specs.declared.entry.Entry.TheVariants.{Act}
 use Rattle.vg_driver.specs.Tickets.{Token}
 use Rattle.vg_machine.specs.Order.{updated}

@@ -1,14 +1,14 @@
 -- The entries that a client's calls give.
 use Rattle.std.specs.Prelude.{◌≡◌, ◌⊎◌, ◌+◌, ℕ, Bool, true, List, [], ◌∷◌, slice_set, if◌then◌else◌, Option, Some, None, Result, Ok, Err}
-use Rattle.vg_holds.specs.declared.act.Act.TheVariants.{Denied}
-use Rattle.vg_holds.specs.declared.act.ActReply.{ActReply}
-use Rattle.vg_holds.specs.declared.act.ActReply.TheVariants as act_replies
-use Rattle.vg_holds.specs.declared.act.What.{What}
+use Rattle.vg_client_holds.specs.declared.act.Act.TheVariants.{Denied}
+use Rattle.vg_client_holds.specs.declared.act.ActReply.{ActReply}
+use Rattle.vg_client_holds.specs.declared.act.ActReply.TheVariants as act_replies
+use Rattle.vg_client_holds.specs.declared.act.What.{What}
 use Rattle.vg_machine.specs.Entries.{Entry}
 use Rattle.vg_history.specs.declared.entry.Entry.TheVariants as entries
 use Rattle.vg_machine.specs.declared.history.Reply.{Reply}
 use Rattle.vg_machine.specs.declared.history.Request.{Request}
-use Rattle.vg_holds.specs.declared.holds.Holds.{Holds}
+use Rattle.vg_client_holds.specs.declared.holds.Holds.{Holds}
 use Rattle.vg_machine.specs.Order.{updated}
 use Rattle.vg_calls.specs.declared.call.Call.{Call}
 use Rattle.vg_calls.specs.declared.call.NameRef.{NameRef}

@@ -4,10 +4,10 @@ use Rattle.vg_wire.specs.declared.request.Queue.{Queue}
 use Rattle.vg_wire.specs.declared.request.Queue.TheVariants.{Control, Cursor}
 use Rattle.vg_wire.specs.Header.{header_of}
 use Rattle.vg_wire.specs.Kinds.{OK_DISPLAY_INFO, OK_EDID, OK_NODATA, OK_RESOURCE_UUID}
-use Rattle.vg_holds.specs.declared.act.Act.{Act}
-use Rattle.vg_holds.specs.declared.act.Act.TheVariants as acts
-use Rattle.vg_holds.specs.declared.act.ActReply.{ActReply}
-use Rattle.vg_holds.specs.declared.act.ActReply.TheVariants as act_replies
+use Rattle.vg_client_holds.specs.declared.act.Act.{Act}
+use Rattle.vg_client_holds.specs.declared.act.Act.TheVariants as acts
+use Rattle.vg_client_holds.specs.declared.act.ActReply.{ActReply}
+use Rattle.vg_client_holds.specs.declared.act.ActReply.TheVariants as act_replies
 use Rattle.vg_machine.specs.Entries.{Entry}
 use Rattle.vg_history.specs.declared.entry.Entry.TheVariants as entries
 use Rattle.vg_machine.specs.declared.history.Reply.{Reply}

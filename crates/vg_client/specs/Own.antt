@@ -1,7 +1,7 @@
 -- What a client's own entries are, by themselves.
 use Rattle.std.specs.Prelude.{◌≡◌, ℕ, false, List, [], ◌∷◌, ◌++◌, length, map}
 use Rattle.std.specs.List.{AllByRecursion, range_with_len}
-use Rattle.vg_holds.specs.declared.setup.Setup.{Setup}
+use Rattle.vg_client_holds.specs.declared.setup.Setup.{Setup}
 use Rattle.vg_machine.specs.Entries.{Entry}
 use Rattle.vg_history.specs.declared.entry.Entry.TheVariants as entries
 use Rattle.vg_machine.specs.Lane.{lane_of}

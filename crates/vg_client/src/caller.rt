@@ -2,9 +2,9 @@
 
 ghost use Rattle.std.specs.Prelude.{◌≡◌, ◌<◌, ◌≤◌, ◌-◌, ◌+◌, ◌^◌, ◌++◌, ◌∷◌, [], ℕ, false, List, length, replicate, None, IfOk, MatchResult, OnOk, OnErr};
 ghost use Rattle.vg_history.specs.declared.entry.Entry.TheVariants as entries;
-ghost use Rattle.vg_holds.specs.declared.act.Act.TheVariants as acts;
-ghost use Rattle.vg_holds.specs.declared.act.ActReply.TheVariants as act_replies;
-ghost use Rattle.vg_holds.specs.declared.setup.Setup.{Setup as Setups};
+ghost use Rattle.vg_client_holds.specs.declared.act.Act.TheVariants as acts;
+ghost use Rattle.vg_client_holds.specs.declared.act.ActReply.TheVariants as act_replies;
+ghost use Rattle.vg_client_holds.specs.declared.setup.Setup.{Setup as Setups};
 ghost use Rattle.vg_machine.specs.Entries.{Entry as Entries};
 ghost use Rattle.vg_client.specs.Accounts.{IsAccount, IsActive, IsNew, IsUnadded, mine_of};
 ghost use Rattle.vg_client.specs.Callers.{BeginsEnd, HasAdded, HasGoneOn, HasEnded, HasEntered, HasLeftBy, HasMade, IsReady, known};

@@ -2,7 +2,7 @@
 
 ghost use Rattle.std.specs.Prelude.{◌≡◌, ◌<◌, ◌≤◌, ◌-◌, ◌+◌, ◌^◌, ◌⊎◌, [], true, false, List, length, IfOk, MatchResult, OnOk, OnErr};
 ghost use mathlib.Core.List.{IsPrefix};
-ghost use Rattle.vg_holds.specs.declared.setup.Setup.{Setup as Setups};
+ghost use Rattle.vg_client_holds.specs.declared.setup.Setup.{Setup as Setups};
 ghost use Rattle.vg_machine.specs.Entries.{Entry as Entries};
 ghost use Rattle.vg_client.specs.Accounts.{IsNew, IsUnadded, mine_of};
 ghost use Rattle.vg_client.specs.Callers.{BeginsEnd, HasAdded, HasEnded, HasEntered, HasGoneOn, HasLeftBy, HasMade, known};

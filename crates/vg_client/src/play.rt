@@ -3,10 +3,10 @@
 ghost use Rattle.std.specs.Prelude.{◌≡◌, ◌<◌, ◌≤◌, ◌-◌, ◌+◌, ◌^◌, ◌⊎◌, ℕ, [], List, length, false, None, if◌then◌else◌, IfOk, OnErr, OnOk};
 ghost use Rattle.std.specs.List.{AllByRecursion};
 ghost use Rattle.vg_history.specs.declared.entry.Entry.TheVariants as entries;
-ghost use Rattle.vg_holds.specs.declared.act.ActReply.{ActReply as ActReplies};
+ghost use Rattle.vg_client_holds.specs.declared.act.ActReply.{ActReply as ActReplies};
 ghost use Rattle.vg_machine.specs.declared.history.Reply.{Reply as Replies};
 ghost use Rattle.vg_machine.specs.Entries.{Entry as Entries};
-ghost use Rattle.vg_holds.specs.Holds.{Deniable};
+ghost use Rattle.vg_client_holds.specs.Holds.{Deniable};
 ghost use Rattle.vg_driver.specs.Asks.{IsAsk, denied_for, request_for};
 ghost use Rattle.vg_client.specs.declared.given.Given.TheVariants as givens;
 ghost use Rattle.vg_client.specs.Accounts.{IsActive, MayAct, leaves, mine_of};

@@ -16,8 +16,8 @@ use Rattle.vg_places.proofs.PixelLemmas.{filled-in, filled-out}
 use Rattle.vg_cursor.specs.declared.cursor.Cursor.{Cursor}
 use Rattle.vg_cursor.specs.declared.span.Span.{Span}
 use Rattle.vg_cursor.specs.Blended.{image_place, IsOnImage, mixed, over, covered, blended_place, blended}
-use Rattle.vg_cursor.specs.Span.{IsSpan}
-use Rattle.vg_cursor.specs.Rows.{byte_over, row_over, rows_over}
+use Rattle.vg_cursor.specs.SpanWithin.{IsSpan}
+use Rattle.vg_cursor.specs.RowsWithin.{byte_over, row_over, rows_over}
 use Rattle.vg_cursor.proofs.RowLemmas.{length-row_over, get_or-row_over}
 
 -- a place of the row that is still to come is as before

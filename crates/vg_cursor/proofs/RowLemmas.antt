@@ -8,7 +8,7 @@ use Rattle.vg_places.proofs.Places.{length-tabulate, get_or-tabulate}
 use Rattle.vg_places.proofs.Filled.{filled_empty, filled_more, filled_whole}
 use Rattle.vg_places.proofs.PixelLemmas.{filled-out}
 use Rattle.vg_cursor.specs.Blended.{mixed}
-use Rattle.vg_cursor.specs.Rows.{byte_over, row_over}
+use Rattle.vg_cursor.specs.RowsWithin.{byte_over, row_over}
 
 -- byte c of a pixel that begins at place `from` of the image
 abbrev pixel_byte : List ℕ → ℕ → ℕ → ℕ → ℕ

@@ -3,7 +3,7 @@ use Rattle.std.proofs.Common.{◌≡◌, ℕ, ◌+◌, ◌-◌, ◌≤◌, min, 
 use Rattle.std.specs.Prelude.{ℤ, pos, negsuc}
 use Rattle.std.proofs.lemmas.Int.{ints}
 use Rattle.vg_cursor.specs.Blended.{image_place, IsOnImage}
-use Rattle.vg_cursor.specs.Span.{IsSpan, sides}
+use Rattle.vg_cursor.specs.SpanWithin.{IsSpan, sides}
 
 -- the place over a place of the screen, where the position lies so far to the right or to the left of 0
 place-is : (position : ℤ) (hot : ℕ) (far : ℕ × ℕ) (place i : ℕ) → far ≡ sides position → place + hot + far.1 ≡ far.0 + i → image_place position hot place ≡ pos i

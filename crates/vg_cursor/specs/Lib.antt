@@ -1,5 +1,5 @@
 pub mod Cursor
 pub mod Blended
-pub mod Span
-pub mod Rows
+pub mod SpanWithin
+pub mod RowsWithin
 pub mod Look

@@ -4,7 +4,7 @@ ghost use Rattle.std.specs.Prelude.{◌≡◌, ◌+◌, ◌*◌, ◌%◌, ◌≤
 ghost use Rattle.vg_cursor.specs.Blended.{blended, mixed};
 ghost use Rattle.vg_cursor.specs.Cursor.{IsWhole};
 ghost use Rattle.vg_cursor.specs.Look.{cursor_like};
-ghost use Rattle.vg_cursor.specs.Rows.{row_over, rows_over};
+ghost use Rattle.vg_cursor.specs.RowsWithin.{row_over, rows_over};
 
 use crate::look::Look;
 use crate::span::span_of;

@@ -1,7 +1,7 @@
 //! What an image and a screen have in common along one axis.
 
 ghost use Rattle.std.specs.Prelude.{◌≡◌, ◌<◌};
-ghost use Rattle.vg_cursor.specs.Span.{IsSpan, sides};
+ghost use Rattle.vg_cursor.specs.SpanWithin.{IsSpan, sides};
 
 /// How many places of a screen an image covers, which of them is the first, and the image's place over that one.
 #[derive(Clone, Copy, Debug)]

@@ -20,8 +20,8 @@ use Rattle.vg_ring.specs.Ends.{DriverLists, HasRoom}
 use Rattle.vg_ring.specs.Entries.{lane_count}
 use Rattle.vg_ring.proofs.KeptLemmas.{made_some}
 use Rattle.vg_machine.specs.declared.history.Request.{Request}
-use Rattle.vg_holds.specs.declared.holds.Holds.{Holds}
-use Rattle.vg_holds.specs.Holds.{denied_of, denied_request}
+use Rattle.vg_client_holds.specs.declared.holds.Holds.{Holds}
+use Rattle.vg_client_holds.specs.Holds.{denied_of, denied_request}
 use Rattle.vg_machine.specs.Lane.{lane_of, lane_of_header}
 use Rattle.vg_driver.proofs.ShortLemmas.{short-body}
 use Rattle.vg_driver.specs.declared.request.Way.{Way}
@@ -31,7 +31,7 @@ use Rattle.vg_driver.specs.Requests.{IsShort, IsWay, MayGo, denied_by, header_by
 use Rattle.vg_driver.specs.declared.ask.Ask.{Ask}
 use Rattle.vg_driver.specs.declared.ask.Ask.TheVariants as asks
 use Rattle.vg_driver.specs.Asks.{IsAsk, IsMadeFor, IsNeededFor, denied_for, lane_for, queue_for, request_for}
-use Rattle.vg_driver.specs.Offers.{IsNext}
+use Rattle.vg_driver.specs.OffersWithin.{IsNext}
 use Rattle.vg_driver.proofs.HalfLemmas.{lane_small}
 use Rattle.vg_driver.specs.Tickets.{Submitted, Token}
 

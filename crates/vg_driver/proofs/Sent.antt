@@ -17,11 +17,11 @@ use Rattle.vg_driver.specs.contracts.back.Back.TheInside as back_in
 use Rattle.vg_driver.specs.contracts.heard.Heard as heard
 use Rattle.vg_driver.specs.contracts.half.Half as half
 use Rattle.vg_driver.specs.contracts.half.Half.TheInside as half_in
-use Rattle.vg_holds.specs.contracts.act.Act as act
-use Rattle.vg_holds.specs.contracts.act.ActReply as act_reply
+use Rattle.vg_client_holds.specs.contracts.act.Act as act
+use Rattle.vg_client_holds.specs.contracts.act.ActReply as act_reply
 use Rattle.vg_machine.specs.contracts.history.Reply as reply
 use Rattle.vg_machine.specs.contracts.history.Request as request
-use Rattle.vg_holds.specs.contracts.holds.Holds as holds
+use Rattle.vg_client_holds.specs.contracts.holds.Holds as holds
 use Rattle.vg_machine.specs.contracts.display.Display as display
 use Rattle.vg_machine.specs.contracts.display.Display.TheInside as display_in
 

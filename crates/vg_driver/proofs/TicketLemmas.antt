@@ -8,11 +8,11 @@ use Rattle.vg_history.proofs.ListLemmas.{has_map, times_append, times_has, upto_
 use Rattle.vg_book.specs.Outcomes.{asks_of, told_by}
 use Rattle.vg_book.specs.Tokens.{TakesBack, TakesUnrun, finished_of}
 use Rattle.vg_book.specs.Views.{calls, entry_of, given_up, order_call, settled, without}
-use Rattle.vg_holds.specs.declared.act.Act.{Act}
-use Rattle.vg_holds.specs.declared.act.ActReply.{ActReply}
+use Rattle.vg_client_holds.specs.declared.act.Act.{Act}
+use Rattle.vg_client_holds.specs.declared.act.ActReply.{ActReply}
 use Rattle.vg_machine.specs.declared.history.Reply.{Reply}
 use Rattle.vg_machine.specs.declared.history.Request.{Request}
-use Rattle.vg_holds.specs.declared.holds.Holds.{Holds}
+use Rattle.vg_client_holds.specs.declared.holds.Holds.{Holds}
 use Rattle.vg_machine.specs.State.{State}
 use Rattle.vg_machine.specs.Replay.{display}
 use Rattle.vg_driver.specs.declared.ticket.Ticket.{Ticket}

@@ -2,4 +2,4 @@ pub mod Requests
 pub mod Asks
 pub mod Tickets
 pub mod Halves
-pub mod Offers
+pub mod OffersWithin

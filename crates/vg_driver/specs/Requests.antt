@@ -10,10 +10,10 @@ use Rattle.vg_wire_ext.specs.Commands.{FitsEntries, command_kind}
 use Rattle.vg_wire_ext.specs.Request.{queue_of, request_bytes}
 use Rattle.vg_chain.specs.declared.shape.Shape.{Shape}
 use Rattle.vg_chain.specs.declared.shape.Shape.TheVariants.{Plain, Indirect}
-use Rattle.vg_holds.specs.declared.act.What.{What}
+use Rattle.vg_client_holds.specs.declared.act.What.{What}
 use Rattle.vg_machine.specs.declared.history.Request.{Request}
-use Rattle.vg_holds.specs.declared.holds.Holds.{Holds}
-use Rattle.vg_holds.specs.Holds.{denied_request}
+use Rattle.vg_client_holds.specs.declared.holds.Holds.{Holds}
+use Rattle.vg_client_holds.specs.Holds.{denied_request}
 use Rattle.vg_machine.specs.Lane.{lane_of}
 use Rattle.vg_driver.specs.declared.request.Way.{Way}
 use Rattle.vg_driver.specs.declared.request.Way.TheVariants.{Control, Timeline, Cursor}

@@ -5,12 +5,12 @@ use Rattle.vg_book.specs.declared.board.Account as books
 use Rattle.vg_book.specs.declared.board.Order as orders
 use Rattle.vg_book.specs.Tokens as tokens
 use Rattle.vg_book.specs.Tokens.{Drawn, TakesBack, TakesUnrun}
-use Rattle.vg_holds.specs.declared.act.Act.{Act}
-use Rattle.vg_holds.specs.declared.act.ActReply.{ActReply}
+use Rattle.vg_client_holds.specs.declared.act.Act.{Act}
+use Rattle.vg_client_holds.specs.declared.act.ActReply.{ActReply}
 use Rattle.vg_machine.specs.declared.history.Reply.{Reply}
 use Rattle.vg_machine.specs.declared.history.Request.{Request}
-use Rattle.vg_holds.specs.declared.holds.Holds.{Holds}
-use Rattle.vg_holds.specs.Holds.{Allowed}
+use Rattle.vg_client_holds.specs.declared.holds.Holds.{Holds}
+use Rattle.vg_client_holds.specs.Holds.{Allowed}
 use Rattle.vg_machine.specs.Lane.{lane_of}
 use Rattle.vg_machine.specs.State.{State}
 use Rattle.vg_machine.specs.Replay.{display}

@@ -1,7 +1,7 @@
 //! What a client asks of the device.
 
 ghost use Rattle.std.specs.Prelude.{◌≡◌, ◌<◌, IfOk, IfSome};
-ghost use Rattle.vg_holds.specs.Holds.{Deniable};
+ghost use Rattle.vg_client_holds.specs.Holds.{Deniable};
 ghost use Rattle.vg_driver.specs.Asks as asks;
 ghost use Rattle.vg_driver.specs.Asks.{IsAsk, IsMadeFor, IsNeededFor};
 

@@ -7,7 +7,7 @@ ghost use Rattle.vg_machine.specs.Written.{read_by};
 ghost use Rattle.vg_machine.specs.Replay.{display};
 ghost use Rattle.vg_driver.specs.Asks.{IsAsk, denied_for, queue_for, request_for};
 ghost use Rattle.vg_driver.specs.Halves.{AreBack, HasHeard, IsOf};
-ghost use Rattle.vg_driver.specs.Offers.{MayOffer};
+ghost use Rattle.vg_driver.specs.OffersWithin.{MayOffer};
 ghost use Rattle.vg_driver.specs.Tickets.{Finished, IsOut, Spent, Submitted};
 
 use crate::ask::Ask;

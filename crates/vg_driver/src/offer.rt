@@ -6,7 +6,7 @@ ghost use Rattle.vg_chain.specs.Made.{IsCount};
 ghost use Rattle.vg_ring.specs.Cargo.{IsLane};
 ghost use Rattle.vg_driver.specs.Asks.{IsAsk, denied_for, queue_for, request_for};
 ghost use Rattle.vg_driver.specs.Tickets.{Submitted};
-ghost use Rattle.vg_driver.specs.Offers.{IsNext, IsParcelOf, MayOffer};
+ghost use Rattle.vg_driver.specs.OffersWithin.{IsNext, IsParcelOf, MayOffer};
 
 use crate::ask::Ask;
 use crate::half::Half;

@@ -5,7 +5,7 @@ ghost use Rattle.vg_chain.specs.Made.{IsNeeded};
 ghost use Rattle.vg_wire.specs.declared.request.Queue.TheVariants as queues;
 ghost use Rattle.vg_wire_ext.specs.Commands.{command_kind};
 ghost use Rattle.vg_wire_ext.specs.Request.{request_of};
-ghost use Rattle.vg_holds.specs.Holds.{Deniable};
+ghost use Rattle.vg_client_holds.specs.Holds.{Deniable};
 ghost use Rattle.vg_machine.specs.Lane.{lane_of};
 ghost use Rattle.vg_driver.specs.Requests as requests;
 ghost use Rattle.vg_driver.specs.Requests.{IsWay, MayGo};

@@ -2,7 +2,7 @@ use Rattle.std.proofs.Common.{ℕ, codes, ◌≡◌, List, [], ◌++◌, length,
 use Rattle.vg_io.specs.Streams.{TakesPart, TakesSome}
 use Rattle.vg_scanout.specs.declared.scanout.Frame.{Frame}
 use Rattle.vg_journal.specs.declared.journal.Journal.{Journal}
-use Rattle.vg_journal.specs.Printing.{Printed, PrintedSome}
+use Rattle.vg_journal.specs.PrintingWithin.{Printed, PrintedSome}
 use Rattle.vg_text.specs.Text.{numbered}
 use Rattle.vg_journal.specs.Text.{head_text, entry_line, counts_text, frame_text, front_text, text_of}
 use Rattle.vg_journal.proofs.PrintingLemmas.{printed_then, some_then, some_taken, some_longer, taken_part}

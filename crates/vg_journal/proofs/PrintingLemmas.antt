@@ -2,7 +2,7 @@ use Rattle.std.proofs.Common.{ℕ, codes, ◌≡◌, ◌+◌, ◌<◌, ◌≤◌
 use Rattle.std.proofs.Math.Seq.{take-add}
 use Rattle.std.proofs.lemmas.List.{take-append-drop, take_all, take_at}
 use Rattle.vg_io.specs.Streams.{Takes, TakesPart, TakesSome}
-use Rattle.vg_journal.specs.Printing.{Printed, PrintedSome}
+use Rattle.vg_journal.specs.PrintingWithin.{Printed, PrintedSome}
 use Rattle.vg_scanout.specs.declared.scanout.Frame.{Frame}
 use Rattle.vg_text.specs.Text.{numbered}
 use Rattle.vg_text.proofs.NumberedLemmas.{numbered_append, written_more}

@@ -1,6 +1,6 @@
 use Rattle.std.specs.Prelude.{ℕ, ◌==◌, if◌then◌else◌, List, [], ◌++◌, bit_and, length, codes, decimal}
 use Rattle.vg_config.specs.Features.{EDID, RESOURCE_BLOB, RESOURCE_UUID, VIRGL}
-use Rattle.vg_holds.specs.declared.setup.Setup.{Setup}
+use Rattle.vg_client_holds.specs.declared.setup.Setup.{Setup}
 use Rattle.vg_scanout.specs.declared.scanout.Frame.{Frame}
 use Rattle.vg_text.specs.Text.{numbered}
 use Rattle.vg_history.specs.Lines as history

@@ -3,7 +3,7 @@
 ghost use Rattle.std.specs.Prelude.{◌≡◌, ◌<◌, ◌≤◌, ◌+◌, ◌^◌, ◌++◌, [], length, take, OnOk, OnErr, IsErrOf};
 ghost use Rattle.std.specs.List.{concat};
 ghost use Rattle.vg_io.specs.Streams.{Rose, Takes, TakesPart, TakesSome};
-ghost use Rattle.vg_journal.specs.Printing.{Printed, PrintedSome};
+ghost use Rattle.vg_journal.specs.PrintingWithin.{Printed, PrintedSome};
 ghost use Rattle.vg_text.specs.Text.{numbered};
 ghost use Rattle.vg_journal.specs.Text.{counts_text, entry_line, frame_line, frame_text, front_text, head_text, text_of};
 ghost use Rattle.vg_journal.specs.declared.printer.PrintError.TheVariants.{Memory, Fault};
@@ -13,7 +13,7 @@ use crate::lines::{put_counts, put_entry, put_frame, put_head};
 use std::alloc::{AllocError, Global};
 use vg_io::{Failed, Sink, write_all};
 use vg_machine::{Entry, Frame, History, Setup};
-use vg_strips::Strips;
+use vg_shared_bytes::Strips;
 use vg_text::{Log, Packed, Spelling};
 
 /// How many bytes are handed on at once, or a multiple of that.

@@ -18,10 +18,10 @@ use Rattle.vg_refusals.specs.Refusals.{refusal_of}
 use Rattle.vg_share.specs.Cells.{pages_of, stored}
 use Rattle.vg_share.specs.Share.{ShareState, SharesPages, buffer_at, ended, entered, freed, given_back, is_holder, leased, pages_at, pages_in, place_refusal, refused_by, released, unleased, with_buffer, drop_refusal, free_refusal, has_holder, release_refusal, reserve_refusal, take_refusal}
 use Rattle.vg_backing.specs.Backing.{AreHeld}
-use Rattle.vg_holds.specs.declared.act.Act.{Act}
-use Rattle.vg_holds.specs.declared.act.Act.TheVariants.{Enter, Reserve, Store, Load, Release, Free, Take, Drop, Denied, Leave}
-use Rattle.vg_holds.specs.declared.act.ActReply.{ActReply}
-use Rattle.vg_holds.specs.declared.act.ActReply.TheVariants as act_replies
+use Rattle.vg_client_holds.specs.declared.act.Act.{Act}
+use Rattle.vg_client_holds.specs.declared.act.Act.TheVariants.{Enter, Reserve, Store, Load, Release, Free, Take, Drop, Denied, Leave}
+use Rattle.vg_client_holds.specs.declared.act.ActReply.{ActReply}
+use Rattle.vg_client_holds.specs.declared.act.ActReply.TheVariants as act_replies
 use Rattle.vg_resource.specs.Resource.{resource_at}
 use Rattle.vg_machine.specs.State.{State}
 use Rattle.vg_machine.specs.ActStep.{KeepsIfRefused, effect_of, is_in_use, replied_by, shown_at}

@@ -12,7 +12,7 @@ use Rattle.vg_resource.specs.Resource.{IsWhole}
 use Rattle.vg_scanout.specs.Scanout.{ScanoutState, is_past_limit, snap, snapped}
 use Rattle.vg_shown.specs.Shown.{shown_byte, shown_row}
 use Rattle.vg_wire_ext.specs.declared.response.Response.TheVariants as responses
-use Rattle.vg_machine.specs.Change.{IsImage, pointed_step}
+use Rattle.vg_machine.specs.ChangeWithin.{IsImage, pointed_step}
 use Rattle.vg_machine.specs.State.{State}
 use Rattle.vg_machine.specs.Step.{answered_by, with_cursor}
 

@@ -5,7 +5,7 @@ use Rattle.std.proofs.lemmas.Bool.Decides.{nat_tests}
 use Rattle.std.proofs.lemmas.Option.{slice_get_read}
 use Rattle.vg_edid.specs.Edid.{edid_bytes}
 use Rattle.vg_wire_ext.specs.declared.response.Response.TheVariants as responses
-use Rattle.vg_holds.specs.Setup.{AreDisplays, IsDisplay}
+use Rattle.vg_client_holds.specs.Setup.{AreDisplays, IsDisplay}
 use Rattle.vg_machine.specs.State.{State}
 use Rattle.vg_machine.specs.Step.{edid_step}
 

@@ -24,7 +24,7 @@ use Rattle.vg_wire.specs.declared.two_d.Command2d.TheVariants.{DisplayInfo, Crea
 use Rattle.vg_resource.specs.declared.resource.Resource.{Resource}
 use Rattle.vg_wire_ext.specs.declared.response.Response.TheVariants as responses
 use Rattle.vg_transfer.specs.Backings.{attach, attach_refusals, detach, detach_refusals, detached}
-use Rattle.vg_machine.specs.Fits.{IfDone, nodata, response_of}
+use Rattle.vg_machine.specs.FitsWithin.{IfDone, nodata, response_of}
 use Rattle.vg_machine.specs.Receive.{receive, receive_refusal, with_received}
 use Rattle.vg_refusals.specs.Refusals.{refusal_of, unless_refused}
 use Rattle.vg_resource.specs.Resource.{create, create_refusals, remove, resource_at, unref_refusals, with_blank, without}

@@ -1,9 +1,9 @@
 -- How a journal spells the display's acts and commands.
 use Rattle.std.specs.Prelude.{ℕ, List, ◌++◌, codes, decimal}
 use Rattle.vg_text.specs.Text.{hex_text}
-use Rattle.vg_lines.specs.Text.{act_text, act_reply_text, fault_text, shape_text}
-use Rattle.vg_holds.specs.declared.act.Act.{Act}
-use Rattle.vg_holds.specs.declared.act.ActReply.{ActReply}
+use Rattle.vg_journal_words.specs.Text.{act_text, act_reply_text, fault_text, shape_text}
+use Rattle.vg_client_holds.specs.declared.act.Act.{Act}
+use Rattle.vg_client_holds.specs.declared.act.ActReply.{ActReply}
 use Rattle.vg_machine.specs.declared.history.Request.{Request}
 use Rattle.vg_machine.specs.declared.history.Reply.{Reply}
 use Rattle.vg_machine.specs.declared.history.Reply.TheVariants.{Fault, Response}

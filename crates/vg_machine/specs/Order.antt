@@ -1,15 +1,15 @@
 use Rattle.std.specs.Prelude.{◌≡◌, ◌≢◌, ◌≤◌, ◌<◌, ◌+◌, ◌-◌, ◌==◌, ℕ, Bool, true, false, List, [], ◌∷◌, ◌++◌, map, filter, count_by, nat_le, if◌then◌else◌}
 use Rattle.std.specs.List.{range_with_len, AllByRecursion}
-use Rattle.vg_holds.specs.declared.setup.Setup.{Setup}
-use Rattle.vg_holds.specs.declared.act.Act.TheVariants.{Enter, Leave}
+use Rattle.vg_client_holds.specs.declared.setup.Setup.{Setup}
+use Rattle.vg_client_holds.specs.declared.act.Act.TheVariants.{Enter, Leave}
 use Rattle.vg_history.specs.Entries as numbers
 use Rattle.vg_history.specs.History as history
 use Rattle.vg_machine.specs.Entries.{Entry}
 use Rattle.vg_history.specs.declared.entry.Entry.TheVariants as entries
 use Rattle.vg_machine.specs.Lane.{lane_of}
-use Rattle.vg_holds.specs.declared.act.Act.TheVariants as acts
-use Rattle.vg_holds.specs.declared.holds.Holds.{Holds}
-use Rattle.vg_holds.specs.Holds.{Allowed, Deniable, first_holds, gives_up, update}
+use Rattle.vg_client_holds.specs.declared.act.Act.TheVariants as acts
+use Rattle.vg_client_holds.specs.declared.holds.Holds.{Holds}
+use Rattle.vg_client_holds.specs.Holds.{Allowed, Deniable, first_holds, gives_up, update}
 use Rattle.vg_machine.specs.Replay.{Agrees, display}
 
 abbrev pub client_of : Entry → ℕ

@@ -1,19 +1,19 @@
 use Rattle.std.specs.Prelude.{List, [], false, is_none}
 use Rattle.vg_history.specs.History as history
 use Rattle.vg_history.specs.declared.machine.Machine.{Ghosts}
-use Rattle.vg_holds.specs.declared.setup.Setup.{Setup}
+use Rattle.vg_client_holds.specs.declared.setup.Setup.{Setup}
 use Rattle.vg_chain.specs.declared.shape.Shape.TheVariants.{Bad}
 use Rattle.vg_chain.specs.declared.shape.Shape.{Shape}
 use Rattle.vg_machine.specs.Entries.{Entry}
-use Rattle.vg_holds.specs.declared.act.Act.{Act}
-use Rattle.vg_holds.specs.declared.act.ActReply.{ActReply}
-use Rattle.vg_holds.specs.declared.holds.Holds.{Holds}
+use Rattle.vg_client_holds.specs.declared.act.Act.{Act}
+use Rattle.vg_client_holds.specs.declared.act.ActReply.{ActReply}
+use Rattle.vg_client_holds.specs.declared.holds.Holds.{Holds}
 use Rattle.vg_machine.specs.declared.history.Request.{Request}
 use Rattle.vg_machine.specs.declared.history.Reply.{Reply}
 use Rattle.vg_machine.specs.declared.history.Reply.TheVariants as replies
 use Rattle.vg_machine.specs.State.{State, counted, start}
 use Rattle.vg_machine.specs.ActStep.{act_step}
-use Rattle.vg_holds.specs.Holds.{denied_of, gives_up, update}
+use Rattle.vg_client_holds.specs.Holds.{denied_of, gives_up, update}
 use Rattle.vg_machine.specs.Step.{step}
 use Rattle.vg_machine.specs.Written.{asks_of, read_by, written_in}
 use Rattle.vg_wire.specs.Queues.{is_control}

@@ -7,12 +7,12 @@ use Rattle.vg_cursor.specs.declared.cursor.Cursor.{Cursor}
 use Rattle.vg_cursor.specs.Cursor.{unset}
 use Rattle.vg_scanout.specs.declared.scanout.Binding.{Binding}
 use Rattle.vg_scanout.specs.Scanout.{Screen}
-use Rattle.vg_holds.specs.declared.setup.Setup.{Setup}
+use Rattle.vg_client_holds.specs.declared.setup.Setup.{Setup}
 use Rattle.vg_formats.specs.Pixels.{is_inside}
 use Rattle.vg_backing.specs.Backing.{AreHeld}
 use Rattle.vg_resource.specs.Resource.{resource_at}
 use Rattle.vg_scanout.specs.Scanout.{ScanoutState}
-use Rattle.vg_holds.specs.Setup.{IsSetup}
+use Rattle.vg_client_holds.specs.Setup.{IsSetup}
 use Rattle.vg_share.specs.Share.{ShareState, SharesPages}
 use Rattle.vg_machine.specs.Uuids.{UuidState}
 

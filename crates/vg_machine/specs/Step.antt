@@ -31,7 +31,7 @@ use Rattle.vg_shown.specs.Shown.{shown_row}
 use Rattle.vg_scanout.specs.Scanout.{ScanoutState, are_too_many, bound, flushed, is_past_limit, is_too_large, snapped, unbound, unbound_from}
 use Rattle.vg_machine.specs.Features.{is_usable}
 use Rattle.vg_machine.specs.Uuids.{assign_refusals, assigned, forgotten, number_for, uuid_bytes}
-use Rattle.vg_holds.specs.declared.setup.Setup.{Setup}
+use Rattle.vg_client_holds.specs.declared.setup.Setup.{Setup}
 use Rattle.vg_machine.specs.State.{State, counted}
 
 -- The header of a response to a request with FENCE: the fence goes back (VIRTIO 1.2, 5.7.6.7); here ctx_id does too, and the ring

@@ -2,16 +2,16 @@
 
 ghost use Rattle.std.specs.Prelude.{◌≡◌, ◌^◌, ◌-◌, ◌+◌, ◌<◌, [], ◌∷◌, ◌++◌, length, IfOk, OnErr, OnOk};
 ghost use Rattle.vg_pages.specs.Memory.{AreTakeable, after_taking};
-ghost use Rattle.vg_holds.specs.declared.act.Act.TheVariants as acts;
-ghost use Rattle.vg_holds.specs.declared.act.ActReply.TheVariants as act_replies;
+ghost use Rattle.vg_client_holds.specs.declared.act.Act.TheVariants as acts;
+ghost use Rattle.vg_client_holds.specs.declared.act.ActReply.TheVariants as act_replies;
 ghost use Rattle.vg_machine.specs.ActStep.{HasNoList, drop_step, effect_of, free_step, is_shown_on, load_step, release_step, reserve_step, shown_at, store_step, take_step};
 ghost use Rattle.vg_share.specs.Cells.{pages_of};
-ghost use Rattle.vg_holds.specs.Holds.{update};
+ghost use Rattle.vg_client_holds.specs.Holds.{update};
 ghost use Rattle.vg_share.specs.Share.{SharesPages, ended, entered, with_buffer};
 
 use crate::display::Display;
 use std::alloc::{AllocError, Global};
-use vg_holds::{Act, ActReply, Holds};
+use vg_client_holds::{Act, ActReply, Holds};
 use vg_list::Seq;
 use vg_pages::Pages;
 use vg_share::{Geometry, Share, ShareRefusal, load, pages_of, remove_number, store_times};

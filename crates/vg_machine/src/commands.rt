@@ -4,7 +4,7 @@
 ghost use Rattle.std.specs.Prelude.{◌≡◌, ◌≢◌, true, IfOk, map, Some, ◌<◌, ◌-◌, ◌^◌, length};
 ghost use Rattle.vg_wire_ext.specs.Commands.{FitsEntries};
 ghost use Rattle.vg_wire_ext.specs.declared.response.Response.TheVariants as responses;
-ghost use Rattle.vg_machine.specs.Fits.{IfDone, IfWant, response_of, takes_memory, told_by};
+ghost use Rattle.vg_machine.specs.FitsWithin.{IfDone, IfWant, response_of, takes_memory, told_by};
 ghost use Rattle.vg_machine.specs.Step.{assign_step, attach_step, command_step, create_step, detach_step, edid_step, flush_step, set_scanout_step, transfer_step, unref_step};
 
 use crate::cursors::Update;

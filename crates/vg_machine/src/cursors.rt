@@ -3,8 +3,8 @@
 ghost use Rattle.std.specs.Prelude.{◌≡◌, ◌<◌, Some, None, IfOk, IfErr, length};
 ghost use Rattle.vg_cursor.specs.Cursor.{IsWhole as IsWholeCursor, changed, cursor_of};
 ghost use Rattle.vg_cursor.specs.Look.{cursor_like};
-ghost use Rattle.vg_machine.specs.Fits.{IfDone, IfRefused, IfWant};
-ghost use Rattle.vg_machine.specs.Change.{IsChange, IsImage, change_of, pointed_step};
+ghost use Rattle.vg_machine.specs.FitsWithin.{IfDone, IfRefused, IfWant};
+ghost use Rattle.vg_machine.specs.ChangeWithin.{IsChange, IsImage, change_of, pointed_step};
 ghost use Rattle.vg_machine.specs.Step.{cursor_step, image_of, image_refusals, move_step};
 ghost use Rattle.vg_refusals.specs.Refusals.{refusal_of};
 ghost use Rattle.vg_resource.specs.Resource.{IsWhole, resource_at};

@@ -2,12 +2,12 @@
 
 ghost use Rattle.std.specs.Prelude.{◌≡◌, ◌==◌, ◌<◌, ◌-◌, ◌^◌, if◌then◌else◌, bit_and, IfOk, IfSome, OnOk, OnErr};
 ghost use Rattle.vg_wire_ext.specs.Commands.{FitsEntries};
-ghost use Rattle.vg_holds.specs.Setup.{IsSetup};
+ghost use Rattle.vg_client_holds.specs.Setup.{IsSetup};
 ghost use Rattle.vg_machine.specs.State.{counted, start};
 ghost use Rattle.vg_machine.specs.declared.history.Reply.TheVariants as replies;
 ghost use Rattle.vg_machine.specs.ActStep.{KeepsIfRefused, act_step};
-ghost use Rattle.vg_holds.specs.Holds.{update};
-ghost use Rattle.vg_machine.specs.Fits.{changes};
+ghost use Rattle.vg_client_holds.specs.Holds.{update};
+ghost use Rattle.vg_machine.specs.FitsWithin.{changes};
 ghost use Rattle.vg_machine.specs.Replay.{request_step};
 ghost use Rattle.vg_machine.specs.Step.{Keeps, acceptance, answer_header, answer_of, answered, command_step, effect_and_bytes, ran, step};
 
@@ -18,8 +18,8 @@ use crate::uuids::Uuids;
 use std::alloc::{AllocError, Global};
 use std::marker::Model;
 use vg_chain::Shape;
+use vg_client_holds::{Act, ActReply, Holds, Setup};
 use vg_cursor::Cursors;
-use vg_holds::{Act, ActReply, Holds, Setup};
 use vg_list::Seq;
 use vg_pages::Pages;
 use vg_resource::Resources;

@@ -21,7 +21,7 @@ pub use history::{Reply, Request};
 pub use lane::lane_of;
 pub use laws::each_pixel_tells_the_flush;
 pub use machine::{Entry, History};
-pub use vg_holds::{
+pub use vg_client_holds::{
     Act, ActReply, Buffers, Holds, Setup, What, denied, denied_command, holds_only_grow,
 };
 pub use vg_resource::Resource;

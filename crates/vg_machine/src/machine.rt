@@ -5,8 +5,8 @@ use crate::history::{Reply, Request};
 use crate::spelled::{put_rest_of_act, put_rest_of_command};
 use std::alloc::{AllocError, Global};
 use vg_chain::ChainFault;
+use vg_client_holds::{Act, ActReply, Holds};
 use vg_history::{Begun, Machine};
-use vg_holds::{Act, ActReply, Holds};
 use vg_text::Packed;
 
 /// An entry of a display's history.
@@ -32,15 +32,15 @@ impl Machine for Display {
 
     ghost use Rattle.std.specs.Prelude.{[], false, is_none};
     ghost use Rattle.vg_machine.specs.ActStep.{act_step};
-    ghost use Rattle.vg_holds.specs.Holds as holding;
-    ghost use Rattle.vg_holds.specs.Holds.{denied_of};
+    ghost use Rattle.vg_client_holds.specs.Holds as holding;
+    ghost use Rattle.vg_client_holds.specs.Holds.{denied_of};
     ghost use Rattle.vg_machine.specs.Replay.{request_step};
     ghost use Rattle.vg_wire.specs.Queues.{is_control};
     ghost use Rattle.vg_machine.specs.Lines.{rest_of_act, rest_of_command};
-    ghost use Rattle.vg_machine.specs.Counted.{act-counts, request-counts};
-    ghost use Rattle.vg_holds.proofs.GrowingLemmas.{keeps-allowed};
+    ghost use Rattle.vg_machine.specs.CountedWithin.{act-counts, request-counts};
+    ghost use Rattle.vg_client_holds.proofs.GrowingLemmas.{keeps-allowed};
     ghost use Rattle.vg_machine.specs.Written.{asks_of, read_by, written_in};
-    ghost use Rattle.vg_machine.specs.Read.{reads-request};
+    ghost use Rattle.vg_machine.specs.ReadWithin.{reads-request};
     ghost use Rattle.std.proofs.Common.{refl};
 
     ghost state = { λ d. d };

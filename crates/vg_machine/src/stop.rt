@@ -1,6 +1,6 @@
 //! Why a command does nothing.
 
-ghost use Rattle.vg_machine.specs.Fits as fits;
+ghost use Rattle.vg_machine.specs.FitsWithin as fits;
 ghost use Rattle.std.specs.Prelude.{◌≡◌};
 
 use std::alloc::AllocError;

@@ -23,7 +23,7 @@ use Rattle.vg_wire.specs.declared.request.Queue.{Queue}
 use Rattle.vg_ring.specs.Words.{addr_place, rest_place, available_place, used_place, used_word}
 use Rattle.vg_ring.specs.Entries.{head_of, times, uses_in, places_in, head_in, uses, heads, spread, entries, weigh, stored_of, IsDone, InOrder, Has}
 use Rattle.vg_ring.specs.Rule.{word_at, Offers, Stand, StandStored, AreOf, HaveHeads, places_of, DriverKnows, DeviceKnows, driver_hand, device_hand, IsRing, Ring, set_stage, fetched_after, completed_after, looked_by_device}
-use Rattle.vg_ring.specs.Tells.{IsTaken, IsIn, TellsWord}
+use Rattle.vg_ring.specs.TellsWithin.{IsTaken, IsIn, TellsWord}
 use Rattle.vg_ring.proofs.Frames.{word_else, stored_high, stand_high, stored_low, stand_low, stand_snoc, stand_append, stand_front, offers_high, returns_apart, returns_snoc, offers_kept, returns_kept}
 use Rattle.vg_ring.proofs.Counts.{heads_uses, length_spread, weigh-append, have-append, of-back, weigh-ones, in_order-front, head_in_places, heads_less, heads_length, length-entries, entries-append, have-front}
 use Rattle.vg_ring.proofs.Slots.{wait_kept, lie_kept, lie_snoc}

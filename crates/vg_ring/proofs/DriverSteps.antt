@@ -24,7 +24,7 @@ use Rattle.vg_wire.specs.declared.request.Queue.{Queue}
 use Rattle.vg_ring.specs.Words.{addr_place, rest_place, available_place, used_place}
 use Rattle.vg_ring.specs.Entries.{head_of, times, uses_in, places_in, head_in, uses, heads, spread, entries, lane_count, weigh, without, stored_of, IsFresh}
 use Rattle.vg_ring.specs.Rule.{word_at, Returns, places_of, StandStored, AreFree, DriverKnows, DeviceKnows, driver_hand, device_hand, IsRing, Ring, staged, published_after, reaped_after, looked_by_driver}
-use Rattle.vg_ring.specs.Tells.{IsReaped}
+use Rattle.vg_ring.specs.TellsWithin.{IsReaped}
 use Rattle.vg_ring.proofs.Frames.{word_else, stored_kept, stored_high, stand_kept, stand_high, stored_low, stand_low, stand_snoc, offers_kept, offers_apart, offers_snoc, returns_kept, IsWordOf}
 use Rattle.vg_ring.proofs.Counts.{times-append, places-snoc, stored-snoc, heads_uses, length_spread, weigh-append, weigh-ones, weigh_away, weigh_without, length-entries, head_in_places, have-append, of-append, in_order-snoc}
 use Rattle.vg_ring.proofs.Slots.{heads_here, wait_kept, wait_snoc, lie_kept}

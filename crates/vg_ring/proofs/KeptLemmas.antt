@@ -20,7 +20,7 @@ use Rattle.vg_ring.specs.Entries.{entries, times, weigh, uses, uses_in, places_i
 use Rattle.vg_ring.specs.Rule.{staged, published_after, reaped_after, looked_by_driver}
 use Rattle.vg_ring.specs.Places.{wrong, wrong_in, IsGiven, IsGivenBack}
 use Rattle.vg_ring.specs.Plays.{resting_driver}
-use Rattle.vg_ring.specs.Tells.{HasReaped}
+use Rattle.vg_ring.specs.TellsWithin.{HasReaped}
 use Rattle.vg_ring.specs.Ends.{DriverLists, driver_lists, HasRoom, IsKept, IsSendable, Publishes, Reaps}
 use Rattle.vg_ring.proofs.Counts.{weigh-append, entries-append}
 use Rattle.vg_ring.proofs.PlaceLemmas.{drop_get, times_take_drop, wrong_kept}

@@ -13,7 +13,7 @@ use Rattle.vg_ring.specs.Entries.{stored_at, stored_of, ring_of, AreBack, publis
 use Rattle.vg_ring.specs.Ends.{IsSendable}
 use Rattle.vg_ring.specs.Rule.{staged, places_of, published_after}
 use Rattle.vg_ring.specs.Plays.{driver_of, laid, written_by}
-use Rattle.vg_ring.specs.Tells.{IsOffer}
+use Rattle.vg_ring.specs.TellsWithin.{IsOffer}
 use Rattle.vg_ring.proofs.LayLemmas.{written_at}
 
 stored_places : (places : List ℕ) (ring : List Descriptor) → length ring ≡ length places → places_of (stored_at places ring) ≡ places

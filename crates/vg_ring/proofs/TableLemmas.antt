@@ -14,7 +14,7 @@ use Rattle.vg_ring.specs.declared.views.Stored.{Stored}
 use Rattle.vg_ring.specs.Cargo.{CargoData, base_of}
 use Rattle.vg_ring.specs.Words.{rest_word, descriptor_from}
 use Rattle.vg_ring.specs.Entries.{head_of, times, stored_at, stored_of, ring_of, Has, AreBack, IsWhole}
-use Rattle.vg_ring.specs.Tells.{IsIn, TellsWord, TellsDescriptor, TellsTable}
+use Rattle.vg_ring.specs.TellsWithin.{IsIn, TellsWord, TellsDescriptor, TellsTable}
 use Rattle.vg_ring.specs.Walked.{IsAnswer, IsWalkOf}
 use Rattle.vg_ring.specs.DeviceEnds.{IsCargoOf}
 

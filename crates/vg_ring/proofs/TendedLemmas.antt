@@ -15,7 +15,7 @@ use Rattle.vg_ring.specs.Cargo.{CargoData, IsLane}
 use Rattle.vg_ring.specs.Entries.{head_of, head_in, entries, weigh, heads, without, published_as, answer_with, held_at, times, Has, IsWhole, IsDone, InOrder}
 use Rattle.vg_ring.specs.Rule.{set_stage, fetched_after, completed_after, lent_after, returned_after, looked_by_device}
 use Rattle.vg_ring.specs.Plays.{device_of, queue_of, right_of, resting_device}
-use Rattle.vg_ring.specs.Tells.{HasTaken}
+use Rattle.vg_ring.specs.TellsWithin.{HasTaken}
 use Rattle.vg_ring.specs.DeviceEnds.{DeviceLists, device_lists, RightData, HasAt, IsCargoOf, Fetches, TakesIn, IsTended, IsRight, tag_of, completing}
 use Rattle.vg_ring.specs.Ends.{IsOnLine}
 use Rattle.atomic_table.specs.Seated.{TableId}

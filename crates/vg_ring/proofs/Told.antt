@@ -16,7 +16,7 @@ use Rattle.vg_ring.specs.Words.{addr_place, rest_place, available_place, used_pl
 use Rattle.vg_ring.specs.Entries.{head_of, times, uses, spread, published_as}
 use Rattle.vg_ring.specs.Rule.{Ring, staged, place_of, places_of, published_after, looked_by_driver}
 use Rattle.vg_ring.specs.Plays.{driver_of, laid, place_at, with_half, with_rest, offered, sent_with, rested}
-use Rattle.vg_ring.specs.Tells.{IsOffer, IsReaped}
+use Rattle.vg_ring.specs.TellsWithin.{IsOffer, IsReaped}
 use Rattle.vg_ring.proofs.DriverSteps.{stores_first, stores_address, stores_rest, offers_element, publishes, looks_at_used, takes_answer, settles_driver}
 
 -- a step at a seat that is known by an equation, and which tells something else

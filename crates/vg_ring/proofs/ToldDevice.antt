@@ -13,7 +13,7 @@ use Rattle.vg_ring.specs.Words.{available_place, used_place, used_word}
 use Rattle.vg_ring.specs.Entries.{head_of, heads, held_at, answer_with, without, Has, IsDone}
 use Rattle.vg_ring.specs.Rule.{Ring, set_stage, completed_after, lent_after, returned_after, looked_by_device}
 use Rattle.vg_ring.specs.Plays.{device_of, place_at, rested, answering, answered_with, naming, named_by, lent_by, right_of}
-use Rattle.vg_ring.specs.Tells.{IsTaken, TellsWord}
+use Rattle.vg_ring.specs.TellsWithin.{IsTaken, TellsWord}
 use Rattle.vg_ring.proofs.Heads.{held_there, held_cut}
 use Rattle.vg_ring.proofs.DeviceSteps.{looks_at_available, takes_entry, settles, answers_element, returns_cargo, reads}
 use Rattle.vg_ring.proofs.RightSteps.{names, splits_right, joins_right, settles_returned}

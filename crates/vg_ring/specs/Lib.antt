@@ -3,7 +3,7 @@ pub mod Walked
 pub mod Words
 pub mod Entries
 pub mod Rule
-pub mod Tells
+pub mod TellsWithin
 pub mod Plays
 pub mod Places
 pub mod Ends

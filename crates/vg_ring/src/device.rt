@@ -7,7 +7,7 @@ ghost use Rattle.vg_ring.specs.Plays.{device_of, resting_device, newer_device, r
 ghost use Rattle.vg_ring.specs.Entries.{Has, heads, held_at, answer_with, without, IsDone};
 ghost use Rattle.vg_ring.specs.Rule.{set_stage, looked_by_device, completed_after, lent_after, returned_after};
 ghost use Rattle.vg_ring.specs.declared.views.DeviceStage.TheVariants.{Resting};
-ghost use Rattle.vg_ring.specs.Tells.{HasTaken, TellsWord};
+ghost use Rattle.vg_ring.specs.TellsWithin.{HasTaken, TellsWord};
 
 use crate::cargo::Cargo;
 use crate::law::{Line, Pass};

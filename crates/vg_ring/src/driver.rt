@@ -7,7 +7,7 @@ ghost use Rattle.vg_ring.specs.Plays.{driver_of, laying, writing, written_by, la
 ghost use Rattle.vg_ring.specs.Entries.{times, uses, stored_at, published_as, AreBack};
 ghost use Rattle.vg_ring.specs.Rule.{staged, places_of, published_after, looked_by_driver};
 ghost use Rattle.vg_chain.specs.Made.{made, IsCount, IsMeasured, IsNeeded};
-ghost use Rattle.vg_ring.specs.Tells.{IsOffer, HasReaped};
+ghost use Rattle.vg_ring.specs.TellsWithin.{IsOffer, HasReaped};
 ghost use Rattle.vg_ring.specs.Words as layout;
 
 use crate::cargo::Cargo;

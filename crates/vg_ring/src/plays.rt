@@ -6,7 +6,7 @@ ghost use Rattle.vg_ring.specs.declared.views.View.TheVariants.{Driver, Device, 
 ghost use Rattle.vg_ring.specs.Entries.{Has};
 ghost use Rattle.vg_ring.specs.Rule.{new_driver, new_device, looked_by_driver, looked_by_device, lent_after, returned_after};
 ghost use Rattle.vg_ring.specs.Plays.{driver_of, device_of, queue_of, place_at, with_half, with_rest, offered, sent_with, rested, answering, answered_with, naming, named_by, lent_by, right_of, noted_by_driver, noted_by_device, fetched_noted, reaped_noted};
-ghost use Rattle.vg_ring.specs.Tells.{IsReaped, IsTaken, TellsWord};
+ghost use Rattle.vg_ring.specs.TellsWithin.{IsReaped, IsTaken, TellsWord};
 
 use crate::cargo::Cargo;
 use crate::views::View;

@@ -2,7 +2,7 @@
 
 ghost use Rattle.std.specs.Prelude.{◌≡◌, ◌+◌, ◌*◌, ◌<◌, [], length, OnOk};
 ghost use Rattle.vg_ring.specs.Plays.{device_of, resting_device};
-ghost use Rattle.vg_ring.specs.Tells.{TellsDescriptor, TellsTable};
+ghost use Rattle.vg_ring.specs.TellsWithin.{TellsDescriptor, TellsTable};
 
 use crate::device::read_word;
 use crate::law::{Line, Pass};

@@ -14,7 +14,7 @@ use std::sync::Wait;
 use std::sync::atomic::{AtomicBool, Ordering};
 use std::thread::Threads;
 use vg_chain::{Chain, ChainFault};
-use vg_crew::Job;
+use vg_jobs::Job;
 use vg_ring::{Cargo, DeviceEnd, Fetched, Naming, Opening};
 
 /// What a look for a cargo came to.

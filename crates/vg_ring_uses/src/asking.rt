@@ -12,7 +12,7 @@ use std::marker::{Model, Sync};
 use std::sync::Wait;
 use std::thread::Threads;
 use vg_chain::Shape;
-use vg_crew::Job;
+use vg_jobs::Job;
 use vg_ring::{DriverEnd, Naming, Reaped, Tag};
 use vg_wire::Queue;
 

@@ -12,7 +12,7 @@ use std::marker::{Model, Send, Sync};
 use std::sync::Wait;
 use std::sync::atomic::AtomicBool;
 use std::thread::Threads;
-use vg_crew::both;
+use vg_jobs::both;
 use vg_ring::{DeviceEnd, DriverEnd, Made, Naming, ends_agree};
 
 /// Carries the cargoes of the order across a ring and back, between two threads. It gives both ends, and how many cargoes

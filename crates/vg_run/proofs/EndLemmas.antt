@@ -4,11 +4,11 @@ use Rattle.vg_io.specs.Streams.{Takes, TakesPart, TakesSome}
 use Rattle.vg_script.specs.declared.types.Script.{Script}
 use Rattle.vg_journal.specs.declared.journal.Journal.{Journal}
 use Rattle.vg_journal.specs.Text.{text_of}
-use Rattle.vg_drive.specs.Legal.{IsLegalJournal}
+use Rattle.vg_legal.specs.Legal.{IsLegalJournal}
 use Rattle.vg_run.specs.declared.top.Status.{Status}
 use Rattle.vg_run.specs.declared.top.Status.TheVariants as statuses
 use Rattle.vg_run.specs.declared.top.Status.TheVariants.{Done, Usage, ReadFault, WriteFault, TooLong, NoMemory}
-use Rattle.vg_run.specs.Printing.{Written}
+use Rattle.vg_run.specs.PrintingWithin.{Written}
 use Rattle.vg_run.specs.Status.{Ended}
 
 -- a journal that was written is that of a run that ended so

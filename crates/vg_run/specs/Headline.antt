@@ -3,7 +3,7 @@ use Rattle.vg_io.specs.Streams.{IsAtEnd, Takes, TakesPart, TakesSome}
 use Rattle.vg_machine.specs.Entries.{Entry}
 use Rattle.vg_script.specs.declared.types.Script.{Script}
 use Rattle.vg_script.specs.Grammar.{Parses}
-use Rattle.vg_drive.specs.Legal.{Legal, journal_of}
+use Rattle.vg_legal.specs.Legal.{Legal, journal_of}
 use Rattle.vg_journal.specs.Text.{text_of}
 
 -- The words after the program's name are `run`, or `run --workers N` with N from 1 to 8.

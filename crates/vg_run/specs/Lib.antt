@@ -1,4 +1,4 @@
 pub mod Headline
 pub mod Status
-pub mod Printing
+pub mod PrintingWithin
 pub mod Codes

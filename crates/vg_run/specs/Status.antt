@@ -7,7 +7,7 @@ use Rattle.vg_run.specs.declared.top.Status.TheVariants.{Done, Usage, ReadFault,
 use Rattle.vg_run.specs.declared.top.Status.TheVariants as statuses
 use Rattle.vg_script.specs.Grammar.{Faulty}
 use Rattle.vg_run.specs.Headline.{IsWithin}
-use Rattle.vg_drive.specs.Legal.{Legal, journal_of}
+use Rattle.vg_legal.specs.Legal.{Legal, journal_of}
 use Rattle.vg_journal.specs.Text.{text_of}
 
 -- Why a script couldn't be had from a source that had these bytes: its text has that fault, a read failed, it has more bytes than a script may have, or memory ran out.

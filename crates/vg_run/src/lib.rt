@@ -7,8 +7,8 @@ mod words;
 
 pub use fault::{Fault, Kind, code_of, fault_of};
 pub use top::{Status, vgpu};
-pub use vg_drive::{
+pub use vg_legal::{
     Device, Driven, at_most_one_history, clients_make_one_history, drive, drive_in,
     nothing_without_clients,
 };
-pub use vg_part::{Performed, perform};
+pub use vg_script_part::{Performed, perform};

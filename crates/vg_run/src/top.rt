@@ -5,7 +5,7 @@ ghost use Rattle.vg_io.specs.Streams.{GivesUpTo, IsAtEnd, Rose};
 ghost use Rattle.vg_script.specs.Grammar.{Faulty, Parses};
 ghost use Rattle.vg_script.specs.Limits.{ScriptInLimits};
 ghost use Rattle.vg_run.specs.Headline.{IsRun, IsWithin, Runs, RunsNotToItsEnd, RunsPartly};
-ghost use Rattle.vg_run.specs.Printing.{Written};
+ghost use Rattle.vg_run.specs.PrintingWithin.{Written};
 ghost use Rattle.vg_run.specs.Status.{Ended, IsFaultless, Unread};
 ghost use Rattle.vg_journal.specs.Text.{text_of};
 
@@ -14,9 +14,9 @@ use std::alloc::Global;
 use std::marker::Sync;
 use std::sync::Wait;
 use std::thread::Threads;
-use vg_drive::drive;
 use vg_io::{ReadError, Sink, Source, read_all};
 use vg_journal::{Journal, print};
+use vg_legal::drive;
 use vg_script::{Script, parse};
 use vg_worker::Gate;
 

@@ -7,7 +7,7 @@ use vg_io::MemSink;
 use vg_journal::{Journal, print};
 use vg_list::Seq;
 use vg_machine::{Act, ActReply, Entry, Frame, History, Reply, Request, Setup, ShareRefusal, What};
-use vg_strips::Strips;
+use vg_shared_bytes::Strips;
 use vg_wire::Queue;
 
 fn act(client: u32, call: u64, act: Act) -> Entry {

@@ -8,7 +8,7 @@ use crate::scanout::{Binding, Frame};
 use std::alloc::{AllocError, Global};
 use vg_formats::{Rect, pixel_bytes};
 use vg_places::zeros;
-use vg_strips::Strips;
+use vg_shared_bytes::Strips;
 
 /// Where the pixels of a screen stand.
 #[derive(Drop)]

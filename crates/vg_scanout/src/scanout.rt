@@ -14,7 +14,7 @@ use std::alloc::{AllocError, Global};
 use std::marker::Model;
 use vg_cursor::{Cursors, Look};
 use vg_formats::{Format, Rect, pixel_bytes};
-use vg_strips::Strips;
+use vg_shared_bytes::Strips;
 use vg_wire::kinds::ERR_OUT_OF_MEMORY;
 
 /// How many bytes one screen may have.

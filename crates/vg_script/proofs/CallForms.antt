@@ -2,16 +2,16 @@
 use Rattle.std.proofs.Common.{◌≡◌, ℕ, ◌==◌, ◌<◌, ◌≤◌, nat_lt, true, false, List, [], ◌∷◌, length, map, Bor, Result, Ok, Err, arith, refl}
 use Rattle.std.specs.Prelude.{sum_by, bytes_eq, codes}
 use Rattle.std.proofs.lemmas.Bool.Decides.{nat_tests}
-use Rattle.vg_words.specs.declared.kind.Stop.{Stop}
-use Rattle.vg_words.specs.declared.kind.Stop.TheVariants.{Memory, Fault}
-use Rattle.vg_words.specs.declared.kind.Kind.TheVariants.{Word}
+use Rattle.vg_script_words.specs.declared.kind.Stop.{Stop}
+use Rattle.vg_script_words.specs.declared.kind.Stop.TheVariants.{Memory, Fault}
+use Rattle.vg_script_words.specs.declared.kind.Kind.TheVariants.{Word}
 use Rattle.vg_calls.specs.declared.call.Call.{Call}
 use Rattle.vg_script.specs.Seen.{Seen}
-use Rattle.vg_steps.specs.Tables.{NameTable}
-use Rattle.vg_steps.specs.Rows.{judged_row, row_of}
+use Rattle.vg_call_lines.specs.Tables.{NameTable}
+use Rattle.vg_call_lines.specs.Rows.{judged_row, row_of}
 use Rattle.vg_script.specs.Grammar.{called_form, worded_form, settled_form}
-use Rattle.vg_steps.specs.Code.{Judges}
-use Rattle.vg_script.specs.Reading.{Goes, past_limit}
+use Rattle.vg_call_lines.specs.Code.{Judges}
+use Rattle.vg_script.specs.ReadingWithin.{Goes, past_limit}
 use Rattle.vg_script.proofs.Forms.{with_call, call_ok, call_err, past_ok, past_err, misplaced}
 
 room : (n : ℕ) → n < 100000 → nat_lt n 100000 ≡ true

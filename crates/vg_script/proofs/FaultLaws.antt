@@ -1,15 +1,15 @@
 -- `scan` finds the first fault.
 use Rattle.std.proofs.Common.{◌≡◌, ℕ, ◌+◌, ◌==◌, ◌<◌, ◌⊎◌, inl, inr, not, Bool, true, false, List, [], ◌∷◌, ◌++◌, length, Option, Some, None, Result, Ok, Err, if◌then◌else◌, arith, refl, ap, sym, ◌∙◌, lit<, append-nil}
 use Rattle.std.proofs.lemmas.Bool.Decides.{nat_tests}
-use Rattle.vg_words.specs.declared.kind.Kind.{Kind}
-use Rattle.vg_words.specs.declared.kind.Kind.TheVariants.{Text, Word, Number, Limit, Name}
+use Rattle.vg_script_words.specs.declared.kind.Kind.{Kind}
+use Rattle.vg_script_words.specs.declared.kind.Kind.TheVariants.{Text, Word, Number, Limit, Name}
 use Rattle.vg_script.specs.declared.types.Script.{Script}
 use Rattle.vg_script.specs.declared.types.ScriptFault.{ScriptFault}
 use Rattle.vg_script.specs.Lines.{lines_of}
-use Rattle.vg_words.specs.Words.{is_text}
+use Rattle.vg_script_words.specs.Words.{is_text}
 use Rattle.vg_script.specs.Seen.{Seen, nothing_seen}
 use Rattle.vg_script.specs.Grammar.{Form, line_form, settled_form, after_line, fault_at, script_of, scan, read_script, Parses, Faulty}
-use Rattle.vg_words.specs.Kinds.{kind_code}
+use Rattle.vg_script_words.specs.Kinds.{kind_code}
 use Rattle.vg_script.specs.Faults.{fails, has_fault, form_gives, given, seen_after, AreFaultless, HasFirstFault, IsScriptOf}
 use Rattle.vg_script.proofs.Scans.{scan-ok, scan-err, one_line_more}
 

@@ -2,13 +2,13 @@
 use Rattle.std.proofs.Common.{◌≡◌, ◌==◌, nat_lt, true, false, length, Option, Some, None, Ok, Err, arith, refl}
 use Rattle.std.specs.Prelude.{sum_by, option_map}
 use Rattle.vg_calls.specs.declared.call.Call.{Call}
-use Rattle.vg_words.specs.declared.kind.Kind.{Kind}
-use Rattle.vg_words.specs.declared.kind.Kind.TheVariants.{Word, Limit}
+use Rattle.vg_script_words.specs.declared.kind.Kind.{Kind}
+use Rattle.vg_script_words.specs.declared.kind.Kind.TheVariants.{Word, Limit}
 use Rattle.vg_script.specs.Seen.{Seen, add_line}
-use Rattle.vg_steps.specs.Tables.{NameTable}
-use Rattle.vg_steps.specs.Rows.{Row, judged_row}
+use Rattle.vg_call_lines.specs.Tables.{NameTable}
+use Rattle.vg_call_lines.specs.Rows.{Row, judged_row}
 use Rattle.vg_script.specs.Grammar.{row_form, settled_form}
-use Rattle.vg_script.specs.Reading.{past_kind}
+use Rattle.vg_script.specs.ReadingWithin.{past_kind}
 
 abbrev pub with_call : Seen → Call → NameTable → Seen
 with_call seen call after = record seen { clients = add_line seen.clients (record { number = seen.lines; call = call }); table = after }

@@ -7,8 +7,8 @@ use Rattle.std.proofs.lemmas.Bool.Decides.{nat_tests}
 use Rattle.std.proofs.lemmas.Int.{ints}
 use Rattle.std.proofs.lemmas.List.Sums.{sum_by-append}
 use Rattle.std.proofs.lemmas.List.Elements.{All-nil, All-push, All-cons, All-head, All-tail}
-use Rattle.vg_words.specs.declared.kind.Kind.{Kind}
-use Rattle.vg_words.specs.declared.kind.Kind.TheVariants.{Word, Limit}
+use Rattle.vg_script_words.specs.declared.kind.Kind.{Kind}
+use Rattle.vg_script_words.specs.declared.kind.Kind.TheVariants.{Word, Limit}
 use Rattle.vg_script.specs.declared.types.Line.{Line}
 use Rattle.vg_script.specs.declared.types.Script.{Script}
 use Rattle.vg_script.specs.declared.types.ScriptFault.{ScriptFault}
@@ -17,13 +17,13 @@ use Rattle.vg_script.specs.declared.types.Feature.TheVariants.{Edid, Uuid, Blob,
 use Rattle.vg_chain.specs.declared.shape.Shape.{Shape}
 use Rattle.vg_wire.specs.declared.request.Queue.{Queue}
 use Rattle.vg_script.specs.Lines.{lines_of}
-use Rattle.vg_words.specs.Words.{words_of, hex_bytes, value, is_position, signed_value}
-use Rattle.vg_steps.specs.Args.{no_args, one_arg, two_args, three_args, four_args, five_args, six_args}
-use Rattle.vg_steps.proofs.Counts.{no_args_give, one_arg_gives, two_args_give, three_args_give, four_args_give, five_args_give, six_args_give}
+use Rattle.vg_script_words.specs.Words.{words_of, hex_bytes, value, is_position, signed_value}
+use Rattle.vg_call_lines.specs.Args.{no_args, one_arg, two_args, three_args, four_args, five_args, six_args}
+use Rattle.vg_call_lines.proofs.Counts.{no_args_give, one_arg_gives, two_args_give, three_args_give, four_args_give, five_args_give, six_args_give}
 use Rattle.vg_script.specs.Features.{feature_of, is_same}
 use Rattle.vg_script.specs.Seen.{Seen, nothing_seen, add_line}
-use Rattle.vg_steps.specs.Tables.{NameTable}
-use Rattle.vg_steps.specs.Rows.{Row, info_row, edid_row, buffer_row, store_row, load_row, send_row, flush_row, take_row, drop_row, hide_row, show_row, flip_row, cursor_row, move_row, uuid_row, close_row, raw_row, request_row, queue_of, shape_of, bad_shape_of, row_of, row_of_buffers, row_of_scanouts, row_of_others}
+use Rattle.vg_call_lines.specs.Tables.{NameTable}
+use Rattle.vg_call_lines.specs.Rows.{Row, info_row, edid_row, buffer_row, store_row, load_row, send_row, flush_row, take_row, drop_row, hide_row, show_row, flip_row, cursor_row, move_row, uuid_row, close_row, raw_row, request_row, queue_of, shape_of, bad_shape_of, row_of, row_of_buffers, row_of_scanouts, row_of_others}
 use Rattle.vg_script.specs.Grammar.{Form, display_form, memory_form, feature_form, without_form, client_form, row_form, skipped_form, called_form, worded_form, form_of, line_form, one_more, script_of, scan, read_script, Parses}
 use Rattle.vg_script.specs.Faults.{fails, given, form_gives, seen_after, AreFaultless, has_fault}
 use Rattle.vg_script.specs.Limits.{IsBetween, IsPosition, ShapeInLimits, CallInLimits, ClientInLimits, DisplayInLimits, ScriptInLimits}

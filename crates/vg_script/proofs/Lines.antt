@@ -3,7 +3,7 @@ use Rattle.std.proofs.Common.{◌≡◌, ℕ, ◌+◌, ◌<◌, ◌≤◌, ◌==
 use Rattle.std.proofs.lemmas.Bool.Decides.{nat_tests}
 use Rattle.std.specs.List.{slice_split, before_first, after_first}
 use Rattle.vg_script.specs.Lines.{lines_of, closed_lines}
-use Rattle.vg_words.proofs.Cuts.{slice_split_parts}
+use Rattle.vg_script_words.proofs.Cuts.{slice_split_parts}
 
 pub lines_of-nil : lines_of [] ≡ []
 unfolding lines_of closed_lines

@@ -6,18 +6,18 @@ use Rattle.std.proofs.lemmas.Slice.Eq.{bytes_eq-Decides}
 use Rattle.std.proofs.lemmas.List.Elements.{All-nil, All-cons, All-head, All-tail}
 use Rattle.vg_chain.specs.declared.shape.Shape.{Shape}
 use Rattle.vg_wire.specs.declared.request.Queue.{Queue}
-use Rattle.vg_words.specs.declared.kind.Kind.{Kind}
-use Rattle.vg_words.specs.declared.kind.Kind.TheVariants.{Word, Name}
-use Rattle.vg_words.specs.Words.{words_of}
-use Rattle.vg_steps.specs.Args.{no_args, one_arg, two_args, three_args, four_args, five_args, six_args}
-use Rattle.vg_steps.proofs.Counts.{no_args_give, one_arg_gives, two_args_give, three_args_give, four_args_give, five_args_give, six_args_give}
-use Rattle.vg_steps.specs.declared.names.Named.{Named}
-use Rattle.vg_steps.specs.declared.names.NameKind.TheVariants as kinds
+use Rattle.vg_script_words.specs.declared.kind.Kind.{Kind}
+use Rattle.vg_script_words.specs.declared.kind.Kind.TheVariants.{Word, Name}
+use Rattle.vg_script_words.specs.Words.{words_of}
+use Rattle.vg_call_lines.specs.Args.{no_args, one_arg, two_args, three_args, four_args, five_args, six_args}
+use Rattle.vg_call_lines.proofs.Counts.{no_args_give, one_arg_gives, two_args_give, three_args_give, four_args_give, five_args_give, six_args_give}
+use Rattle.vg_call_lines.specs.declared.names.Named.{Named}
+use Rattle.vg_call_lines.specs.declared.names.NameKind.TheVariants as kinds
 use Rattle.vg_script.specs.declared.types.Feature.{Feature}
 use Rattle.vg_script.specs.Features.{feature_of}
 use Rattle.vg_script.specs.Seen.{Seen, nothing_seen}
-use Rattle.vg_steps.specs.Tables.{NameTable, no_names, number_of, with_name, without_name}
-use Rattle.vg_steps.specs.Rows.{Row, info_row, edid_row, buffer_row, store_row, load_row, send_row, flush_row, take_row, drop_row, hide_row, show_row, flip_row, cursor_row, move_row, uuid_row, close_row, raw_row, request_row, queue_of, shape_of, row_of, row_of_buffers, row_of_scanouts, row_of_others}
+use Rattle.vg_call_lines.specs.Tables.{NameTable, no_names, number_of, with_name, without_name}
+use Rattle.vg_call_lines.specs.Rows.{Row, info_row, edid_row, buffer_row, store_row, load_row, send_row, flush_row, take_row, drop_row, hide_row, show_row, flip_row, cursor_row, move_row, uuid_row, close_row, raw_row, request_row, queue_of, shape_of, row_of, row_of_buffers, row_of_scanouts, row_of_others}
 use Rattle.vg_script.specs.Grammar.{Form, display_form, memory_form, feature_form, without_form, client_form, row_form, skipped_form, called_form, worded_form, form_of, line_form, one_more}
 use Rattle.vg_script.specs.Faults.{fails, given, form_gives, seen_after, AreFaultless, has_fault}
 use Rattle.vg_script.specs.Names.{begins, says, end_name, counted, names_in, buffer_of, IsDefinedBy}

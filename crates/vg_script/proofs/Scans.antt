@@ -3,16 +3,16 @@ use Rattle.std.proofs.Common.{◌≡◌, ℕ, ◌+◌, ◌==◌, ◌<◌, Bool, 
 use Rattle.std.specs.Prelude.{option_map, bytes_eq, codes, slice_index}
 use Rattle.std.specs.Bool.{⊤}
 use Rattle.std.specs.List.{before_first, after_first}
-use Rattle.vg_words.specs.declared.kind.Kind.{Kind}
-use Rattle.vg_words.specs.declared.kind.Kind.TheVariants.{Text}
+use Rattle.vg_script_words.specs.declared.kind.Kind.{Kind}
+use Rattle.vg_script_words.specs.declared.kind.Kind.TheVariants.{Text}
 use Rattle.vg_script.specs.declared.types.Feature.{Feature}
 use Rattle.vg_script.specs.Lines.{lines_of}
-use Rattle.vg_words.specs.Words.{words_of, is_text}
-use Rattle.vg_steps.specs.Args.{no_args, one_arg, two_args}
-use Rattle.vg_steps.proofs.Counts.{no_args_give, one_arg_gives, two_args_give}
+use Rattle.vg_script_words.specs.Words.{words_of, is_text}
+use Rattle.vg_call_lines.specs.Args.{no_args, one_arg, two_args}
+use Rattle.vg_call_lines.proofs.Counts.{no_args_give, one_arg_gives, two_args_give}
 use Rattle.vg_script.specs.Seen.{Seen}
 use Rattle.vg_script.specs.Features.{feature_of}
-use Rattle.vg_steps.specs.Rows.{Row, row_of}
+use Rattle.vg_call_lines.specs.Rows.{Row, row_of}
 use Rattle.vg_script.specs.Grammar.{Form, display_form, memory_form, feature_form, without_form, client_form, row_form, skipped_form, called_form, worded_form, form_of, line_form, one_more, settled, settled_form, after_line, fault_at, scan}
 use Rattle.vg_script.proofs.Lines.{lines_of-first}
 

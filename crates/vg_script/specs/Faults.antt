@@ -1,13 +1,13 @@
 -- The faults of a line, each by itself, and the first fault of a text in other words than `scan`.
 use Rattle.std.specs.Prelude.{◌≡◌, ℕ, ◌+◌, ◌<◌, ◌⊎◌, not, Bool, true, false, List, [], ◌∷◌, ◌++◌, length, Option, Some, None}
 use Rattle.std.specs.Bool.{⊤}
-use Rattle.vg_words.specs.declared.kind.Kind.{Kind}
-use Rattle.vg_words.specs.declared.kind.Kind.TheVariants.{Text, Word, Number, Limit, Name}
+use Rattle.vg_script_words.specs.declared.kind.Kind.{Kind}
+use Rattle.vg_script_words.specs.declared.kind.Kind.TheVariants.{Text, Word, Number, Limit, Name}
 use Rattle.vg_script.specs.declared.types.Script.{Script}
-use Rattle.vg_words.specs.Words.{is_text}
+use Rattle.vg_script_words.specs.Words.{is_text}
 use Rattle.vg_script.specs.Seen.{Seen, nothing_seen}
 use Rattle.vg_script.specs.Grammar.{Form, line_form, script_of}
-use Rattle.vg_words.specs.Kinds.{kind_code}
+use Rattle.vg_script_words.specs.Kinds.{kind_code}
 
 -- A line fails a test of its form. `unknown` is the answer where its words are no line.
 abbrev pub fails : Bool → (Form → Bool) → Option Form → Bool

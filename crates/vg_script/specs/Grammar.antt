@@ -1,18 +1,18 @@
 -- A script's grammar: what has to hold of each line, what it gives, and which fault a text has first.
 use Rattle.std.specs.Prelude.{◌≡◌, ℕ, ◌+◌, ◌==◌, ◌&&◌, not, nat_lt, Bool, true, List, [], ◌∷◌, ◌++◌, length, sum_by, Option, Some, None, is_none, option_map, unwrap_or, Result, Ok, Err, if◌then◌else◌, codes, bytes_eq, slice_index}
-use Rattle.vg_words.specs.declared.kind.Kind.{Kind}
-use Rattle.vg_words.specs.declared.kind.Kind.TheVariants.{Text, Word, Number, Limit, Name}
+use Rattle.vg_script_words.specs.declared.kind.Kind.{Kind}
+use Rattle.vg_script_words.specs.declared.kind.Kind.TheVariants.{Text, Word, Number, Limit, Name}
 use Rattle.std.specs.List.{list_any}
 use Rattle.vg_script.specs.declared.types.Feature.{Feature}
 use Rattle.vg_script.specs.declared.types.Script.{Script}
 use Rattle.vg_script.specs.declared.types.ScriptFault.{ScriptFault}
 use Rattle.vg_script.specs.Lines.{lines_of}
-use Rattle.vg_words.specs.Words.{words_of, is_text, is_number, value, is_within}
-use Rattle.vg_steps.specs.Args.{no_args, one_arg, two_args}
+use Rattle.vg_script_words.specs.Words.{words_of, is_text, is_number, value, is_within}
+use Rattle.vg_call_lines.specs.Args.{no_args, one_arg, two_args}
 use Rattle.vg_script.specs.Seen.{Seen, add_line, nothing_seen}
-use Rattle.vg_steps.specs.Tables.{no_names}
-use Rattle.vg_steps.specs.Rows.{Row, row_of}
-use Rattle.vg_words.specs.Kinds.{kind_code}
+use Rattle.vg_call_lines.specs.Tables.{no_names}
+use Rattle.vg_call_lines.specs.Rows.{Row, row_of}
+use Rattle.vg_script_words.specs.Kinds.{kind_code}
 use Rattle.vg_script.specs.Features.{feature_of, is_same}
 
 pub record Form : Type 0 where

@@ -1,8 +1,8 @@
 -- Which names are defined, and their numbers, in other words than line by line.
 use Rattle.std.specs.Prelude.{◌≡◌, ℕ, ◌+◌, ◌&&◌, ◌||◌, Bool, true, false, List, [], ◌∷◌, ◌++◌, All, if◌then◌else◌, codes, bytes_eq}
-use Rattle.vg_words.specs.Words.{words_of}
-use Rattle.vg_steps.specs.declared.names.NameKind.TheVariants as kinds
-use Rattle.vg_steps.specs.declared.names.Named.{Named}
+use Rattle.vg_script_words.specs.Words.{words_of}
+use Rattle.vg_call_lines.specs.declared.names.NameKind.TheVariants as kinds
+use Rattle.vg_call_lines.specs.declared.names.Named.{Named}
 
 -- The words begin with this word and this name.
 abbrev pub begins : List ℕ → List ℕ → List (List ℕ) → Bool

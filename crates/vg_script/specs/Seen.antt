@@ -2,7 +2,7 @@
 use Rattle.std.specs.Prelude.{ℕ, List, [], ◌∷◌, ◌++◌, Option, None}
 use Rattle.vg_script.specs.declared.types.Feature.{Feature}
 use Rattle.vg_script.specs.declared.types.Line.{Line}
-use Rattle.vg_steps.specs.Tables.{NameTable, no_names}
+use Rattle.vg_call_lines.specs.Tables.{NameTable, no_names}
 
 pub record Seen : Type 0 where
   -- how many lines there were

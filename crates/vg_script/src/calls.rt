@@ -2,13 +2,13 @@
 
 ghost use Rattle.std.specs.Prelude.{◌≡◌, OnOk, OnErr};
 ghost use Rattle.vg_script.specs.Seen.{add_line};
-ghost use Rattle.vg_script.specs.Reading.{past_limit};
+ghost use Rattle.vg_script.specs.ReadingWithin.{past_limit};
 
 use crate::types::Line;
 use std::alloc::AllocError;
 use vg_calls::Call;
 use vg_list::Seq;
-use vg_words::{Kind, Stop};
+use vg_script_words::{Kind, Stop};
 
 /// Adds a line to the last client, if there is one.
 pub(crate) fn add_line(clients: &mut Vec<Seq<Line>>, line: Line) -> Result<(), AllocError>

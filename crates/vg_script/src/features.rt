@@ -3,10 +3,10 @@
 ghost use Rattle.std.specs.Prelude.{◌≡◌};
 ghost use Rattle.std.specs.List.{list_any};
 ghost use Rattle.vg_script.specs.Features.{feature_of, is_same};
-ghost use Rattle.vg_steps.specs.Code.{Finds};
+ghost use Rattle.vg_call_lines.specs.Code.{Finds};
 
 use crate::types::Feature;
-use vg_words::{Kind, is};
+use vg_script_words::{Kind, is};
 
 /// The feature that a word spells.
 #[tactic(auto, unfolding(crate::specs::Features::feature_of))]

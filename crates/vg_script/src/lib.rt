@@ -11,6 +11,6 @@ mod types;
 pub use laws::{defined_names, first_fault, script_limits, script_or_fault};
 pub use text::parse;
 pub use types::{Feature, Line, Script, ScriptFault};
+pub use vg_call_lines::{NameKind, Named};
 pub use vg_calls::{Call, NameRef};
-pub use vg_steps::{NameKind, Named};
-pub use vg_words::Kind;
+pub use vg_script_words::Kind;

@@ -6,9 +6,9 @@ use crate::calls::{add_line, past_limit};
 use crate::features::{feature_of, is_among};
 use crate::types::{Feature, Line, Script, ScriptFault};
 use std::alloc::{AllocError, Global};
+use vg_call_lines::{Names, call_of};
 use vg_list::Seq;
-use vg_steps::{Names, call_of};
-use vg_words::{Kind, Stop, both_spelled, is, is_text, limited, put_words, size, spelled};
+use vg_script_words::{Kind, Stop, both_spelled, is, is_text, limited, put_words, size, spelled};
 
 /// How many lines all clients may have.
 const MOST_LINES: usize = 100_000;
@@ -34,7 +34,7 @@ impl<'a> Reader<'a> {
     ghost use Rattle.std.specs.Prelude.{◌≡◌, ◌==◌, ◌&&◌, not, is_none, ◌+◌, ◌-◌, ◌<◌, ◌^◌, [], ◌∷◌, map, IfOk};
     ghost use Rattle.vg_script.specs.Seen.{Seen, nothing_seen};
     ghost use Rattle.vg_script.specs.Grammar.{display_form, memory_form, without_form, client_form, called_form, worded_form, form_of, feature_form, settled, settled_form, after_line, scan};
-    ghost use Rattle.vg_script.specs.Reading.{seen, Goes, MayDefine};
+    ghost use Rattle.vg_script.specs.ReadingWithin.{seen, Goes, MayDefine};
 
     pub(crate) fn new(alloc: Global) -> Reader<'a>
         ensures { seen result ≡ nothing_seen }

@@ -5,12 +5,12 @@ ghost use Rattle.vg_script.specs.Seen.{nothing_seen};
 ghost use Rattle.vg_script.specs.Lines.{lines_of};
 ghost use Rattle.vg_script.specs.Grammar.{Parses, Faulty, read_script, scan};
 ghost use Rattle.vg_script.specs.Limits.{ScriptInLimits};
-ghost use Rattle.vg_script.specs.Reading.{seen};
+ghost use Rattle.vg_script.specs.ReadingWithin.{seen};
 
 use crate::reader::Reader;
 use crate::types::{Script, ScriptFault};
 use std::alloc::{AllocError, Global};
-use vg_words::{Stop, cut};
+use vg_script_words::{Stop, cut};
 
 /// The script that these bytes are, or the first fault of bytes that are none. It fails only for want of memory.
 ///

@@ -1,7 +1,7 @@
 -- The tasks of calls: how those of the longer ones grow, how few they are, that they fit, and that each call has one.
 use Rattle.std.proofs.Common.{◌≡◌, ◌+◌, ◌-◌, ◌*◌, ◌<◌, ◌≤◌, ◌∙◌, sym, ap, refl, arith, ℕ, zero, suc, Bool, true, false, cond, List, [], ◌∷◌, ◌++◌, length, map, drop, append_assoc, Option}
 use Rattle.std.specs.List.{AllByRecursion}
-use Rattle.vg_holds.specs.Holds.{has_number}
+use Rattle.vg_client_holds.specs.Holds.{has_number}
 use Rattle.vg_names.specs.declared.names.Held.{Held}
 use Rattle.vg_tasks.specs.declared.task.Task.{Task}
 use Rattle.vg_tasks.specs.Plans.{weight_of, weights}

@@ -1,7 +1,7 @@
 -- Tasks whose numbers are within their limits.
 use Rattle.std.specs.Prelude.{◌≤◌}
-use Rattle.vg_holds.specs.declared.act.Act as the_act
-use Rattle.vg_holds.specs.declared.act.Act.TheVariants as acts
+use Rattle.vg_client_holds.specs.declared.act.Act as the_act
+use Rattle.vg_client_holds.specs.declared.act.Act.TheVariants as acts
 use Rattle.vg_driver.specs.Asks.{IsAsk}
 use Rattle.vg_tasks.specs.declared.task.Change.{Change}
 use Rattle.vg_tasks.specs.declared.task.Change.TheVariants.{NewBuffer}

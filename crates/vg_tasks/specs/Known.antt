@@ -1,8 +1,8 @@
 -- What a client knows: what it holds by its acts, the names of its buffers, and what it shows.
 use Rattle.std.specs.Prelude.{ℕ, List, [], length, replicate, Option, None}
-use Rattle.vg_holds.specs.declared.holds.Holds.{Holds}
-use Rattle.vg_holds.specs.declared.setup.Setup.{Setup}
-use Rattle.vg_holds.specs.Holds.{first_holds}
+use Rattle.vg_client_holds.specs.declared.holds.Holds.{Holds}
+use Rattle.vg_client_holds.specs.declared.setup.Setup.{Setup}
+use Rattle.vg_client_holds.specs.Holds.{first_holds}
 use Rattle.vg_names.specs.Names.{NamesState}
 
 -- `shows` has for each scanout the key that the client showed there last, if nothing of its own has freed the scanout since.

@@ -9,8 +9,8 @@ use Rattle.vg_wire.specs.declared.request.Queue.{Queue}
 use Rattle.vg_wire_ext.specs.declared.command.Command as the_command
 use Rattle.vg_wire_ext.specs.declared.command.Command.TheVariants.{TwoD, Edid, AssignUuid, UpdateCursor, MoveCursor}
 use Rattle.vg_chain.specs.declared.shape.Shape.{Shape}
-use Rattle.vg_holds.specs.declared.act.Act as the_act
-use Rattle.vg_holds.specs.declared.act.Act.TheVariants as acts
+use Rattle.vg_client_holds.specs.declared.act.Act as the_act
+use Rattle.vg_client_holds.specs.declared.act.Act.TheVariants as acts
 use Rattle.vg_names.specs.declared.names.Held.{Held}
 use Rattle.vg_tasks.specs.declared.task.Change.{Change}
 use Rattle.vg_tasks.specs.declared.task.Change.TheVariants.{Nothing, NewBuffer, EndOfName, Shows, GoesOn}

@@ -1,10 +1,10 @@
 -- The tasks of each call of a client, one after another. A task gives one entry.
 use Rattle.std.specs.Prelude.{ℕ, ℤ, zero, suc, ◌+◌, ◌==◌, Bool, false, if◌then◌else◌, List, [], ◌∷◌, ◌++◌, map, Option, Some, None, Result, Ok, Err}
 use Rattle.vg_formats.specs.declared.rect.Rect.{Rect}
-use Rattle.vg_holds.specs.declared.act.What.{What}
-use Rattle.vg_holds.specs.declared.act.What.TheVariants.{Name, Scanout}
-use Rattle.vg_holds.specs.declared.holds.Holds.{Holds}
-use Rattle.vg_holds.specs.Holds.{has_number}
+use Rattle.vg_client_holds.specs.declared.act.What.{What}
+use Rattle.vg_client_holds.specs.declared.act.What.TheVariants.{Name, Scanout}
+use Rattle.vg_client_holds.specs.declared.holds.Holds.{Holds}
+use Rattle.vg_client_holds.specs.Holds.{has_number}
 use Rattle.vg_calls.specs.declared.call.Call.{Call}
 use Rattle.vg_calls.specs.declared.call.Call.TheVariants as calls
 use Rattle.vg_names.specs.declared.names.Held.{Held}

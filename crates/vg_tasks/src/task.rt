@@ -1,15 +1,15 @@
 //! The tasks that calls are made of. A task gives one entry: an act, or a command to the device.
 
 ghost use Rattle.std.specs.Prelude.{◌≡◌, ◌≤◌, ◌<◌, ◌^◌, map, length, IfOk};
-ghost use Rattle.vg_holds.specs.declared.act.Act.TheVariants as acts;
+ghost use Rattle.vg_client_holds.specs.declared.act.Act.TheVariants as acts;
 ghost use Rattle.vg_tasks.specs.Table as table;
 ghost use Rattle.vg_tasks.specs.Table.{no_rect, page_entry};
 
 use std::alloc::{AllocError, Global};
 use vg_chain::Shape;
+use vg_client_holds::Act;
 use vg_driver::{Ask, Way};
 use vg_formats::{MemEntry, Rect};
-use vg_holds::Act;
 use vg_list::Seq;
 use vg_names::Held;
 use vg_pages::{PAGE_BYTES, page_address};

@@ -4,8 +4,8 @@ ghost use Rattle.std.specs.Prelude.{◌≡◌, ◌<◌, ◌≤◌, ◌+◌, ◌*
 ghost use Rattle.std.specs.List.{AllByRecursion};
 ghost use Rattle.vg_tasks.specs.Plans.{IsCallFit, Plans, weights};
 ghost use Rattle.vg_tasks.specs.Fits.{IsFit};
-ghost use Rattle.vg_holds.specs.Holds.{Deniable as MayDeny, has_number};
-ghost use Rattle.vg_holds.specs.declared.act.What.TheVariants as whats;
+ghost use Rattle.vg_client_holds.specs.Holds.{Deniable as MayDeny, has_number};
+ghost use Rattle.vg_client_holds.specs.declared.act.What.TheVariants as whats;
 ghost use Rattle.vg_tasks.specs.Table as table;
 ghost use Rattle.vg_tasks.specs.Tasks as plan;
 ghost use Rattle.vg_tasks.specs.Tasks.{clear_tasks, leases_back, with_held};
@@ -18,8 +18,8 @@ use crate::task::{
 };
 use std::alloc::{AllocError, Global};
 use vg_calls::{Call, NameRef};
+use vg_client_holds::{Act, Holds, What};
 use vg_formats::Rect;
-use vg_holds::{Act, Holds, What};
 use vg_list::Seq;
 use vg_names::{Held, Names};
 

@@ -6,7 +6,7 @@ use denote.Ref.{NamedLft}
 use Rattle.std.proofs.Crossing.{crosses}
 use Rattle.std.proofs.MapsCrossing.{BTreeMap-send}
 use Rattle.vg_list.specs.contracts.seq.Seq as seq
-use Rattle.vg_strips.proofs.Sent.{strips_send}
+use Rattle.vg_shared_bytes.proofs.Sent.{strips_send}
 use Rattle.vg_scanout.specs.contracts.panel.Panel as panel
 use Rattle.vg_scanout.specs.contracts.scanout.Frame as frame
 use Rattle.vg_scanout.specs.contracts.scanout.Scanouts as scanouts
@@ -26,11 +26,11 @@ use Rattle.vg_machine.specs.contracts.machine.DisplayMachine.TheImpl as machine
 use Rattle.vg_worker.specs.contracts.worker.Worker as worker
 use Rattle.vg_machine.specs.contracts.display.Display as display
 use Rattle.vg_machine.specs.contracts.display.Display.TheInside as display_in
-use Rattle.vg_holds.specs.contracts.act.Act as act
-use Rattle.vg_holds.specs.contracts.act.ActReply as act_reply
+use Rattle.vg_client_holds.specs.contracts.act.Act as act
+use Rattle.vg_client_holds.specs.contracts.act.ActReply as act_reply
 use Rattle.vg_machine.specs.contracts.history.Request as request
 use Rattle.vg_machine.specs.contracts.history.Reply as reply
-use Rattle.vg_holds.specs.contracts.holds.Holds as holds
+use Rattle.vg_client_holds.specs.contracts.holds.Holds as holds
 
 seq_send : (X : RattleType) → IsSend X → IsSend (seq.the_row X)
 seq_send X x = search (sendable, crosses) depth 20

@@ -4,11 +4,11 @@ use Rattle.vg_ring.specs.Cargo.{CargoData, ParcelData}
 use Rattle.vg_book.specs.declared.outcome.Carried as books
 use Rattle.vg_book.specs.declared.outcome.Carried.TheVariants.{Wanted, Done, Unrun}
 use Rattle.vg_book.specs.Tokens as tokens
-use Rattle.vg_holds.specs.declared.act.Act.{Act}
-use Rattle.vg_holds.specs.declared.act.ActReply.{ActReply}
+use Rattle.vg_client_holds.specs.declared.act.Act.{Act}
+use Rattle.vg_client_holds.specs.declared.act.ActReply.{ActReply}
 use Rattle.vg_machine.specs.declared.history.Reply.{Reply}
 use Rattle.vg_machine.specs.declared.history.Request.{Request}
-use Rattle.vg_holds.specs.declared.holds.Holds.{Holds}
+use Rattle.vg_client_holds.specs.declared.holds.Holds.{Holds}
 use Rattle.vg_machine.specs.State.{State}
 use Rattle.vg_machine.specs.Replay.{display}
 use Rattle.vg_machine.specs.Written.{written_in}

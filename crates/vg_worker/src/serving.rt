@@ -4,7 +4,7 @@ ghost use Rattle.std.specs.Prelude.{◌≡◌, ◌+◌, true, false};
 ghost use Rattle.vg_ring.specs.DeviceEnds.{IsCargoOf};
 ghost use Rattle.vg_ring.specs.Walked.{IsWalkOf};
 ghost use Rattle.vg_front.specs.Loans.{right_of};
-ghost use Rattle.vg_worker.specs.Taking.{IsOut, IsReady, IsReadyIf};
+ghost use Rattle.vg_worker.specs.TakingWithin.{IsOut, IsReady, IsReadyIf};
 
 use crate::answering::{Back, answer_measured, unrun};
 use crate::gate::{Gate, Passage};

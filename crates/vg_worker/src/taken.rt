@@ -5,7 +5,7 @@ ghost use Rattle.vg_ring.specs.DeviceEnds.{IsCargoOf};
 ghost use Rattle.vg_ring.specs.Walked.{IsWalkOf};
 ghost use Rattle.vg_front.specs.Loans.{right_of};
 ghost use Rattle.vg_front.specs.Fronts.{HasWalked, IsLent};
-ghost use Rattle.vg_worker.specs.Taking.{EndsIf, IsFound, IsOutOf, says_ended};
+ghost use Rattle.vg_worker.specs.TakingWithin.{EndsIf, IsFound, IsOutOf, says_ended};
 
 use std::alloc::Global;
 use std::sync::{Mutex, Wait};

@@ -8,8 +8,8 @@ use std::sync::atomic::AtomicBool;
 use std::sync::{Mutex, Wait};
 use std::thread::Threads;
 use vg_book::{Book, Carried, LaneToken, Naming};
-use vg_crew::Job;
 use vg_front::Front;
+use vg_jobs::Job;
 use vg_machine::Display;
 use vg_ring::Rings;
 

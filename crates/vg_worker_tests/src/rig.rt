@@ -2,7 +2,7 @@
 
 ghost use Rattle.std.specs.Prelude.{◌≡◌, [], ◌∷◌, IfOk};
 ghost use Rattle.vg_wire.specs.declared.request.Queue.TheVariants as queues;
-ghost use Rattle.vg_holds.specs.Setup.{IsSetup};
+ghost use Rattle.vg_client_holds.specs.Setup.{IsSetup};
 ghost use Rattle.vg_worker_tests.specs.Joined.{Follows, HasLanes, IsAsBefore};
 
 use crate::guest::{Back, Guest, Way};
@@ -15,9 +15,9 @@ use std::test::Fail;
 use std::thread::Threads;
 use vg_book::{Book, Carried, ClientToken, LaneToken, Naming, Opened, Root};
 use vg_chain::ChainFault;
-use vg_crew::each;
 use vg_front::Front;
 use vg_history::{Machine, Tagged, Turn};
+use vg_jobs::each;
 use vg_list::Seq;
 use vg_machine::{Display, History, Holds, Setup};
 use vg_ring::{ControlOf, CursorOf, Made, Rings};

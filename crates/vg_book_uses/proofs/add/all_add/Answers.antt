@@ -5,7 +5,7 @@ use Rattle.std.proofs.Common.{◌≡◌, ap, ◌∙◌, ◌++◌, arith}
 use Rattle.std.specs.Prelude.{map}
 use Rattle.vg_book_uses.specs.contracts.counter.CounterMachine.TheImpl as counter
 use Rattle.vg_book_uses.specs.Adding.{account_of, IsNew}
-use Rattle.vg_crew.proofs.JobLemmas.{all_of_map}
+use Rattle.vg_jobs.proofs.JobLemmas.{all_of_map}
 use Rattle.vg_book_uses.proofs.CrewLemmas.{with_nothing_out, all_joined}
 use Rattle.vg_book_uses.proofs.AddLemmas.{Gave, same, idle, have_all_added}
 use Rattle.vg_book_uses.proofs.add.all_add.Lts as lts

@@ -7,7 +7,7 @@ use Rattle.vg_book.proofs.Sent.{client_send, note_send, book_sync}
 use Rattle.vg_book_uses.specs.contracts.counter.CounterMachine.TheImpl as counter
 use Rattle.vg_book_uses.specs.contracts.meet.Post as post
 use Rattle.vg_book_uses.specs.Adding.{account_of, IsNew}
-use Rattle.vg_crew.proofs.JobLemmas.{all_of_map}
+use Rattle.vg_jobs.proofs.JobLemmas.{all_of_map}
 use Rattle.vg_book_uses.proofs.CrewLemmas.{with_nothing_out, all_joined}
 use Rattle.vg_book_uses.proofs.ShareLemmas.{Gave, same, idle, have_shared, may_talk}
 use Rattle.vg_book_uses.proofs.MeetLemmas.{all_talked}

@@ -11,7 +11,7 @@ use Rattle.vg_book_uses.specs.Adding.{account_of, IsNew}
 use Rattle.vg_history.specs.Lists.{Has}
 use Rattle.vg_book_uses.specs.Desks.{IsLaneKnown}
 use Rattle.vg_book_uses.specs.Sharing.{counted_of}
-use Rattle.vg_crew.proofs.JobLemmas.{all_of_map}
+use Rattle.vg_jobs.proofs.JobLemmas.{all_of_map}
 use Rattle.vg_book_uses.proofs.CrewLemmas.{with_nothing_out, all_joined}
 use Rattle.vg_book_uses.proofs.ShareLemmas.{Gave, same, idle, have_shared, lanes_joined, lanes_known, may_talk}
 use Rattle.vg_book_uses.proofs.share.run_all.Lts as lts

@@ -2,7 +2,7 @@ use Rattle.std.proofs.Common.{◌≡◌, ◌<◌, true, false, None, Some, lengt
 use Rattle.std.proofs.lemmas.Option.{slice_get_within}
 use Rattle.vg_chain.specs.Memory.{memory}
 use Rattle.vg_chain.specs.Descriptor.{is_indirect, has_next}
-use Rattle.vg_chain.specs.Tour.{places_left}
+use Rattle.vg_chain.specs.TourWithin.{places_left}
 use Rattle.vg_chain.specs.Walk.{there, fault_at}
 use Rattle.vg_chain.proofs.TourLemmas.{visit_now, tour_starts, tour_passes, tour_enters, sound_of, none_of, tour_ends, left_passes, free}
 use Rattle.vg_chain.proofs.tour.walk.Goals as goal

@@ -1,5 +1,5 @@
 use Rattle.vg_chain.specs.Memory.{memory}
-use Rattle.vg_chain.specs.Tour.{places_left}
+use Rattle.vg_chain.specs.TourWithin.{places_left}
 use Rattle.vg_chain.proofs.TourLemmas.{IsTour}
 use Rattle.vg_chain.proofs.tour.walk.Given as goal
 

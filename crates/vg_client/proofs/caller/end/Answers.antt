@@ -1,5 +1,5 @@
 use Rattle.std.proofs.Common.{◌∙◌, ◌++◌, ap, map}
-use Rattle.vg_holds.specs.declared.holds.Holds.{Holds}
+use Rattle.vg_client_holds.specs.declared.holds.Holds.{Holds}
 use Rattle.vg_tasks.specs.Table.{release_task}
 use Rattle.vg_tasks.specs.Tasks.{leases_back}
 use Rattle.vg_client.proofs.PlayLemmas.{both-ok, end-stood, end-unbegun, end-unleft, ended-by, err-then, on_err}

@@ -1,5 +1,5 @@
 use Rattle.std.proofs.Common.{◌≡◌, ◌∙◌, List, Option, ap, subst, ℕ}
-use Rattle.vg_holds.specs.declared.holds.Holds.{Holds}
+use Rattle.vg_client_holds.specs.declared.holds.Holds.{Holds}
 use Rattle.vg_client.specs.Callers.{known}
 use Rattle.vg_tasks.specs.Plans.{IsPlanOf}
 use Rattle.vg_tasks.specs.Known.{Known}

@@ -3,7 +3,7 @@ use Rattle.std.proofs.Common.{◌≡◌, ℕ, ◌≤◌, ◌+◌, ◌*◌, ◌-�
 use Rattle.vg_places.specs.declared.rectangles.Area.{Area}
 use Rattle.vg_places.specs.Rectangles.{place_of}
 use Rattle.vg_places.proofs.Filled.{filled_empty, row-fits}
-use Rattle.vg_cursor.specs.Rows.{byte_over}
+use Rattle.vg_cursor.specs.RowsWithin.{byte_over}
 use Rattle.vg_cursor.proofs.BlendLemmas.{rows-more}
 use Rattle.vg_cursor.proofs.blend.blend_rows.Goals as goal
 

@@ -1,5 +1,5 @@
 use Rattle.std.proofs.Common.{◌≡◌, ◌+◌, ◌*◌}
-use Rattle.vg_cursor.specs.Rows.{rows_over}
+use Rattle.vg_cursor.specs.RowsWithin.{rows_over}
 use Rattle.vg_cursor.proofs.blend.blend_rows.Given as goal
 
 abbrev pub invariant-loop-i : goal.invariant-loop-i

@@ -1,6 +1,6 @@
 use Rattle.std.proofs.Common.{◌∙◌, ap, w32, arith}
 use Rattle.std.proofs.lemmas.Int.{to_z-of_z}
-use Rattle.vg_cursor.specs.Span.{sides}
+use Rattle.vg_cursor.specs.SpanWithin.{sides}
 use Rattle.vg_cursor.proofs.SpanLemmas.{span-is}
 use Rattle.vg_cursor.proofs.span.span_of.Goals as goal
 

@@ -1,5 +1,5 @@
 use Rattle.std.proofs.Common.{ℕ, List, subst}
-use Rattle.vg_journal.specs.Printing.{PrintedSome}
+use Rattle.vg_journal.specs.PrintingWithin.{PrintedSome}
 use Rattle.vg_journal.proofs.PrintingLemmas.{on_err, some_none, some_taken}
 use Rattle.vg_journal.proofs.printer.print_bytes.Goals as goal
 

@@ -1,5 +1,5 @@
 use Rattle.std.proofs.Common.{◌≡◌, ◌++◌, take}
-use Rattle.vg_journal.specs.Printing.{Printed}
+use Rattle.vg_journal.specs.PrintingWithin.{Printed}
 use Rattle.vg_text.specs.Text.{numbered}
 use Rattle.vg_journal.specs.Text.{frame_text}
 use Rattle.vg_journal.proofs.printer.print_frames.Given as goal

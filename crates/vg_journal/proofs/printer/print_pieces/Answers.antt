@@ -1,5 +1,5 @@
 use Rattle.std.proofs.Common.{◌++◌, ◌∙◌, ℕ, List, subst, arith}
-use Rattle.vg_journal.specs.Printing.{Printed, PrintedSome}
+use Rattle.vg_journal.specs.PrintingWithin.{Printed, PrintedSome}
 use Rattle.vg_journal.proofs.PieceLemmas.{piece_text, pieces_are}
 use Rattle.vg_journal.proofs.PrintingLemmas.{all_printed, on_err, some_more, printed_more}
 use Rattle.vg_journal.proofs.printer.print_pieces.Goals as goal

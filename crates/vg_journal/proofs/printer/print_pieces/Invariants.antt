@@ -1,6 +1,6 @@
 use Rattle.std.proofs.Common.{◌≡◌, ◌++◌, take}
 use Rattle.vg_text.specs.Text.{numbered}
-use Rattle.vg_journal.specs.Printing.{Printed}
+use Rattle.vg_journal.specs.PrintingWithin.{Printed}
 use Rattle.vg_journal.proofs.PieceLemmas.{piece_text}
 use Rattle.vg_journal.proofs.printer.print_pieces.Given as goal
 

@@ -1,5 +1,5 @@
 use Rattle.std.proofs.Common.{◌≡◌, ◌++◌, ◌-◌, ◌≤◌, length, take}
-use Rattle.vg_journal.specs.Printing.{Printed}
+use Rattle.vg_journal.specs.PrintingWithin.{Printed}
 use Rattle.vg_journal.proofs.printer.print_pixels.Given as goal
 
 abbrev pub invariant-loop-at : goal.invariant-loop-at

@@ -1,6 +1,6 @@
 use Rattle.std.proofs.Common.{subst}
 use Rattle.vg_ring.specs.Plays.{device_of}
-use Rattle.vg_ring.specs.Tells.{TellsWord}
+use Rattle.vg_ring.specs.TellsWithin.{TellsWord}
 use Rattle.vg_ring.proofs.ToldDevice.{read_step}
 use Rattle.vg_ring.proofs.device.read_word.Goals as goal
 

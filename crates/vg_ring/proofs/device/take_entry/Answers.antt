@@ -3,7 +3,7 @@ use Rattle.vg_ring.specs.Plays.{device_of, rested}
 use Rattle.vg_ring.specs.declared.views.View.TheVariants.{Device}
 use Rattle.vg_ring.specs.Words.{available_place}
 use Rattle.vg_ring.specs.Rule.{fetched_after}
-use Rattle.vg_ring.specs.Tells.{IsTaken}
+use Rattle.vg_ring.specs.TellsWithin.{IsTaken}
 use Rattle.vg_ring.proofs.Told.{allows_size, exchanged, holds_one}
 use Rattle.vg_ring.proofs.ToldDevice.{fetch_step, settle_device_step}
 use Rattle.vg_ring.proofs.device.take_entry.Goals as goal

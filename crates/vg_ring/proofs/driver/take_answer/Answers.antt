@@ -3,7 +3,7 @@ use Rattle.vg_ring.specs.Plays.{driver_of, rested}
 use Rattle.vg_ring.specs.declared.views.View.TheVariants.{Driver}
 use Rattle.vg_ring.specs.Words.{used_place}
 use Rattle.vg_ring.specs.Rule.{reaped_after}
-use Rattle.vg_ring.specs.Tells.{IsReaped}
+use Rattle.vg_ring.specs.TellsWithin.{IsReaped}
 use Rattle.vg_ring.proofs.Told.{allows_size, take_step, settle_driver_step, exchanged, holds_one, head_found}
 use Rattle.vg_ring.proofs.driver.take_answer.Goals as goal
 

@@ -1,6 +1,6 @@
 use Rattle.std.proofs.Common.{◌≡◌, ◌∙◌, ◌+◌, ◌++◌, ◌∷◌, [], length, length-append, ap, sym, subst, arith}
 use Rattle.vg_ring.specs.Plays.{device_of}
-use Rattle.vg_ring.specs.Tells.{TellsTable, TellsDescriptor}
+use Rattle.vg_ring.specs.TellsWithin.{TellsTable, TellsDescriptor}
 use Rattle.vg_ring.proofs.TableLemmas.{table_more}
 use Rattle.vg_ring.proofs.table.read_table.Goals as goal
 

@@ -1,6 +1,6 @@
 use Rattle.std.proofs.Common.{◌≡◌, length}
 use Rattle.vg_ring.specs.Plays.{device_of}
-use Rattle.vg_ring.specs.Tells.{TellsTable}
+use Rattle.vg_ring.specs.TellsWithin.{TellsTable}
 use Rattle.vg_ring.proofs.table.read_table.Given as goal
 
 abbrev pub invariant-loop-place : goal.invariant-loop-place

@@ -1,4 +1,4 @@
-use Rattle.vg_script.specs.Reading.{seen}
+use Rattle.vg_script.specs.ReadingWithin.{seen}
 use Rattle.vg_script.proofs.LimitLaws.{answer_within}
 use Rattle.vg_script.proofs.text.parse.Goals as goal
 

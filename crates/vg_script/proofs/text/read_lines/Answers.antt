@@ -1,7 +1,7 @@
 use Rattle.std.proofs.Common.{◌==◌, length, arith, ◌∙◌, sym, ap}
 use Rattle.vg_script.specs.Grammar.{scan}
 use Rattle.vg_script.specs.Lines.{lines_of}
-use Rattle.vg_script.specs.Reading.{seen}
+use Rattle.vg_script.specs.ReadingWithin.{seen}
 use Rattle.vg_script.proofs.Lines.{lines_of-nil, some_left, none_left, shorter}
 use Rattle.vg_script.proofs.Scans.{rest_ok, rest_err, one_line_more}
 use Rattle.vg_script.proofs.text.read_lines.Goals as goal

@@ -2,7 +2,7 @@ use Rattle.std.proofs.Common.{◌≡◌, ◌+◌, ◌≤◌, length}
 use Rattle.vg_script.specs.Lines.{lines_of}
 use Rattle.vg_script.specs.Seen.{nothing_seen}
 use Rattle.vg_script.specs.Grammar.{scan}
-use Rattle.vg_script.specs.Reading.{seen}
+use Rattle.vg_script.specs.ReadingWithin.{seen}
 use Rattle.vg_script.proofs.text.read_lines.Given as goal
 
 abbrev pub invariant-loop-rest : goal.invariant-loop-rest

@@ -1,6 +1,6 @@
 use Rattle.std.proofs.Common.{◌≡◌, ◌≤◌, sym, ap, refl, subst, List, [], ◌∷◌, ◌++◌, Ok, Result}
 use Rattle.std.specs.List.{AllByRecursion}
-use Rattle.vg_holds.specs.declared.act.What.{What}
+use Rattle.vg_client_holds.specs.declared.act.What.{What}
 use Rattle.vg_tasks.specs.declared.task.Task.{Task}
 use Rattle.vg_tasks.specs.Plans.{weights}
 use Rattle.vg_tasks.specs.Fits.{IsFit}

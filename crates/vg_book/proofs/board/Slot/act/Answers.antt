@@ -1,5 +1,5 @@
 use Rattle.std.proofs.Common.{subst, sym, ◌∙◌, refl}
-use Rattle.vg_book.specs.Hands.{IsSameCore, ActsOn}
+use Rattle.vg_book.specs.HandsWithin.{IsSameCore, ActsOn}
 use Rattle.vg_book.proofs.HandLemmas.{ok_map, on_err_map, held_same}
 use Rattle.vg_book.proofs.board.Slot.act.Goals as goal
 

@@ -1,5 +1,5 @@
 use Rattle.std.proofs.Common.{subst, sym, ◌∙◌, refl}
-use Rattle.vg_book.specs.Hands.{IsSameCore, RunsWhole, Lends}
+use Rattle.vg_book.specs.HandsWithin.{IsSameCore, RunsWhole, Lends}
 use Rattle.vg_book.proofs.HandLemmas.{whole_map, lent_map, err_map, held_same}
 use Rattle.vg_book.proofs.board.Slot.begin.Goals as goal
 

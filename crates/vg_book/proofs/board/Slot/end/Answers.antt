@@ -1,5 +1,5 @@
 use Rattle.std.proofs.Common.{subst, sym, ◌∙◌, refl}
-use Rattle.vg_book.specs.Hands.{EndsOn}
+use Rattle.vg_book.specs.HandsWithin.{EndsOn}
 use Rattle.vg_book.proofs.HandLemmas.{held_same}
 use Rattle.vg_book.proofs.board.Slot.end.Goals as goal
 

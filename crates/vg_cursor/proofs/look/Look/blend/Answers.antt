@@ -2,7 +2,7 @@
 use Rattle.std.proofs.Common.{rules, ◌≡◌, ◌∙◌, subst, true, false, w32, arith}
 use Rattle.std.proofs.lemmas.Int.{to_z-of_z}
 use mir.Val.{SFits}
-use Rattle.vg_cursor.specs.Span.{IsSpan}
+use Rattle.vg_cursor.specs.SpanWithin.{IsSpan}
 use Rattle.vg_cursor.proofs.BlendLemmas.{rows-blended, hidden-blended, rows-on-screen}
 use Rattle.vg_cursor.specs.Look.{cursor_like}
 use Rattle.vg_cursor.proofs.look.Look.blend.Goals as goal

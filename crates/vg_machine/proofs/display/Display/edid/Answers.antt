@@ -1,5 +1,5 @@
 use Rattle.vg_machine.proofs.EdidLemmas.{display-read, edid-given}
-use Rattle.vg_holds.specs.Setup.{IsDisplay}
+use Rattle.vg_client_holds.specs.Setup.{IsDisplay}
 use Rattle.vg_machine.specs.State.{State}
 use Rattle.std.proofs.Common.{◌∙◌, ap, arith}
 use Rattle.vg_machine.proofs.display.Display.edid.Goals as goal

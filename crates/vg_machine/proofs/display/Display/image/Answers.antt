@@ -1,6 +1,6 @@
 use Rattle.std.proofs.Common.{◌≡◌, rules, subst, Option, arith}
 use Rattle.vg_resource.specs.declared.resource.Resource.{Resource}
-use Rattle.vg_machine.specs.Change.{IsImage}
+use Rattle.vg_machine.specs.ChangeWithin.{IsImage}
 use Rattle.vg_machine.proofs.CursorLemmas.{image-is}
 use Rattle.vg_machine.proofs.display.Display.image.Goals as goal
 

@@ -2,7 +2,7 @@ use Rattle.std.proofs.Common.{rules, ◌<◌, ◌∙◌, List, Option, length, a
 use Rattle.std.specs.List.{All}
 use Rattle.vg_cursor.specs.Cursor.{changed}
 use Rattle.vg_scanout.specs.Scanout.{Screen}
-use Rattle.vg_machine.specs.Change.{change_of}
+use Rattle.vg_machine.specs.ChangeWithin.{change_of}
 use Rattle.vg_machine.specs.State.{IsShowing, State}
 use Rattle.vg_machine.proofs.CursorLemmas.{cursor-changed, pointed-done, pointed-refused, screens-snapped}
 use Rattle.vg_machine.proofs.display.Display.point.Goals as goal

@@ -2,7 +2,7 @@ use Rattle.std.proofs.Common.{◌∙◌, ◌+◌, ◌%◌, slice_set, refl, sym,
 use Rattle.vg_ring.specs.declared.views.DeviceStage.TheVariants.{Newer}
 use Rattle.vg_ring.specs.Rule.{fetched_after}
 use Rattle.vg_ring.specs.Plays.{device_of}
-use Rattle.vg_ring.specs.Tells.{HasTaken}
+use Rattle.vg_ring.specs.TellsWithin.{HasTaken}
 use Rattle.vg_ring.specs.DeviceEnds.{Fetches, device_lists}
 use Rattle.vg_ring.specs.Cargo.{IsLane}
 use Rattle.vg_ring.proofs.TendedLemmas.{look_newer_device, look_none_device, tended_looked, tended_taken, fetches_is, device_ok, tag_is}

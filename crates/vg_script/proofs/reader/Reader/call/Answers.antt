@@ -1,6 +1,6 @@
 use Rattle.std.proofs.Common.{rules, map, arith, ◌≡◌, ◌<◌, length, ◌∙◌}
-use Rattle.vg_script.specs.Reading.{seen}
-use Rattle.vg_steps.specs.Code.{table_of}
+use Rattle.vg_script.specs.ReadingWithin.{seen}
+use Rattle.vg_call_lines.specs.Code.{table_of}
 use Rattle.vg_script.proofs.CallForms.{goes_misplaced, goes_past, goes_err, goes_ok}
 use Rattle.vg_script.proofs.ClientLists.{one_line_added}
 use Rattle.vg_script.proofs.reader.Reader.call.Goals as goal

@@ -1,5 +1,5 @@
 use Rattle.std.proofs.Common.{rules}
-use Rattle.vg_script.specs.Reading.{seen}
+use Rattle.vg_script.specs.ReadingWithin.{seen}
 use Rattle.vg_script.proofs.CallForms.{without_words}
 use Rattle.vg_script.proofs.reader.Reader.read_form.Goals as goal
 

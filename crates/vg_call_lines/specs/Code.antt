@@ -1,0 +1,32 @@
+-- How the code's values stand for those of the other modules here.
+use Rattle.std.specs.Prelude.{◌≡◌, Bool, true, false, Option, Some, None, Result, Ok, Err}
+use Rattle.std.specs.Bool.{⊤}
+use Rattle.vg_calls.specs.declared.call.Call.{Call}
+use Rattle.vg_script_words.specs.declared.kind.Kind.{Kind}
+use Rattle.vg_script_words.specs.declared.kind.Kind.TheVariants.{Name}
+use Rattle.vg_script_words.specs.declared.kind.Stop.{Stop}
+use Rattle.vg_script_words.specs.declared.kind.Stop.TheVariants.{Memory, Fault}
+use Rattle.vg_call_lines.specs.declared.names.Names.{Names}
+use Rattle.vg_call_lines.specs.Tables.{NameTable, names_of}
+
+-- The names that are defined, and how many were.
+abbrev pub table_of : Names → NameTable
+table_of names = record { names = names_of names.named; count = names.count }
+
+-- There is such a value and the answer is it, or there is none and the answer is a fault of this kind.
+abbrev pub Finds : {X : Type 0} → Option X → Kind → Result X Kind → Type 0
+Finds option kind (Ok x) = option ≡ Some x
+Finds option kind (Err k) = (k ≡ kind) × (option ≡ None)
+
+-- A name was defined as it has to be and this is it, or the answer is a fault of a name, where memory may be wanting.
+abbrev pub Knows : {X : Type 0} → Bool → X → Result X Stop → Type 0
+Knows test name (Ok read) = (test ≡ true) × (read ≡ name)
+Knows test name (Err Memory) = ⊤
+Knows test name (Err (Fault kind)) = (kind ≡ Name) × (test ≡ false)
+
+-- What the reading of a line gave, where memory may be wanting: the call and the names after it, or the
+-- kind of the fault.
+abbrev pub Judges : NameTable → Result Call Stop → Result (Call × NameTable) Kind → Type 0
+Judges after (Ok call) judged = judged ≡ Ok (call, after)
+Judges after (Err Memory) judged = ⊤
+Judges after (Err (Fault kind)) judged = judged ≡ Err kind

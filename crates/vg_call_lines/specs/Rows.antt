@@ -1,0 +1,325 @@
+-- The lines of a client, one row for each word: what has to hold of how its numbers are spelled, of the limits
+-- and of the names, and which call it is. `displays` is how many displays there are, and `table` has the names
+-- that are defined before the line. A word or a count of arguments that the grammar doesn't know has no row.
+use Rattle.std.specs.Prelude.{ℕ, ◌*◌, ◌/◌, ◌&&◌, ◌||◌, not, nat_lt, nat_le, Bool, true, is_none, is_some, List, length, Option, Some, None, Result, Ok, Err, if◌then◌else◌, codes, bytes_eq}
+use Rattle.std.specs.Int.{is_in_range}
+use Rattle.vg_script_words.specs.declared.kind.Kind.{Kind}
+use Rattle.vg_script_words.specs.declared.kind.Kind.TheVariants.{Word, Number, Limit, Name}
+use Rattle.vg_formats.specs.declared.rect.Rect.{Rect}
+use Rattle.vg_formats.specs.Formats.{format_of}
+use Rattle.vg_wire.specs.declared.request.Queue.{Queue}
+use Rattle.vg_wire.specs.declared.request.Queue.TheVariants as queues
+use Rattle.vg_chain.specs.declared.shape.Shape.{Shape}
+use Rattle.vg_chain.specs.declared.shape.Shape.TheVariants.{Plain, Pieces, Indirect, Mixed, Bad}
+use Rattle.vg_chain.specs.declared.chain.ChainFault.TheVariants.{Index, Loop, Nested, NextWithIndirect, TableLength, Order, Range}
+use Rattle.vg_chain.specs.Space.{most_room}
+use Rattle.vg_calls.specs.declared.call.Call.{Call}
+use Rattle.vg_calls.specs.declared.call.Call.TheVariants.{Info, Edid, Buffer, Store, Load, Send, Flush, Take, Drop, Hide, Show, Flip, Cursor, Move, Uuid, Close, Raw}
+use Rattle.vg_calls.specs.declared.call.NameRef.{NameRef}
+use Rattle.vg_call_lines.specs.declared.names.NameKind.TheVariants as kinds
+use Rattle.vg_script_words.specs.Words.{is_number, value, is_within, is_hex, hex_bytes, is_hex_or_none, bytes_or_none, is_name, is_no_name, is_signed, signed_value, is_position}
+use Rattle.vg_call_lines.specs.Args.{no_args, one_arg, two_args, three_args, four_args, five_args, six_args}
+use Rattle.vg_call_lines.specs.Tables.{NameTable, with_name, without_name, is_kind, ref_to}
+
+pub record Row : Type 0 where
+  -- each number and HEX is well spelled
+  pub numbers : Bool
+  -- each is within its limits
+  pub limits : Bool
+  -- each name is well spelled, and is defined or isn't, as it has to be: a badly spelled one never is
+  pub names : Bool
+  -- the call
+  pub call : Call
+  -- which names are defined after it
+  pub after : NameTable
+
+-- Any `u32`.
+abbrev pub is_any : List ℕ → Bool
+is_any word = is_within 0 4294967295 word
+
+-- The code of a format.
+abbrev pub is_format : List ℕ → Bool
+is_format word = is_some (format_of (value word))
+
+-- A count of bytes and how many times they are stored: each within its limits, and their product too.
+abbrev pub are_times : ℕ → List ℕ → Bool
+are_times count times = is_in_range 1 4096 count && is_within 1 307200 times && nat_le (count * value times) 1228800
+
+-- The number of a display.
+abbrev pub is_scanout : ℕ → List ℕ → Bool
+is_scanout displays word = nat_lt (value word) displays
+
+-- X Y W H
+abbrev pub are_numbers : (x y width height : List ℕ) → Bool
+are_numbers x y width height = is_number x && is_number y && is_number width && is_number height
+
+abbrev pub are_any : (x y width height : List ℕ) → Bool
+are_any x y width height = is_any x && is_any y && is_any width && is_any height
+
+abbrev pub rect_of : (x y width height : List ℕ) → Rect
+rect_of x y width height = record { x = value x; y = value y; width = value width; height = value height }
+
+-- The name that a word is, or none where it is `-`.
+abbrev pub ref_or_none : NameTable → List ℕ → Option NameRef
+ref_or_none table name = if is_no_name name then None else Some (ref_to table name)
+
+-- info
+unfoldable pub info_row : NameTable → Option Row
+info_row table = Some (record {
+  numbers = true;
+  limits = true;
+  names = true;
+  call = Info;
+  after = table;
+})
+
+-- edid S
+unfoldable pub edid_row : NameTable → (scanout : List ℕ) → Option Row
+edid_row table scanout = Some (record {
+  numbers = is_number scanout;
+  limits = is_any scanout;
+  names = true;
+  call = Edid (value scanout);
+  after = table;
+})
+
+-- buffer A W H F
+unfoldable pub buffer_row : NameTable → (name width height format : List ℕ) → Option Row
+buffer_row table name width height format = Some (record {
+  numbers = is_number width && is_number height && is_number format;
+  limits = is_within 1 640 width && is_within 1 480 height && is_format format;
+  names = is_name name && is_none (table.names name);
+  call = Buffer (value width) (value height) (value format);
+  after = with_name name kinds.Buffer table;
+})
+
+-- store A OFFSET HEX TIMES
+unfoldable pub store_row : NameTable → (name offset hex times : List ℕ) → Option Row
+store_row table name offset hex times = Some (record {
+  numbers = is_number offset && is_hex hex && is_number times;
+  limits = is_within 0 1228799 offset && are_times (length hex / 2) times;
+  names = is_kind kinds.Buffer (table.names name);
+  call = Store (ref_to table name) (value offset) (hex_bytes hex) (value times);
+  after = table;
+})
+
+-- load A OFFSET LEN
+unfoldable pub load_row : NameTable → (name offset size : List ℕ) → Option Row
+load_row table name offset size = Some (record {
+  numbers = is_number offset && is_number size;
+  limits = is_within 0 1228799 offset && is_within 1 1024 size;
+  names = is_kind kinds.Buffer (table.names name);
+  call = Load (ref_to table name) (value offset) (value size);
+  after = table;
+})
+
+-- send A X Y W H
+unfoldable pub send_row : NameTable → (name x y width height : List ℕ) → Option Row
+send_row table name x y width height = Some (record {
+  numbers = are_numbers x y width height;
+  limits = are_any x y width height;
+  names = is_kind kinds.Buffer (table.names name);
+  call = Send (ref_to table name) (rect_of x y width height);
+  after = table;
+})
+
+-- flush A X Y W H
+unfoldable pub flush_row : NameTable → (name x y width height : List ℕ) → Option Row
+flush_row table name x y width height = Some (record {
+  numbers = are_numbers x y width height;
+  limits = are_any x y width height;
+  names = is_kind kinds.Buffer (table.names name);
+  call = Flush (ref_to table name) (rect_of x y width height);
+  after = table;
+})
+
+-- take S
+unfoldable pub take_row : ℕ → NameTable → (scanout : List ℕ) → Option Row
+take_row displays table scanout = Some (record {
+  numbers = is_number scanout;
+  limits = is_scanout displays scanout;
+  names = true;
+  call = Take (value scanout);
+  after = table;
+})
+
+-- drop S
+unfoldable pub drop_row : ℕ → NameTable → (scanout : List ℕ) → Option Row
+drop_row displays table scanout = Some (record {
+  numbers = is_number scanout;
+  limits = is_scanout displays scanout;
+  names = true;
+  call = Drop (value scanout);
+  after = table;
+})
+
+-- hide S
+unfoldable pub hide_row : ℕ → NameTable → (scanout : List ℕ) → Option Row
+hide_row displays table scanout = Some (record {
+  numbers = is_number scanout;
+  limits = is_scanout displays scanout;
+  names = true;
+  call = Hide (value scanout);
+  after = table;
+})
+
+-- show S A X Y W H
+unfoldable pub show_row : ℕ → NameTable → (scanout name x y width height : List ℕ) → Option Row
+show_row displays table scanout name x y width height = Some (record {
+  numbers = is_number scanout && are_numbers x y width height;
+  limits = is_scanout displays scanout && are_any x y width height;
+  names = is_kind kinds.Buffer (table.names name);
+  call = Show (value scanout) (ref_to table name) (rect_of x y width height);
+  after = table;
+})
+
+-- flip S A
+unfoldable pub flip_row : ℕ → NameTable → (scanout name : List ℕ) → Option Row
+flip_row displays table scanout name = Some (record {
+  numbers = is_number scanout;
+  limits = is_scanout displays scanout;
+  names = is_kind kinds.Buffer (table.names name);
+  call = Flip (value scanout) (ref_to table name);
+  after = table;
+})
+
+-- cursor S A X Y HX HY, where `-` for A hides the cursor
+unfoldable pub cursor_row : ℕ → NameTable → (scanout name x y hot_x hot_y : List ℕ) → Option Row
+cursor_row displays table scanout name x y hot_x hot_y = Some (record {
+  numbers = is_number scanout && is_signed x && is_signed y && is_number hot_x && is_number hot_y;
+  limits = is_scanout displays scanout && is_position x && is_position y && is_any hot_x && is_any hot_y;
+  names = is_no_name name || is_kind kinds.Buffer (table.names name);
+  call = Cursor (value scanout) (ref_or_none table name) (signed_value x) (signed_value y) (value hot_x) (value hot_y);
+  after = table;
+})
+
+-- move S X Y
+unfoldable pub move_row : ℕ → NameTable → (scanout x y : List ℕ) → Option Row
+move_row displays table scanout x y = Some (record {
+  numbers = is_number scanout && is_signed x && is_signed y;
+  limits = is_scanout displays scanout && is_position x && is_position y;
+  names = true;
+  call = Move (value scanout) (signed_value x) (signed_value y);
+  after = table;
+})
+
+-- uuid A
+unfoldable pub uuid_row : NameTable → (name : List ℕ) → Option Row
+uuid_row table name = Some (record {
+  numbers = true;
+  limits = true;
+  names = is_kind kinds.Buffer (table.names name);
+  call = Uuid (ref_to table name);
+  after = table;
+})
+
+-- close A
+unfoldable pub close_row : NameTable → (name : List ℕ) → Option Row
+close_row table name = Some (record {
+  numbers = true;
+  limits = true;
+  names = is_kind kinds.Buffer (table.names name);
+  call = Close (ref_to table name);
+  after = without_name name table;
+})
+
+-- The queue that a word names.
+unfoldable pub queue_of : List ℕ → Option Queue
+queue_of word =
+    if bytes_eq word (codes "control") then Some queues.Control
+    else if bytes_eq word (codes "cursor") then Some queues.Cursor
+    else None
+
+-- The shape that a word spells, where it has a fault.
+unfoldable pub bad_shape_of : List ℕ → Option Shape
+bad_shape_of word =
+    if bytes_eq word (codes "index") then Some (Bad Index)
+    else if bytes_eq word (codes "loop") then Some (Bad Loop)
+    else if bytes_eq word (codes "nested") then Some (Bad Nested)
+    else if bytes_eq word (codes "nextindirect") then Some (Bad NextWithIndirect)
+    else if bytes_eq word (codes "tablelength") then Some (Bad TableLength)
+    else if bytes_eq word (codes "order") then Some (Bad Order)
+    else if bytes_eq word (codes "range") then Some (Bad Range)
+    else None
+
+-- The shape that a word spells.
+unfoldable pub shape_of : List ℕ → Option Shape
+shape_of word =
+    if bytes_eq word (codes "plain") then Some Plain
+    else if bytes_eq word (codes "pieces2") then Some (Pieces 2)
+    else if bytes_eq word (codes "pieces3") then Some (Pieces 3)
+    else if bytes_eq word (codes "pieces4") then Some (Pieces 4)
+    else if bytes_eq word (codes "pieces5") then Some (Pieces 5)
+    else if bytes_eq word (codes "pieces6") then Some (Pieces 6)
+    else if bytes_eq word (codes "pieces7") then Some (Pieces 7)
+    else if bytes_eq word (codes "pieces8") then Some (Pieces 8)
+    else if bytes_eq word (codes "indirect") then Some Indirect
+    else if bytes_eq word (codes "mixed") then Some Mixed
+    else bad_shape_of word
+
+-- A request on that queue in that shape, if there are such.
+unfoldable pub request_row : NameTable → Option Queue → Option Shape → (room hex : List ℕ) → Option Row
+request_row table (Some queue) (Some shape) room hex = Some (record {
+  numbers = is_number room && is_hex_or_none hex;
+  limits = is_within 0 most_room room && nat_le (length hex / 2) 4096;
+  names = true;
+  call = Raw queue (value room) shape (bytes_or_none hex);
+  after = table;
+})
+request_row table queue shape room hex = None
+
+-- raw Q ROOM SHAPE HEX
+unfoldable pub raw_row : NameTable → (queue room shape hex : List ℕ) → Option Row
+raw_row table queue room shape hex = request_row table (queue_of queue) (shape_of shape) room hex
+
+-- The row of a line, by its first word and the arguments behind it, in four parts. Each part but the last goes on
+-- to the one that stands above it here, where the word is none of its own. The last part: cursors, names, and
+-- requests that are given by their bytes.
+unfoldable pub row_of_others : List ℕ → ℕ → NameTable → List (List ℕ) → Option Row
+row_of_others word displays table args =
+    if bytes_eq word (codes "cursor") then six_args (cursor_row displays table) args
+    else if bytes_eq word (codes "move") then three_args (move_row displays table) args
+    else if bytes_eq word (codes "uuid") then one_arg (uuid_row table) args
+    else if bytes_eq word (codes "close") then one_arg (close_row table) args
+    else if bytes_eq word (codes "raw") then four_args (raw_row table) args
+    else None
+
+-- The third: scanouts.
+unfoldable pub row_of_scanouts : List ℕ → ℕ → NameTable → List (List ℕ) → Option Row
+row_of_scanouts word displays table args =
+    if bytes_eq word (codes "take") then one_arg (take_row displays table) args
+    else if bytes_eq word (codes "drop") then one_arg (drop_row displays table) args
+    else if bytes_eq word (codes "hide") then one_arg (hide_row displays table) args
+    else if bytes_eq word (codes "show") then six_args (show_row displays table) args
+    else if bytes_eq word (codes "flip") then two_args (flip_row displays table) args
+    else row_of_others word displays table args
+
+-- The second: buffers, their bytes and their pixels.
+unfoldable pub row_of_buffers : List ℕ → ℕ → NameTable → List (List ℕ) → Option Row
+row_of_buffers word displays table args =
+    if bytes_eq word (codes "buffer") then four_args (buffer_row table) args
+    else if bytes_eq word (codes "store") then four_args (store_row table) args
+    else if bytes_eq word (codes "load") then three_args (load_row table) args
+    else if bytes_eq word (codes "send") then five_args (send_row table) args
+    else if bytes_eq word (codes "flush") then five_args (flush_row table) args
+    else row_of_scanouts word displays table args
+
+-- The first, and so all: what asks the device.
+unfoldable pub row_of : List ℕ → ℕ → NameTable → List (List ℕ) → Option Row
+row_of word displays table args =
+    if bytes_eq word (codes "info") then no_args (info_row table) args
+    else if bytes_eq word (codes "edid") then one_arg (edid_row table) args
+    else row_of_buffers word displays table args
+
+-- A row's call and the names after it, or the least kind of its faults.
+abbrev pub judged : Row → Result (Call × NameTable) Kind
+judged row =
+    if not row.numbers then Err Number
+    else if not row.limits then Err Limit
+    else if not row.names then Err Name
+    else Ok (row.call, row.after)
+
+-- The same where there may be no row, which is a fault of a word.
+abbrev pub judged_row : Option Row → Result (Call × NameTable) Kind
+judged_row None = Err Word
+judged_row (Some row) = judged row

@@ -1,0 +1,48 @@
+-- The names that are defined.
+use Rattle.std.specs.Prelude.{ℕ, ◌+◌, Bool, true, false, List, Option, Some, None, if◌then◌else◌, bytes_eq}
+use Rattle.std.specs.BTreeMap.{BTreeMap, get_by}
+use Rattle.std.specs.Cmp.Lexicographic.{slice_cmp}
+use Rattle.std.specs.Ordering.{nat_cmp}
+use denote.Ref.{Bor}
+use Rattle.vg_calls.specs.declared.call.NameRef.{NameRef}
+use Rattle.vg_call_lines.specs.declared.names.NameKind.{NameKind}
+use Rattle.vg_call_lines.specs.declared.names.NameKind.TheVariants.{Buffer}
+use Rattle.vg_call_lines.specs.declared.names.Named.{Named}
+
+-- Which names of a client are defined, and how many its lines have defined so far, those that have ended among them.
+pub record NameTable : Type 0 where
+  pub names : List ℕ → Option Named
+  pub count : ℕ
+
+-- The names of a map by parts of a text.
+abbrev pub names_of : BTreeMap (Bor (List ℕ)) Named → List ℕ → Option Named
+names_of map q = get_by (λ k. slice_cmp nat_cmp q k.now) map
+
+abbrev pub no_names : NameTable
+no_names = record { names = λ q. None; count = 0 }
+
+-- A table with one name more, which has the next number, and without one.
+abbrev pub with_name : List ℕ → NameKind → NameTable → NameTable
+with_name name kind table = record {
+  names = λ q. if bytes_eq name q then Some (record { kind = kind; number = table.count + 1 }) else table.names q;
+  count = table.count + 1;
+}
+
+abbrev pub without_name : List ℕ → NameTable → NameTable
+without_name name table = record table { names = λ q. if bytes_eq name q then None else table.names q }
+
+abbrev pub are_same : NameKind → NameKind → Bool
+are_same Buffer Buffer = true
+
+-- Whether this is a name of that kind.
+abbrev pub is_kind : NameKind → Option Named → Bool
+is_kind kind (Some named) = are_same named.kind kind
+is_kind kind None = false
+
+-- A name by its number; 0 where it isn't defined.
+abbrev pub number_of : Option Named → ℕ
+number_of (Some named) = named.number
+number_of None = 0
+
+abbrev pub ref_to : NameTable → List ℕ → NameRef
+ref_to table name = record { number = number_of (table.names name) }

@@ -1,0 +1,214 @@
+//! Which line of a client some words are.
+
+ghost use Rattle.std.specs.Prelude.{◌+◌, ◌-◌, ◌<◌, ◌≤◌, ◌^◌, map};
+ghost use Rattle.vg_call_lines.specs.Rows.{judged_row, row_of, row_of_buffers, row_of_scanouts, row_of_others, buffer_row, store_row, load_row, send_row, flush_row, show_row, flip_row, cursor_row, move_row, raw_row};
+ghost use Rattle.vg_call_lines.specs.Args.{two_args, three_args, four_args, five_args, six_args};
+ghost use Rattle.vg_call_lines.specs.Code.{table_of, Judges};
+
+use crate::args::with_args;
+use crate::names::Names;
+use crate::rows;
+use std::alloc::Global;
+use vg_calls::Call;
+use vg_script_words::{Kind, Stop, is};
+
+/// The call of a client's line, by its first word and the arguments behind it, or the least kind of its faults. There are
+/// `displays` displays, at most 16. `names` has the names that are defined before the line, and where it is a call those
+/// after it.
+#[tactic(auto, unfolding(crate::specs::Rows::row_of))]
+pub fn call_of<'a>(
+    alloc: Global,
+    names: &mut Names<'a>,
+    displays: usize,
+    word: &[u8],
+    args: &[&'a [u8]],
+) -> Result<Call, Stop>
+    requires displays { displays ≤ 16 }
+    requires count { (table_of names.old).count < 2 ^ 32 - 1 }
+    ensures call { Judges (table_of names.new) result
+        (judged_row (row_of word.now displays (table_of names.old) (map (λ arg. arg.now) args.now))) }
+    ensures count { (table_of names.new).count ≤ (table_of names.old).count + 1 }
+{
+    if is(word, b"info") {
+        return with_args!(args, [] => rows::info(names));
+    }
+    if is(word, b"edid") {
+        return with_args!(args, [scanout] => rows::edid(names, scanout));
+    }
+    call_of_buffers(alloc, names, displays, word, args)
+}
+
+/// The call of a line about a buffer, its bytes or its pixels, or else of one of those below.
+#[tactic(auto, unfolding(crate::specs::Rows::row_of_buffers))]
+fn call_of_buffers<'a>(
+    alloc: Global,
+    names: &mut Names<'a>,
+    displays: usize,
+    word: &[u8],
+    args: &[&'a [u8]],
+) -> Result<Call, Stop>
+    requires displays { displays ≤ 16 }
+    requires count { (table_of names.old).count < 2 ^ 32 - 1 }
+    ensures call { Judges (table_of names.new) result
+        (judged_row (row_of_buffers word.now displays (table_of names.old) (map (λ arg. arg.now) args.now))) }
+    ensures count { (table_of names.new).count ≤ (table_of names.old).count + 1 }
+{
+    if is(word, b"buffer") {
+        return buffer(names, args);
+    }
+    if is(word, b"store") {
+        return store(alloc, names, args);
+    }
+    if is(word, b"load") {
+        return load(names, args);
+    }
+    if is(word, b"send") {
+        return send(names, args);
+    }
+    if is(word, b"flush") {
+        return flush(names, args);
+    }
+    call_of_scanouts(alloc, names, displays, word, args)
+}
+
+/// The call of a line about a scanout, or else of one of those below.
+#[tactic(auto, unfolding(crate::specs::Rows::row_of_scanouts))]
+fn call_of_scanouts(
+    alloc: Global,
+    names: &mut Names,
+    displays: usize,
+    word: &[u8],
+    args: &[&[u8]],
+) -> Result<Call, Stop>
+    requires displays { displays ≤ 16 }
+    requires count { (table_of names.old).count < 2 ^ 32 - 1 }
+    ensures call { Judges (table_of names.new) result
+        (judged_row (row_of_scanouts word.now displays (table_of names.old) (map (λ arg. arg.now) args.now))) }
+    ensures count { (table_of names.new).count ≤ (table_of names.old).count + 1 }
+{
+    if is(word, b"take") {
+        return with_args!(args, [scanout] => rows::take(names, displays, scanout));
+    }
+    if is(word, b"drop") {
+        return with_args!(args, [scanout] => rows::drop_scanout(names, displays, scanout));
+    }
+    if is(word, b"hide") {
+        return with_args!(args, [scanout] => rows::hide(names, displays, scanout));
+    }
+    if is(word, b"show") {
+        return show(names, displays, args);
+    }
+    if is(word, b"flip") {
+        return flip(names, displays, args);
+    }
+    call_of_others(alloc, names, displays, word, args)
+}
+
+/// The call of a line about a cursor or a name, or of a request that is given by its bytes.
+#[tactic(auto, unfolding(crate::specs::Rows::row_of_others))]
+fn call_of_others(
+    alloc: Global,
+    names: &mut Names,
+    displays: usize,
+    word: &[u8],
+    args: &[&[u8]],
+) -> Result<Call, Stop>
+    requires displays { displays ≤ 16 }
+    requires count { (table_of names.old).count < 2 ^ 32 - 1 }
+    ensures call { Judges (table_of names.new) result
+        (judged_row (row_of_others word.now displays (table_of names.old) (map (λ arg. arg.now) args.now))) }
+    ensures count { (table_of names.new).count ≤ (table_of names.old).count + 1 }
+{
+    if is(word, b"cursor") {
+        return cursor(names, displays, args);
+    }
+    if is(word, b"move") {
+        return move_cursor(names, displays, args);
+    }
+    if is(word, b"uuid") {
+        return with_args!(args, [name] => rows::uuid(names, name));
+    }
+    if is(word, b"close") {
+        return with_args!(args, [name] => rows::close(names, name));
+    }
+    if is(word, b"raw") {
+        return raw(alloc, names, args);
+    }
+    Err(Stop::Fault(Kind::Word))
+}
+
+fn buffer<'a>(names: &mut Names<'a>, args: &[&'a [u8]]) -> Result<Call, Stop>
+    requires { (table_of names.old).count < 2 ^ 32 - 1 }
+    ensures call { Judges (table_of names.new) result
+        (judged_row (four_args (buffer_row (table_of names.old)) (map (λ arg. arg.now) args.now))) }
+    ensures count { (table_of names.new).count ≤ (table_of names.old).count + 1 }
+{
+    with_args!(args, [name, width, height, format] => rows::buffer(names, name, width, height, format))
+}
+
+fn store(alloc: Global, names: &Names, args: &[&[u8]]) -> Result<Call, Stop>
+    ensures { Judges (table_of names.now) result
+        (judged_row (four_args (store_row (table_of names.now)) (map (λ arg. arg.now) args.now))) }
+{
+    with_args!(args, [name, offset, hex, times] => rows::store(alloc, names, name, offset, hex, times))
+}
+
+fn load(names: &Names, args: &[&[u8]]) -> Result<Call, Stop>
+    ensures { Judges (table_of names.now) result
+        (judged_row (three_args (load_row (table_of names.now)) (map (λ arg. arg.now) args.now))) }
+{
+    with_args!(args, [name, offset, size] => rows::load(names, name, offset, size))
+}
+
+fn send(names: &Names, args: &[&[u8]]) -> Result<Call, Stop>
+    ensures { Judges (table_of names.now) result
+        (judged_row (five_args (send_row (table_of names.now)) (map (λ arg. arg.now) args.now))) }
+{
+    with_args!(args, [name, x, y, width, height] => rows::send(names, name, x, y, width, height))
+}
+
+fn flush(names: &Names, args: &[&[u8]]) -> Result<Call, Stop>
+    ensures { Judges (table_of names.now) result
+        (judged_row (five_args (flush_row (table_of names.now)) (map (λ arg. arg.now) args.now))) }
+{
+    with_args!(args, [name, x, y, width, height] => rows::flush(names, name, x, y, width, height))
+}
+
+fn show(names: &Names, displays: usize, args: &[&[u8]]) -> Result<Call, Stop>
+    requires { displays ≤ 16 }
+    ensures { Judges (table_of names.now) result
+        (judged_row (six_args (show_row displays (table_of names.now)) (map (λ arg. arg.now) args.now))) }
+{
+    with_args!(args, [scanout, name, x, y, width, height] => rows::show(names, displays, scanout, name, x, y, width, height))
+}
+
+fn flip(names: &Names, displays: usize, args: &[&[u8]]) -> Result<Call, Stop>
+    requires { displays ≤ 16 }
+    ensures { Judges (table_of names.now) result
+        (judged_row (two_args (flip_row displays (table_of names.now)) (map (λ arg. arg.now) args.now))) }
+{
+    with_args!(args, [scanout, name] => rows::flip(names, displays, scanout, name))
+}
+
+fn cursor(names: &Names, displays: usize, args: &[&[u8]]) -> Result<Call, Stop>
+    requires { displays ≤ 16 }
+    ensures { Judges (table_of names.now) result
+        (judged_row (six_args (cursor_row displays (table_of names.now)) (map (λ arg. arg.now) args.now))) }
+{
+    with_args!(args, [scanout, name, x, y, hot_x, hot_y] => rows::cursor(names, displays, scanout, name, x, y, hot_x, hot_y))
+}
+
+fn move_cursor(names: &Names, displays: usize, args: &[&[u8]]) -> Result<Call, Stop>
+    requires { displays ≤ 16 }
+    ensures { Judges (table_of names.now) result
+        (judged_row (three_args (move_row displays (table_of names.now)) (map (λ arg. arg.now) args.now))) }
+{
+    with_args!(args, [scanout, x, y] => rows::move_cursor(names, displays, scanout, x, y))
+}
+
+fn raw(alloc: Global, names: &Names, args: &[&[u8]]) -> Result<Call, Stop>
+    ensures { Judges (table_of names.now) result
+        (judged_row (four_args (raw_row (table_of names.now)) (map (λ arg. arg.now) args.now))) }
+{
+    with_args!(args, [queue, room, shape, hex] => rows::raw(alloc, names, queue, room, shape, hex))
+}

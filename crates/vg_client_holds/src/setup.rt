@@ -1,0 +1,26 @@
+//! What is settled before the first client enters.
+
+ghost use Rattle.std.specs.Prelude.{ℕ};
+ghost use Rattle.vg_config.specs.Features.{IsFaultless};
+ghost use Rattle.vg_client_holds.specs.Setup.{AreAccepted};
+
+use vg_list::Seq;
+
+/// What no command and no act changes.
+#[derive(Drop)]
+pub struct Setup {
+    /// Width and height of each scanout's display in pixels, from scanout 0: 1 to 16 displays, at most
+    /// 640 by 480.
+    pub displays: Seq<(u32, u32)>,
+    /// How many guest pages of 4,096 bytes there are: 1 to 16,384.
+    pub pages: u32,
+    /// The feature bits that were accepted (VIRTIO 1.2, 2.2 and 5.7.3).
+    pub accepted: u64,
+    /// How many clients there are: at most 16.
+    pub clients: u32,
+}
+
+/// A law, and no work: a device accepts the features of each setup, since none of their bits is faulty.
+pub fn accepted_features_are_faultless()
+    ensures { (accepted : ℕ) → AreAccepted accepted → IsFaultless accepted }
+{}

@@ -1,5 +1,0 @@
-use Rattle.vg_drive.proofs.LegalLemmas.{empty-journal}
-use Rattle.vg_drive.proofs.laws.nothing_without_clients.Goals as goal
-
-pub returns : goal.returns
-returns c = empty-journal

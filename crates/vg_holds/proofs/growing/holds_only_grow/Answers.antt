@@ -1,5 +1,0 @@
-use Rattle.vg_holds.proofs.GrowingLemmas.{still_allowed}
-use Rattle.vg_holds.proofs.growing.holds_only_grow.Goals as goal
-
-pub returns : goal.returns
-returns c = still_allowed

@@ -1,5 +1,0 @@
-use Rattle.vg_holds.proofs.FeatureLemmas.{faultless}
-use Rattle.vg_holds.proofs.setup.accepted_features_are_faultless.Goals as goal
-
-pub returns : goal.returns
-returns c = faultless

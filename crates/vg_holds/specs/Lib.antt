@@ -1,3 +1,0 @@
-pub mod Setup
-pub mod Holds
-pub mod Foreign

@@ -1,0 +1,107 @@
+//! What stands in a line for an act.
+
+ghost use Rattle.std.specs.Prelude.{◌≡◌, ◌++◌, codes, decimal, OnOk};
+ghost use Rattle.vg_text.specs.Text.{hex_text};
+ghost use Rattle.vg_journal_words.specs.Text.{act_text, load_text, reserve_text, store_text, what_text};
+
+use std::alloc::AllocError;
+use vg_client_holds::{Act, What};
+use vg_text::Packed;
+
+/// Adds the text of an act.
+pub fn put_act(out: &mut Packed, act: &Act) -> Result<(), AllocError>
+    ensures { OnOk result (out.new ≡ out.old ++ act_text act.now) }
+{
+    match act {
+        Act::Enter => out.put(b"enter"),
+        Act::Reserve {
+            width,
+            height,
+            format,
+            bytes,
+        } => put_reserve(out, *width, *height, *format, *bytes),
+        Act::Store {
+            key,
+            offset,
+            bytes,
+            times,
+        } => put_store(out, *key, *offset, bytes.as_slice(), *times),
+        Act::Load {
+            key,
+            offset,
+            length,
+        } => put_load(out, *key, *offset, *length),
+        Act::Release { key } => out.put_numbered(b"release ", *key),
+        Act::Free { key } => out.put_numbered(b"free ", *key),
+        Act::Take { scanout } => out.put_numbered(b"take ", *scanout),
+        Act::Drop { scanout } => out.put_numbered(b"drop ", *scanout),
+        Act::Denied { what } => put_denied(out, what),
+        Act::Leave => out.put(b"leave"),
+    }
+}
+
+#[tactic(auto, unfolding(crate::specs::Text::reserve_text))]
+fn put_reserve(
+    out: &mut Packed,
+    width: u32,
+    height: u32,
+    format: u32,
+    bytes: u32,
+) -> Result<(), AllocError>
+    ensures { OnOk result (out.new ≡ out.old ++ reserve_text width height format bytes) }
+{
+    out.put(b"reserve ")?;
+    out.put_three(u64::from(width), u64::from(height), u64::from(format))?;
+    out.put_numbered(b" ", bytes)
+}
+
+/// Adds bytes and how many times they are written, each behind a blank.
+fn put_repeated(out: &mut Packed, bytes: &[u8], times: u32) -> Result<(), AllocError>
+    ensures { OnOk result (
+        out.new ≡ out.old ++ (codes " " ++ hex_text bytes.now ++ codes " " ++ decimal times)) }
+{
+    out.put_bytes(b" ", bytes)?;
+    out.put_numbered(b" ", times)
+}
+
+#[tactic(auto, unfolding(crate::specs::Text::store_text))]
+fn put_store(
+    out: &mut Packed,
+    key: u32,
+    offset: u32,
+    bytes: &[u8],
+    times: u32,
+) -> Result<(), AllocError>
+    ensures { OnOk result (out.new ≡ out.old ++ store_text key offset bytes.now times) }
+{
+    out.put_numbered(b"store ", key)?;
+    out.put_numbered(b" ", offset)?;
+    put_repeated(out, bytes, times)
+}
+
+#[tactic(auto, unfolding(crate::specs::Text::load_text))]
+fn put_load(out: &mut Packed, key: u32, offset: u32, length: u32) -> Result<(), AllocError>
+    ensures { OnOk result (out.new ≡ out.old ++ load_text key offset length) }
+{
+    out.put(b"load ")?;
+    out.put_three(u64::from(key), u64::from(offset), u64::from(length))
+}
+
+fn put_denied(out: &mut Packed, what: &What) -> Result<(), AllocError>
+    ensures { OnOk result (out.new ≡ out.old ++ (codes "denied " ++ what_text what.now)) }
+{
+    out.put(b"denied ")?;
+    put_what(out, what)
+}
+
+fn put_what(out: &mut Packed, what: &What) -> Result<(), AllocError>
+    ensures { OnOk result (out.new ≡ out.old ++ what_text what.now) }
+{
+    match what {
+        What::Name => out.put(b"name"),
+        What::Resource { n } => out.put_numbered(b"resource ", *n),
+        What::Scanout { n } => out.put_numbered(b"scanout ", *n),
+        What::Context { n } => out.put_numbered(b"context ", *n),
+        What::Page { n } => out.put_numbered(b"page ", *n),
+    }
+}

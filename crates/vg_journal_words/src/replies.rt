@@ -1,0 +1,77 @@
+//! What stands in a line for the answer to an act.
+
+ghost use Rattle.std.specs.Prelude.{◌≡◌, ◌++◌, codes, decimal, OnOk};
+ghost use Rattle.vg_text.specs.Text.{numbered};
+ghost use Rattle.vg_journal_words.specs.Text.{act_reply_text, comma_text, pages_text, refusal_text, reserved_text};
+
+use std::alloc::AllocError;
+use vg_client_holds::ActReply;
+use vg_share::ShareRefusal;
+use vg_text::Packed;
+
+/// Adds the text of what an act is answered.
+pub fn put_act_reply(out: &mut Packed, reply: &ActReply) -> Result<(), AllocError>
+    ensures { OnOk result (out.new ≡ out.old ++ act_reply_text reply.now) }
+{
+    match reply {
+        ActReply::Ok => out.put(b"ok"),
+        ActReply::Reserved { key, pages } => put_reserved(out, *key, pages.as_slice()),
+        ActReply::Bytes { bytes } => out.put_bytes(b"bytes ", bytes.as_slice()),
+        ActReply::Kept => out.put(b"kept"),
+        ActReply::Last => out.put(b"last"),
+        ActReply::Refused { refusal } => put_refusal(out, refusal),
+    }
+}
+
+fn put_refusal(out: &mut Packed, refusal: &ShareRefusal) -> Result<(), AllocError>
+    ensures { OnOk result (out.new ≡ out.old ++ refusal_text refusal.now) }
+{
+    match refusal {
+        ShareRefusal::GuestFull { free } => out.put_numbered(b"full ", *free),
+        ShareRefusal::UnknownKey => out.put(b"unknown"),
+        ShareRefusal::NotHeld => out.put(b"notheld"),
+        ShareRefusal::ScanoutHeld { by } => out.put_numbered(b"held ", *by),
+        ShareRefusal::OutOfRange { bytes } => out.put_numbered(b"range ", *bytes),
+        ShareRefusal::InUse { scanout } => out.put_numbered(b"inuse ", *scanout),
+        ShareRefusal::ResourceLive => out.put(b"live"),
+    }
+}
+
+#[tactic(auto, unfolding(crate::specs::Text::reserved_text))]
+fn put_reserved(out: &mut Packed, key: u32, pages: &[u32]) -> Result<(), AllocError>
+    ensures { OnOk result (out.new ≡ out.old ++ reserved_text key pages.now) }
+{
+    out.put_numbered(b"key ", key)?;
+    out.put(b" pages ")?;
+    put_pages(out, pages)
+}
+
+fn put_pages(out: &mut Packed, pages: &[u32]) -> Result<(), AllocError>
+    ensures { OnOk result (out.new ≡ out.old ++ pages_text pages.now) }
+{
+    match pages {
+        [] => out.put(b"-"),
+        [page, more @ ..] => {
+            out.put_number(u64::from(*page))?;
+            put_more_pages(out, more)
+        }
+    }
+}
+
+/// Adds page numbers, each behind a comma.
+fn put_more_pages(out: &mut Packed, pages: &[u32]) -> Result<(), AllocError>
+    ensures { OnOk result (out.new ≡ out.old ++ numbered comma_text 0 pages.now) }
+{
+    for (place, page) in pages.iter().enumerate() {
+        put_comma(out, place, *page)?;
+    }
+    Ok(())
+}
+
+#[tactic(auto, unfolding(crate::specs::Text::comma_text))]
+fn put_comma(out: &mut Packed, place: usize, page: u32) -> Result<(), AllocError>
+    ensures { OnOk result (out.new ≡ out.old ++ comma_text place page) }
+{
+    let _ = place;
+    out.put_numbered(b",", page)
+}

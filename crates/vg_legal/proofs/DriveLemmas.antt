@@ -1,0 +1,98 @@
+-- What clients that have joined make of a history.
+use Rattle.std.proofs.Common.{◌≡◌, ◌+◌, ◌-◌, ◌<◌, ◌∙◌, sym, ap, refl, subst, arith, count_by, ℕ, suc, List, [], ◌∷◌, length, get_or, Option, Some}
+use Rattle.std.specs.List.{AllByRecursion}
+use mathlib.Core.List.{IsPrefix}
+use Rattle.vg_history.specs.History.{Ordered}
+use Rattle.vg_history.specs.Lists.{Has}
+use Rattle.vg_history.proofs.ListLemmas.{prefix_self, prefix_trans}
+use Rattle.vg_book.specs.Opening.{first_lanes}
+use Rattle.vg_book.specs.Own.{IsInStep, own}
+use Rattle.vg_book.specs.Tokens.{IsClosed}
+use Rattle.vg_front.specs.Desks as desks
+use Rattle.vg_client_holds.specs.declared.act.Act.{Act}
+use Rattle.vg_client_holds.specs.declared.act.ActReply.{ActReply}
+use Rattle.vg_machine.specs.declared.history.Reply.{Reply}
+use Rattle.vg_machine.specs.declared.history.Request.{Request}
+use Rattle.vg_client_holds.specs.declared.holds.Holds.{Holds}
+use Rattle.vg_client_holds.specs.declared.setup.Setup.{Setup}
+use Rattle.vg_machine.specs.Entries.{Entry}
+use Rattle.vg_machine.specs.Order.{Sound, of_client}
+use Rattle.vg_machine.specs.Replay.{Agrees, display}
+use Rattle.vg_machine.specs.State.{State, start}
+use Rattle.vg_scanout.specs.declared.scanout.Frame.{Frame}
+use Rattle.vg_script.specs.declared.types.Line.{Line}
+use Rattle.vg_script.specs.declared.types.Script.{Script}
+use Rattle.vg_driver.specs.Tickets.{Token}
+use Rattle.vg_client.specs.Accounts.{mine_of}
+use Rattle.vg_worker.proofs.LaneLemmas.{lanes_are_new, lanes_long}
+use Rattle.vg_run_threads.specs.Session.{HasJoined, HaveAllJoined, IsEnd, Lane, Root}
+use Rattle.vg_script_part.specs.Kept.{Kept}
+use Rattle.vg_legal.specs.Kept.{KeptAll}
+use Rattle.vg_journal.specs.declared.journal.Journal.{Journal}
+use Rattle.vg_legal.specs.Legal.{FollowAll, IsLegalJournal, is_on_control, is_on_cursor}
+use Rattle.vg_script_part.specs.Performing.{lines_of}
+use Rattle.vg_legal.specs.Run.{IsOwned, IsRunOf}
+use Rattle.vg_script_part.specs.Setup.{setup_of}
+use Rattle.vg_legal.proofs.KeptLemmas.{all_owned, own_is_of_client}
+use Rattle.vg_legal.proofs.LegalLemmas.{legal-journal}
+
+-- the lanes of a book that was just opened are those that a front begins with
+pub lanes-new : (first : Option State) (n : ℕ) (lanes : List Lane) → n ≡ 66 → lanes ≡ first_lanes first n → (length lanes ≡ 66) × desks.AreNew (λ (l : Lane). l.lane) (λ (l : Lane). l.count) 0 lanes
+lanes-new first n lanes is are = subst (λ (ls : List Lane). (length ls ≡ 66) × desks.AreNew (λ (l : Lane). l.lane) (λ (l : Lane). l.count) 0 ls) (sym are) (
+  lanes_long State State Act ActReply Request Reply Holds Request first n ∙ is,
+  lanes_are_new State State Act ActReply Request Reply Holds Request first n,
+)
+
+-- the laws of the book and of clients' own entries
+abbrev pub InStep : Type 0
+InStep = (r : Root) (machine : State) (es : List Entry) (c : Token) → IsClosed display r machine es → Has r.accounts c.account → IsPrefix c.seen r.seen → IsInStep c → own c.account.number es ≡ c.account.mine
+
+abbrev pub OneHistory : Type 0
+OneHistory = (setup : Setup) (clients : List (List Line)) (H : List Entry) → Agrees setup H → Ordered display H → AllByRecursion (IsOwned (length clients)) H → KeptAll setup 1 clients H → Sound setup H × FollowAll setup 1 clients H
+
+-- a client has kept to its lines in the whole history
+kept-whole : (script : Script) (root : Root) (H : List Entry) (frames : List Frame) (n : ℕ) → InStep → HasJoined script root n → IsEnd root H frames → Kept (setup_of script) n (lines_of script n) (of_client n H)
+kept-whole script root H frames n law joined end =
+    let token : Token = joined.token in
+    let there : Has end.last.accounts token.account = subst (λ as'. Has as' token.account) (sym end.accounts) joined.there in
+    let whole : own token.account.number H ≡ mine_of token = law end.last end.machine H token end.closed there (prefix_trans token.seen root.seen end.last.seen joined.seen end.more) joined.performed.in_step in
+    let mine : mine_of token ≡ of_client n H = sym whole ∙ own_is_of_client token.account.number H ∙ ap (λ (k : ℕ). of_client k H) joined.number_is in
+    subst (λ (es : List Entry). Kept (setup_of script) n (lines_of script n) es) mine (subst (λ (k : ℕ). Kept (setup_of script) k (lines_of script n) (mine_of token)) joined.number_is joined.performed.kept)
+
+kept-from : (setup : Setup) (H : List Entry) (first : ℕ) (clients : List (List Line)) → ((i : ℕ) → i < length clients → Kept setup (first + i) (get_or clients i []) (of_client (first + i) H)) → KeptAll setup first clients H
+kept-from setup H first [] all = tt
+kept-from setup H first (lines ∷ more) all =
+    let same : first + 0 ≡ first = omega arith in (
+      (H, prefix_self H, refl, subst (λ (k : ℕ). Kept setup k lines (of_client k H)) same (all 0 (omega arith))),
+      kept-from setup H (first + 1) more (λ i within.
+          let next : first + suc i ≡ (first + 1) + i = omega arith in
+          subst (λ (k : ℕ). Kept setup k (get_or more i []) (of_client k H)) next (all (suc i) (omega (arith, within)))),
+    )
+
+pub is-run : (script : Script) (root : Root) (H : List Entry) (frames : List Frame) → InStep → OneHistory → HaveAllJoined script root → IsEnd root H frames → IsRunOf (setup_of script) script.clients H frames
+is-run script root H frames law one joined end =
+    let setup : Setup = setup_of script in
+    let begun : end.last.start ≡ Some (start setup) = end.start ∙ joined.start in
+    let agrees : Agrees setup H = end.closed.history.agrees (start setup) begun in
+    let count : end.last.given ≡ length script.clients = end.given ∙ joined.given in
+    let owned : AllByRecursion (IsOwned (length script.clients)) H = all_owned (length script.clients) H (λ entry at. let w = end.closed.clients entry at in (w.0, omega (arith, w.1, count))) in
+    let kept : KeptAll setup 1 script.clients H = kept-from setup H 1 script.clients (λ i within.
+    let place : (1 + i) - 1 ≡ i = omega arith in
+    let whole = kept-whole script root H frames (1 + i) law (joined.clients (1 + i) (omega arith) (omega (arith, within))) end in
+    subst (λ (k : ℕ). Kept setup (1 + i) (get_or script.clients k []) (of_client (1 + i) H)) place whole) in
+    let result = one setup script.clients H agrees end.closed.history.ordered owned kept in
+    record {
+      sound = result.0;
+      follows = result.1;
+      owners = owned;
+      frames_are = end.frames_are ∙ ap (λ (s : State). s.scanouts.frames) (end.closed.state (start setup) begun);
+    }
+
+-- the journal of it
+pub legal-run : (script : Script) (journal : Journal) (setup : Setup) (H : List Entry) (frames : List Frame) → setup ≡ setup_of script → IsRunOf (setup_of script) script.clients H frames
+    → (journal.setup ≡ setup) × (journal.entries ≡ H) × (journal.frames ≡ frames) → journal.control ≡ count_by is_on_control H → journal.cursor ≡ count_by is_on_cursor H → IsLegalJournal script journal
+legal-run script journal setup H frames is run parts control cursor =
+    let settled : journal.setup ≡ setup_of script = parts.0 ∙ is in
+    legal-journal script journal.setup script.clients H journal.entries frames journal.frames journal.control journal.cursor settled refl
+    (subst (λ (s : Setup). IsRunOf s script.clients H frames) (sym settled) run)
+    parts.1 parts.2 (control ∙ ap (λ (es : List Entry). count_by is_on_control es) (sym parts.1)) (cursor ∙ ap (λ (es : List Entry). count_by is_on_cursor es) (sym parts.1))

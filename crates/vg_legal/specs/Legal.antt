@@ -1,0 +1,57 @@
+use Rattle.std.specs.Prelude.{◌≡◌, ◌≤◌, ◌+◌, ℕ, Bool, List, [], ◌∷◌, length, count_by, false}
+use Rattle.std.specs.List.{All, AllByRecursion}
+use Rattle.vg_machine.specs.Entries.{Entry}
+use Rattle.vg_history.specs.Lines.{is_on_first, is_on_second}
+use Rattle.vg_machine.specs.Replay.{display, replay}
+use Rattle.vg_machine.specs.Order.{Sound, client_of}
+use Rattle.vg_script.specs.declared.types.Line.{Line}
+use Rattle.vg_script.specs.declared.types.Script.{Script}
+use Rattle.vg_calls.specs.declared.call.Call.{Call}
+use Rattle.vg_journal.specs.declared.journal.Journal.{Journal}
+use Rattle.vg_client_holds.specs.declared.setup.Setup.{Setup}
+use Rattle.vg_script_part.specs.Setup.{setup_of}
+use Rattle.vg_script_part.specs.Follows.{Follows}
+
+-- Whether a call leaves its command unfinished, for a later line to wait for. None does yet.
+abbrev pub is_left : Call → Bool
+is_left call = false
+
+-- No client leaves a command unfinished.
+abbrev pub AreFinished : List (List Line) → Type 0
+AreFinished clients = All (λ lines. All (λ line. is_left line.call ≡ false) lines) clients
+
+-- Each client follows its lines, from this client on.
+abbrev pub FollowAll : Setup → ℕ → List (List Line) → List Entry → Type 0
+FollowAll setup client [] H = Unit {0}
+FollowAll setup client (lines ∷ more) H = Follows setup lines H client × FollowAll setup (client + 1) more H
+
+-- The entry belongs to a client of the script.
+abbrev pub IsOfClients : Script → Entry → Type 0
+IsOfClients script entry = (1 ≤ client_of entry) × (client_of entry ≤ length script.clients)
+
+-- A history that the clients of the script can have with the display.
+pub record Legal (script : Script) (H : List Entry) : Type 0 where
+  pub sound : Sound (setup_of script) H
+  pub follows : FollowAll (setup_of script) 1 script.clients H
+  pub clients : AllByRecursion (IsOfClients script) H
+
+-- A command on the control queue, which is the first of the display's queues, and on the cursor queue.
+abbrev pub is_on_control : Entry → Bool
+is_on_control entry = is_on_first display entry
+
+abbrev pub is_on_cursor : Entry → Bool
+is_on_cursor entry = is_on_second display entry
+
+-- The journal of a history of the script: its setup, the history, how many of its commands are on each queue, and its frames.
+abbrev pub journal_of : Script → List Entry → Journal
+journal_of script H = record {
+  setup = setup_of script;
+  entries = H;
+  control = count_by is_on_control H;
+  cursor = count_by is_on_cursor H;
+  frames = (replay (setup_of script) H).scanouts.frames;
+}
+
+-- The journal is that of a history that is legal for the script.
+abbrev pub IsLegalJournal : Script → Journal → Type 0
+IsLegalJournal script journal = (H : List Entry) × Legal script H × (journal ≡ journal_of script H)

@@ -1,0 +1,186 @@
+//! A script's clients and a device's workers on threads.
+
+ghost use Rattle.std.specs.Prelude.{◌≡◌, ◌≤◌, [], List, length, map, max, min, All, IfOk, OnOk};
+ghost use Rattle.vg_script.specs.declared.types.Line.{Line as Lines};
+ghost use Rattle.vg_script.specs.Limits.{ScriptInLimits};
+ghost use Rattle.vg_script_part.specs.Performing as parts;
+ghost use Rattle.vg_script_part.specs.Setup as setups;
+ghost use Rattle.vg_run_threads.specs.Session.{AreNew, HasTakenAll, HaveAllJoined, IsRootWith, IsStill};
+
+use crate::closing::settle;
+use std::alloc::{AllocError, Global};
+use std::marker::{Send, Sync};
+use std::sync::atomic::AtomicBool;
+use std::sync::{Mutex, Wait};
+use std::thread::Threads;
+use vg_book::{Book, Carried, ClientToken, LaneToken, Naming, Root, entries_in_step};
+use vg_driver::Driver;
+use vg_front::Front;
+use vg_jobs::{Job, all};
+use vg_machine::{Display, Holds, Setup};
+use vg_ring::Rings;
+use vg_script::{Line, Script};
+use vg_script_part::{Performed, perform};
+use vg_worker::{Gate, Worker};
+
+/// What clients and workers are given, each of them the same.
+#[derive(Drop)]
+pub struct Shared<'a, G: Gate, B: Naming, N: Rings> {
+    pub alloc: Global,
+    pub book: &'a Book<Display, B>,
+    pub driver: &'a Driver<B, N>,
+    pub gate: &'a G,
+}
+
+/// A client that is to perform its part of a script.
+#[derive(Drop)]
+struct Performing<'a, B: Naming, N: Rings> {
+    alloc: Global,
+    book: &'a Book<Display, B>,
+    driver: &'a Driver<B, N>,
+    lines: Vec<Line>,
+    token: ClientToken<Display, B>,
+}
+
+impl<'a, B: Naming, N: Rings> Job<Performed<B>> for Performing<'a, B, N> {
+    ghost use Rattle.vg_run_threads.specs.Session.{IsReady, Performs};
+
+    ghost is_ready = { λ job. IsReady job.lines.items job.token };
+
+    ghost gives = { λ job performed. Performs job.lines.items job.token performed };
+
+    fn run<R: Threads + Wait + Sync>(self, rt: &R) -> Performed<B> {
+        perform(
+            rt,
+            self.alloc,
+            self.book,
+            self.driver,
+            self.lines,
+            self.token,
+        )
+    }
+}
+
+/// Runs the clients of a script and so many workers on threads. The clients have performed and joined the root then, and what
+/// was left in the front is served.
+pub fn run_threads<
+    B: Naming + Send + Sync,
+    N: Rings + Send + Sync,
+    G: Gate,
+    R: Threads + Wait + Sync,
+>(
+    rt: &R,
+    shared: Shared<'_, G, B, N>,
+    root: &mut Root<Display, B>,
+    front: Front<Carried<Display, B>, LaneToken<Display, B>, N>,
+    setup: &Setup,
+    script: Script,
+    workers: u32,
+) -> Result<Front<Carried<Display, B>, LaneToken<Display, B>, N>, AllocError>
+    requires limits { ScriptInLimits script }
+    requires setup { setup.now ≡ setups.setup_of script }
+    requires root { IsRootWith setup.now 0 root.old }
+    ensures joined { OnOk result (HaveAllJoined script root.new) }
+    ensures still { IfOk result IsStill }
+{
+    let Shared {
+        alloc,
+        book,
+        driver,
+        gate,
+    } = shared;
+    let front = Mutex::new(front);
+    let stop = AtomicBool::new(false);
+    let count = useful_workers(&script, workers);
+    let clients = performers(alloc, book, driver, root, setup, script)?;
+    let workers = servers(alloc, &front, book, gate, &stop, count)?;
+    let (performed, _) = all(rt, &stop, clients, workers)?;
+    join_all(book, root, performed)?;
+    Ok(settle(rt, alloc, front.into_inner(), book, gate))
+}
+
+/// A job for each client of the script.
+fn performers<'a, B: Naming, N: Rings>(
+    alloc: Global,
+    book: &'a Book<Display, B>,
+    driver: &'a Driver<B, N>,
+    root: &mut Root<Display, B>,
+    setup: &Setup,
+    script: Script,
+) -> Result<Vec<Performing<'a, B, N>>, AllocError>
+    requires limits { ScriptInLimits script }
+    requires setup { setup.now ≡ setups.setup_of script }
+    requires root { IsRootWith setup.now 0 root.old }
+    ensures root { OnOk result (IsRootWith setup.now (length script.clients) root.new) }
+    ensures clients { IfOk result (λ jobs. AreNew setup.now (length script.clients) (map (λ job. job.token) jobs.items)) }
+    ensures lines { IfOk result (λ jobs. All (λ job. job.lines.items ≡ parts.lines_of script job.token.account.number) jobs.items) }
+{
+    // A law, and no work: a new client sees its entries in the order in which it made them.
+    entries_in_step::<Display>();
+    let mut jobs = Vec::new(alloc);
+    let mut number = 0;
+    for lines in script.clients.into_vec() {
+        number += 1;
+        let token = root.client(book, Holds::new(alloc, setup, number));
+        jobs.push(Performing {
+            alloc,
+            book,
+            driver,
+            lines: lines.into_vec(),
+            token,
+        })?;
+    }
+    Ok(jobs)
+}
+
+/// How many of so many workers can have something to do. A client has one command under way at a time, so more workers than
+/// clients would only look for work; one there is in any case.
+fn useful_workers(script: &Script, workers: u32) -> u32
+    requires limits { ScriptInLimits script.now }
+    ensures { result ≡ max 1 (min workers (length script.now.clients)) }
+{
+    workers.min(clients_of(script)).max(1)
+}
+
+/// How many clients a script has.
+fn clients_of(script: &Script) -> u32
+    requires limits { ScriptInLimits script.now }
+    ensures { result ≡ length script.now.clients }
+{
+    script.clients.len() as u32
+}
+
+/// So many workers.
+fn servers<'a, G: Gate, B: Naming, N: Rings>(
+    alloc: Global,
+    front: &'a Mutex<Front<Carried<Display, B>, LaneToken<Display, B>, N>>,
+    book: &'a Book<Display, B>,
+    gate: &'a G,
+    stop: &'a AtomicBool,
+    count: u32,
+) -> Result<Vec<Worker<'a, G, B, N>>, AllocError> {
+    let mut jobs = Vec::new(alloc);
+    for _made in 0..count {
+        jobs.push(Worker::new(alloc, front, book, gate, stop))?;
+    }
+    Ok(jobs)
+}
+
+/// Takes in the clients, unless one of them hasn't performed its part to its end.
+fn join_all<B: Naming>(
+    book: &Book<Display, B>,
+    root: &mut Root<Display, B>,
+    performed: Vec<Performed<B>>,
+) -> Result<(), AllocError>
+    requires { All (λ p. p.token.account.out ≡ []) performed.items }
+    ensures { OnOk result (HasTakenAll root.old performed.items root.new) }
+{
+    for client in performed {
+        let Performed { token, done } = client;
+        if !done {
+            return Err(AllocError);
+        }
+        root.join(book, token);
+    }
+    Ok(())
+}

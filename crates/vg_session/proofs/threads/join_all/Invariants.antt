@@ -1,5 +1,0 @@
-use Rattle.vg_session.specs.Session.{HasTakenAll}
-use Rattle.vg_session.proofs.threads.join_all.Given as goal
-
-abbrev pub invariant-loop-client : goal.invariant-loop-client
-invariant-loop-client g l = HasTakenAll l.initial.root l.yielded l.root

@@ -1,7 +1,0 @@
-use Rattle.std.proofs.Common.{◌≡◌, ◌++◌, length}
-use Rattle.vg_session.proofs.SessionLemmas.{IsMade}
-use Rattle.vg_session.proofs.threads.performers.Given as goal
-
-abbrev pub invariant-loop-lines : goal.invariant-loop-lines
-invariant-loop-lines g l =
-    IsMade (λ job. job.token) (λ job. job.lines.items) l.setup l.fn.script l.number l.root l.jobs.items × (l.number ≡ length l.yielded) × (l.fn.script.clients ≡ l.yielded ++ l.lines-iterator.rest.items)

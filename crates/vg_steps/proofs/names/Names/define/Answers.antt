@@ -1,5 +1,0 @@
-use Rattle.vg_steps.proofs.NameSets.{named}
-use Rattle.vg_steps.proofs.names.Names.define.Goals as goal
-
-pub returns-clause-names : goal.returns-clause-names
-returns-clause-names c = named c.args.self.now.named c.insert.new.self c.args.name.now c.args.self.now.count c.args.kind c.in_ok-insert.ensures.updates

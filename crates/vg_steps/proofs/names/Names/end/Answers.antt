@@ -1,5 +1,0 @@
-use Rattle.vg_steps.proofs.NameSets.{ended}
-use Rattle.vg_steps.proofs.names.Names.end.Goals as goal
-
-pub returns : goal.returns
-returns c = ended c.args.self.now.named c.remove.new.self c.args.name.now c.args.self.now.count c.remove.ensures.updates
