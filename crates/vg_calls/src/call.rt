@@ -92,6 +92,18 @@ pub enum Call {
     Uuid {
         name: NameRef,
     },
+    /// Makes a token by which other clients can hold a buffer too. The label is what a script calls the token; whoever makes the
+    /// call gives the token on.
+    Export {
+        name: NameRef,
+        label: u32,
+    },
+    /// Holds the buffer of a token, and defines a name for it; with no token that is denied. The label is what a script calls the
+    /// token, which isn't known before the run.
+    Import {
+        label: u32,
+        token: Option<u32>,
+    },
     /// Asks these bytes of the device, as they are.
     Raw {
         queue: Queue,
