@@ -1,6 +1,6 @@
 //! Work on threads. A thread's work is a struct behind a bound, so that no closure holds a token or an end of a ring.
 
-ghost use Rattle.std.specs.Prelude.{All, IfOk};
+ghost use Rattle.std.specs.Prelude.{All, IfOk, length};
 ghost use denote.Param.Send.{IsSync, IsSend};
 ghost use Rattle.vg_jobs.specs.Jobs.{AllGive};
 
@@ -10,7 +10,7 @@ use std::snapshot::Snapshot;
 use std::sync::Wait;
 use std::sync::atomic::{AtomicBool, Ordering};
 use std::thread;
-use std::thread::{Promise, Threads, join, map_vec};
+use std::thread::{Promise, Scope, Threads, join, map_vec};
 
 /// What a thread does, and gives at its end.
 pub trait Job<D: Drop>: Drop {
@@ -22,6 +22,12 @@ pub trait Job<D: Drop>: Drop {
     fn run<R: Threads + Wait + Sync>(self, rt: &R) -> D
         requires { is_ready self }
         ensures { gives self result };
+}
+
+/// Whom jobs that run beside each other ask what they wait for.
+pub trait Quit {
+    /// Lets each that waits for another go on: not all of them could begin.
+    fn quit<R: Wait>(&self, rt: &R);
 }
 
 /// The promise that a thread gives what its job may give.
@@ -60,15 +66,68 @@ pub fn each<D: Drop + Send, J: Job<D> + Send, R: Threads + Wait + Sync>(
     map_vec(rt, jobs, &run)
 }
 
-/// Runs both lots of jobs, the first on this thread and on others, the second on others, and raises the flag once the first are
-/// done. Where the second get no thread beside this one, no job runs, and that is answered as want of memory.
+/// Runs each job on a thread of its own, the first on this one, and gives what they give, in order. Jobs may wait for each other:
+/// where one gets no thread, those that have begun are told by `quit` to wait no more, the others don't begin, and it is answered
+/// as want of memory.
+fn apart<
+    's,
+    X: 's,
+    D: Drop + Send + 's,
+    J: Job<D> + Send + 's,
+    Q: Quit,
+    R: Threads + Wait + Sync + 's,
+>(
+    rt: &'s R,
+    scope: &Scope<'s, X>,
+    jobs: Vec<J>,
+    quit: &Q,
+) -> Result<Vec<D>, AllocError>
+    requires { All J.is_ready jobs.items }
+    ensures { IfOk result (λ v. AllGive J.gives jobs.items v.items) }
+{
+    if jobs.len() < 2 {
+        return each(rt, jobs);
+    }
+    let mut others = jobs;
+    let Some(last) = others.pop() else {
+        return each(rt, others);
+    };
+    let job = Snapshot::of(&last);
+    let begun = scope.spawn_with(
+        JobGives { job },
+        move || -> D
+            requires { IsSync R.row × J.is_ready last }
+            ensures { J.gives last result }
+        { last.run(rt) },
+    );
+    let Ok(child) = begun else {
+        quit.quit(rt);
+        return Err(AllocError);
+    };
+    let given = apart(rt, scope, others, quit);
+    let end = child.join(rt);
+    let mut given = given?;
+    given.push(end)?;
+    Ok(given)
+}
+
+/// Runs both lots of jobs, and raises the flag once the first are done. Each of the first has a thread of its own, of which one is
+/// this; the second run on others. Where the second get no thread beside this one, no job runs; where one of the first gets none,
+/// those that have begun are told by `quit` to wait no more. Both are answered as want of memory.
 pub fn all<
     D: Drop + Send,
     E: Drop + Send,
     A: Job<D> + Send,
     W: Job<E> + Send,
+    Q: Quit + Sync,
     R: Threads + Wait + Sync,
->(rt: &R, stop: &AtomicBool, first: Vec<A>, second: Vec<W>) -> Result<(Vec<D>, Vec<E>), AllocError>
+>(
+    rt: &R,
+    stop: &AtomicBool,
+    first: Vec<A>,
+    second: Vec<W>,
+    quit: &Q,
+) -> Result<(Vec<D>, Vec<E>), AllocError>
     requires { All A.is_ready first.items × All W.is_ready second.items }
     ensures { IfOk result (λ r. AllGive A.gives first.items r.0.items × AllGive W.gives second.items r.1.items) }
 {
@@ -87,7 +146,7 @@ pub fn all<
                     ensures { IfOk result (λ v. AllGive W.gives second.items v.items) }
                 { each_last_here(rt, second) },
             )?;
-            let done = each(rt, first);
+            let done = apart(rt, scope, first, quit);
             stop.store(true, Ordering::SeqCst);
             let served = child.join(rt);
             Ok((done?, served?))

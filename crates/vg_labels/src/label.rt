@@ -1,0 +1,152 @@
+//! A label, which threads share: one of them gives it, once, and the others wait for it.
+
+ghost use Rattle.std.specs.Prelude.{◌≡◌, Some, IfSome, Option};
+ghost use Rattle.vg_book.specs.Places.{HasCall};
+ghost use Rattle.vg_labels.specs.Labels.{Shows};
+
+use std::marker::Model;
+use std::sync::{Mutex, OnceLock, OnceToken, Wait};
+use vg_book::{Book, Naming, Note};
+use vg_history::Machine;
+
+/// What a line gives.
+#[derive(Clone, Copy)]
+pub enum Gift {
+    /// The token of a buffer.
+    Token { token: u32 },
+    /// Nothing: what the line asked was refused or denied.
+    Nothing,
+}
+
+/// What a line gave, and the entry with which it did: whose it is, and the client's own number for it.
+#[derive(Clone, Copy)]
+pub struct Given {
+    pub client: u32,
+    pub call: u64,
+    pub gift: Gift,
+}
+
+/// What shows what a label was given. It has no bytes.
+pub type Shown<'a> = OnceToken<'a, Option<Given>>;
+
+/// A note that has seen this call of this client.
+#[derive(Drop)]
+struct Posted<M: Machine, B: Naming> {
+    client: u32,
+    call: u64,
+    note: Note<M, B>,
+}
+
+impl<M: Machine, B: Naming> Model for Posted<M, B> {
+    ghost use Rattle.vg_book.specs.Places.{HasCall};
+    ghost use Rattle.vg_labels.specs.Labels.{PostedView};
+
+    ghost Value = { PostedView M M.State M.Act M.ActReply M.Request M.Reply M.Holds M.Job };
+
+    ghost view = { λ p. record { client = p.client; call = p.call; seen = p.note.seen } };
+
+    ghost invariant = { λ p. HasCall p.note.seen p.client p.call };
+}
+
+/// A label: it is given once, or given up.
+#[derive(Drop)]
+pub struct Label<M: Machine, B: Naming> {
+    value: OnceLock<Option<Given>>,
+    /// Who gives the label leaves a note here first.
+    post: Mutex<Option<Posted<M, B>>>,
+}
+
+impl<M: Machine, B: Naming> Model for Label<M, B> {
+    ghost use Rattle.std.specs.Prelude.{ℕ};
+
+    // Which label it is.
+    ghost Value = { ℕ };
+
+    ghost view = { λ l. l.value.id };
+}
+
+impl<M: Machine, B: Naming> Label<M, B> {
+    /// A label that nobody has given.
+    pub fn new() -> Label<M, B> {
+        Label {
+            value: OnceLock::new(),
+            post: Mutex::new(None),
+        }
+    }
+
+    /// Gives the label this, with a note that has seen the entry. Nothing where it was given or given up before.
+    pub fn give<'a, R: Wait>(&'a self, rt: &R, note: Note<M, B>, given: Given) -> Option<Shown<'a>>
+        requires { HasCall note.seen given.client given.call }
+        ensures { IfSome result (Shows self.now given) }
+    {
+        let posted = Posted {
+            client: given.client,
+            call: given.call,
+            note,
+        };
+        *self.post.lock(rt) = Some(posted);
+        self.value.set(rt, Some(given)).ok()
+    }
+
+    /// Gives the label up, unless it was given: who waits for it waits no more.
+    pub fn give_up<R: Wait>(&self, rt: &R) {
+        let _ = self.value.set(rt, None);
+    }
+
+    /// Waits until the label is given, and gives what it was given with a note that has seen the entry; or nothing where it was
+    /// given up.
+    pub fn wait<'a, R: Wait>(
+        &'a self,
+        rt: &R,
+        book: &Book<M, B>,
+    ) -> Option<(Given, Note<M, B>, Shown<'a>)>
+        ensures shown { IfSome result (λ r. Shows self.now r.0 r.2) }
+        ensures seen { IfSome result (λ r. HasCall r.1.seen r.0.client r.0.call) }
+    {
+        let shown = self.wait_for_value(rt);
+        let given = (*self.value.value(&shown))?;
+        let note = self.note_of(rt, book, given);
+        Some((given, note, shown))
+    }
+
+    /// What shows what the label was given, if it was given or given up.
+    pub fn shown(&self) -> Option<Shown<'_>>
+        ensures { IfSome result (λ shown. shown.of ≡ self.now) }
+    {
+        self.value.witness()
+    }
+
+    /// What the label was given; nothing where it was given up.
+    pub fn given<'a>(&'a self, shown: &Shown<'a>) -> Option<Given>
+        requires { shown.now.of ≡ self.now }
+        ensures { result ≡ shown.now.value }
+    {
+        *self.value.value(shown)
+    }
+
+    fn wait_for_value<'a, R: Wait>(&'a self, rt: &R) -> Shown<'a>
+        ensures { result.of ≡ self.now }
+    {
+        for _ in rt.forever() {
+            if let Some(shown) = self.value.witness() {
+                return shown;
+            }
+            self.value.wait(rt);
+        }
+        unreachable!()
+    }
+
+    /// A note that has seen the entry of what was given, which was left before it was.
+    fn note_of<R: Wait>(&self, rt: &R, book: &Book<M, B>, given: Given) -> Note<M, B>
+        ensures { HasCall result.seen given.client given.call }
+    {
+        for _ in rt.forever() {
+            if let Some(posted) = &mut *self.post.lock(rt) {
+                if posted.client == given.client && posted.call == given.call {
+                    return posted.note.note(book);
+                }
+            }
+        }
+        unreachable!()
+    }
+}
