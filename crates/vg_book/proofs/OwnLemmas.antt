@@ -30,7 +30,7 @@ module _ {M S A R Q P H W : Type 0} where
       ap (λ b. cond b (e ∷ own n es) (own n es)) (not_own n e (λ is. none e (inl refl) is)) ∙ own_none n es (λ f h is. none f (inr h) is)
 
   -- an entry stands once
-  twice : (xs ys : List (Entry M S A R Q P H W)) (e : Entry M S A R Q P H W) → EachOnce (xs ++ ys) → Has xs e → Has ys e → ⊥
+  pub twice : (xs ys : List (Entry M S A R Q P H W)) (e : Entry M S A R Q P H W) → EachOnce (xs ++ ys) → Has xs e → Has ys e → ⊥
   twice [] ys e once h k = h
   twice (x ∷ xs) ys e once (inl is) k = once.0 e (has_right xs ys e k) (ap client_of is, ap (λ f. call f) is)
     where
