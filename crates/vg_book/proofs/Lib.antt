@@ -16,3 +16,4 @@ pub mod LaneLemmas
 pub mod RootLemmas
 pub mod Sent
 pub mod OwnLemmas
+pub mod PlaceLemmas

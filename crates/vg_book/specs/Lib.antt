@@ -7,3 +7,4 @@ pub mod Tokens
 pub mod Opening
 pub mod Outcomes
 pub mod Own
+pub mod Places

@@ -1,16 +1,10 @@
 -- A client's own entries in a history, in the order in which it made them.
-use Rattle.std.specs.Prelude.{◌≡◌, ℕ, ◌==◌, List, [], ◌∷◌, if◌then◌else◌}
+use Rattle.std.specs.Prelude.{ℕ, ◌==◌, List, [], ◌∷◌, if◌then◌else◌}
 use Rattle.vg_history.specs.declared.entry.Entry.{Entry}
 use Rattle.vg_history.specs.Entries.{client_of}
-use Rattle.vg_book.specs.Tokens.{Client}
 
 module _ {M S A R Q P H W : Type 0} where
   -- The client's entries, in the order in which they stand.
   abbrev pub own : ℕ → List (Entry M S A R Q P H W) → List (Entry M S A R Q P H W)
   own n [] = []
   own n (e ∷ es) = if client_of e == n then e ∷ own n es else own n es
-
-  -- A client with nothing outstanding, whose entries stand in what it has seen as it made them.
-  pub record IsInStep (c : Client M S A R Q P H W) : Type 0 where
-    pub idle : c.account.out ≡ []
-    pub own_is : own c.account.number c.seen ≡ c.account.mine

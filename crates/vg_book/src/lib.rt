@@ -27,7 +27,7 @@ pub use board::{
 pub use book::{Book, Opened};
 pub use client::ClientToken;
 pub use lane::LaneToken;
-pub use laws::{entries_in_step, history_in_step};
+pub use laws::calls_stand_behind;
 pub use note::Note;
 pub use outcome::Carried;
 pub use pass::{DonePass, Pass};

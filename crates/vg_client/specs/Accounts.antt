@@ -1,42 +1,62 @@
 -- What a client's token says of its own calls.
-use Rattle.std.specs.Prelude.{◌≡◌, ◌≤◌, ◌<◌, ◌+◌, ℕ, Bool, true, false, List, [], ◌∷◌, ◌++◌, length, Some}
-use Rattle.std.specs.List.{AllByRecursion}
+use Rattle.std.specs.Prelude.{◌≡◌, ◌≤◌, ◌<◌, ◌+◌, ℕ, Bool, true, false, List, [], ◌∷◌, ◌++◌, length, map, Some}
+use Rattle.std.specs.List.{AllByRecursion, range_with_len}
 use mathlib.Core.List.{IsPrefix}
-use Rattle.vg_book.specs.Own.{IsInStep}
+use Rattle.vg_history.specs.Lists.{Has}
+use Rattle.vg_book.specs.Places.{HasCall, IsCurrent, IsPlaced, begun_of}
 use Rattle.vg_client_holds.specs.declared.setup.Setup.{Setup}
 use Rattle.vg_client_holds.specs.declared.act.Act as the_act
 use Rattle.vg_client_holds.specs.declared.act.Act.TheVariants.{Enter, Leave, Denied}
 use Rattle.vg_client_holds.specs.declared.act.ActReply.{ActReply}
 use Rattle.vg_machine.specs.Entries.{Entry}
-use Rattle.vg_history.specs.declared.entry.Entry.TheVariants.{Act}
+use Rattle.vg_machine.specs.declared.history.Request.{Request}
+use Rattle.vg_machine.specs.declared.history.Reply.{Reply}
+use Rattle.vg_history.specs.declared.entry.Entry.TheVariants.{Act, Command}
 use Rattle.vg_client_holds.specs.declared.holds.Holds.{Holds}
 use Rattle.vg_machine.specs.ActStep.{act_step}
 use Rattle.vg_client_holds.specs.Holds.{Deniable, first_holds}
+use Rattle.vg_machine.specs.Lane.{lane_of}
+use Rattle.vg_machine.specs.Replay.{display}
 use Rattle.vg_machine.specs.State.{State, start}
-use Rattle.vg_machine.specs.Order.{holds_of, is_leave, updated}
-use Rattle.vg_driver.specs.Tickets.{Token}
-use Rattle.vg_client.specs.Own.{IsOwn}
+use Rattle.vg_machine.specs.Order.{call_of, client_of, is_leave, updated}
+use Rattle.vg_driver.specs.Tickets.{Order, Token}
+use Rattle.vg_client.specs.Own.{OwnStand}
 use Rattle.vg_client.specs.Outcomes.{IsNumbered}
 
--- The client's entries, in the order in which it made them.
+-- The client's entries, in the order in which they came back to it.
 abbrev pub mine_of : Token → List Entry
 mine_of token = token.account.mine
 
--- What a client's token says is so: nothing of it is out, and its entries, which stand in what it has seen as it made them, are
--- those of a client that keeps the rules; it has drawn as many numbers, and it holds what they say.
+-- What a client's token says is so, of a client of a display with this setup, whatever of it is out: it knows its own calls in what
+-- it has seen; there each entry of it stands rightly behind those before it; and what is out is on its lane, behind what was asked
+-- there before it.
+pub record IsStanding (setup : Setup) (token : Token) : Type 0 where
+  pub current : IsCurrent display token
+  pub begun : token.start ≡ Some (start setup)
+  pub opening : token.account.opening ≡ first_holds setup token.account.number
+  pub own : OwnStand setup token.account.number [] token.seen
+  pub entered : 1 ≤ token.account.used → (entry : Entry) × Has token.seen entry × (client_of entry ≡ token.account.number)
+  pub lanes : (o : Order) → Has token.account.out o → o.request.lane ≡ lane_of o.request.queue o.request.bytes
+  pub rising : (o p : Order) → Has token.account.out o → Has token.account.out p → p.request.lane ≡ o.request.lane → o.call < p.call
+      → o.request.ordinal < p.request.ordinal
+  pub rising_mine : (o : Order) (client call : ℕ) (request : Request) (reply : Reply) → Has token.account.out o → Has (mine_of token) (Command client call request reply)
+      → request.lane ≡ o.request.lane → o.call < call → o.request.ordinal < request.ordinal
+
+-- The same of a client that has nothing out: its entries have come back in the order of their numbers, which are 1 to as many as it
+-- has drawn.
 pub record IsAccount (token : Token) : Type 0 where
   pub setup : Setup
-  pub begun : token.start ≡ Some (start setup)
-  pub in_step : IsInStep token
-  pub own : IsOwn setup token.account.number (mine_of token)
-  pub used : token.account.used ≡ length (mine_of token)
-  pub holding : token.account.holds ≡ holds_of setup token.account.number (mine_of token)
+  pub standing : IsStanding setup token
+  pub idle : token.account.out ≡ []
+  pub in_order : map call_of (mine_of token) ≡ range_with_len 1 token.account.used
 
 -- A client that was made for a display with this setup, and has done nothing.
 pub record IsNew (setup : Setup) (token : Token) : Type 0 where
   pub begun : token.start ≡ Some (start setup)
-  pub in_step : IsInStep token
+  pub current : IsCurrent display token
+  pub opening : token.account.opening ≡ first_holds setup token.account.number
   pub used : token.account.used ≡ 0
+  pub idle : token.account.out ≡ []
   pub holds : token.account.holds ≡ first_holds setup token.account.number
   pub mine : mine_of token ≡ []
 
@@ -66,7 +86,8 @@ pub record MayAct (token : Token) (act : the_act.Act) : Type 0 where
   pub present : IsPresent token
   pub denied : MayBeDenied token.account.holds act
 
--- One entry more of the client, of which its token tells, with its number n in the history.
+-- One entry more of the client, of which its token tells, with its number n in the history: its next call, which stands behind
+-- all of its calls before.
 pub record IsAdded (token : Token) (n : ℕ) (entry : Entry) (token' : Token) : Type 0 where
   pub start : token'.start ≡ token.start
   pub number : token'.account.number ≡ token.account.number
@@ -77,6 +98,9 @@ pub record IsAdded (token : Token) (n : ℕ) (entry : Entry) (token' : Token) : 
   pub more : IsPrefix token.seen token'.seen
   pub numbered : IsNumbered token'.seen n entry
   pub behind : length token.seen < n
+  pub call : call_of entry ≡ token.account.used + 1
+  pub placed : IsPlaced token'.seen token.account.number (begun_of token.account) (token.account.used + 1)
+  pub apart : HasCall token.seen token.account.number (token.account.used + 1) → ⊥
 
 -- The reply is the display's in some state.
 abbrev pub IsReply : ℕ → the_act.Act → ActReply → Type 0

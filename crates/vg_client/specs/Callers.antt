@@ -1,5 +1,6 @@
 -- A client, and how its calls go on.
-use Rattle.std.specs.Prelude.{◌≡◌, ◌≤◌, ◌<◌, ◌+◌, ℕ, Bool, false, List, [], ◌∷◌, ◌++◌, length}
+use Rattle.std.specs.Prelude.{◌≡◌, ◌≤◌, ◌<◌, ◌+◌, ℕ, Bool, false, List, [], ◌∷◌, ◌++◌, length, map}
+use Rattle.std.specs.List.{AllByRecursion, range_with_len}
 use mathlib.Core.List.{IsPrefix}
 use Rattle.vg_machine.specs.Entries.{Entry}
 use Rattle.vg_client_holds.specs.declared.act.ActReply.{ActReply}
@@ -9,7 +10,8 @@ use Rattle.vg_client_holds.specs.declared.act.Act.TheVariants.{Enter, Leave}
 use Rattle.vg_client_holds.specs.declared.setup.Setup.{Setup}
 use Rattle.vg_history.specs.declared.entry.Entry.TheVariants.{Act}
 use Rattle.vg_driver.specs.Tickets.{Token}
-use Rattle.vg_machine.specs.Order.{updated}
+use Rattle.vg_book.specs.Places.{HasCall, IsPlaced, begun_of}
+use Rattle.vg_machine.specs.Order.{call_of, updated}
 use Rattle.vg_client.specs.declared.caller.Caller.{Caller}
 use Rattle.vg_client.specs.declared.given.Added.{Added}
 use Rattle.vg_client.specs.declared.given.Given.{Given}
@@ -19,6 +21,7 @@ use Rattle.vg_tasks.specs.Known.{Known, first_known}
 use Rattle.vg_client.specs.Accounts.{IsAccount, IsActive, IsNew, mine_of}
 use Rattle.vg_client.specs.Calls.{IsFrontOf, Plays}
 use Rattle.vg_client.specs.Outcomes.{IsNumbered}
+use Rattle.vg_client.specs.Own.{ArePlaced}
 use Rattle.vg_tasks.specs.Tasks.{end_tasks}
 
 -- A client, and whether it has stopped for want of memory.
@@ -58,9 +61,14 @@ pub record HasMade (token : Token) (mine : List Entry) (token' : Token) : Type 0
   pub own : mine_of token' ≡ mine_of token ++ mine
   pub more : IsPrefix token.seen token'.seen
 
--- The same of a client that goes on: it can make more calls.
+-- The same of a client that goes on: it can make more calls. The entries have its next numbers, in their order; each stands in what
+-- it has seen now behind all of its earlier calls, and none stood in what it had seen.
 pub record HasGoneOn {B : Type 0} (client : Caller B) (mine : List Entry) (client' : Caller B) : Type 0 where
   pub added : HasAdded client mine client'
+  pub used : client'.token.account.used ≡ client.token.account.used + length mine
+  pub numbers : map call_of mine ≡ range_with_len (client.token.account.used + 1) (length mine)
+  pub placed : ArePlaced client'.token.seen client.token.account.number (begun_of client.token.account) mine
+  pub apart : AllByRecursion (λ e. HasCall client.token.seen client.token.account.number (call_of e) → ⊥) mine
   pub displays : client'.token.account.holds.displays ≡ client.token.account.holds.displays
   pub made : client.names.made ≤ client'.names.made
   pub ready : IsReady client'
@@ -77,6 +85,9 @@ pub record HasDone {B : Type 0} (client : Caller B) (entry : Entry) (done : Adde
   pub given_is : done.given ≡ given_of entry
   pub numbered : IsNumbered client'.token.seen done.number entry
   pub behind : length client.token.seen < done.number
+  pub call : call_of entry ≡ client.token.account.used + 1
+  pub placed : IsPlaced client'.token.seen client.token.account.number (begun_of client.token.account) (client.token.account.used + 1)
+  pub apart : HasCall client.token.seen client.token.account.number (client.token.account.used + 1) → ⊥
 
 -- The pages of a reply are few enough to be told in one request: those of the largest buffer are 300.
 abbrev pub HasFewPages : ActReply → Type 0
@@ -92,10 +103,13 @@ pub record HasEntered {B : Type 0} (token : Token) (client : Caller B) : Type 0 
   pub start : client.token.start ≡ token.start
   pub number : client.token.account.number ≡ token.account.number
   pub mine : mine_of client.token ≡ Act token.account.number 1 Enter act_replies.Ok ∷ []
+  pub used : client.token.account.used ≡ 1
+  pub more : IsPrefix token.seen client.token.seen
   pub known_is : (setup : Setup) → IsNew setup token → known client ≡ first_known setup token.account.number
   pub ready : IsReady client
 
--- A client has ended: it gave up all that it had, and left.
+-- A client has ended: it gave up all that it had, and left. These entries have its next numbers too, and stand behind all of its
+-- earlier calls.
 pub record HasEnded {B : Type 0} (client : Caller B) (token : Token) : Type 0 where
   pub account_is : IsAccount token
   pub ending : List Entry
@@ -103,6 +117,11 @@ pub record HasEnded {B : Type 0} (client : Caller B) (token : Token) : Type 0 wh
   pub last : ℕ
   pub plays : Plays client.token.account.number false (known client) (end_tasks (known client)) ending after []
   pub own : mine_of token ≡ mine_of client.token ++ (ending ++ Act client.token.account.number last Leave act_replies.Ok ∷ [])
+  pub used : token.account.used ≡ client.token.account.used + length (ending ++ Act client.token.account.number last Leave act_replies.Ok ∷ [])
+  pub numbers : map call_of (ending ++ Act client.token.account.number last Leave act_replies.Ok ∷ [])
+      ≡ range_with_len (client.token.account.used + 1) (length (ending ++ Act client.token.account.number last Leave act_replies.Ok ∷ []))
+  pub placed : ArePlaced token.seen client.token.account.number [] (ending ++ Act client.token.account.number last Leave act_replies.Ok ∷ [])
+  pub more : IsPrefix client.token.seen token.seen
 
 -- These are the first entries of a client's end, in front of the one with which it leaves: all of them, or fewer where memory lacked.
 abbrev pub BeginsEnd : ℕ → Known → List Entry → Type 0

@@ -15,7 +15,7 @@ use crate::outcome::Outcome;
 use std::alloc::{AllocError, Global};
 use std::marker::Model;
 use std::sync::Wait;
-use vg_book::{Book, ClientToken, Naming, Note, entries_in_step};
+use vg_book::{Book, ClientToken, Naming, Note, calls_stand_behind};
 use vg_calls::Call;
 use vg_driver::Driver;
 use vg_machine::Display;
@@ -131,6 +131,13 @@ impl<B: Naming> Client<B> {
         }
     }
 
+    /// How many call numbers it has drawn.
+    pub fn calls(&self) -> u64
+        ensures { result ≡ self.now.caller.token.account.used }
+    {
+        self.caller.token.used()
+    }
+
     /// A note that has seen what the client has.
     pub fn note(&mut self, book: &Book<Display, B>) -> Note<Display, B>
         ensures same { self.new ≡ self.old }
@@ -147,8 +154,8 @@ impl<B: Naming> Client<B> {
         ensures known { known self.new.caller ≡ known self.old.caller }
         ensures stopped { self.new.stopped ≡ self.old.stopped }
     {
-        // A law, and no work: the client sees its entries in the order in which it made them.
-        entries_in_step::<Display>();
+        // A law, and no work: the client knows its calls in what it has seen.
+        calls_stand_behind::<Display>();
         self.caller.token.meet(book, note);
     }
 }

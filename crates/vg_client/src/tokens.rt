@@ -7,7 +7,7 @@ ghost use Rattle.vg_client.specs.Accounts.{IsActive, IsAdded, IsAddedAct, IsUnad
 
 use std::alloc::{AllocError, Global};
 use std::sync::Wait;
-use vg_book::{Book, ClientToken, Naming, entries_in_step};
+use vg_book::{Book, ClientToken, Naming, calls_stand_behind};
 use vg_driver::{Answer, Ask, Driver};
 use vg_machine::{Act, ActReply, Display};
 use vg_ring::Rings;
@@ -27,8 +27,8 @@ pub(crate) fn act<B: Naming, R: Wait>(
     ensures added { IfOk result (λ done. IsAddedAct token.old done.0 act done.1 token.new) }
     ensures err { OnErr result (IsUnadded token.old token.new) }
 {
-    // A law, and no work: the client sees its entries in the order in which it made them.
-    entries_in_step::<Display>();
+    // A law, and no work: the client's next call stands behind all of its calls before.
+    calls_stand_behind::<Display>();
     let done = token.act(rt, alloc, book, act)?;
     Ok(done)
 }
@@ -50,8 +50,8 @@ pub(crate) fn ask<B: Naming, N: Rings, R: Wait>(
         × IsAdded token.old answer.entry (entries.Command token.old.account.number (token.old.account.used + 1) (request_for ask.now ordinal) answer.reply) token.new) }
     ensures err { OnErr result (IsUnadded token.old token.new) }
 {
-    // A law, and no work: the client sees its entries in the order in which it made them.
-    entries_in_step::<Display>();
+    // A law, and no work: the client's next call stands behind all of its calls before.
+    calls_stand_behind::<Display>();
     let ticket = driver.submit(rt, alloc, book, token, ask)?;
     let answer = driver.finish(rt, book, token, ticket)?;
     Ok(answer)
