@@ -9,7 +9,7 @@ use Rattle.vg_wire.specs.declared.request.Malformed.{Malformed}
 use Rattle.vg_wire.specs.declared.request.Queue.{Queue}
 use Rattle.vg_wire_ext.specs.Request.{request_of}
 use Rattle.vg_client_holds.specs.declared.act.Act.{Act}
-use Rattle.vg_client_holds.specs.declared.act.Act.TheVariants.{Enter, Reserve, Store, Load, Release, Free, Take, Drop, Denied, Leave}
+use Rattle.vg_client_holds.specs.declared.act.Act.TheVariants.{Enter, Reserve, Store, Load, Export, Import, Release, Free, Take, Drop, Denied, Leave}
 use Rattle.vg_client_holds.specs.declared.act.ActReply.{ActReply}
 use Rattle.vg_client_holds.specs.declared.act.ActReply.TheVariants as replies
 use Rattle.vg_client_holds.specs.declared.act.What.{What}
@@ -90,16 +90,29 @@ grows : (h : Holds) (act : Act) (reply : ActReply) → gives_up act ≡ false �
 grows h Enter reply e = more_itself h
 grows h (Reserve width height format bytes) (replies.Reserved key pages) e = more_buffers h (key, pages)
 grows h (Reserve width height format bytes) replies.Ok e = more_itself h
+grows h (Reserve width height format bytes) (replies.Exported token) e = more_itself h
+grows h (Reserve width height format bytes) (replies.Imported key geometry pages) e = more_itself h
 grows h (Reserve width height format bytes) (replies.Bytes bs) e = more_itself h
 grows h (Reserve width height format bytes) replies.Kept e = more_itself h
 grows h (Reserve width height format bytes) replies.Last e = more_itself h
 grows h (Reserve width height format bytes) (replies.Refused refusal) e = more_itself h
 grows h (Store key offset bytes times) reply e = more_itself h
 grows h (Load key offset n) reply e = more_itself h
+grows h (Export key) reply e = more_itself h
+grows h (Import token) (replies.Imported key geometry pages) e = more_buffers h (key, pages)
+grows h (Import token) replies.Ok e = more_itself h
+grows h (Import token) (replies.Reserved key pages) e = more_itself h
+grows h (Import token) (replies.Exported given) e = more_itself h
+grows h (Import token) (replies.Bytes bs) e = more_itself h
+grows h (Import token) replies.Kept e = more_itself h
+grows h (Import token) replies.Last e = more_itself h
+grows h (Import token) (replies.Refused refusal) e = more_itself h
 grows h (Release key) reply e = absurd (false_is_true (sym e))
 grows h (Free key) reply e = absurd (false_is_true (sym e))
 grows h (Take scanout) replies.Ok e = more_scanouts h scanout
 grows h (Take scanout) (replies.Reserved key pages) e = more_itself h
+grows h (Take scanout) (replies.Exported token) e = more_itself h
+grows h (Take scanout) (replies.Imported key geometry pages) e = more_itself h
 grows h (Take scanout) (replies.Bytes bs) e = more_itself h
 grows h (Take scanout) replies.Kept e = more_itself h
 grows h (Take scanout) replies.Last e = more_itself h

@@ -41,6 +41,7 @@ has_key key pair = pair.0 == key
 -- What the client holds after one of its acts, by the act and its reply.
 abbrev pub update : Holds → Act → ActReply → Holds
 update holds (acts.Reserve width height format bytes) (act_replies.Reserved key pages) = record holds { buffers = holds.buffers ++ (key, pages) ∷ [] }
+update holds (acts.Import token) (act_replies.Imported key geometry pages) = record holds { buffers = holds.buffers ++ (key, pages) ∷ [] }
 update holds (acts.Release key) act_replies.Kept = record holds { buffers = without_first (has_key key) holds.buffers }
 update holds (acts.Release key) act_replies.Last = record holds { taking_down = holds.taking_down ++ key ∷ [] }
 update holds (acts.Free key) act_replies.Ok = record holds {

@@ -1,7 +1,7 @@
 //! What a client does on the shared guest state without a command.
 
 use vg_list::Seq;
-use vg_share::ShareRefusal;
+use vg_share::{Geometry, ShareRefusal};
 
 /// Something that a client named and that isn't allowed to it.
 #[derive(Clone, Copy)]
@@ -43,6 +43,14 @@ pub enum Act {
         offset: u32,
         length: u32,
     },
+    /// Gives a token for a buffer that the client holds.
+    Export {
+        key: u32,
+    },
+    /// Takes one more hold, of the buffer for which the token was given.
+    Import {
+        token: u32,
+    },
     /// Gives up one hold of a buffer.
     Release {
         key: u32,
@@ -72,12 +80,29 @@ pub enum Act {
 pub enum ActReply {
     Ok,
     /// The new buffer's key, and its guest pages, rising.
-    Reserved { key: u32, pages: Seq<u32> },
+    Reserved {
+        key: u32,
+        pages: Seq<u32>,
+    },
     /// What was loaded.
-    Bytes { bytes: Seq<u8> },
+    Bytes {
+        bytes: Seq<u8>,
+    },
+    /// The token.
+    Exported {
+        token: u32,
+    },
+    /// The imported buffer's key, what it is for, and its guest pages, rising.
+    Imported {
+        key: u32,
+        geometry: Geometry,
+        pages: Seq<u32>,
+    },
     /// Others hold the buffer still.
     Kept,
     /// No one holds the buffer any more, and the client takes it down.
     Last,
-    Refused { refusal: ShareRefusal },
+    Refused {
+        refusal: ShareRefusal,
+    },
 }

@@ -5,9 +5,10 @@ use Rattle.vg_chain.specs.declared.chain.ChainFault.TheVariants.{Index, Loop, Ne
 use Rattle.vg_chain.specs.declared.shape.Shape.{Shape}
 use Rattle.vg_chain.specs.declared.shape.Shape.TheVariants.{Plain, Pieces, Indirect, Mixed, Bad}
 use Rattle.vg_client_holds.specs.declared.act.Act.{Act}
-use Rattle.vg_client_holds.specs.declared.act.Act.TheVariants.{Enter, Reserve, Store, Load, Release, Free, Take, Drop, Denied, Leave}
+use Rattle.vg_client_holds.specs.declared.act.Act.TheVariants.{Enter, Reserve, Store, Load, Export, Import, Release, Free, Take, Drop, Denied, Leave}
 use Rattle.vg_client_holds.specs.declared.act.What.{What}
 use Rattle.vg_client_holds.specs.declared.act.What.TheVariants as whats
+use Rattle.vg_share.specs.declared.share.Geometry.{Geometry}
 use Rattle.vg_share.specs.declared.share.ShareRefusal.{ShareRefusal}
 use Rattle.vg_share.specs.declared.share.ShareRefusal.TheVariants.{GuestFull, UnknownKey, NotHeld, ScanoutHeld, OutOfRange, InUse, ResourceLive}
 use Rattle.vg_client_holds.specs.declared.act.ActReply.{ActReply}
@@ -40,6 +41,8 @@ act_text Enter = codes "enter"
 act_text (Reserve width height format bytes) = reserve_text width height format bytes
 act_text (Store key offset bytes times) = store_text key offset bytes times
 act_text (Load key offset n) = load_text key offset n
+act_text (Export key) = codes "export " ++ decimal key
+act_text (Import token) = codes "import " ++ decimal token
 act_text (Release key) = codes "release " ++ decimal key
 act_text (Free key) = codes "free " ++ decimal key
 act_text (Take scanout) = codes "take " ++ decimal scanout
@@ -69,10 +72,21 @@ pages_text (page ∷ more) = decimal page ++ numbered comma_text 0 more
 unfoldable pub reserved_text : ℕ → List ℕ → List ℕ
 reserved_text key pages = codes "key " ++ decimal key ++ codes " pages " ++ pages_text pages
 
+-- ` size W H F B`
+unfoldable pub size_text : Geometry → List ℕ
+size_text geometry =
+    codes " size " ++ decimal geometry.width ++ codes " " ++ decimal geometry.height ++ codes " " ++ decimal geometry.format ++ codes " " ++ decimal geometry.bytes
+
+-- `key K size W H F B pages P,P,..`
+unfoldable pub imported_text : ℕ → Geometry → List ℕ → List ℕ
+imported_text key geometry pages = codes "key " ++ decimal key ++ size_text geometry ++ codes " pages " ++ pages_text pages
+
 abbrev pub act_reply_text : ActReply → List ℕ
 act_reply_text act_replies.Ok = codes "ok"
 act_reply_text (act_replies.Reserved key pages) = reserved_text key pages
 act_reply_text (act_replies.Bytes bytes) = codes "bytes " ++ hex_text bytes
+act_reply_text (act_replies.Exported token) = codes "token " ++ decimal token
+act_reply_text (act_replies.Imported key geometry pages) = imported_text key geometry pages
 act_reply_text act_replies.Kept = codes "kept"
 act_reply_text act_replies.Last = codes "last"
 act_reply_text (act_replies.Refused refusal) = refusal_text refusal

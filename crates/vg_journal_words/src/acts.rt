@@ -31,6 +31,8 @@ pub fn put_act(out: &mut Packed, act: &Act) -> Result<(), AllocError>
             offset,
             length,
         } => put_load(out, *key, *offset, *length),
+        Act::Export { key } => out.put_numbered(b"export ", *key),
+        Act::Import { token } => out.put_numbered(b"import ", *token),
         Act::Release { key } => out.put_numbered(b"release ", *key),
         Act::Free { key } => out.put_numbered(b"free ", *key),
         Act::Take { scanout } => out.put_numbered(b"take ", *scanout),

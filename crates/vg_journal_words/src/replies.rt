@@ -2,11 +2,11 @@
 
 ghost use Rattle.std.specs.Prelude.{◌≡◌, ◌++◌, codes, decimal, OnOk};
 ghost use Rattle.vg_text.specs.Text.{numbered};
-ghost use Rattle.vg_journal_words.specs.Text.{act_reply_text, comma_text, pages_text, refusal_text, reserved_text};
+ghost use Rattle.vg_journal_words.specs.Text.{act_reply_text, comma_text, imported_text, pages_text, refusal_text, reserved_text, size_text};
 
 use std::alloc::AllocError;
 use vg_client_holds::ActReply;
-use vg_share::ShareRefusal;
+use vg_share::{Geometry, ShareRefusal};
 use vg_text::Packed;
 
 /// Adds the text of what an act is answered.
@@ -17,6 +17,12 @@ pub fn put_act_reply(out: &mut Packed, reply: &ActReply) -> Result<(), AllocErro
         ActReply::Ok => out.put(b"ok"),
         ActReply::Reserved { key, pages } => put_reserved(out, *key, pages.as_slice()),
         ActReply::Bytes { bytes } => out.put_bytes(b"bytes ", bytes.as_slice()),
+        ActReply::Exported { token } => out.put_numbered(b"token ", *token),
+        ActReply::Imported {
+            key,
+            geometry,
+            pages,
+        } => put_imported(out, *key, geometry, pages.as_slice()),
         ActReply::Kept => out.put(b"kept"),
         ActReply::Last => out.put(b"last"),
         ActReply::Refused { refusal } => put_refusal(out, refusal),
@@ -44,6 +50,34 @@ fn put_reserved(out: &mut Packed, key: u32, pages: &[u32]) -> Result<(), AllocEr
     out.put_numbered(b"key ", key)?;
     out.put(b" pages ")?;
     put_pages(out, pages)
+}
+
+#[tactic(auto, unfolding(crate::specs::Text::imported_text))]
+fn put_imported(
+    out: &mut Packed,
+    key: u32,
+    geometry: &Geometry,
+    pages: &[u32],
+) -> Result<(), AllocError>
+    ensures { OnOk result (out.new ≡ out.old ++ imported_text key geometry.now pages.now) }
+{
+    out.put_numbered(b"key ", key)?;
+    put_size(out, geometry)?;
+    out.put(b" pages ")?;
+    put_pages(out, pages)
+}
+
+#[tactic(auto, unfolding(crate::specs::Text::size_text))]
+fn put_size(out: &mut Packed, geometry: &Geometry) -> Result<(), AllocError>
+    ensures { OnOk result (out.new ≡ out.old ++ size_text geometry.now) }
+{
+    out.put(b" size ")?;
+    out.put_three(
+        u64::from(geometry.width),
+        u64::from(geometry.height),
+        u64::from(geometry.format),
+    )?;
+    out.put_numbered(b" ", geometry.bytes)
 }
 
 fn put_pages(out: &mut Packed, pages: &[u32]) -> Result<(), AllocError>

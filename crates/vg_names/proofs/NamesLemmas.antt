@@ -1,6 +1,6 @@
 -- What is current, as places are taken, freed and looked at.
 use Rattle.std.proofs.Common.{◌≡◌, ◌≢◌, ◌⊎◌, ℕ, zero, suc, ◌+◌, ◌-◌, ◌<◌, ◌≤◌, Bool, not, List, [], ◌∷◌, ◌++◌, length, get_or, Option, Some, None, refl, sym, ap, ◌∙◌, inl, inr, add-zero, arith, eq-eqb, ne_eqb, length-append, take}
-use Rattle.std.specs.Prelude.{filter, find, slice_get, is_some, IsSome, IfSome}
+use Rattle.std.specs.Prelude.{filter, find, slice_get, is_some, IsSome}
 use Rattle.std.specs.List.{cons_option}
 use Rattle.std.proofs.lemmas.Bool.{cases_eq}
 use Rattle.std.proofs.lemmas.List.{append-nil, get_or_append_left, get_or_push, length-take, take_more}
@@ -212,12 +212,10 @@ kept_more o places q held was =
       from_one = was.from_one;
       to_made = omega (arith, was.to_made, length-append places (o ∷ []));
       stands = get_or_append_left places (o ∷ []) None (held.number - 1) within ∙ was.stands;
-      narrow = was.narrow;
-      low = was.low;
     }
 
-pub kept_after_take : (p : ℕ) (added : Held) (old new : Slab Held) (places : List (Option ℕ)) → AreKept old.slots places → Updates old new p (Some added) → added.number ≡ length places + 1 → added.width ≤ 640 → added.height ≤ 480 → AreKept new.slots (places ++ Some p ∷ [])
-kept_after_take p added old new places all updates next width height q held is =
+pub kept_after_take : (p : ℕ) (added : Held) (old new : Slab Held) (places : List (Option ℕ)) → AreKept old.slots places → Updates old new p (Some added) → added.number ≡ length places + 1 → AreKept new.slots (places ++ Some p ∷ [])
+kept_after_take p added old new places all updates next q held is =
     elim (cases_eq q p) [
       | inl same ↦
           let one : held ≡ added = some_is held added (sym is ∙ ap (get new) same ∙ updates.changed) in
@@ -227,8 +225,6 @@ kept_after_take p added old new places all updates next width height q held is =
             from_one = omega arith;
             to_made = omega (arith, length-append places (Some p ∷ []));
             stands = get_or_push places (Some p) None (held.number - 1) place ∙ ap (λ n. Some n) (sym same);
-            narrow = omega (arith, ap (λ (h : Held). h.width) one);
-            low = omega (arith, ap (λ (h : Held). h.height) one);
           }
       | inr differs ↦ kept_more (Some p) places q held (all q held (sym (updates.others q differs) ∙ is))
     ]
@@ -251,14 +247,6 @@ pub current_more : (first i : ℕ) (place : Option ℕ) (slots : List (Option He
 current_more first i place slots front size =
     current_append first slots front (place ∷ [])
     ∙ ap (λ n. current_from first slots front ++ cons_option (kept_at (first + n) slots place) []) size
-
--- What is found is no larger than a display.
-pub kept_sizes : (g place : ℕ) (slots : List (Option Held)) (places : List (Option ℕ)) (o : Option Held) → AreKept slots places → o ≡ of_number g (get_or slots place None) → IfSome o (λ held. (held.width ≤ 640) × (held.height ≤ 480))
-kept_sizes g place slots places o all is =
-    elim (kept_cases g (get_or slots place None)) [
-      | inl none ↦ rw (is, none) tt
-      | inr (held, slot, same, some) ↦ rw (is, some) ((all place held slot).narrow, (all place held slot).low)
-    ]
 
 pub kept_alike : (slots slots' : List (Option Held)) (places places' : List (Option ℕ)) → slots' ≡ slots → places' ≡ places → AreKept slots places → AreKept slots' places'
 kept_alike slots slots' places places' same_slots same_places all = rw (same_slots, same_places) all

@@ -57,14 +57,11 @@ place_in (Some place) = place
 abbrev pub place_at : ℕ → List (Option ℕ) → Option ℕ
 place_at number places = if number == 0 then None else place_in (slice_get places (number - 1))
 
--- What is kept at this place is the buffer of one of the names that were defined, at that name's place, and no larger than a
--- display.
+-- What is kept at this place is the buffer of one of the names that were defined, at that name's place.
 pub record IsKept (places : List (Option ℕ)) (place : ℕ) (held : Held) : Type 0 where
   pub from_one : 1 ≤ held.number
   pub to_made : held.number ≤ length places
   pub stands : slice_index_or places (held.number - 1) None ≡ Some place
-  pub narrow : held.width ≤ 640
-  pub low : held.height ≤ 480
 
 abbrev pub AreKept : List (Option Held) → List (Option ℕ) → Type 0
 AreKept slots places = (place : ℕ) (held : Held) → slice_index_or slots place None ≡ Some held → IsKept places place held

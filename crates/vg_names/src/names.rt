@@ -1,6 +1,6 @@
 //! The names of a client's buffers, each kept in a place that is used again once the name ends.
 
-ghost use Rattle.std.specs.Prelude.{◌≡◌, ◌+◌, ◌<◌, ◌≤◌, ◌^◌, [], IfOk, IfSome, IsSome, OnErr, OnOk};
+ghost use Rattle.std.specs.Prelude.{◌≡◌, ◌+◌, ◌<◌, ◌^◌, [], IfOk, IsSome, OnErr, OnOk};
 ghost use Rattle.slab.specs.Slab.{get, Updates};
 ghost use Rattle.vg_names.specs.Names.{current_from, found, kept_at, of_number, place_at, with_name, with_none, without_name};
 
@@ -51,8 +51,7 @@ impl Names {
 
     /// What the name of this number stands for, if it is current.
     pub fn find(&self, number: u32) -> Option<Held>
-        ensures value { result ≡ found number self.now }
-        ensures sizes { IfSome result (λ held. (held.width ≤ 640) × (held.height ≤ 480)) }
+        ensures { result ≡ found number self.now }
     {
         let place = place_of(self.places.as_slice(), number)?;
         kept(&self.held, place, number as usize)
@@ -60,9 +59,7 @@ impl Names {
 
     /// Defines the next name, as that of a buffer.
     pub fn make(&mut self, key: u32, width: u32, height: u32) -> Result<(), AllocError>
-        requires made { self.old.made < 2 ^ 31 }
-        requires width { width ≤ 640 }
-        requires height { height ≤ 480 }
+        requires { self.old.made < 2 ^ 31 }
         ensures ok { OnOk result (self.new ≡ with_name key width height self.old) }
         ensures err { OnErr result (self.new ≡ self.old) }
     {

@@ -15,8 +15,9 @@ use Rattle.std.proofs.lemmas.Option.{slice_get-get_or, slice_get_within, get_or_
 use Rattle.vg_places.proofs.Places.{length-tabulate, slice_get-tabulate}
 use Rattle.vg_pages.specs.Memory.{AreGivable, AreTakeable, Memory, fresh_memory, is_among, is_free, marked}
 use Rattle.vg_share.specs.declared.share.Buffer.{Buffer}
+use Rattle.vg_share.specs.declared.share.Geometry.{Geometry}
 use Rattle.vg_share.specs.Cells.{pages_of}
-use Rattle.vg_share.specs.Share.{HaveNoPageInCommon, SharesPages, ShareState, released_buffer, released_entries}
+use Rattle.vg_share.specs.Share.{HaveNoPageInCommon, SharesPages, ShareState, imported_buffer, imported_entries, released_buffer, released_entries}
 
 -- ---- lists
 
@@ -205,28 +206,53 @@ free-apart taken free mine takeable givable = λ k d within.
       | inr other ↦ other
     ]
 
--- ---- the three changes
+-- ---- the changes
 
 -- a buffer's holders change
-pub shares-released : (memory : Memory) (buffers after : List (ℕ × Buffer)) (reserved : ℕ) (leases : List (Option ℕ)) (clients : List (ℕ × Bool)) (client key : ℕ)
+shares-held : (memory : Memory) (buffers : List (ℕ × Buffer)) (reserved : ℕ) (exports : List ℕ) (leases : List (Option ℕ)) (clients : List (ℕ × Bool)) (test : ℕ → Bool) (buffer new : Buffer)
+    → lookup test buffers ≡ Some buffer → new.pages ≡ buffer.pages → new.geometry ≡ buffer.geometry
+    → SharesPages memory (record { buffers = buffers; reserved = reserved; exports = exports; leases = leases; clients = clients })
+    → SharesPages memory (record { buffers = set_value test buffers new; reserved = reserved; exports = exports; leases = leases; clients = clients })
+shares-held memory buffers reserved exports leases clients test buffer new found pages geometry shares = record {
+  taken = All-set_value (λ entry. AreGivable memory.taken entry.1.pages) test buffers buffer new (λ key fact. subst (AreGivable memory.taken) (sym pages) fact) found shares.taken;
+  enough = All-set_value (λ entry. length entry.1.pages ≡ pages_of entry.1.geometry.bytes) test buffers buffer new
+      (λ key fact. ap length pages ∙ fact ∙ ap (λ (g : Geometry). pages_of g.bytes) (sym geometry)) found shares.enough;
+  apart = AllPairs-set_value HaveNoPageInCommon test buffers buffer new
+      (λ key x fact. subst (λ mine. All (λ page. is_among x.1.pages page ≡ false) mine) (sym pages) fact)
+      (λ x key fact. subst (λ mine. All (λ page. is_among mine page ≡ false) x.1.pages) (sym pages) fact) found shares.apart;
+  owned = λ page taken. any-set_value (λ entry. is_among entry.1.pages page) test buffers buffer new (λ key. ap (λ mine. is_among mine page) pages) found ∙ shares.owned page taken;
+  given = All-set_value (λ entry. entry.0 ≤ reserved) test buffers buffer new (λ key fact. fact) found shares.given;
+}
+
+-- a hold is given up
+pub shares-released : (memory : Memory) (buffers after : List (ℕ × Buffer)) (reserved : ℕ) (exports : List ℕ) (leases : List (Option ℕ)) (clients : List (ℕ × Bool)) (client key : ℕ)
     → after ≡ released_entries client key (lookup (is_at (nat_cmp key)) buffers) buffers
-    → SharesPages memory (record { buffers = buffers; reserved = reserved; leases = leases; clients = clients })
-    → SharesPages memory (record { buffers = after; reserved = reserved; leases = leases; clients = clients })
-shares-released memory buffers after reserved leases clients client key is shares =
+    → SharesPages memory (record { buffers = buffers; reserved = reserved; exports = exports; leases = leases; clients = clients })
+    → SharesPages memory (record { buffers = after; reserved = reserved; exports = exports; leases = leases; clients = clients })
+shares-released memory buffers after reserved exports leases clients client key is shares =
     let test = is_at (nat_cmp key) in
-    let whole : List (ℕ × Buffer) → Type 0 = λ es. SharesPages memory (record { buffers = es; reserved = reserved; leases = leases; clients = clients }) in
+    let whole : List (ℕ × Buffer) → Type 0 = λ es. SharesPages memory (record { buffers = es; reserved = reserved; exports = exports; leases = leases; clients = clients }) in
     elim (lookup test buffers) as (λ found. lookup test buffers ≡ found → after ≡ released_entries client key found buffers → whole after) [
-      | Some buffer ↦ λ found same.
-          let new = released_buffer client buffer in
-          subst whole (sym same) (record {
-            taken = All-set_value (λ entry. AreGivable memory.taken entry.1.pages) test buffers buffer new (λ key fact. fact) found shares.taken;
-            enough = All-set_value (λ entry. length entry.1.pages ≡ pages_of entry.1.geometry.bytes) test buffers buffer new (λ key fact. fact) found shares.enough;
-            apart = AllPairs-set_value HaveNoPageInCommon test buffers buffer new (λ key x fact. fact) (λ x key fact. fact) found shares.apart;
-            owned = λ page taken. any-set_value (λ entry. is_among entry.1.pages page) test buffers buffer new (λ key. refl) found ∙ shares.owned page taken;
-            given = All-set_value (λ entry. entry.0 ≤ reserved) test buffers buffer new (λ key fact. fact) found shares.given;
-          })
+      | Some buffer ↦ λ found same. subst whole (sym same) (shares-held memory buffers reserved exports leases clients test buffer (released_buffer client buffer) found refl refl shares)
       | None ↦ λ found same. subst whole (sym same) shares
     ] refl is
+
+-- a hold more
+pub shares-imported : (memory : Memory) (buffers after : List (ℕ × Buffer)) (reserved : ℕ) (exports : List ℕ) (leases : List (Option ℕ)) (clients : List (ℕ × Bool)) (client key : ℕ)
+    → after ≡ imported_entries client key (lookup (is_at (nat_cmp key)) buffers) buffers
+    → SharesPages memory (record { buffers = buffers; reserved = reserved; exports = exports; leases = leases; clients = clients })
+    → SharesPages memory (record { buffers = after; reserved = reserved; exports = exports; leases = leases; clients = clients })
+shares-imported memory buffers after reserved exports leases clients client key is shares =
+    let test = is_at (nat_cmp key) in
+    let whole : List (ℕ × Buffer) → Type 0 = λ es. SharesPages memory (record { buffers = es; reserved = reserved; exports = exports; leases = leases; clients = clients }) in
+    elim (lookup test buffers) as (λ found. lookup test buffers ≡ found → after ≡ imported_entries client key found buffers → whole after) [
+      | Some buffer ↦ λ found same. subst whole (sym same) (shares-held memory buffers reserved exports leases clients test buffer (imported_buffer client buffer) found refl refl shares)
+      | None ↦ λ found same. subst whole (sym same) shares
+    ] refl is
+
+-- a token more
+pub shares-exports : (memory : Memory) (share : ShareState) (exports : List ℕ) → SharesPages memory share → SharesPages memory (record share { exports = exports })
+shares-exports memory share exports were = record { taken = were.taken; enough = were.enough; apart = were.apart; owned = were.owned; given = were.given }
 
 -- the pages of a live buffer may be given back
 pub live-givable : (memory : Memory) (share : ShareState) (test : ℕ → Bool) (buffer : Buffer) (list : List ℕ)
@@ -236,17 +262,17 @@ live-givable memory share test buffer list found same shares =
     (All-found (λ entry. AreGivable memory.taken entry.1.pages) test share.buffers buffer found shares.taken (AreGivable memory.taken buffer.pages) (λ key fact. fact))
 
 -- a buffer's pages are given back
-pub shares-freed : (memory now : Memory) (buffers after : List (ℕ × Buffer)) (reserved : ℕ) (leases : List (Option ℕ)) (clients : List (ℕ × Bool)) (test : ℕ → Bool) (buffer : Buffer) (list : List ℕ)
+pub shares-freed : (memory now : Memory) (buffers after : List (ℕ × Buffer)) (reserved : ℕ) (exports : List ℕ) (leases : List (Option ℕ)) (clients : List (ℕ × Bool)) (test : ℕ → Bool) (buffer : Buffer) (list : List ℕ)
     → lookup test buffers ≡ Some buffer
     → list ≡ buffer.pages
     → now.taken ≡ marked list false memory.taken
     → ((mine : List ℕ) → AreGivable memory.taken mine → All (λ page. is_among list page ≡ false) mine → AreGivable now.taken mine)
     → after ≡ remove_entry test buffers
-    → SharesPages memory (record { buffers = buffers; reserved = reserved; leases = leases; clients = clients })
-    → SharesPages now (record { buffers = after; reserved = reserved; leases = leases; clients = clients })
-shares-freed memory now buffers after reserved leases clients test buffer list found same flags others rest_is shares =
+    → SharesPages memory (record { buffers = buffers; reserved = reserved; exports = exports; leases = leases; clients = clients })
+    → SharesPages now (record { buffers = after; reserved = reserved; exports = exports; leases = leases; clients = clients })
+shares-freed memory now buffers after reserved exports leases clients test buffer list found same flags others rest_is shares =
     let rest = remove_entry test buffers in
-    let whole : List (ℕ × Buffer) → Type 0 = λ es. SharesPages now (record { buffers = es; reserved = reserved; leases = leases; clients = clients }) in
+    let whole : List (ℕ × Buffer) → Type 0 = λ es. SharesPages now (record { buffers = es; reserved = reserved; exports = exports; leases = leases; clients = clients }) in
     let beside : All (λ (entry : ℕ × Buffer). All (λ page. is_among buffer.pages page ≡ false) entry.1.pages) rest =
     All-beside HaveNoPageInCommon (λ old entry. All (λ page. is_among old.pages page ≡ false) entry.1.pages) test buffers buffer
     (λ key x apart. apart-sym buffer.pages x.1.pages apart) (λ x key apart. apart) found shares.apart
@@ -266,7 +292,7 @@ shares-freed memory now buffers after reserved leases clients test buffer list f
     })
 
 -- a new buffer has pages that were free
-pub shares-reserved : (memory now : Memory) (buffers after : List (ℕ × Buffer)) (reserved key : ℕ) (leases : List (Option ℕ)) (clients : List (ℕ × Bool)) (buffer : Buffer)
+pub shares-reserved : (memory now : Memory) (buffers after : List (ℕ × Buffer)) (reserved key : ℕ) (exports : List ℕ) (leases : List (Option ℕ)) (clients : List (ℕ × Bool)) (buffer : Buffer)
     → AreTakeable memory.taken buffer.pages
     → length buffer.pages ≡ pages_of buffer.geometry.bytes
     → now.taken ≡ marked buffer.pages true memory.taken
@@ -274,13 +300,13 @@ pub shares-reserved : (memory now : Memory) (buffers after : List (ℕ × Buffer
     → ((mine : List ℕ) → AreGivable memory.taken mine → AreGivable now.taken mine)
     → key ≡ reserved + 1
     → after ≡ insert_entry nat_cmp buffers key buffer
-    → SharesPages memory (record { buffers = buffers; reserved = reserved; leases = leases; clients = clients })
-    → SharesPages now (record { buffers = after; reserved = key; leases = leases; clients = clients })
-shares-reserved memory now buffers after reserved key leases clients buffer takeable enough flags givable others next inserted shares =
+    → SharesPages memory (record { buffers = buffers; reserved = reserved; exports = exports; leases = leases; clients = clients })
+    → SharesPages now (record { buffers = after; reserved = key; exports = exports; leases = leases; clients = clients })
+shares-reserved memory now buffers after reserved key exports leases clients buffer takeable enough flags givable others next inserted shares =
     let pages = buffer.pages in
     let new : ℕ × Buffer = (reserved + 1, buffer) in
     let has : ℕ → ℕ × Buffer → Bool = λ page entry. is_among entry.1.pages page in
-    let whole : List (ℕ × Buffer) → ℕ → Type 0 = λ es n. SharesPages now (record { buffers = es; reserved = n; leases = leases; clients = clients }) in
+    let whole : List (ℕ × Buffer) → ℕ → Type 0 = λ es n. SharesPages now (record { buffers = es; reserved = n; exports = exports; leases = leases; clients = clients }) in
     let last : after ≡ buffers ++ new ∷ [] = inserted ∙ ap (λ n. insert_entry nat_cmp buffers n buffer) next ∙ insert-last buffers reserved buffer shares.given in
     subst (λ n. whole after n) (sym next) (subst (λ es. whole es (reserved + 1)) (sym last) (record {
       taken = All-push (λ entry. AreGivable now.taken entry.1.pages) buffers new
@@ -301,7 +327,7 @@ shares-reserved memory now buffers after reserved key leases clients buffer take
     }))
 
 -- no buffers, and memory of which no page is taken
-pub shares-fresh : (count : ℕ) (leases : List (Option ℕ)) (clients : List (ℕ × Bool)) → SharesPages (fresh_memory count) (record { buffers = []; reserved = 0; leases = leases; clients = clients })
+pub shares-fresh : (count : ℕ) (leases : List (Option ℕ)) (clients : List (ℕ × Bool)) → SharesPages (fresh_memory count) (record { buffers = []; reserved = 0; exports = []; leases = leases; clients = clients })
 unfolding fresh_memory
 shares-fresh count leases clients = record {
   taken = All-nil (λ (entry : ℕ × Buffer). AreGivable (replicate count false) entry.1.pages);

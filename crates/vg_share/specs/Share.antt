@@ -1,5 +1,5 @@
 -- What clients share beside the device: buffers of guest pages, and the leases of scanouts. All of it is our own.
-use Rattle.std.specs.Prelude.{◌≡◌, ℕ, ◌+◌, ◌≤◌, ◌==◌, ◌&&◌, Bool, true, false, not, nat_lt, if◌then◌else◌, List, [], ◌∷◌, length, take, Option, Some, None, is_some, slice_get}
+use Rattle.std.specs.Prelude.{◌≡◌, ℕ, ◌+◌, ◌-◌, ◌≤◌, ◌==◌, ◌&&◌, Bool, true, false, not, nat_lt, if◌then◌else◌, List, [], ◌∷◌, ◌++◌, length, take, Option, Some, None, is_some, slice_get}
 use Rattle.std.specs.List.{count_by, list_any, slice_set, All, AllPairs}
 use Rattle.std.specs.Ordering.{nat_cmp}
 use Rattle.std.specs.Map.{lookup, remove_entry, set_value}
@@ -13,11 +13,13 @@ use Rattle.vg_share.specs.Cells.{pages_of}
 use Rattle.vg_share.specs.Lists.{without_first}
 use Rattle.vg_refusals.specs.Refusals.{refusal_of}
 
--- What the clients share: the live buffers by their keys, rising; how many buffers were reserved so far; of each scanout the
--- client to which it is leased, if any; and the clients that have come, by their numbers, with whether each has left.
+-- What the clients share: the live buffers by their keys, rising; how many buffers were reserved so far; of each token that was
+-- given the key of its buffer, in the order of the tokens; of each scanout the client to which it is leased, if any; and the
+-- clients that have come, by their numbers, with whether each has left.
 pub record ShareState : Type 0 where
   pub buffers : List (ℕ × Buffer)
   pub reserved : ℕ
+  pub exports : List ℕ
   pub leases : List (Option ℕ)
   pub clients : List (ℕ × Bool)
 
@@ -116,6 +118,57 @@ has_holder key share = some_holder (buffer_at key share)
 abbrev pub is_given : ℕ → Option ℕ → Bool
 is_given client (Some other) = other == client
 is_given client None = false
+
+-- The client doesn't hold a live buffer of the key.
+abbrev pub export_refusal : ℕ → ℕ → ShareState → Option ShareRefusal
+export_refusal client key share = refused_by (buffer_at key share) (λ buffer. refusal_of ((not (is_holder client buffer), NotHeld) ∷ []))
+
+-- A token for the buffer of the key: the next one.
+abbrev pub exported : ℕ → ShareState → ShareState
+exported key share = record share { exports = share.exports ++ key ∷ [] }
+
+-- The key of the buffer for which the token was given, if it was. A token's number is its place among all, from 1.
+abbrev pub exported_key : ℕ → ShareState → Option ℕ
+exported_key token share = if token == 0 then None else slice_get share.exports (token - 1)
+
+abbrev pub key_in : Option ℕ → ℕ
+key_in (Some key) = key
+key_in None = 0
+
+-- The key of a token's buffer.
+abbrev pub token_key : ℕ → ShareState → ℕ
+token_key token share = key_in (exported_key token share)
+
+abbrev pub refused_token : Option ℕ → ShareState → Option ShareRefusal
+refused_token None share = Some UnknownKey
+refused_token (Some key) share = refusal_of ((not (has_holder key share), UnknownKey) ∷ [])
+
+-- The token wasn't given, or its buffer has no holder.
+abbrev pub import_refusal : ℕ → ShareState → Option ShareRefusal
+import_refusal token share = refused_token (exported_key token share) share
+
+abbrev pub no_geometry : Geometry
+no_geometry = record { width = 0; height = 0; format = 0; bytes = 0 }
+
+abbrev pub geometry_in : Option Buffer → Geometry
+geometry_in (Some buffer) = buffer.geometry
+geometry_in None = no_geometry
+
+-- What the buffer of a key is for.
+abbrev pub geometry_at : ℕ → ShareState → Geometry
+geometry_at key share = geometry_in (buffer_at key share)
+
+-- The client holds the buffer once more.
+abbrev pub imported_buffer : ℕ → Buffer → Buffer
+imported_buffer client buffer = record buffer { holders = buffer.holders ++ client ∷ [] }
+
+-- The buffers after the client came to hold the key's once more.
+abbrev pub imported_entries : ℕ → ℕ → Option Buffer → List (ℕ × Buffer) → List (ℕ × Buffer)
+imported_entries client key (Some buffer) buffers = set_value (is_at (nat_cmp key)) buffers (imported_buffer client buffer)
+imported_entries client key None buffers = buffers
+
+abbrev pub imported : ℕ → ℕ → ShareState → ShareState
+imported client key share = record share { buffers = imported_entries client key (buffer_at key share) share.buffers }
 
 -- `live` says whether the device has a resource with the key's number.
 abbrev pub free_refusal : ℕ → ℕ → Bool → ShareState → Option ShareRefusal

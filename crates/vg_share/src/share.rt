@@ -1,4 +1,4 @@
-//! What the clients share beside the device: buffers of guest pages, and the leases of scanouts.
+//! What the clients share beside the device: buffers of guest pages, tokens for them, and the leases of scanouts.
 
 ghost use Rattle.std.specs.BTreeMap.{is_at};
 ghost use Rattle.std.specs.Map.{lookup};
@@ -6,7 +6,7 @@ ghost use Rattle.std.specs.Ordering.{nat_cmp};
 ghost use Rattle.std.specs.Prelude.{◌≡◌, ◌==◌, ◌+◌, ◌^◌, ◌-◌, ℕ, not, true, ◌<◌, [], Some, None, IfOk, IfErr, OnOk, OnErr, length, replicate, slice_get};
 ghost use Rattle.vg_pages.specs.Memory.{AreTakeable, Memory, after_taking, fresh_memory};
 ghost use Rattle.vg_share.specs.Cells.{pages_of};
-ghost use Rattle.vg_share.specs.Share.{SharesPages, drop_refusal, ended, entered, free_refusal, freed, given_back, has_entered, has_holder, holds_once, is_holder, is_leased, leased, new_buffer, pages_at, place_refusal, release_refusal, released, released_buffer, released_entries, some_holder, take_refusal, unleased, with_buffer};
+ghost use Rattle.vg_share.specs.Share.{SharesPages, drop_refusal, ended, entered, export_refusal, exported, exported_key, free_refusal, freed, geometry_at, geometry_in, given_back, has_entered, has_holder, holds_once, import_refusal, imported, imported_buffer, imported_entries, is_holder, is_leased, leased, new_buffer, pages_at, place_refusal, release_refusal, released, released_buffer, released_entries, some_holder, take_refusal, token_key, unleased, with_buffer};
 
 use crate::lists::remove_number;
 use std::alloc::{AllocError, Global};
@@ -36,7 +36,7 @@ pub enum ShareRefusal {
 
 /// What a buffer is for: width and height in pixels and the code of the pixels' format, as its client says them,
 /// and how many bytes it has.
-#[derive(Clone, Copy)]
+#[derive(Clone, Copy, Debug)]
 pub struct Geometry {
     pub width: u32,
     pub height: u32,
@@ -61,6 +61,8 @@ pub struct Buffer {
 pub struct Share {
     buffers: BTreeMap<u32, Buffer>,
     reserved: u32,
+    /// The key of each token's buffer, in the order of the tokens.
+    exports: Vec<u32>,
     leases: Vec<Option<u32>>,
     /// The clients that have come, and whether each has left.
     clients: BTreeMap<u32, bool>,
@@ -71,13 +73,13 @@ impl Model for Share {
 
     ghost Value = { ShareState };
 
-    ghost view = { λ s. record { buffers = s.buffers.entries; reserved = s.reserved; leases = s.leases.items; clients = s.clients.entries } };
+    ghost view = { λ s. record { buffers = s.buffers.entries; reserved = s.reserved; exports = s.exports.items; leases = s.leases.items; clients = s.clients.entries } };
 }
 
 impl Share {
     /// No buffers, and so many scanouts, none of them leased.
     pub fn new(alloc: Global, scanouts: u32) -> Result<Share, AllocError>
-        ensures none { IfOk result (λ share. share ≡ record { buffers = []; reserved = 0; leases = replicate scanouts None; clients = [] }) }
+        ensures none { IfOk result (λ share. share ≡ record { buffers = []; reserved = 0; exports = []; leases = replicate scanouts None; clients = [] }) }
         // Memory of which no page is taken fits.
         ensures share { IfOk result (λ share. (pages : ℕ) → SharesPages (fresh_memory pages) share) }
     {
@@ -85,6 +87,7 @@ impl Share {
         Ok(Share {
             buffers: BTreeMap::new(alloc),
             reserved: 0,
+            exports: Vec::new(alloc),
             leases,
             clients: BTreeMap::new(alloc),
         })
@@ -169,6 +172,66 @@ impl Share {
             return Err(refusal);
         }
         Ok(release_in(&mut self.buffers, client, key))
+    }
+
+    /// Gives the next token, for a buffer that the client holds.
+    pub fn export(&mut self, client: u32, key: u32) -> Result<Result<u32, ShareRefusal>, AllocError>
+        requires number { length self.old.exports < 2 ^ 32 - 1 }
+        ensures refused { IfOk result (λ done. IfErr done (λ refusal. export_refusal client key self.old ≡ Some refusal)) }
+        ensures kept { IfOk result (λ done. OnErr done (self.new ≡ self.old)) }
+        ensures accepted { IfOk result (λ done. OnOk done (export_refusal client key self.old ≡ None)) }
+        ensures after { IfOk result (λ done. OnOk done (self.new ≡ exported key self.old)) }
+        ensures token { IfOk result (λ done. IfOk done (λ token. token ≡ length self.old.exports + 1)) }
+        ensures share { (memory : Memory) → SharesPages memory self.old → SharesPages memory self.new }
+        ensures err { OnErr result (self.new ≡ self.old) }
+    {
+        if let Some(refusal) = self.export_refusal(client, key) {
+            return Ok(Err(refusal));
+        }
+        self.exports.push(key)?;
+        Ok(Ok(self.exports.len() as u32))
+    }
+
+    /// The key of the buffer for which the token was given, if it was.
+    pub fn exported_key(&self, token: u32) -> Option<u32>
+        ensures { result ≡ exported_key token self.now }
+    {
+        if token == 0 {
+            return None;
+        }
+        self.exports.get(token as usize - 1).copied()
+    }
+
+    /// The pages of a token's buffer, rising; none where there is no such buffer.
+    pub fn token_pages(&self, token: u32) -> &[u32]
+        ensures { result.now ≡ pages_at (token_key token self.now) self.now }
+    {
+        match self.buffers.get(&self.token_key(token)) {
+            Some(buffer) => buffer.pages.as_slice(),
+            None => &[],
+        }
+    }
+
+    /// Gives the client one more hold of a token's buffer, and tells the buffer's key and what it is for.
+    pub fn import(
+        &mut self,
+        client: u32,
+        token: u32,
+    ) -> Result<Result<(u32, Geometry), ShareRefusal>, AllocError>
+        ensures refused { IfOk result (λ done. IfErr done (λ refusal. import_refusal token self.old ≡ Some refusal)) }
+        ensures kept { IfOk result (λ done. OnErr done (self.new ≡ self.old)) }
+        ensures accepted { IfOk result (λ done. OnOk done (import_refusal token self.old ≡ None)) }
+        ensures after { IfOk result (λ done. OnOk done (self.new ≡ imported client (token_key token self.old) self.old)) }
+        ensures told { IfOk result (λ done. IfOk done (λ told. told ≡ (token_key token self.old, geometry_at (token_key token self.old) self.old))) }
+        ensures share { (memory : Memory) → SharesPages memory self.old → SharesPages memory self.new }
+        ensures err { OnErr result (self.new ≡ self.old) }
+    {
+        if let Some(refusal) = self.import_refusal(token) {
+            return Ok(Err(refusal));
+        }
+        let key = self.token_key(token);
+        let geometry = import_in(&mut self.buffers, client, key)?;
+        Ok(Ok((key, geometry)))
     }
 
     /// Gives back the pages of a buffer that the client takes down. `live` says whether the device has a resource with
@@ -287,6 +350,52 @@ impl Share {
         None
     }
 
+    /// Why the client can't export the buffer, if it can't.
+    fn export_refusal(&self, client: u32, key: u32) -> Option<ShareRefusal>
+        ensures { result ≡ export_refusal client key self.now }
+    {
+        let Some(buffer) = self.buffers.get(&key) else {
+            return Some(ShareRefusal::UnknownKey);
+        };
+        if !buffer.is_held_by(client) {
+            return Some(ShareRefusal::NotHeld);
+        }
+        None
+    }
+
+    /// The key of a token's buffer, 0 where the token wasn't given.
+    fn token_key(&self, token: u32) -> u32
+        ensures { result ≡ token_key token self.now }
+    {
+        match self.exported_key(token) {
+            Some(key) => key,
+            None => 0,
+        }
+    }
+
+    /// Why the token's buffer can't be imported, if it can't.
+    fn import_refusal(&self, token: u32) -> Option<ShareRefusal>
+        ensures { result ≡ import_refusal token self.now }
+    {
+        let Some(key) = self.exported_key(token) else {
+            return Some(ShareRefusal::UnknownKey);
+        };
+        if !self.has_holder(key) {
+            return Some(ShareRefusal::UnknownKey);
+        }
+        None
+    }
+
+    /// Whether the buffer of the key has a holder.
+    fn has_holder(&self, key: u32) -> bool
+        ensures { result ≡ has_holder key self.now }
+    {
+        match self.buffers.get(&key) {
+            Some(buffer) => !buffer.holders.is_empty(),
+            None => false,
+        }
+    }
+
     /// Why the client can't give back the buffer's pages, if it can't.
     fn free_refusal(&self, client: u32, key: u32, live: bool) -> Option<ShareRefusal>
         ensures { result ≡ free_refusal client key live self.now }
@@ -318,6 +427,14 @@ impl Buffer {
     {
         let holds = self.holders.as_slice().iter();
         holds.filter(|other| **other == client).count() == 1
+    }
+
+    /// Gives the client one more hold.
+    fn import(&mut self, client: u32) -> Result<(), AllocError>
+        ensures ok { OnOk result (self.new ≡ imported_buffer client self.old) }
+        ensures err { OnErr result (self.new ≡ self.old) }
+    {
+        self.holders.push(client)
     }
 
     /// Takes one hold of the client away, and tells whether no hold is left: the client takes the buffer down then.
@@ -362,4 +479,26 @@ fn release_in(buffers: &mut BTreeMap<u32, Buffer>, client: u32, key: u32) -> boo
         return buffer.release(client);
     }
     true
+}
+
+/// Gives the client one more hold where a buffer has the key, and tells what the buffer is for.
+fn import_in(
+    buffers: &mut BTreeMap<u32, Buffer>,
+    client: u32,
+    key: u32,
+) -> Result<Geometry, AllocError>
+    ensures entries { OnOk result (buffers.new.entries ≡ imported_entries client key (lookup (is_at (nat_cmp key)) buffers.old.entries) buffers.old.entries) }
+    ensures geometry { IfOk result (λ geometry. geometry ≡ geometry_in (lookup (is_at (nat_cmp key)) buffers.old.entries)) }
+    ensures err { OnErr result (buffers.new.entries ≡ buffers.old.entries) }
+{
+    if let Some(buffer) = buffers.get_mut(&key) {
+        buffer.import(client)?;
+        return Ok(buffer.geometry);
+    }
+    Ok(Geometry {
+        width: 0,
+        height: 0,
+        format: 0,
+        bytes: 0,
+    })
 }

@@ -23,7 +23,7 @@ invariant_of-self-2 c =
     rw pushed
     (kept_after_take c.insert_reserved-place.result (named (c.len.result + 1) c.args.key c.args.width c.args.height)
     c.reserve-2.new.self c.insert_reserved-place.new.self c.reserve.new.self.items reserved c.insert_reserved-place.ensures.updates
-    (omega arith) c.requires.width c.requires.height)
+    (omega arith))
 
 pub returns-clause-ok : goal.returns-clause-ok
 returns-clause-ok c =

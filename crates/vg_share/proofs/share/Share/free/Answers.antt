@@ -13,7 +13,7 @@ use Rattle.vg_share.proofs.share.Share.free.Goals.{in-Some-remove, in_default-re
 pub give-requires : goal.give-requires
 give-requires c =
     let inside = c.self.inside in
-    let share : ShareState = record { buffers = inside.buffers.entries; reserved = inside.reserved; leases = inside.leases.items; clients = inside.clients.entries } in
+    let share : ShareState = record { buffers = inside.buffers.entries; reserved = inside.reserved; exports = inside.exports.items; leases = inside.leases.items; clients = inside.clients.entries } in
     let found : lookup (is_at (nat_cmp c.args.key)) inside.buffers.entries ≡ Some c.in-Some-remove.buffer = sym c.in-Some-remove.ensures.value in
     live-givable c.args.pages.now share (is_at (nat_cmp c.args.key)) c.in-Some-remove.buffer c.as_slice.result.now found c.as_slice.ensures
     (subst (SharesPages c.args.pages.now) (sym c.self.view_is) c.requires)
@@ -27,11 +27,11 @@ returns-clause-share c =
       | in-Some-remove w ↦
           let found : lookup test inside.buffers.entries ≡ Some w.in-Some-remove.buffer = sym w.in-Some-remove.ensures.value in
           rw w.pages-is
-          (shares-freed c.args.pages.now w.give.new.self inside.buffers.entries c.remove.new.self.entries inside.reserved inside.leases.items inside.clients.entries
+          (shares-freed c.args.pages.now w.give.new.self inside.buffers.entries c.remove.new.self.entries inside.reserved inside.exports.items inside.leases.items inside.clients.entries
           test w.in-Some-remove.buffer w.as_slice.result.now found w.as_slice.ensures (ap (λ (memory : Memory). memory.taken) w.give.ensures.after)
           w.give.ensures.others c.remove.ensures.entries shares)
       | in_default-remove w ↦
           let same : c.remove.new.self.entries ≡ inside.buffers.entries = w.in_default-remove.ensures.unchanged in
-          let whole = λ (es : List (ℕ × Buffer)). SharesPages c.args.pages.now (record { buffers = es; reserved = inside.reserved; leases = inside.leases.items; clients = inside.clients.entries }) in
+          let whole = λ (es : List (ℕ × Buffer)). SharesPages c.args.pages.now (record { buffers = es; reserved = inside.reserved; exports = inside.exports.items; leases = inside.leases.items; clients = inside.clients.entries }) in
           rw w.pages-is (subst whole (sym same) shares)
     ]

@@ -23,6 +23,6 @@ returns-clause-share c =
     ap (λ (m : Memory). m.taken) c.take_these.ensures.after ∙ ap (λ list. marked list true memory.taken) (sym items)
     in
     let next : c.next_key-key.result ≡ inside.reserved + 1 = c.next_key-key.ensures ∙ ap (λ (share : ShareState). share.reserved + 1) (sym c.self.view_is) in
-    shares-reserved memory now inside.buffers.entries c.insert.new.self.entries inside.reserved c.next_key-key.result inside.leases.items inside.clients.entries
+    shares-reserved memory now inside.buffers.entries c.insert.new.self.entries inside.reserved c.next_key-key.result inside.exports.items inside.leases.items inside.clients.entries
     buffer takeable enough flags (subst (AreGivable now.taken) (sym items) c.take_these.ensures.givable) c.take_these.ensures.others next c.in_ok-insert.ensures.entries
     (subst (SharesPages memory) (sym c.self.view_is) c.requires.share)

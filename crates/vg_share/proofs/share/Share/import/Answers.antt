@@ -1,0 +1,12 @@
+-- No pages are touched.
+use Rattle.std.proofs.Common.{sym, subst}
+use Rattle.vg_share.specs.Share.{SharesPages}
+use Rattle.vg_share.proofs.ShareLemmas.{shares-imported}
+use Rattle.vg_share.proofs.share.Share.import.Goals as goal
+
+pub returns-clause-share : goal.returns-clause-share
+returns-clause-share c = λ memory shares.
+    let inside = c.self.inside in
+    shares-imported memory inside.buffers.entries c.import_in.new.buffers.entries inside.reserved inside.exports.items inside.leases.items inside.clients.entries c.args.client c.token_key-key.result
+    c.in_ok-geometry.ensures.entries
+    (subst (SharesPages memory) (sym c.self.view_is) shares)
