@@ -1,6 +1,6 @@
 //! A label, which threads share: one of them gives it, once, and the others wait for it.
 
-ghost use Rattle.std.specs.Prelude.{◌≡◌, Some, IfSome, Option};
+ghost use Rattle.std.specs.Prelude.{◌≡◌, Some, IfSome};
 ghost use Rattle.vg_book.specs.Places.{HasCall};
 ghost use Rattle.vg_labels.specs.Labels.{Shows};
 
@@ -48,6 +48,25 @@ impl<M: Machine, B: Naming> Model for Posted<M, B> {
     ghost invariant = { λ p. HasCall p.note.seen p.client p.call };
 }
 
+impl<M: Machine, B: Naming> Posted<M, B> {
+    fn of(note: Note<M, B>, client: u32, call: u64) -> Posted<M, B>
+        requires { HasCall note.seen client call }
+    {
+        Posted { client, call, note }
+    }
+
+    /// A note that has seen the same, if it is of this call.
+    fn note_of(&mut self, book: &Book<M, B>, client: u32, call: u64) -> Option<Note<M, B>>
+        ensures { IfSome result (λ note. HasCall note.seen client call) }
+    {
+        if self.client == client && self.call == call {
+            Some(self.note.note(book))
+        } else {
+            None
+        }
+    }
+}
+
 /// A label: it is given once, or given up.
 #[derive(Drop)]
 pub struct Label<M: Machine, B: Naming> {
@@ -79,12 +98,7 @@ impl<M: Machine, B: Naming> Label<M, B> {
         requires { HasCall note.seen given.client given.call }
         ensures { IfSome result (Shows self.now given) }
     {
-        let posted = Posted {
-            client: given.client,
-            call: given.call,
-            note,
-        };
-        *self.post.lock(rt) = Some(posted);
+        *self.post.lock(rt) = Some(Posted::of(note, given.client, given.call));
         self.value.set(rt, Some(given)).ok()
     }
 
@@ -105,23 +119,8 @@ impl<M: Machine, B: Naming> Label<M, B> {
     {
         let shown = self.wait_for_value(rt);
         let given = (*self.value.value(&shown))?;
-        let note = self.note_of(rt, book, given);
+        let note = self.wait_for_note(rt, book, given.client, given.call);
         Some((given, note, shown))
-    }
-
-    /// What shows what the label was given, if it was given or given up.
-    pub fn shown(&self) -> Option<Shown<'_>>
-        ensures { IfSome result (λ shown. shown.of ≡ self.now) }
-    {
-        self.value.witness()
-    }
-
-    /// What the label was given; nothing where it was given up.
-    pub fn given<'a>(&'a self, shown: &Shown<'a>) -> Option<Given>
-        requires { shown.now.of ≡ self.now }
-        ensures { result ≡ shown.now.value }
-    {
-        *self.value.value(shown)
     }
 
     fn wait_for_value<'a, R: Wait>(&'a self, rt: &R) -> Shown<'a>
@@ -136,17 +135,30 @@ impl<M: Machine, B: Naming> Label<M, B> {
         unreachable!()
     }
 
-    /// A note that has seen the entry of what was given, which was left before it was.
-    fn note_of<R: Wait>(&self, rt: &R, book: &Book<M, B>, given: Given) -> Note<M, B>
-        ensures { HasCall result.seen given.client given.call }
+    /// A note that has seen this call of this client, which was left before the label was given.
+    fn wait_for_note<R: Wait>(
+        &self,
+        rt: &R,
+        book: &Book<M, B>,
+        client: u32,
+        call: u64,
+    ) -> Note<M, B>
+        ensures { HasCall result.seen client call }
     {
         for _ in rt.forever() {
             if let Some(posted) = &mut *self.post.lock(rt) {
-                if posted.client == given.client && posted.call == given.call {
-                    return posted.note.note(book);
+                if let Some(note) = posted.note_of(book, client, call) {
+                    return note;
                 }
             }
         }
         unreachable!()
+    }
+
+    /// What shows what the label was given. One that nobody has given is given up.
+    pub fn shown<'a, R: Wait>(&'a self, rt: &R) -> Shown<'a>
+        ensures { result.of ≡ self.now }
+    {
+        self.value.init(rt, || None)
     }
 }

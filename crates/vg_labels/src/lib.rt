@@ -2,5 +2,7 @@
 #![tactic(auto)]
 
 mod label;
+mod table;
 
 pub use label::{Gift, Given, Label, Shown};
+pub use table::{Told, agree, all_shown, give_up_all, new_labels};
