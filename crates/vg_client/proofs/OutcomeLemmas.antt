@@ -1,16 +1,14 @@
 -- The numbers of a client's entries, and what the last of them was answered.
-use Rattle.std.proofs.Common.{◌≡◌, inl, inr, ◌+◌, ◌<◌, ◌≤◌, ◌==◌, ◌∙◌, sym, ap, refl, subst, arith, eq-eqb, ℕ, zero, suc, Bool, true, false, cond, List, [], ◌∷◌, ◌++◌, length, map, length-append, Option, Some, None}
+use Rattle.std.proofs.Common.{◌≡◌, ◌+◌, ◌<◌, ◌≤◌, ◌∙◌, sym, ap, refl, subst, arith, ℕ, zero, suc, Bool, true, false, cond, List, [], ◌∷◌, ◌++◌, length, length-append, Option, Some, None}
 use Rattle.std.specs.Prelude.{IsSome}
-use Rattle.std.specs.List.{range_with_len}
 use mathlib.Core.List.{IsPrefix}
 use mathlib.Core.Logic.{dite}
 use mathlib.Core.Option.{some, some-ne-none}
 use native.Mathlib.Decide.{dec_le}
 use lib.ListN.{get_elem?}
 use Rattle.vg_history.specs.declared.entry.Entry.TheVariants.{Act, Command}
-use Rattle.vg_history.specs.Lists.{Has}
 use Rattle.vg_history.proofs.ListLemmas.{has_at}
-use Rattle.vg_book.specs.Own.{own}
+use Rattle.vg_book.specs.Places.{HasCall}
 use Rattle.vg_machine.specs.Entries.{Entry}
 use Rattle.vg_machine.specs.Order.{call_of, client_of}
 use Rattle.vg_driver.specs.Tickets.{Token}
@@ -20,7 +18,6 @@ use Rattle.vg_client.specs.declared.outcome.Last.{Last}
 use Rattle.vg_client.specs.declared.outcome.Last.TheVariants as lasts
 use Rattle.vg_client.specs.declared.outcome.Outcome.{Outcome}
 use Rattle.vg_client.specs.declared.outcome.Played.{Played}
-use Rattle.vg_client.specs.Accounts.{IsAccount}
 use Rattle.vg_client.specs.Given.{given_of, tells_denial}
 use Rattle.vg_client.specs.Outcomes.{AreNumbered, EndsAt, EndsWith, HasPlayed, IsNumbered, IsOutcome, last_given, last_of}
 
@@ -116,40 +113,12 @@ outcome-is seen mine seen' played outcome has entries last =
     let ends : EndsWith played.entries.items mine outcome.last = subst Told last has.ends in
     record { numbered = subst Numbers (sym entries) has.numbered; ends = subst Ends (sym entries) ends }
 
--- an entry of a client among those that were seen is one of its own
-own-has : (n : ℕ) (xs : List Entry) (e : Entry) → client_of e ≡ n → Has xs e → Has (own n xs) e
-own-has n [] e owner has = absurd has
-own-has n (x ∷ xs) e owner (inl same) =
-    let test : (client_of x == n) ≡ true = eq-eqb (client_of x) n (ap client_of same ∙ owner) in
-    subst (λ (b : Bool). Has (cond b (x ∷ own n xs) (own n xs)) e) (sym test) (inl same)
-own-has n (x ∷ xs) e owner (inr has) = by_test (client_of x == n) (own-has n xs e owner has)
-  where
-    by_test : (b : Bool) → Has (own n xs) e → Has (cond b (x ∷ own n xs) (own n xs)) e
-    by_test true more = inr more
-    by_test false more = more
-
-call-below : (first : ℕ) (xs : List Entry) (e : Entry) → map call_of xs ≡ range_with_len first (length xs) → Has xs e → call_of e < first + length xs
-call-below first [] e are has = absurd has
-call-below first (x ∷ xs) e are (inl same) =
-    let all : call_of x ∷ map call_of xs ≡ first ∷ range_with_len (first + 1) (length xs) = are in
-    let here : call_of x ≡ first = cc all in
-    let moved : call_of x ≡ call_of e = ap call_of same in
-    omega (arith, here, moved)
-call-below first (x ∷ xs) e are (inr has) =
-    let all : call_of x ∷ map call_of xs ≡ first ∷ range_with_len (first + 1) (length xs) = are in
-    let rest : map call_of xs ≡ range_with_len (first + 1) (length xs) = cc all in
-    let below = call-below (first + 1) xs e rest has in
-    omega (arith, below)
-
 -- an entry with a client's next number stands behind all that the client had seen
-pub stands-behind : (token : Token) (seen' : List Entry) (place : ℕ) (entry : Entry) → IsAccount token → IsPrefix token.seen seen' → client_of entry ≡ token.account.number → call_of entry ≡ token.account.used + 1 → get_elem? seen' place ≡ some entry → length token.seen ≤ place
-stands-behind token seen' place entry is p owner call at = dite (dec_le (length token.seen) place) (λ behind. behind) (λ no. absurd (apart (omega (arith, no))))
+pub stands-behind : (token : Token) (seen' : List Entry) (place : ℕ) (entry : Entry) → (HasCall token.seen token.account.number (token.account.used + 1) → ⊥) → IsPrefix token.seen seen' → client_of entry ≡ token.account.number
+    → call_of entry ≡ token.account.used + 1 → get_elem? seen' place ≡ some entry → length token.seen ≤ place
+stands-behind token seen' place entry new p owner call at = dite (dec_le (length token.seen) place) (λ behind. behind) (λ no. absurd (apart (omega (arith, no))))
   where
     apart : place < length token.seen → ⊥
     apart below =
         let old : get_elem? token.seen place ≡ some entry = at-back token.seen p.0 place entry below (subst (λ (xs : List Entry). get_elem? xs place ≡ some entry) (sym p.1) at) in
-        let among : Has (own token.account.number token.seen) entry = own-has token.account.number token.seen entry owner (has_at token.seen place entry old) in
-        let mine : Has token.account.mine entry = subst (λ (xs : List Entry). Has xs entry) is.in_step.own_is among in
-        let low = call-below 1 token.account.mine entry is.own.numbers mine in
-        let used = is.used in
-        omega (arith, low, used, call)
+        new (entry, has_at token.seen place entry old, owner, call)

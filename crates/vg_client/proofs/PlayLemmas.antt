@@ -1,7 +1,7 @@
 -- What the tasks of a call give, one entry after another.
 use Rattle.std.proofs.Common.{◌≡◌, ◌⊎◌, ◌+◌, ◌<◌, ◌≤◌, ◌∙◌, sym, ap, refl, subst, arith, inl, inr, ℕ, Bool, true, false, cond, not, ◌||◌, List, [], ◌∷◌, ◌++◌, length, map, filter, slice_set, append_assoc, append-nil, length-append, Option, Some, None, Result, Ok, Err}
 use Rattle.std.specs.Prelude.{IfErr, IfOk, OnErr, OnOk}
-use Rattle.std.specs.List.{AllByRecursion}
+use Rattle.std.specs.List.{AllByRecursion, range_with_len}
 use mathlib.Core.List.{IsPrefix}
 use Rattle.std.proofs.lemmas.List.{length-map, length-set}
 use Rattle.vg_client_holds.specs.declared.act.Act as the_act
@@ -15,7 +15,7 @@ use Rattle.vg_client_holds.specs.declared.act.What.{What}
 use Rattle.vg_machine.specs.Entries.{Entry}
 use Rattle.vg_client_holds.specs.declared.holds.Holds.{Holds}
 use Rattle.vg_client_holds.specs.Holds.{Deniable}
-use Rattle.vg_machine.specs.Order.{is_leave, updated}
+use Rattle.vg_machine.specs.Order.{call_of, is_leave, updated}
 use Rattle.vg_calls.specs.declared.call.Call.{Call}
 use Rattle.vg_client.specs.declared.caller.Caller.{Caller}
 use Rattle.vg_client.specs.declared.given.Added.{Added}
@@ -37,12 +37,16 @@ use Rattle.vg_tasks.specs.Fits.{IsFit}
 use Rattle.vg_client.specs.Outcomes.{HasPlayed, IsNumbered, last_given}
 use Rattle.vg_tasks.specs.Table.{page_entry}
 use Rattle.vg_driver.specs.Tickets.{Token}
-use Rattle.vg_client.specs.Accounts.{IsAccount, IsActive, IsAdded, IsAddedAct, IsPresent, IsUnadded, leaves, mine_of}
+use Rattle.vg_client.specs.Accounts.{IsAccount, IsActive, IsNextOf, IsAdded, IsAddedAct, IsPresent, IsUnadded, leaves, mine_of}
 use Rattle.vg_client.proofs.HoldsLemmas.{updated-displays}
 use Rattle.vg_client.proofs.OutcomeLemmas.{played-more}
-use Rattle.vg_client.proofs.OwnLemmas.{all-more}
+use Rattle.vg_client.proofs.OwnLemmas.{all-map, all-more, numbers-more}
 use Rattle.vg_tasks.proofs.TaskLemmas.{fit-append, weights-append}
-use Rattle.vg_history.proofs.ListLemmas.{prefix_self, prefix_trans}
+use Rattle.vg_book.specs.Places.{HasCall, IsPlaced, begun_of}
+use Rattle.vg_book.specs.Views.{order_call}
+use Rattle.vg_client.specs.Own.{ArePlaced}
+use Rattle.vg_history.specs.Lists.{Has}
+use Rattle.vg_history.proofs.ListLemmas.{has_prefix, prefix_self, prefix_trans}
 
 -- one entry more, of the first task that was left
 plays-more : (client : ℕ) (stops : Bool) (known0 : Known) (tasks0 : List Task) (mine : List Entry) (known : Known) (task : Task) (left : List Task) (entry : Entry)
@@ -145,6 +149,51 @@ small-more used used' known known' task entry small next learns =
       scanouts = let same = shows-length task.change (given_of entry) known.shows in omega (arith, same, small.scanouts);
     })
 
+-- what stands behind calls stands there still in what is seen more
+pub placed-later : (es es' : List Entry) (client : ℕ) (begun : List ℕ) (front : List Entry) → IsPrefix es es' → ArePlaced es client begun front → ArePlaced es' client begun front
+placed-later es es' client begun front more placed =
+    all-map (λ e. IsPlaced es client begun (call_of e)) (λ e. IsPlaced es' client begun (call_of e)) front
+    (λ e is i low below ready. let at = is i low below ready in record { front = at.front; begins = prefix_trans at.front es es' at.begins more; has = at.has; apart = at.apart })
+    placed
+
+-- and where nothing is begun it stands behind those that aren't of any list
+placed-of : (es : List Entry) (client call : ℕ) (begun begun' : List ℕ) → begun ≡ [] → IsPlaced es client begun call → IsPlaced es client begun' call
+placed-of es client call begun begun' none is i low below ready = is i low below (λ h. absurd (subst (λ (ns : List ℕ). Has ns i) none h))
+
+begun-none : (token : Token) → token.account.out ≡ [] → begun_of token.account ≡ []
+begun-none token idle = ap (map order_call) idle
+
+-- a client's next calls, in the order of their numbers, each behind all of its earlier ones
+pub record AreNext (token : Token) (mine : List Entry) (token' : Token) : Type 0 where
+  pub used : token'.account.used ≡ token.account.used + length mine
+  pub numbers : map call_of mine ≡ range_with_len (token.account.used + 1) (length mine)
+  pub placed : ArePlaced token'.seen token.account.number (begun_of token.account) mine
+  pub apart : AllByRecursion (λ e. HasCall token.seen token.account.number (call_of e) → ⊥) mine
+
+pub next-none : (token : Token) → AreNext token [] token
+next-none token = record { used = omega arith; numbers = refl; placed = tt; apart = tt }
+
+pub next-more : (token0 token token' : Token) (mine : List Entry) (entry : Entry) → AreNext token0 mine token → token.account.out ≡ [] → token.account.number ≡ token0.account.number → IsPrefix token0.seen token.seen → IsPrefix token.seen token'.seen → token'.account.used ≡ token.account.used + 1 → call_of entry ≡ token.account.used + 1
+    → IsPlaced token'.seen token.account.number (begun_of token.account) (token.account.used + 1) → (HasCall token.seen token.account.number (token.account.used + 1) → ⊥) → AreNext token0 (mine ++ entry ∷ []) token'
+next-more token0 token token' mine entry on idle number more more' used call placed apart =
+    let n : ℕ = token0.account.number in
+    let begun : List ℕ = begun_of token0.account in
+    let longer : length (mine ++ entry ∷ []) ≡ length mine + 1 = length-append mine (entry ∷ []) in
+    let before = on.used in
+    let here : IsPlaced token'.seen n begun (call_of entry) =
+    subst (λ (c : ℕ). IsPlaced token'.seen n begun c) (sym call)
+    (subst (λ (k : ℕ). IsPlaced token'.seen k begun (token.account.used + 1)) number (placed-of token'.seen token.account.number (token.account.used + 1) (begun_of token.account) begun (begun-none token idle) placed)) in
+    let new : HasCall token0.seen n (call_of entry) → ⊥ = λ at. apart (at.0, has_prefix token0.seen token.seen at.0 more at.1, at.2 ∙ sym number, at.3 ∙ call) in
+    record {
+      used = omega (arith, used, before, longer);
+      numbers = numbers-more mine (token0.account.used + 1) (length mine) entry on.numbers (omega (arith, call, before)) ∙ ap (range_with_len (token0.account.used + 1)) (sym longer);
+      placed = all-more (λ e. IsPlaced token'.seen n begun (call_of e)) mine entry (placed-later token.seen token'.seen n begun mine more' on.placed) here;
+      apart = all-more (λ e. HasCall token0.seen n (call_of e) → ⊥) mine entry on.apart new;
+    }
+
+pub next-of : {B : Type 0} {client client' : Caller B} {mine : List Entry} → HasGoneOn client mine client' → AreNext client.token mine client'.token
+next-of on = record { used = on.used; numbers = on.numbers; placed = on.placed; apart = on.apart }
+
 -- how far a client has come with these tasks
 pub record IsPlaying {B : Type 0} (stops : Bool) (tasks0 : List Task) (client0 : Caller B) (client : Caller B) (left : List Task) (gathered : Played) : Type 0 where
   pub mine : List Entry
@@ -181,7 +230,16 @@ added-then client0 client client' mine more one other = record {
 pub playing-first : {B : Type 0} (stops : Bool) (tasks : List Task) (client : Caller B) (gathered : Played) → IsReady client → AllByRecursion IsFit tasks → HasPlayed client.token.seen [] client.token.seen gathered → IsPlaying stops tasks client client tasks gathered
 playing-first stops tasks client gathered ready fit has = record {
   mine = [];
-  on = record { added = added-none client ready.active.account_is.in_step.idle; displays = refl; made = omega arith; ready = ready };
+  on = let next = next-none client.token in record {
+    added = added-none client ready.active.account_is.idle;
+    used = next.used;
+    numbers = next.numbers;
+    placed = next.placed;
+    apart = next.apart;
+    displays = refl;
+    made = omega arith;
+    ready = ready;
+  };
   fit = fit;
   room = omega arith;
   played = (refl, refl);
@@ -238,11 +296,18 @@ playing-more stops tasks0 client0 client client' client'' left left1 left' gathe
     let added = added-then client0 client client'' playing.mine (entry ∷ []) playing.on.added (added-same client client' client'' (entry ∷ []) done.added same) in
     let little = names-little task.change (given_of entry) client.names playing.on.ready.small.current in
     let made_is : client''.names.made ≡ (names_after task.change (given_of entry) client.names).made = ap (λ (k : Known). k.names.made) learns in
+    let next : AreNext client0.token (playing.mine ++ entry ∷ []) client''.token =
+    subst (λ (t : Token). AreNext client0.token (playing.mine ++ entry ∷ []) t) (sym same)
+    (next-more client0.token client.token client'.token playing.mine entry (next-of playing.on) playing.on.ready.active.account_is.idle playing.on.added.number playing.on.added.more done.added.more done.used done.call done.placed done.apart) in
     let Plays_to : Known → List Task → Type 0 = λ k ts. Plays client0.token.account.number stops (known client0) tasks0 (playing.mine ++ entry ∷ []) k ts in
     record {
       mine = playing.mine ++ entry ∷ [];
       on = record {
         added = added;
+        used = next.used;
+        numbers = next.numbers;
+        placed = next.placed;
+        apart = next.apart;
         displays = ap (λ (k : Known). k.holds.displays) learns ∙ updated-displays client.token.account.holds entry ∙ playing.on.displays;
         made = omega (arith, little.2, made_is, playing.on.made);
         ready = record {
@@ -263,7 +328,7 @@ abbrev pub Stood : {B : Type 0} → Bool → List Task → Caller B → Caller B
 Stood stops tasks0 client0 client' = (mine : List Entry) × IsFrontOf client0.token.account.number stops (known client0) tasks0 mine × HasAdded client0 mine client'
 
 pub stood-none : {B : Type 0} (stops : Bool) (tasks : List Task) (client : Caller B) → IsReady client → Stood stops tasks client client
-stood-none stops tasks client ready = ([], (known client, tasks, (refl, refl)), added-none client ready.active.account_is.in_step.idle)
+stood-none stops tasks client ready = ([], (known client, tasks, (refl, refl)), added-none client ready.active.account_is.idle)
 
 pub stood-make : {B : Type 0} (stops : Bool) (tasks0 : List Task) (client0 client client' : Caller B) (left : List Task) (gathered : Played)
     → IsPlaying stops tasks0 client0 client left gathered → HasAdded client [] client' → Stood stops tasks0 client0 client'
@@ -317,13 +382,13 @@ abbrev pub StoodCall : {B : Type 0} → Call → Caller B → Caller B → Type 
 StoodCall call client client' = (mine : List Entry) × Begins client.token.account.number (known client) call mine × HasAdded client mine client'
 
 pub unbegun : {B : Type 0} (call : Call) (client : Caller B) → IsReady client → StoodCall call client client
-unbegun call client ready = ([], begins-none client.token.account.number (known client) (tasks_of (known client) call), added-none client ready.active.account_is.in_step.idle)
+unbegun call client ready = ([], begins-none client.token.account.number (known client) (tasks_of (known client) call), added-none client ready.active.account_is.idle)
 
 -- one entry more of a client, that it made by a task or to tell a denial
 pub done-by : {B : Type 0} (client client' : Caller B) (entry : Entry) (gave : Added) → IsAdded client.token gave.number entry client'.token → IsPresent client.token → is_leave entry ≡ false
     → client'.names ≡ client.names → client'.shows.items ≡ client.shows.items → gave.given ≡ given_of entry → HasDone client entry gave client'
 done-by client client' entry gave is present stays names shows given_is = record {
-  added = record { start = is.start; number = is.number; idle = is.account_is.in_step.idle; own = is.mine; more = is.more };
+  added = record { start = is.start; number = is.number; idle = is.account_is.idle; own = is.mine; more = is.more };
   active = record {
     account_is = is.account_is;
     begun = let used = is.used in omega (arith, used);
@@ -336,6 +401,9 @@ done-by client client' entry gave is present stays names shows given_is = record
   given_is = given_is;
   numbered = is.numbered;
   behind = is.behind;
+  call = is.call;
+  placed = is.placed;
+  apart = is.apart;
 }
 
 -- an act that doesn't leave is no leave
@@ -395,11 +463,17 @@ denied-told client client' what gathered gathered' gave ready has (reply, done, 
       made = omega (arith, ready.small.made, used);
       scanouts = ready.small.scanouts;
     } in
-    let made = ap (λ (ns : NamesState). ns.made) done.names in (
+    let made = ap (λ (ns : NamesState). ns.made) done.names in
+    let next : AreNext client.token (entry ∷ []) client'.token =
+    next-more client.token client.token client'.token [] entry (next-none client.token) ready.active.account_is.idle refl (prefix_self client.token.seen) done.added.more done.used done.call done.placed done.apart in (
       entry ∷ [],
       (client.token.account.used + 1, reply, refl),
       record {
         added = done.added;
+        used = next.used;
+        numbers = next.numbers;
+        placed = next.placed;
+        apart = next.apart;
         displays = ap (λ (h : Holds). h.displays) holds;
         made = omega (arith, made);
         ready = record { active = done.active; small = subst (λ (k : Known). IsSmall client'.token.account.used k) (sym same) small };
@@ -435,10 +509,14 @@ left-by token token' n reply (added, (state, is)) =
 
 -- the end of a client: what it gives up, and its leave
 pub ended-by : {B : Type 0} (client client' : Caller B) (tasks : List Task) (ending : List Entry) (token : Token) → tasks ≡ end_tasks (known client) → Plays client.token.account.number false (known client) tasks ending (known client') []
-    → HasAdded client ending client' → IsAccount token → mine_of token ≡ mine_of client'.token ++ Act client'.token.account.number (client'.token.account.used + 1) acts.Leave act_replies.Ok ∷ [] → HasEnded client token
-ended-by client client' tasks ending token are plays added is left =
+    → IsReady client → HasGoneOn client ending client' → IsAccount token → mine_of token ≡ mine_of client'.token ++ Act client'.token.account.number (client'.token.account.used + 1) acts.Leave act_replies.Ok ∷ [] → IsNextOf client'.token token → HasEnded client token
+ended-by client client' tasks ending token are plays ready on is left behind =
     let P : List Task → Type 0 = λ ts. Plays client.token.account.number false (known client) ts ending (known client') [] in
+    let added = on.added in
     let last : ℕ = client'.token.account.used + 1 in
+    let leave : Entry = Act client.token.account.number last acts.Leave act_replies.Ok in
+    let next : AreNext client.token (ending ++ leave ∷ []) token =
+    next-more client.token client'.token token ending leave (next-of on) on.ready.active.account_is.idle added.number added.more behind.more behind.used refl behind.placed behind.apart in
     record {
       account_is = is;
       ending = ending;
@@ -447,20 +525,24 @@ ended-by client client' tasks ending token are plays added is left =
       plays = subst P are plays;
       own =
           left ∙ ap (λ (n : ℕ). mine_of client'.token ++ Act n last acts.Leave act_replies.Ok ∷ []) added.number
-          ∙ ap (λ (xs : List Entry). xs ++ Act client.token.account.number last acts.Leave act_replies.Ok ∷ []) added.own
+          ∙ ap (λ (xs : List Entry). xs ++ leave ∷ []) added.own
           ∙ append_assoc (mine_of client.token) ending _;
+      used = next.used;
+      numbers = next.numbers;
+      placed = subst (λ (ns : List ℕ). ArePlaced token.seen client.token.account.number ns (ending ++ leave ∷ [])) (begun-none client.token ready.active.account_is.idle) next.placed;
+      more = prefix_trans client.token.seen client'.token.seen token.seen added.more behind.more;
     }
 
-pub both-ok : {T E : Type 0} {P Q R : Type 0} (r : Result T E) → (P → Q → R) → OnOk r P → OnOk r Q → OnOk r R
-both-ok (Ok x) f p q = f p q
-both-ok (Err e) f p q = tt
+pub three-ok : {T E : Type 0} {P Q R S : Type 0} (r : Result T E) → (P → Q → R → S) → OnOk r P → OnOk r Q → OnOk r R → OnOk r S
+three-ok (Ok x) f p q r = f p q r
+three-ok (Err e) f p q r = tt
 
 -- a client that was to end, and whose token is this
 abbrev pub StoodEnd : {B : Type 0} → Caller B → Token → Type 0
 StoodEnd client token = (mine : List Entry) × BeginsEnd client.token.account.number (known client) mine × HasMade client.token mine token
 
 pub end-unbegun : {B : Type 0} (client : Caller B) → IsReady client → StoodEnd client client.token
-end-unbegun client ready = ([], (known client, end_tasks (known client), (refl, refl)), made-none client.token ready.active.account_is.in_step.idle)
+end-unbegun client ready = ([], (known client, end_tasks (known client), (refl, refl)), made-none client.token ready.active.account_is.idle)
 
 pub end-stood : {B : Type 0} (client client' : Caller B) (tasks : List Task) → tasks ≡ end_tasks (known client) → Stood false tasks client client' → StoodEnd client client'.token
 end-stood client client' tasks are (mine, (known', left, plays), added) =

@@ -102,6 +102,13 @@ pub record IsAdded (token : Token) (n : ℕ) (entry : Entry) (token' : Token) : 
   pub placed : IsPlaced token'.seen token.account.number (begun_of token.account) (token.account.used + 1)
   pub apart : HasCall token.seen token.account.number (token.account.used + 1) → ⊥
 
+-- One call more of the client, with its next number, which stands behind all of its calls before.
+pub record IsNextOf (token : Token) (token' : Token) : Type 0 where
+  pub used : token'.account.used ≡ token.account.used + 1
+  pub more : IsPrefix token.seen token'.seen
+  pub placed : IsPlaced token'.seen token.account.number (begun_of token.account) (token.account.used + 1)
+  pub apart : HasCall token.seen token.account.number (token.account.used + 1) → ⊥
+
 -- The reply is the display's in some state.
 abbrev pub IsReply : ℕ → the_act.Act → ActReply → Type 0
 IsReply client act reply = (state : State) × (reply ≡ (act_step state client act).1)

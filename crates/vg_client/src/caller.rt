@@ -6,7 +6,7 @@ ghost use Rattle.vg_client_holds.specs.declared.act.Act.TheVariants as acts;
 ghost use Rattle.vg_client_holds.specs.declared.act.ActReply.TheVariants as act_replies;
 ghost use Rattle.vg_client_holds.specs.declared.setup.Setup.{Setup as Setups};
 ghost use Rattle.vg_machine.specs.Entries.{Entry as Entries};
-ghost use Rattle.vg_client.specs.Accounts.{IsAccount, IsActive, IsNew, IsUnadded, mine_of};
+ghost use Rattle.vg_client.specs.Accounts.{IsAccount, IsActive, IsNew, IsNextOf, IsUnadded, mine_of};
 ghost use Rattle.vg_client.specs.Callers.{BeginsEnd, HasAdded, HasGoneOn, HasEnded, HasEntered, HasLeftBy, HasMade, IsReady, known};
 ghost use Rattle.vg_tasks.specs.Plans.{IsCallFit, IsFitPlan};
 ghost use Rattle.vg_client.specs.Calls.{Begins, BeginsTasks, Gives, GivesTasks, name_behind, newest};
@@ -173,6 +173,7 @@ fn leave<B: Naming, R: Wait>(
     ensures entry { OnOk result (mine_of token.new
         ≡ mine_of token.old ++ entries.Act token.old.account.number (token.old.account.used + 1) acts.Leave act_replies.Ok ∷ []) }
     ensures account { OnOk result (IsAccount token.new) }
+    ensures next { OnOk result (IsNextOf token.old token.new) }
     ensures left { IfOk result (HasLeftBy token.new) }
     ensures err { OnErr result (IsUnadded token.old token.new) }
     ensures number { token.new.account.number ≡ token.old.account.number }

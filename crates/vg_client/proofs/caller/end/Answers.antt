@@ -2,7 +2,7 @@ use Rattle.std.proofs.Common.{◌∙◌, ◌++◌, ap, map}
 use Rattle.vg_client_holds.specs.declared.holds.Holds.{Holds}
 use Rattle.vg_tasks.specs.Table.{release_task}
 use Rattle.vg_tasks.specs.Tasks.{leases_back}
-use Rattle.vg_client.proofs.PlayLemmas.{both-ok, end-stood, end-unbegun, end-unleft, ended-by, err-then, on_err}
+use Rattle.vg_client.proofs.PlayLemmas.{end-stood, end-unbegun, end-unleft, ended-by, err-then, on_err, three-ok}
 use Rattle.vg_client.proofs.caller.end.Goals as goal
 
 pub returns-in_err-tasks-clause-begun : goal.returns-in_err-tasks-clause-begun
@@ -19,7 +19,7 @@ returns-clause-ended g c =
     let client = c.args.client.now in
     let done = c.in_ok-play.ensures.done in
     let tasks = c.in_ok-tasks.ensures.tasks ∙ ap (λ (h : Holds). leases_back h.scanouts 0 h.displays ++ map release_task client.names.current) c.holds.ensures in
-    both-ok _ (λ account entry. ended-by client c.play.new.client _ done.0 c.leave.new.token tasks done.1 done.2.added account entry) c.leave.ensures.account c.leave.ensures.entry
+    three-ok _ (λ account entry next. ended-by client c.play.new.client _ done.0 c.leave.new.token tasks done.1 c.requires.ready done.2 account entry next) c.leave.ensures.account c.leave.ensures.entry c.leave.ensures.next
 
 pub returns-clause-begun : goal.returns-clause-begun
 returns-clause-begun g c =
