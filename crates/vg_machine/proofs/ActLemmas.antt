@@ -16,10 +16,10 @@ use Rattle.vg_share.specs.declared.share.Buffer.{Buffer}
 use Rattle.vg_share.specs.declared.share.ShareRefusal.TheVariants.{NotHeld, OutOfRange}
 use Rattle.vg_refusals.specs.Refusals.{refusal_of}
 use Rattle.vg_share.specs.Cells.{pages_of, stored}
-use Rattle.vg_share.specs.Share.{ShareState, SharesPages, buffer_at, ended, entered, freed, given_back, is_holder, leased, pages_at, pages_in, place_refusal, refused_by, released, unleased, with_buffer, drop_refusal, free_refusal, has_holder, release_refusal, reserve_refusal, take_refusal}
+use Rattle.vg_share.specs.Share.{ShareState, SharesPages, buffer_at, ended, entered, freed, given_back, is_holder, leased, pages_at, pages_in, place_refusal, refused_by, released, unleased, with_buffer, drop_refusal, export_refusal, exported, free_refusal, has_holder, import_refusal, imported, release_refusal, reserve_refusal, take_refusal}
 use Rattle.vg_backing.specs.Backing.{AreHeld}
 use Rattle.vg_client_holds.specs.declared.act.Act.{Act}
-use Rattle.vg_client_holds.specs.declared.act.Act.TheVariants.{Enter, Reserve, Store, Load, Release, Free, Take, Drop, Denied, Leave}
+use Rattle.vg_client_holds.specs.declared.act.Act.TheVariants.{Enter, Reserve, Store, Load, Export, Import, Release, Free, Take, Drop, Denied, Leave}
 use Rattle.vg_client_holds.specs.declared.act.ActReply.{ActReply}
 use Rattle.vg_client_holds.specs.declared.act.ActReply.TheVariants as act_replies
 use Rattle.vg_resource.specs.Resource.{resource_at}
@@ -31,6 +31,7 @@ pub record ShareFits (memory : Memory) (count entries : ℕ) (share : ShareState
   pub leases : length share.leases ≡ count
   pub pages : SharesPages memory share
   pub reserved : share.reserved ≤ entries
+  pub exports : length share.exports ≤ entries
 
 -- the same size of memory
 pub record IsAsLarge (old new : Memory) : Type 0 where
@@ -45,6 +46,7 @@ fits-leases memory count entries scanout lease share fits = record {
   leases = length-set share.leases scanout lease ∙ fits.leases;
   pages = shares-leases memory share (set share.leases scanout lease) fits.pages;
   reserved = fits.reserved;
+  exports = fits.exports;
 }
 
 -- whether an act was refused or not
@@ -140,30 +142,68 @@ large-freed (Err refusal) old new share shared key kept after = subst (IsAsLarge
 
 pub fits-freed : (count entries key : ℕ) (result : Result (Unit {0}) ShareRefusal) (old new : Memory) (share shared : ShareState)
     → OnErr result ((shared ≡ share) × (new ≡ old)) → OnOk result ((shared ≡ freed key share) × (new ≡ given_back (pages_at key share) old))
-    → length share.leases ≡ count → share.reserved ≤ entries → SharesPages new shared → ShareFits new count entries shared
-fits-freed count entries key (Ok done) old new share shared kept after leases reserved pages = record {
+    → length share.leases ≡ count → share.reserved ≤ entries → length share.exports ≤ entries → SharesPages new shared → ShareFits new count entries shared
+fits-freed count entries key (Ok done) old new share shared kept after leases reserved exports pages = record {
   leases = ap (λ state. length state.leases) after.0 ∙ leases;
   pages = pages;
   reserved = subst (λ state. state.reserved ≤ entries) (sym after.0) reserved;
+  exports = subst (λ state. length state.exports ≤ entries) (sym after.0) exports;
 }
-fits-freed count entries key (Err refusal) old new share shared kept after leases reserved pages = record {
+fits-freed count entries key (Err refusal) old new share shared kept after leases reserved exports pages = record {
   leases = ap (λ state. length state.leases) kept.0 ∙ leases;
   pages = pages;
   reserved = subst (λ state. state.reserved ≤ entries) (sym kept.0) reserved;
+  exports = subst (λ state. length state.exports ≤ entries) (sym kept.0) exports;
 }
 
 pub fits-released : (memory : Memory) (count entries client key : ℕ) (result : Result Bool ShareRefusal) (old new : ShareState)
     → OnErr result (new ≡ old) → OnOk result (new ≡ released client key old)
-    → length old.leases ≡ count → old.reserved ≤ entries → SharesPages memory new → ShareFits memory count entries new
-fits-released memory count entries client key (Ok last) old new kept after leases reserved pages = record {
+    → length old.leases ≡ count → old.reserved ≤ entries → length old.exports ≤ entries → SharesPages memory new → ShareFits memory count entries new
+fits-released memory count entries client key (Ok last) old new kept after leases reserved exports pages = record {
   leases = ap (λ state. length state.leases) after ∙ leases;
   pages = pages;
   reserved = subst (λ state. state.reserved ≤ entries) (sym after) reserved;
+  exports = subst (λ state. length state.exports ≤ entries) (sym after) exports;
 }
-fits-released memory count entries client key (Err refusal) old new kept after leases reserved pages = record {
+fits-released memory count entries client key (Err refusal) old new kept after leases reserved exports pages = record {
   leases = ap (λ state. length state.leases) kept ∙ leases;
   pages = pages;
   reserved = subst (λ state. state.reserved ≤ entries) (sym kept) reserved;
+  exports = subst (λ state. length state.exports ≤ entries) (sym kept) exports;
+}
+
+-- a token more, where there are fewer than entries
+pub fits-exported : (memory : Memory) (count entries key : ℕ) (result : Result ℕ ShareRefusal) (old new : ShareState)
+    → OnErr result (new ≡ old) → OnOk result (new ≡ exported key old)
+    → length old.leases ≡ count → old.reserved ≤ entries → length old.exports < entries → SharesPages memory new → ShareFits memory count entries new
+fits-exported memory count entries key (Ok token) old new kept after leases reserved exports pages = record {
+  leases = ap (λ state. length state.leases) after ∙ leases;
+  pages = pages;
+  reserved = subst (λ state. state.reserved ≤ entries) (sym after) reserved;
+  exports = subst (λ state. length state.exports ≤ entries) (sym after) (omega (arith, exports, length_push old.exports key));
+}
+fits-exported memory count entries key (Err refusal) old new kept after leases reserved exports pages = record {
+  leases = ap (λ state. length state.leases) kept ∙ leases;
+  pages = pages;
+  reserved = subst (λ state. state.reserved ≤ entries) (sym kept) reserved;
+  exports = subst (λ state. length state.exports ≤ entries) (sym kept) (omega (arith, exports));
+}
+
+-- a hold more
+pub fits-imported : {V : Type 0} (P : Type 0) (memory : Memory) (count entries client key : ℕ) (result : Result V ShareRefusal) (old new : ShareState)
+    → OnErr result ((new ≡ old) × P) → OnOk result (new ≡ imported client key old)
+    → length old.leases ≡ count → old.reserved ≤ entries → length old.exports ≤ entries → SharesPages memory new → ShareFits memory count entries new
+fits-imported P memory count entries client key (Ok told) old new kept after leases reserved exports pages = record {
+  leases = ap (λ state. length state.leases) after ∙ leases;
+  pages = pages;
+  reserved = subst (λ state. state.reserved ≤ entries) (sym after) reserved;
+  exports = subst (λ state. length state.exports ≤ entries) (sym after) exports;
+}
+fits-imported P memory count entries client key (Err refusal) old new kept after leases reserved exports pages = record {
+  leases = ap (λ state. length state.leases) kept.0 ∙ leases;
+  pages = pages;
+  reserved = subst (λ state. state.reserved ≤ entries) (sym kept.0) reserved;
+  exports = subst (λ state. length state.exports ≤ entries) (sym kept.0) exports;
 }
 
 -- what was pushed is gone after a pop
@@ -176,6 +216,7 @@ pub record Reserved (count entries : ℕ) (before now : Memory) (share : ShareSt
   pub large : IsAsLarge before now
   pub leases : length share.leases ≡ count
   pub reserved : share.reserved ≤ entries
+  pub exports : length share.exports ≤ entries
 
 reserved-as : (count entries : ℕ) (old new next : Memory) (shared after : ShareState) → shared ≡ after → new ≡ next → Reserved count entries old next after → Reserved count entries old new shared
 reserved-as count entries old new next shared after is at was =
@@ -183,11 +224,11 @@ reserved-as count entries old new next shared after is at was =
 
 -- a reserve was accepted
 pub fits-reserved : (count entries client : ℕ) (geometry : Geometry) (pages : List ℕ) (old new : Memory) (share shared : ShareState)
-    → shared ≡ with_buffer client geometry pages share → new ≡ after_taking old pages → length share.leases ≡ count → share.reserved < entries
+    → shared ≡ with_buffer client geometry pages share → new ≡ after_taking old pages → length share.leases ≡ count → share.reserved < entries → length share.exports ≤ entries
     → Reserved count entries old new shared
-fits-reserved count entries client geometry pages old new share shared buffer taken leases reserved =
+fits-reserved count entries client geometry pages old new share shared buffer taken leases reserved exports =
     reserved-as count entries old new (after_taking old pages) shared (with_buffer client geometry pages share) buffer taken
-    (record { large = large-taking old pages; leases = leases; reserved = omega (arith, reserved) })
+    (record { large = large-taking old pages; leases = leases; reserved = omega (arith, reserved); exports = exports })
 
 -- a refused act has changed nothing
 kept-replied : (refusal : Option ShareRefusal) (state next : State) (reply : ActReply) → KeepsIfRefused reply state next
@@ -204,6 +245,8 @@ kept-effect state client Enter = tt
 kept-effect state client (Reserve width height format bytes) = kept-replied (reserve_refusal bytes state.memory) state _ _ tt
 kept-effect state client (Store key offset bytes times) = kept-replied (place_refusal client key offset (length bytes * times) state.share) state _ _ tt
 kept-effect state client (Load key offset n) = kept-replied (place_refusal client key offset n state.share) state _ _ tt
+kept-effect state client (Export key) = kept-replied (export_refusal client key state.share) state _ _ tt
+kept-effect state client (Import token) = kept-replied (import_refusal token state.share) state _ _ tt
 kept-effect state client (Release key) =
     kept-replied (release_refusal client key (shown_at client key state) state.share) state _ _ (kept-held (has_holder key (released client key state.share)) state _)
 kept-effect state client (Free key) = kept-replied (free_refusal client key (is_some (resource_at key state.resources)) state.share) state _ _ tt

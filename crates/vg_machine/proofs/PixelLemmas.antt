@@ -229,6 +229,7 @@ consistent-counted state was = record {
   leases = was.leases;
   share = was.share;
   reserved = omega (arith, was.reserved);
+  exports = omega (arith, was.exports);
   given = omega (arith, was.given);
   cursors = was.cursors;
 }

@@ -1,8 +1,9 @@
 -- What the acts of clients do and answer. All of it is our own.
-use Rattle.std.specs.Prelude.{◌≡◌, ℕ, ◌+◌, ◌*◌, ◌==◌, ◌&&◌, ◌||◌, Bool, false, is_some, List, length, if◌then◌else◌, Option, Some, None}
+use Rattle.std.specs.Prelude.{◌≡◌, ℕ, ◌+◌, ◌*◌, ◌==◌, ◌&&◌, ◌||◌, Bool, true, false, is_some, Result, Ok, Err, List, length, if◌then◌else◌, Option, Some, None}
+use Rattle.std.specs.declared.alloc.AllocError.{AllocError}
 use Rattle.std.specs.List.{find, range_with_len}
 use Rattle.vg_client_holds.specs.declared.act.Act.{Act}
-use Rattle.vg_client_holds.specs.declared.act.Act.TheVariants.{Enter, Reserve, Store, Load, Release, Free, Take, Drop, Denied, Leave}
+use Rattle.vg_client_holds.specs.declared.act.Act.TheVariants.{Enter, Reserve, Store, Load, Export, Import, Release, Free, Take, Drop, Denied, Leave}
 use Rattle.vg_client_holds.specs.declared.act.ActReply.{ActReply}
 use Rattle.vg_client_holds.specs.declared.act.ActReply.TheVariants as act_replies
 use Rattle.vg_share.specs.declared.share.Geometry.{Geometry}
@@ -13,7 +14,7 @@ use Rattle.vg_share.specs.Cells.{loaded, repeated, stored}
 use Rattle.vg_resource.specs.Resource.{resource_at}
 use Rattle.vg_cursor.specs.Cursor.{cursor_of}
 use Rattle.vg_scanout.specs.Scanout.{binding_at}
-use Rattle.vg_share.specs.Share.{drop_refusal, ended, entered, free_refusal, freed, given_back, has_holder, is_leased, leased, new_pages, pages_at, place_refusal, release_refusal, released, reserve_refusal, take_refusal, unleased, with_buffer}
+use Rattle.vg_share.specs.Share.{drop_refusal, ended, entered, export_refusal, exported, free_refusal, freed, geometry_at, given_back, has_holder, import_refusal, imported, is_leased, leased, new_pages, pages_at, place_refusal, release_refusal, released, reserve_refusal, take_refusal, token_key, unleased, with_buffer}
 use Rattle.vg_machine.specs.State.{State, counted}
 
 -- An act whose refusal is this: the display stays as it was, or becomes `next`.
@@ -51,6 +52,18 @@ load_step state client key offset n =
     replied_by (place_refusal client key offset n state.share) state state
     (act_replies.Bytes (loaded state.memory.bytes (pages_at key state.share) offset n))
 
+abbrev pub export_step : State → ℕ → ℕ → State × ActReply
+export_step state client key =
+    replied_by (export_refusal client key state.share) state (record state { share = exported key state.share })
+    (act_replies.Exported (length state.share.exports + 1))
+
+-- The client holds the token's buffer once more. Its geometry is what the client that reserved it said.
+abbrev pub import_step : State → ℕ → ℕ → State × ActReply
+import_step state client token =
+    let key = token_key token state.share in
+    replied_by (import_refusal token state.share) state (record state { share = imported client key state.share })
+    (act_replies.Imported key (geometry_at key state.share) (pages_at key state.share))
+
 abbrev pub release_step : State → ℕ → ℕ → State × ActReply
 release_step state client key =
     let next = released client key state.share in
@@ -82,6 +95,8 @@ effect_of state client Enter = (state, act_replies.Ok)
 effect_of state client (Reserve width height format bytes) = reserve_step state client (record { width = width; height = height; format = format; bytes = bytes })
 effect_of state client (Store key offset bytes times) = store_step state client key offset bytes times
 effect_of state client (Load key offset n) = load_step state client key offset n
+effect_of state client (Export key) = export_step state client key
+effect_of state client (Import token) = import_step state client token
 effect_of state client (Release key) = release_step state client key
 effect_of state client (Free key) = free_step state client key
 effect_of state client (Take scanout) = take_step state client scanout
@@ -102,4 +117,11 @@ KeepsIfRefused reply old new = Unit {0}
 abbrev pub HasNoList : ActReply → Type 0
 HasNoList (act_replies.Reserved key pages) = ⊥
 HasNoList (act_replies.Bytes bytes) = ⊥
+HasNoList (act_replies.Imported key geometry pages) = ⊥
 HasNoList reply = Unit {0}
+
+-- Whether what may want memory was accepted.
+abbrev pub is_accepted : {X R : Type 0} → Result (Result X R) AllocError → Bool
+is_accepted (Ok (Ok x)) = true
+is_accepted (Ok (Err refusal)) = false
+is_accepted (Err error) = false

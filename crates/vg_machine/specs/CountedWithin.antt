@@ -14,13 +14,13 @@ use Rattle.vg_chain.specs.declared.shape.Shape.{Shape}
 use Rattle.vg_chain.specs.declared.shape.Shape.TheVariants.{Plain, Pieces, Indirect, Mixed, Bad}
 use Rattle.vg_formats.specs.declared.rect.Rect.{Rect}
 use Rattle.vg_client_holds.specs.declared.act.Act.{Act}
-use Rattle.vg_client_holds.specs.declared.act.Act.TheVariants.{Enter, Reserve, Store, Load, Release, Free, Take, Drop, Denied, Leave}
+use Rattle.vg_client_holds.specs.declared.act.Act.TheVariants.{Enter, Reserve, Store, Load, Export, Import, Release, Free, Take, Drop, Denied, Leave}
 use Rattle.vg_client_holds.specs.declared.act.ActReply.{ActReply}
 use Rattle.vg_share.specs.declared.share.ShareRefusal.{ShareRefusal}
 use Rattle.vg_resource.specs.declared.resource.Resource.{Resource}
 use Rattle.vg_machine.specs.ActStep.{act_step, effect_of, is_in_use, replied_by, shown_at}
 use Rattle.vg_resource.specs.Resource.{resource_at}
-use Rattle.vg_share.specs.Share.{drop_refusal, free_refusal, place_refusal, release_refusal, reserve_refusal, take_refusal}
+use Rattle.vg_share.specs.Share.{drop_refusal, export_refusal, free_refusal, import_refusal, place_refusal, release_refusal, reserve_refusal, take_refusal}
 use Rattle.vg_machine.specs.declared.history.Request.{Request}
 use Rattle.vg_machine.specs.State.{State, counted}
 use Rattle.vg_refusals.specs.Refusals.{refusal_of}
@@ -103,6 +103,8 @@ effect-like state client Enter = like-itself state
 effect-like state client (Reserve width height format bytes) = like-replied (reserve_refusal bytes state.memory) state _ _ (record { setup = refl; entries = refl })
 effect-like state client (Store key offset bytes times) = like-replied (place_refusal client key offset (length bytes * times) state.share) state _ _ (record { setup = refl; entries = refl })
 effect-like state client (Load key offset n) = like-replied (place_refusal client key offset n state.share) state _ _ (like-itself state)
+effect-like state client (Export key) = like-replied (export_refusal client key state.share) state _ _ (record { setup = refl; entries = refl })
+effect-like state client (Import token) = like-replied (import_refusal token state.share) state _ _ (record { setup = refl; entries = refl })
 effect-like state client (Release key) = like-replied (release_refusal client key (shown_at client key state) state.share) state _ _ (record { setup = refl; entries = refl })
 effect-like state client (Free key) = like-replied (free_refusal client key (is_some (resource_at key state.resources)) state.share) state _ _ (record { setup = refl; entries = refl })
 effect-like state client (Take scanout) = like-replied (take_refusal scanout state.share) state _ _ (record { setup = refl; entries = refl })

@@ -39,7 +39,7 @@ start setup = record {
   uuids = record { numbers = []; given = 0 };
   cursors = replicate (length setup.displays) unset;
   scanouts = record { screens = replicate (length setup.displays) None; frames = [] };
-  share = record { buffers = []; reserved = 0; leases = replicate (length setup.displays) None; clients = [] };
+  share = record { buffers = []; reserved = 0; exports = []; leases = replicate (length setup.displays) None; clients = [] };
 }
 
 -- The display with one entry more.
@@ -74,5 +74,6 @@ pub record IsConsistent (state : State) : Type 0 where
   pub leases : length state.share.leases ≡ length state.setup.displays
   pub share : SharesPages state.memory state.share
   pub reserved : state.share.reserved ≤ state.entries
+  pub exports : length state.share.exports ≤ state.entries
   pub given : state.uuids.given ≤ state.entries
   pub cursors : length state.cursors ≡ length state.setup.displays

@@ -1,13 +1,13 @@
 //! What the acts of clients do, one function each.
 
-ghost use Rattle.std.specs.Prelude.{◌≡◌, ◌^◌, ◌-◌, ◌+◌, ◌<◌, [], ◌∷◌, ◌++◌, length, IfOk, OnErr, OnOk};
-ghost use Rattle.vg_pages.specs.Memory.{AreTakeable, after_taking};
+ghost use Rattle.std.specs.Prelude.{◌≡◌, ◌^◌, ◌-◌, ◌+◌, ◌<◌, [], ◌∷◌, ◌++◌, length, Some, None, IfErr, IfOk, OnErr, OnOk};
+ghost use Rattle.vg_pages.specs.Memory.{AreTakeable, Memory, after_taking};
 ghost use Rattle.vg_client_holds.specs.declared.act.Act.TheVariants as acts;
 ghost use Rattle.vg_client_holds.specs.declared.act.ActReply.TheVariants as act_replies;
-ghost use Rattle.vg_machine.specs.ActStep.{HasNoList, drop_step, effect_of, free_step, is_shown_on, load_step, release_step, reserve_step, shown_at, store_step, take_step};
+ghost use Rattle.vg_machine.specs.ActStep.{HasNoList, drop_step, effect_of, export_step, free_step, import_step, is_accepted, is_shown_on, load_step, release_step, reserve_step, shown_at, store_step, take_step};
 ghost use Rattle.vg_share.specs.Cells.{pages_of};
 ghost use Rattle.vg_client_holds.specs.Holds.{update};
-ghost use Rattle.vg_share.specs.Share.{SharesPages, ended, entered, with_buffer};
+ghost use Rattle.vg_share.specs.Share.{SharesPages, ended, entered, geometry_at, import_refusal, imported, token_key, with_buffer};
 
 use crate::display::Display;
 use std::alloc::{AllocError, Global};
@@ -26,6 +26,7 @@ impl Display {
         act: &Act,
     ) -> Result<(ActReply, ActReply), AllocError>
         requires fresh { self.old.share.reserved < self.old.entries }
+        requires tokens { length self.old.share.exports < self.old.entries }
         requires number { self.old.entries < 2 ^ 31 }
         ensures step { IfOk result (λ twice. effect_of self.old client act.now ≡ (self.new, twice.0)) }
         ensures same { IfOk result (λ twice. twice.1 ≡ twice.0) }
@@ -59,6 +60,8 @@ impl Display {
                 offset,
                 length,
             } => self.load(alloc, client, *key, *offset, *length),
+            Act::Export { key } => Ok(twice(self.export(client, *key)?)),
+            Act::Import { token } => self.import(alloc, client, holds, *token),
             Act::Release { key } => Ok(twice(self.release(client, holds, *key)?)),
             Act::Free { key } => Ok(twice(self.free(client, holds, *key))),
             Act::Take { scanout } => Ok(twice(self.take(client, holds, *scanout)?)),
@@ -142,6 +145,42 @@ impl Display {
                 let bytes = load(alloc, &self.pages, pages, offset, length)?;
                 let copy = bytes.as_slice().to_vec(alloc)?;
                 Ok((loaded(bytes), loaded(copy)))
+            }
+            Err(refusal) => Ok(refused_twice(refusal)),
+        }
+    }
+
+    fn export(&mut self, client: u32, key: u32) -> Result<ActReply, AllocError>
+        requires fresh { length self.old.share.exports < self.old.entries }
+        requires number { self.old.entries < 2 ^ 31 }
+        ensures step { IfOk result (λ reply. export_step self.old client key ≡ (self.new, reply)) }
+        ensures plain { IfOk result HasNoList }
+        ensures err { OnErr result (self.new ≡ self.old) }
+    {
+        match self.share.export(client, key)? {
+            Ok(token) => Ok(ActReply::Exported { token }),
+            Err(refusal) => Ok(refused(refusal)),
+        }
+    }
+
+    fn import(
+        &mut self,
+        alloc: Global,
+        client: u32,
+        holds: &mut Holds,
+        token: u32,
+    ) -> Result<(ActReply, ActReply), AllocError>
+        ensures step { IfOk result (λ twice. import_step self.old client token ≡ (self.new, twice.0)) }
+        ensures same { IfOk result (λ twice. twice.1 ≡ twice.0) }
+        ensures holds { IfOk result (λ twice. holds.new ≡ update holds.old (acts.Import token) twice.0) }
+        ensures err { OnErr result ((self.new ≡ self.old) × (holds.new ≡ holds.old)) }
+    {
+        let list = self.share.token_pages(token).to_vec(alloc)?;
+        let copy = list.as_slice().to_vec(alloc)?;
+        let own = Seq::from_vec(list.as_slice().to_vec(alloc)?);
+        match import_held(&mut self.share, client, holds, token, own)? {
+            Ok((key, geometry)) => {
+                Ok((imported(key, geometry, list), imported(key, geometry, copy)))
             }
             Err(refusal) => Ok(refused_twice(refusal)),
         }
@@ -268,6 +307,42 @@ fn reserve_held(
     done
 }
 
+/// Gives the client one more hold of the token's buffer, as its holds say then, with these pages.
+fn import_held(
+    share: &mut Share,
+    client: u32,
+    holds: &mut Holds,
+    token: u32,
+    pages: Seq<u32>,
+) -> Result<Result<(u32, Geometry), ShareRefusal>, AllocError>
+    ensures refused { IfOk result (λ done. IfErr done (λ refusal. import_refusal token share.old ≡ Some refusal)) }
+    ensures kept { IfOk result (λ done. OnErr done ((share.new ≡ share.old) × (holds.new ≡ holds.old))) }
+    ensures accepted { IfOk result (λ done. OnOk done (import_refusal token share.old ≡ None)) }
+    ensures after { IfOk result (λ done. OnOk done (share.new ≡ imported client (token_key token share.old) share.old)) }
+    ensures told { IfOk result (λ done. IfOk done (λ told. told ≡ (token_key token share.old, geometry_at (token_key token share.old) share.old))) }
+    ensures holds { IfOk result (λ done. OnOk done (holds.new ≡ record holds.old { buffers = holds.old.buffers ++ (token_key token share.old, pages) ∷ [] })) }
+    ensures share { (memory : Memory) → SharesPages memory share.old → SharesPages memory share.new }
+    ensures err { OnErr result ((share.new ≡ share.old) × (holds.new ≡ holds.old)) }
+{
+    holds.buffers.push(share.token_key(token), pages)?;
+    let done = share.import(client, token);
+    if !is_imported(&done) {
+        holds.buffers.pop();
+    }
+    done
+}
+
+/// Whether it was imported.
+fn is_imported(done: &Result<Result<(u32, Geometry), ShareRefusal>, AllocError>) -> bool
+    ensures { result ≡ is_accepted done.now }
+{
+    match done {
+        Ok(Ok(_)) => true,
+        Ok(Err(_)) => false,
+        Err(_) => false,
+    }
+}
+
 fn refused(refusal: ShareRefusal) -> ActReply
     ensures { result ≡ act_replies.Refused refusal }
 {
@@ -289,6 +364,16 @@ fn reserved(key: u32, pages: Vec<u32>) -> ActReply
     }
 }
 
+fn imported(key: u32, geometry: Geometry, pages: Vec<u32>) -> ActReply
+    ensures { result ≡ act_replies.Imported key geometry pages.items }
+{
+    ActReply::Imported {
+        key,
+        geometry,
+        pages: Seq::from_vec(pages),
+    }
+}
+
 fn loaded(bytes: Vec<u8>) -> ActReply
     ensures { result ≡ act_replies.Bytes bytes.items }
 {
@@ -304,9 +389,14 @@ fn twice(reply: ActReply) -> (ActReply, ActReply)
 {
     match reply {
         ActReply::Ok => (ActReply::Ok, ActReply::Ok),
+        ActReply::Exported { token } => {
+            (ActReply::Exported { token }, ActReply::Exported { token })
+        }
         ActReply::Kept => (ActReply::Kept, ActReply::Kept),
         ActReply::Last => (ActReply::Last, ActReply::Last),
         ActReply::Refused { refusal } => refused_twice(refusal),
-        ActReply::Reserved { .. } | ActReply::Bytes { .. } => unreachable!(),
+        ActReply::Reserved { .. } | ActReply::Bytes { .. } | ActReply::Imported { .. } => {
+            unreachable!()
+        }
     }
 }

@@ -16,6 +16,7 @@ invariant_of-self-2 c =
       leases = was.leases;
       share = was.share;
       reserved = was.reserved;
+      exports = was.exports;
       given = was.given;
       cursors = was.cursors;
     }

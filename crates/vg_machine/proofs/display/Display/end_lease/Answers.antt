@@ -8,7 +8,7 @@ invariant_of-self c =
     let s = c.self.inside in
     let now =
     fits-dropped s.pages _ s.entries c.args.scanout c.drop_scanout.result s.share c.drop_scanout.new.self c.drop_scanout.ensures.kept c.drop_scanout.ensures.after
-    (record { leases = was.leases; pages = was.share; reserved = was.reserved })
+    (record { leases = was.leases; pages = was.share; reserved = was.reserved; exports = was.exports })
     in
     record {
       setup = was.setup;
@@ -19,6 +19,7 @@ invariant_of-self c =
       leases = now.leases;
       share = now.pages;
       reserved = now.reserved;
+      exports = now.exports;
       given = was.given;
       cursors = was.cursors;
     }

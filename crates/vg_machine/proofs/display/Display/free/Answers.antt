@@ -7,7 +7,7 @@ invariant_of-self c =
     let was = c.self.invariant in
     let s = c.self.inside in
     let large = large-freed c.free.result s.pages c.free.new.pages s.share c.free.new.self c.args.key c.free.ensures.kept c.free.ensures.after in
-    let now = fits-freed _ s.entries c.args.key c.free.result s.pages c.free.new.pages s.share c.free.new.self c.free.ensures.kept c.free.ensures.after was.leases was.reserved c.free.ensures.share in
+    let now = fits-freed _ s.entries c.args.key c.free.result s.pages c.free.new.pages s.share c.free.new.self c.free.ensures.kept c.free.ensures.after was.leases was.reserved was.exports c.free.ensures.share in
     record {
       setup = was.setup;
       pages = large.taken ∙ was.pages;
@@ -17,6 +17,7 @@ invariant_of-self c =
       leases = now.leases;
       share = now.pages;
       reserved = now.reserved;
+      exports = now.exports;
       given = was.given;
       cursors = was.cursors;
     }

@@ -17,6 +17,7 @@ invariant_of-self-2 c =
       leases = rw left was.leases;
       share = rw left (shares-left s.pages c.args.client s.share was.share);
       reserved = rw left was.reserved;
+      exports = rw left was.exports;
       given = was.given;
       cursors = was.cursors;
     }

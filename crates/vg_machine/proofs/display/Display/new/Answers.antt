@@ -17,6 +17,7 @@ invariant_of-result c =
       leases = rw (c.in_ok-new-4.ensures.none, same, ← count) (length-replicate _ _);
       share = rw c.in_ok-new.ensures.fresh (c.in_ok-new-4.ensures.share c.args.setup.now.pages);
       reserved = rw c.in_ok-new-4.ensures.none (omega arith);
+      exports = rw c.in_ok-new-4.ensures.none (omega arith);
       given = rw c.new-7.ensures (omega arith);
       cursors = rw (c.in_ok-new-2.ensures, same, ← count) (length-replicate c.len-count.result unset);
     }

@@ -25,6 +25,7 @@ invariant_of-self-in-Err c =
       leases = was.leases;
       share = was.share;
       reserved = was.reserved;
+      exports = was.exports;
       given = was.given;
       cursors = was.cursors;
     }
@@ -58,6 +59,7 @@ invariant_of-self-2 c =
       leases = was.leases;
       share = was.share;
       reserved = was.reserved;
+      exports = was.exports;
       given = was.given;
       cursors = search rules;
     }

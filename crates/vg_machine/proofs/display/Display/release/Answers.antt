@@ -9,7 +9,7 @@ invariant_of-self c =
     let s = c.self.inside in
     let now =
     fits-released s.pages _ s.entries c.args.client c.args.key c.release.result s.share c.release.new.self c.release.ensures.kept c.release.ensures.after
-    was.leases was.reserved (c.release.ensures.share s.pages was.share)
+    was.leases was.reserved was.exports (c.release.ensures.share s.pages was.share)
     in
     record {
       setup = was.setup;
@@ -20,6 +20,7 @@ invariant_of-self c =
       leases = now.leases;
       share = now.pages;
       reserved = now.reserved;
+      exports = now.exports;
       given = was.given;
       cursors = was.cursors;
     }

@@ -15,6 +15,7 @@ invariant_of-self c =
       leases = rw same.0 was.leases;
       share = c.reserve_held.ensures.share;
       reserved = rw same.0 was.reserved;
+      exports = rw same.0 was.exports;
       given = was.given;
       cursors = was.cursors;
     }
@@ -23,7 +24,7 @@ pub invariant_of-self-2 : goal.invariant_of-self-2
 invariant_of-self-2 c =
     let was = c.self.invariant in
     let s = c.self.inside in
-    let now = fits-reserved _ s.entries c.args.client _ _ s.pages c.reserve_held.new.pages s.share c.reserve_held.new.share c.in_ok-reserve_held.ensures.buffer c.in_ok-reserve_held.ensures.taken was.leases (search rules) in
+    let now = fits-reserved _ s.entries c.args.client _ _ s.pages c.reserve_held.new.pages s.share c.reserve_held.new.share c.in_ok-reserve_held.ensures.buffer c.in_ok-reserve_held.ensures.taken was.leases (search rules) was.exports in
     record {
       setup = was.setup;
       pages = now.large.taken ∙ was.pages;
@@ -33,6 +34,7 @@ invariant_of-self-2 c =
       leases = now.leases;
       share = c.reserve_held.ensures.share;
       reserved = now.reserved;
+      exports = now.exports;
       given = was.given;
       cursors = was.cursors;
     }

@@ -27,6 +27,7 @@ invariant_of-self c =
       leases = was.leases;
       share = was.share;
       reserved = was.reserved;
+      exports = was.exports;
       given = was.given;
       cursors = was.cursors;
     }

@@ -34,6 +34,7 @@ invariant_of-self-in-Ok c =
       leases = was.leases;
       share = rw now (shares-bytes s.pages _ s.share was.share);
       reserved = was.reserved;
+      exports = was.exports;
       given = was.given;
       cursors = was.cursors;
     }

@@ -9,7 +9,7 @@ invariant_of-self c =
     let s = c.self.inside in
     let now =
     fits-taken s.pages _ s.entries c.args.client c.args.scanout c.take_scanout.result s.share c.take_scanout.new.self c.take_scanout.ensures.kept c.take_scanout.ensures.after
-    (record { leases = was.leases; pages = was.share; reserved = was.reserved })
+    (record { leases = was.leases; pages = was.share; reserved = was.reserved; exports = was.exports })
     in
     record {
       setup = was.setup;
@@ -20,6 +20,7 @@ invariant_of-self c =
       leases = now.leases;
       share = now.pages;
       reserved = now.reserved;
+      exports = now.exports;
       given = was.given;
       cursors = was.cursors;
     }

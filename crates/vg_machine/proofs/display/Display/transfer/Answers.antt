@@ -17,6 +17,7 @@ invariant_of-self c =
       leases = was.leases;
       share = was.share;
       reserved = was.reserved;
+      exports = was.exports;
       given = was.given;
       cursors = was.cursors;
     }

@@ -16,6 +16,7 @@ invariant_of-self c =
       leases = was.leases;
       share = was.share;
       reserved = was.reserved;
+      exports = was.exports;
       given = was.given;
       cursors = was.cursors;
     }
@@ -35,6 +36,7 @@ invariant_of-self-2 c =
       leases = was.leases;
       share = was.share;
       reserved = was.reserved;
+      exports = was.exports;
       given = rw c.forget.ensures was.given;
       cursors = was.cursors;
     }
