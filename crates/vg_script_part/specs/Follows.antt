@@ -7,19 +7,32 @@ use Rattle.vg_machine.specs.Entries.{Entry}
 use Rattle.vg_history.specs.declared.entry.Entry.TheVariants as entries
 use Rattle.vg_client_holds.specs.declared.setup.Setup.{Setup}
 use Rattle.vg_machine.specs.Order.{by_call, call_of, of_client}
+use Rattle.vg_calls.specs.declared.call.Call.{Call}
 use Rattle.vg_script.specs.declared.types.Line.{Line}
+use Rattle.vg_script.specs.Waits.{gives, waits}
 use Rattle.vg_client.specs.Calls.{Gives, Plays}
+use Rattle.vg_client.specs.Own.{ArePlaced, OwnStand}
 use Rattle.vg_tasks.specs.Known.{Known, first_known}
 use Rattle.vg_tasks.specs.Tasks.{end_tasks}
+use Rattle.vg_labels.specs.Labels.{Values}
+use Rattle.vg_script_part.specs.Values.{HasGiven, HasHeard, heard_call}
 
--- The entries that lines of a client give, one line after another.
-abbrev pub GivesAll : ℕ → Known → List Line → List Entry → Known → Type 0
-GivesAll client known [] mine known' = (mine ≡ []) × (known' ≡ known)
-GivesAll client known (line ∷ lines) mine known' = (front rest : List Entry) × (next : Known) × (mine ≡ front ++ rest)
-    × Gives client known line.call front next × GivesAll client next lines rest known'
+-- The entries of a line in a history: those of its call, each in its place behind the client's earlier calls but those that are
+-- begun, and behind what the line waits for; and what the line gives is its label's value.
+pub record IsLine (H : List Entry) (values : Values) (client : ℕ) (begun : List ℕ) (known : Known) (call : Call) (front : List Entry) (next : Known) : Type 0 where
+  pub given : Gives client known (heard_call values call) front next
+  pub placed : ArePlaced H client begun front
+  pub heard : HasHeard H values (waits call) client front
+  pub gave : HasGiven values (gives call) front
+
+-- The entries that lines of a client give, one line after another. No line leaves a command begun yet.
+abbrev pub GivesAll : List Entry → Values → ℕ → List ℕ → Known → List Line → List Entry → Known → Type 0
+GivesAll H values client begun known [] mine known' = (mine ≡ []) × (known' ≡ known)
+GivesAll H values client begun known (line ∷ lines) mine known' = (front rest : List Entry) × (next : Known) × (mine ≡ front ++ rest)
+    × IsLine H values client begun known line.call front next × GivesAll H values client begun next lines rest known'
 
 -- The entries of a client: enter, those of its lines, those of its end, which stops at nothing, and leave.
-pub record GivesCalls (setup : Setup) (client : ℕ) (lines : List Line) (mine : List Entry) : Type 0 where
+pub record GivesCalls (setup : Setup) (H : List Entry) (values : Values) (client : ℕ) (lines : List Line) (mine : List Entry) : Type 0 where
   pub first : ℕ
   pub last : ℕ
   pub middle : List Entry
@@ -27,16 +40,17 @@ pub record GivesCalls (setup : Setup) (client : ℕ) (lines : List Line) (mine :
   pub known : Known
   pub at_end : Known
   pub whole : mine ≡ entries.Act client first Enter act_replies.Ok ∷ (middle ++ (ending ++ entries.Act client last Leave act_replies.Ok ∷ []))
-  pub lines_give : GivesAll client (first_known setup client) lines middle known
+  pub lines_give : GivesAll H values client [] (first_known setup client) lines middle known
   pub end_gives : Plays client false known (end_tasks known) ending at_end []
+  pub end_placed : ArePlaced H client [] (ending ++ entries.Act client last Leave act_replies.Ok ∷ [])
 
--- Each of these entries stands before those with greater numbers.
-abbrev pub AreInPlace : List Entry → Type 0
-AreInPlace [] = Unit {0}
-AreInPlace (entry ∷ more) = AllByRecursion (λ later. call_of entry < call_of later) more × AreInPlace more
-
--- A client's entries are those that its lines give: by their numbers, which are 1, 2, 3 and so on, and each in its place.
-pub record Follows (setup : Setup) (lines : List Line) (H : List Entry) (client : ℕ) : Type 0 where
+-- A client's entries in a history, by their numbers, which are 1, 2, 3 and so on, are those that its lines give there.
+pub record Follows (setup : Setup) (values : Values) (lines : List Line) (H : List Entry) (client : ℕ) : Type 0 where
   pub numbers : map call_of (by_call (of_client client H)) ≡ range_with_len 1 (length (of_client client H))
-  pub calls : GivesCalls setup client lines (by_call (of_client client H))
-  pub in_place : AreInPlace (of_client client H)
+  pub calls : GivesCalls setup H values client lines (by_call (of_client client H))
+
+-- A client has kept to its lines, by what it has seen of the history: it follows them there, and each of its entries stands rightly
+-- behind those before it.
+pub record Kept (setup : Setup) (values : Values) (client : ℕ) (lines : List Line) (S : List Entry) : Type 0 where
+  pub own : OwnStand setup client [] S
+  pub follows : Follows setup values lines S client

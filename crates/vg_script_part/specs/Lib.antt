@@ -1,5 +1,5 @@
 pub mod Setup
+pub mod Values
 pub mod Follows
-pub mod Kept
 pub mod Performing
 pub mod Numbers

@@ -5,6 +5,7 @@
 mod laws;
 mod performing;
 mod setup;
+mod telling;
 
 pub use laws::lines_number_names;
 pub use performing::{Performed, perform};
