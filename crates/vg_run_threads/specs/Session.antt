@@ -31,6 +31,9 @@ use Rattle.vg_driver.specs.Halves.{HasAsked}
 use Rattle.vg_driver.specs.Tickets.{Account, Order, Token}
 use Rattle.vg_client.specs.Accounts.{IsNew}
 use Rattle.vg_script_part.specs.declared.performing.Performed.{Performed}
+use Rattle.vg_book.specs.Places.{IsCurrent}
+use Rattle.vg_labels.specs.Labels.{AreOf, AreTold, Values}
+use Rattle.vg_script_part.specs.Follows.{Kept}
 use Rattle.vg_script_part.specs.Performing.{HasPerformed, MayPerform, lines_of}
 use Rattle.vg_script_part.specs.Setup.{setup_of}
 
@@ -86,14 +89,14 @@ pub record HaveCompleted (H : List Entry) (control cursor : DeviceLists) : Type 
 abbrev pub AreAsked : List Answer → List Entry → Type 0
 AreAsked answers H = (answer : Answer) → Has answers answer → HasAsked display answer.entry H
 
--- The client of this token may perform these lines, and has performed them.
-abbrev pub IsReady : List Line → Token → Type 0
-IsReady lines token = (setup : Setup) × MayPerform setup lines token
+-- The client of this token may perform these lines, which speak of so many labels, and has performed them.
+abbrev pub IsReady : ℕ → List Line → Token → Type 0
+IsReady count lines token = (setup : Setup) × MayPerform setup count lines token
 
-abbrev pub Performs : {B : Type 0} → List Line → Token → Performed B → Type 0
-Performs lines token performed =
-    (performed.token.account.number ≡ token.account.number) × (performed.token.account.out ≡ [])
-    × (performed.done ≡ true → (setup : Setup) → IsNew setup token → HasPerformed setup lines performed.token)
+abbrev pub Performs : {B : Type 0} → List ℕ → List Line → Token → Performed B → Type 0
+Performs labels lines token performed =
+    (performed.token.account.number ≡ token.account.number) × (performed.token.account.out ≡ []) × AreOf labels performed.told.items
+    × (performed.done ≡ true → (setup : Setup) → IsNew setup token → HasPerformed setup performed.told.items lines performed.token)
 
 -- A root that has made so many clients, which are all outside, and the lanes of a display of this setup.
 pub record IsRootWith (setup : Setup) (clients : ℕ) (root : Root) : Type 0 where
@@ -108,6 +111,10 @@ pub record AreNew (setup : Setup) (clients : ℕ) (tokens : List Token) : Type 0
   pub numbers : map number_of tokens ≡ upto clients
   pub new : (token : Token) → Has tokens token → IsNew setup token
 
+-- By these values each of these clients was told what it was told.
+abbrev pub AreAllTold : {B : Type 0} → Values → List (Performed B) → Type 0
+AreAllTold {B = B} values performed = (p : Performed B) → Has performed p → AreTold values p.told.items
+
 -- The root has taken in all of these, and each has performed its part to its end.
 pub record HasTakenAll {B : Type 0} (old : Root) (performed : List (Performed B)) (new : Root) : Type 0 where
   pub given : new.given ≡ old.given
@@ -117,21 +124,24 @@ pub record HasTakenAll {B : Type 0} (old : Root) (performed : List (Performed B)
   pub accounts : new.accounts ≡ old.accounts ++ map (λ (p : Performed B). p.token.account) performed
   pub each : (p : Performed B) → Has performed p → (p.done ≡ true) × IsPrefix p.token.seen new.seen
 
--- The client with this number has kept to its lines, and has joined the root with all that it has seen.
-pub record HasJoined (script : Script) (root : Root) (number : ℕ) : Type 0 where
+-- The client with this number has kept to its lines, by these values of labels, and has joined the root with all that it has seen.
+pub record HasJoined (script : Script) (values : Values) (root : Root) (number : ℕ) : Type 0 where
   pub token : Token
   pub number_is : token.account.number ≡ number
   pub there : Has root.accounts token.account
   pub seen : IsPrefix token.seen root.seen
-  pub performed : HasPerformed (setup_of script) (lines_of script number) token
+  pub current : IsCurrent display token
+  pub kept : Kept (setup_of script) values number (lines_of script number) token.seen
 
--- All clients of the script have performed their parts, and joined the root; its lanes are outside.
+-- All clients of the script have performed their parts, by values of labels that are the same for all, and joined the root; its
+-- lanes are outside.
 pub record HaveAllJoined (script : Script) (root : Root) : Type 0 where
   pub given : root.given ≡ length script.clients
   pub lanes : root.lanes ≡ []
   pub lanes_made : root.lanes_made ≡ 66
   pub start : root.start ≡ Some (start (setup_of script))
-  pub clients : (number : ℕ) → 1 ≤ number → number ≤ length script.clients → HasJoined script root number
+  pub values : Values
+  pub clients : (number : ℕ) → 1 ≤ number → number ≤ length script.clients → HasJoined script values root number
 
 -- Nothing waits in the front, and nobody works on a lane.
 abbrev pub IsStill : {P T : Type 0} → FrontData P T → Type 0

@@ -1,11 +1,12 @@
 //! A script's clients and a device's workers on threads.
 
-ghost use Rattle.std.specs.Prelude.{◌≡◌, ◌≤◌, [], List, length, map, max, min, All, IfOk, OnOk};
+ghost use Rattle.std.specs.Prelude.{◌≡◌, ◌≤◌, [], ℕ, List, length, map, max, min, All, IfOk, OnOk};
+ghost use Rattle.vg_labels.specs.Labels.{AreOf, AreShown, values_of};
 ghost use Rattle.vg_script.specs.declared.types.Line.{Line as Lines};
 ghost use Rattle.vg_script.specs.Limits.{ScriptInLimits};
 ghost use Rattle.vg_script_part.specs.Performing as parts;
 ghost use Rattle.vg_script_part.specs.Setup as setups;
-ghost use Rattle.vg_run_threads.specs.Session.{AreNew, HasTakenAll, HaveAllJoined, IsRootWith, IsStill};
+ghost use Rattle.vg_run_threads.specs.Session.{AreAllTold, AreNew, HasTakenAll, HaveAllJoined, IsRootWith, IsStill};
 
 use crate::closing::settle;
 use std::alloc::{AllocError, Global};
@@ -13,10 +14,11 @@ use std::marker::{Send, Sync};
 use std::sync::atomic::AtomicBool;
 use std::sync::{Mutex, Wait};
 use std::thread::Threads;
-use vg_book::{Book, Carried, ClientToken, LaneToken, Naming, Root, entries_in_step};
+use vg_book::{Book, Carried, ClientToken, LaneToken, Naming, Root, calls_stand_behind};
 use vg_driver::Driver;
 use vg_front::Front;
-use vg_jobs::{Job, all};
+use vg_jobs::{Job, Quit, all};
+use vg_labels::{Label, Shown, agree, all_shown, give_up_all, new_labels};
 use vg_machine::{Display, Holds, Setup};
 use vg_ring::Rings;
 use vg_script::{Line, Script};
@@ -38,26 +40,41 @@ struct Performing<'a, B: Naming, N: Rings> {
     alloc: Global,
     book: &'a Book<Display, B>,
     driver: &'a Driver<B, N>,
+    labels: &'a Vec<Label<Display, B>>,
     lines: Vec<Line>,
     token: ClientToken<Display, B>,
 }
 
-impl<'a, B: Naming, N: Rings> Job<Performed<B>> for Performing<'a, B, N> {
+impl<'a, B: Naming, N: Rings> Job<Performed<'a, B>> for Performing<'a, B, N> {
+    ghost use Rattle.std.specs.Prelude.{length};
     ghost use Rattle.vg_run_threads.specs.Session.{IsReady, Performs};
 
-    ghost is_ready = { λ job. IsReady job.lines.items job.token };
+    ghost is_ready = { λ job. IsReady (length job.labels.now.items) job.lines.items job.token };
 
-    ghost gives = { λ job performed. Performs job.lines.items job.token performed };
+    ghost gives = { λ job performed. Performs job.labels.now.items job.lines.items job.token performed };
 
-    fn run<R: Threads + Wait + Sync>(self, rt: &R) -> Performed<B> {
+    fn run<R: Threads + Wait + Sync>(self, rt: &R) -> Performed<'a, B> {
         perform(
             rt,
             self.alloc,
             self.book,
             self.driver,
+            self.labels,
             self.lines,
             self.token,
         )
+    }
+}
+
+/// The labels that clients wait for.
+#[derive(Drop)]
+struct Waiting<'a, B: Naming> {
+    labels: &'a Vec<Label<Display, B>>,
+}
+
+impl<'a, B: Naming> Quit for Waiting<'a, B> {
+    fn quit<R: Wait>(&self, rt: &R) {
+        give_up_all(rt, self.labels);
     }
 }
 
@@ -92,9 +109,13 @@ pub fn run_threads<
     let front = Mutex::new(front);
     let stop = AtomicBool::new(false);
     let count = useful_workers(&script, workers);
-    let clients = performers(alloc, book, driver, root, setup, script)?;
+    let labels = new_labels(alloc, script.labels)?;
+    let waiting = Waiting { labels: &labels };
+    let clients = performers(alloc, book, driver, &labels, root, setup, script)?;
     let workers = servers(alloc, &front, book, gate, &stop, count)?;
-    let (performed, _) = all(rt, &stop, clients, workers)?;
+    let (performed, _) = all(rt, &stop, clients, workers, &waiting)?;
+    let shown = all_shown(rt, alloc, &labels)?;
+    agree_all(&shown, &performed);
     join_all(book, root, performed)?;
     Ok(settle(rt, alloc, front.into_inner(), book, gate))
 }
@@ -104,6 +125,7 @@ fn performers<'a, B: Naming, N: Rings>(
     alloc: Global,
     book: &'a Book<Display, B>,
     driver: &'a Driver<B, N>,
+    labels: &'a Vec<Label<Display, B>>,
     root: &mut Root<Display, B>,
     setup: &Setup,
     script: Script,
@@ -114,9 +136,10 @@ fn performers<'a, B: Naming, N: Rings>(
     ensures root { OnOk result (IsRootWith setup.now (length script.clients) root.new) }
     ensures clients { IfOk result (λ jobs. AreNew setup.now (length script.clients) (map (λ job. job.token) jobs.items)) }
     ensures lines { IfOk result (λ jobs. All (λ job. job.lines.items ≡ parts.lines_of script job.token.account.number) jobs.items) }
+    ensures labels { IfOk result (λ jobs. All (λ job. job.labels.now.items ≡ labels.now.items) jobs.items) }
 {
-    // A law, and no work: a new client sees its entries in the order in which it made them.
-    entries_in_step::<Display>();
+    // A law, and no work: a new client knows its own calls, of which there are none.
+    calls_stand_behind::<Display>();
     let mut jobs = Vec::new(alloc);
     let mut number = 0;
     for lines in script.clients.into_vec() {
@@ -126,6 +149,7 @@ fn performers<'a, B: Naming, N: Rings>(
             alloc,
             book,
             driver,
+            labels,
             lines: lines.into_vec(),
             token,
         })?;
@@ -166,17 +190,27 @@ fn servers<'a, G: Gate, B: Naming, N: Rings>(
     Ok(jobs)
 }
 
+/// What each client was told of labels is what each was given.
+fn agree_all<'a, B: Naming>(all: &Vec<Shown<'a>>, performed: &Vec<Performed<'a, B>>)
+    requires { (labels : List ℕ) × AreShown labels all.now.items × All (λ p. AreOf labels p.told.items) performed.now.items }
+    ensures { AreAllTold (values_of all.now.items) performed.now.items }
+{
+    for client in performed.iter() {
+        agree(all, &client.told);
+    }
+}
+
 /// Takes in the clients, unless one of them hasn't performed its part to its end.
-fn join_all<B: Naming>(
+fn join_all<'a, B: Naming>(
     book: &Book<Display, B>,
     root: &mut Root<Display, B>,
-    performed: Vec<Performed<B>>,
+    performed: Vec<Performed<'a, B>>,
 ) -> Result<(), AllocError>
     requires { All (λ p. p.token.account.out ≡ []) performed.items }
     ensures { OnOk result (HasTakenAll root.old performed.items root.new) }
 {
     for client in performed {
-        let Performed { token, done } = client;
+        let Performed { token, done, .. } = client;
         if !done {
             return Err(AllocError);
         }

@@ -1,3 +1,5 @@
 pub mod SetupLemmas
+pub mod PlaceLemmas
+pub mod ToldLemmas
 pub mod LineLemmas
 pub mod NumberLemmas

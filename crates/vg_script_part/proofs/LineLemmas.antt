@@ -1,14 +1,21 @@
 -- What the lines of a client give, one line after another.
-use Rattle.std.proofs.Common.{◌≡◌, ◌⊎◌, inl, inr, ◌+◌, ◌*◌, ◌≤◌, ◌<◌, ◌^◌, ◌∙◌, sym, ap, refl, subst, arith, ℕ, zero, suc, true, false, List, [], ◌∷◌, ◌++◌, length, length-append, drop, get_or, append_assoc, append-nil, Option, Some, None, Result, Ok, Err}
+use Rattle.std.proofs.Common.{◌≡◌, ◌⊎◌, inl, inr, ⊎_elim, ◌+◌, ◌*◌, ◌≤◌, ◌<◌, ◌^◌, ◌∙◌, sym, ap, refl, subst, arith, ℕ, zero, suc, Bool, true, false, cond, List, [], ◌∷◌, ◌++◌, length, length-append, map, drop, get_or, nat_le, append_assoc, append-nil, Option, Some, None, Result, Ok, Err}
 use Rattle.std.specs.Prelude.{OnErr, OnOk}
 use Rattle.std.proofs.lemmas.List.{drop_all}
 use Rattle.std.proofs.lemmas.List.{length-reverse}
 use mathlib.Core.List.{reverse, reverse-append, reverse-reverse, nil≢cons}
+use mathlib.Core.List.{IsPrefix}
+use Rattle.std.specs.List.{range_with_len}
+use Rattle.std.proofs.lemmas.List.{length-map}
+use Rattle.std.proofs.lemmas.List.FromFn.{length-range_with_len}
+use Rattle.vg_history.specs.Lists.{Has}
+use Rattle.vg_history.specs.declared.entry.Entry.TheVariants as entries
+use Rattle.vg_history.proofs.ListLemmas.{prefix_trans}
 use Rattle.vg_client_holds.specs.declared.setup.Setup.{Setup}
 use Rattle.vg_client_holds.specs.declared.act.Act.TheVariants.{Enter, Leave}
 use Rattle.vg_client_holds.specs.declared.act.ActReply.TheVariants as act_replies
 use Rattle.vg_machine.specs.Entries.{Entry}
-use Rattle.vg_history.specs.declared.entry.Entry.TheVariants as entries
+use Rattle.vg_machine.specs.Order.{by_call, call_of, of_client, placed}
 use Rattle.vg_machine.specs.State.{State, start}
 use Rattle.vg_script.specs.declared.types.Line.{Line}
 use Rattle.vg_script.specs.Limits.{CallInLimits, ShapeInLimits}
@@ -19,21 +26,22 @@ use Rattle.vg_calls.specs.declared.call.Call.{Call}
 use Rattle.vg_calls.specs.declared.call.Call.TheVariants as calls
 use Rattle.vg_driver.specs.Tickets.{Token}
 use Rattle.vg_client.specs.Accounts.{IsAccount, IsNew, mine_of}
-use Rattle.vg_client.specs.Callers.{ClientState, HasAdded, HasEnded, HasEntered, HasGoneOn, known}
-use Rattle.vg_client.specs.Calls.{Gives}
+use Rattle.vg_client.specs.Callers.{ClientState, HasAdded, HasEnded, HasEntered, known}
+use Rattle.vg_client.specs.Own.{OwnStand}
+use Rattle.vg_client.proofs.OwnLemmas.{own-sorted}
 use Rattle.vg_tasks.specs.Known.{Known, first_known}
 use Rattle.vg_tasks.specs.Plans.{IsCallFit}
-use Rattle.vg_client.specs.Own.{IsOwn}
+use Rattle.vg_labels.specs.declared.table.Told.{Told}
+use Rattle.vg_labels.specs.Labels.{AreTold, Values}
 use Rattle.vg_script_part.specs.Follows.{GivesAll, GivesCalls}
-use Rattle.vg_script_part.specs.Performing.{AreInLimits, GivesRest, HasKept, HasPerformed, IsFollowing}
+use Rattle.vg_script_part.specs.Performing.{AreInLimits, GivesRest, HasDoneLine, HasKept, HasPerformed, HasSeenMore, IsFollowing, IsLineCall}
 
-pub following-first : {B : Type 0} (setup : Setup) (lines : List Line) (token : Token) (client : ClientState B) → IsNew setup token → HasEntered token client.caller → client.stopped ≡ false → IsFollowing setup lines 0 client
+pub following-first : {B : Type 0} (setup : Setup) (lines : List Line) (token : Token) (client : ClientState B) → IsNew setup token → HasEntered token client.caller → client.stopped ≡ false → IsFollowing setup [] lines 0 client
 following-first setup lines token client new entered goes_on =
-    let number : client.caller.token.account.number ≡ token.account.number = entered.number in
-    let first : known client.caller ≡ first_known setup client.caller.token.account.number = entered.known_is setup new ∙ ap (first_known setup) (sym number) in
-    let mine : mine_of client.caller.token ≡ entries.Act client.caller.token.account.number 1 Enter act_replies.Ok ∷ [] =
-    entered.mine ∙ ap (λ (n : ℕ). entries.Act n 1 Enter act_replies.Ok ∷ []) (sym number) in
-    let Rest : List Entry → Known → Known → Type 0 = λ rest after k. GivesAll client.caller.token.account.number k lines rest after in
+    let n : ℕ = client.caller.token.account.number in
+    let number : n ≡ token.account.number = entered.number in
+    let first : known client.caller ≡ first_known setup n = entered.known_is setup new ∙ ap (first_known setup) (sym number) in
+    let mine : mine_of client.caller.token ≡ entries.Act n 1 Enter act_replies.Ok ∷ [] = entered.mine ∙ ap (λ (n : ℕ). entries.Act n 1 Enter act_replies.Ok ∷ []) (sym number) in
     let one : length (mine_of client.caller.token) ≡ 1 = ap (λ (xs : List Entry). length xs) mine in
     record {
       begun = entered.start ∙ new.begun;
@@ -41,36 +49,34 @@ following-first setup lines token client new entered goes_on =
       few = omega (arith, one);
       goes_on = goes_on;
       ready = entered.ready;
-      gives = ([], mine, λ rest after gives. subst (Rest rest after) first gives);
+      gives = ([], mine, λ H values rest after begins told gives. subst (λ (k : Known). GivesAll H values n [] k lines rest after) first gives);
     }
 
-pub following-more : {B : Type 0} (setup : Setup) (lines : List Line) (i : ℕ) (client client' : ClientState B) (line : Line) (mine : List Entry)
-    → IsFollowing setup lines i client → drop i lines ≡ line ∷ drop (i + 1) lines
-    → Gives client.caller.token.account.number (known client.caller) line.call mine (known client'.caller) → HasGoneOn client.caller mine client'.caller → length mine ≤ 19 → client'.stopped ≡ false
-    → IsFollowing setup lines (i + 1) client'
-following-more setup lines i client client' line mine following here gives on few goes_on =
+pub following-more : {B : Type 0} (setup : Setup) (told told' : List Told) (lines : List Line) (i : ℕ) (client client' : ClientState B) (line : Line) → IsFollowing setup told lines i client → drop i lines ≡ line ∷ drop (i + 1) lines
+    → HasDoneLine told told' client client' line.call → IsFollowing setup told' lines (i + 1) client'
+following-more setup told told' lines i client client' line following here done =
     let before = following.gives in
     let n : ℕ = client.caller.token.account.number in
-    let same : client'.caller.token.account.number ≡ n = on.added.number in
-    let Lines : List Entry → Known → List Line → Type 0 = λ xs after ls. GivesAll n (known client.caller) ls xs after in
-    let All : Known → List Entry → Type 0 = λ after xs. GivesAll n (first_known setup n) lines xs after in
+    let mine : List Entry = done.mine in
+    let few = done.few in
     let regroup : (rest : List Entry) → (before.0 ++ mine) ++ rest ≡ before.0 ++ (mine ++ rest) = λ rest. simp append_assoc in
-    let longer : length (mine_of client'.caller.token) ≡ length (mine_of client.caller.token) + length mine = ap (λ (xs : List Entry). length xs) on.added.own ∙ length-append (mine_of client.caller.token) mine in
-    let Rests : ℕ → Type 0 = λ k. GivesRest setup k lines (drop (i + 1) lines) (known client'.caller) (mine_of client'.caller.token) in
+    let longer : length (mine_of client'.caller.token) ≡ length (mine_of client.caller.token) + length mine = ap (λ (xs : List Entry). length xs) done.own ∙ length-append (mine_of client.caller.token) mine in
+    let Rests : ℕ → Type 0 = λ k. GivesRest setup client'.caller.token.seen told' k lines (drop (i + 1) lines) (known client'.caller) (mine_of client'.caller.token) in
     let rests : Rests n = (
       before.0 ++ mine,
-      on.added.own ∙ ap (λ (xs : List Entry). xs ++ mine) before.1,
-      λ rest after left.
-          let with_line = subst (Lines (mine ++ rest) after) (sym here) (mine, rest, known client'.caller, refl, gives, left) in
-          subst (All after) (sym (regroup rest)) (before.2 (mine ++ rest) after with_line),
+      done.own ∙ ap (λ (xs : List Entry). xs ++ mine) before.1,
+      λ H values rest after begins as_told left.
+          let with_line = subst (λ (ls : List Line). GivesAll H values n [] (known client.caller) ls (mine ++ rest) after) (sym here) (mine, rest, known client'.caller, refl, done.line H values begins as_told, left) in
+          subst (λ (xs : List Entry). GivesAll H values n [] (first_known setup n) lines xs after) (sym (regroup rest))
+          (before.2 H values (mine ++ rest) after (prefix_trans client.caller.token.seen client'.caller.token.seen H done.more begins) (done.told_more values as_told) with_line),
     ) in
     record {
-      begun = on.added.start ∙ following.begun;
-      displays = on.displays ∙ following.displays;
+      begun = done.start ∙ following.begun;
+      displays = done.displays ∙ following.displays;
       few = omega (arith, few, longer, following.few);
-      goes_on = goes_on;
-      ready = on.ready;
-      gives = subst Rests (sym same) rests;
+      goes_on = done.goes_on;
+      ready = done.ready;
+      gives = subst Rests (sym done.number) rests;
     }
 
 -- a call within the limits of its line is fit to be made
@@ -101,87 +107,121 @@ pub turned : (left rest : List Line) (line : Line) → left ≡ rest ++ line ∷
 turned left rest line is = ap (λ (ls : List Line). reverse ls) is ∙ reverse-append rest (line ∷ [])
 
 -- a client is on its way with its lines: those that are left stand with the first one last
-abbrev pub IsRunning : {B : Type 0} → List Line → List Line → ClientState B → ClientState B → Type 0
-IsRunning lines left old client =
-    (setup : Setup) × (old.caller.token.start ≡ Some (start setup)) × AreInLimits setup lines
-    × ((i : ℕ) × (drop i lines ≡ reverse left) × (i + length left ≡ length lines) × IsFollowing setup lines i client)
+abbrev pub IsRunning : {B : Type 0} → ℕ → List Line → List Line → ClientState B → List Told → ClientState B → Type 0
+IsRunning count lines left old told client =
+    (setup : Setup) × (old.caller.token.start ≡ Some (start setup)) × AreInLimits setup count lines
+    × ((i : ℕ) × (drop i lines ≡ reverse left) × (i + length left ≡ length lines) × IsFollowing setup told lines i client)
     × (client.caller.token.account.number ≡ old.caller.token.account.number)
 
-pub running-first : {B : Type 0} (setup : Setup) (lines left : List Line) (client : ClientState B) → AreInLimits setup lines → IsFollowing setup lines 0 client → left ≡ reverse lines → IsRunning lines left client client
-running-first setup lines left client limits following is =
+pub running-first : {B : Type 0} (setup : Setup) (count : ℕ) (lines left : List Line) (told : List Told) (client : ClientState B) → AreInLimits setup count lines → IsFollowing setup told lines 0 client → left ≡ reverse lines → IsRunning count lines left client told client
+running-first setup count lines left told client limits following is =
     let again : lines ≡ reverse left = sym (ap (λ (ls : List Line). reverse ls) is ∙ reverse-reverse lines) in
     let long : length left ≡ length lines = ap (λ (ls : List Line). length ls) is ∙ length-reverse lines in
     (setup, following.begun, limits, (0, again, omega (arith, long), following), refl)
 
-pub running-more : {B : Type 0} (lines left rest : List Line) (old client client' : ClientState B) (line : Line) (mine : List Entry)
-    → IsRunning lines left old client → left ≡ rest ++ line ∷ []
-    → Gives client.caller.token.account.number (known client.caller) line.call mine (known client'.caller) → HasGoneOn client.caller mine client'.caller → length mine ≤ 19 → client'.stopped ≡ false
-    → IsRunning lines rest old client'
-running-more lines left rest old client client' line mine running is gives on few goes_on =
+pub running-more : {B : Type 0} (count : ℕ) (lines left rest : List Line) (old client client' : ClientState B) (told told' : List Told) (line : Line) → IsRunning count lines left old told client → left ≡ rest ++ line ∷ []
+    → HasDoneLine told told' client client' line.call → IsRunning count lines rest old told' client'
+running-more count lines left rest old client client' told told' line running is done =
     let setup = running.0 in
     let at = running.3 in
     let i : ℕ = at.0 in
-    let front : drop i lines ≡ line ∷ reverse rest = at.1 ∙ turned left rest line is in
-    let behind : drop (i + 1) lines ≡ reverse rest = (next-line i lines (reverse rest) line front).1 in
-    let here : drop i lines ≡ line ∷ drop (i + 1) lines = front ∙ ap (λ (ls : List Line). line ∷ ls) (sym behind) in
-    let shorter : length left ≡ length rest + 1 = ap (λ (ls : List Line). length ls) is ∙ length-append rest (line ∷ []) in
-    (setup, running.1, running.2, (i + 1, behind, omega (arith, shorter, at.2), following-more setup lines i client client' line mine at.3 here gives on few goes_on), on.added.number ∙ running.4)
+    let next = next-line i lines (reverse rest) line (at.1 ∙ turned left rest line is) in
+    let here : drop i lines ≡ line ∷ drop (i + 1) lines = at.1 ∙ turned left rest line is ∙ ap (λ (ls : List Line). line ∷ ls) (sym next.1) in
+    let shorter : length left ≡ length rest + 1 = ap (λ (ls : List Line). length ls) is ∙ length-append rest (line ∷ []) in (
+      setup,
+      running.1,
+      running.2,
+      (i + 1, next.1, omega (arith, shorter, at.2), following-more setup told told' lines i client client' line at.3 here done),
+      done.number ∙ running.4,
+    )
 
--- the next line is within its limits
-pub line-fits : {B : Type 0} (lines left rest : List Line) (old client : ClientState B) (line : Line) → IsRunning lines left old client → left ≡ rest ++ line ∷ [] → CallInLimits client.caller.token.account.holds.displays line.call
-line-fits lines left rest old client line running is =
+-- the next line is within its limits, and the client is ready for it
+pub line-fits : {B : Type 0} (count : ℕ) (lines left rest : List Line) (old client : ClientState B) (told : List Told) (line : Line) → IsRunning count lines left old told client → left ≡ rest ++ line ∷ []
+    → IsLineCall client.caller.token.account.holds.displays count line.call
+line-fits count lines left rest old client told line running is =
     let at = running.3 in
     let next = next-line at.0 lines (reverse rest) line (at.1 ∙ turned left rest line is) in
     let shorter : length left ≡ length rest + 1 = ap (λ (ls : List Line). length ls) is ∙ length-append rest (line ∷ []) in
-    let fits : CallInLimits (length running.0.displays) (get_or lines at.0 line).call = running.2.2 at.0 line (omega (arith, shorter, at.2)) in
-    subst (λ (n : ℕ). CallInLimits n line.call) (sym at.3.displays) (subst (λ (l : Line). CallInLimits (length running.0.displays) l.call) next.0 fits)
+    let fits : IsLineCall (length running.0.displays) count (get_or lines at.0 line).call = running.2.2 at.0 line (omega (arith, shorter, at.2)) in
+    subst (λ (n : ℕ). IsLineCall n count line.call) (sym at.3.displays) (subst (λ (l : Line). IsLineCall (length running.0.displays) count l.call) next.0 fits)
 
 -- once no line is left
-pub running-done : {B : Type 0} (lines left : List Line) (old client : ClientState B) → IsRunning lines left old client → length left ≡ 0
-    → (setup : Setup) × (old.caller.token.start ≡ Some (start setup)) × IsFollowing setup lines (length lines) client
-running-done lines left old client running none =
+pub running-done : {B : Type 0} (count : ℕ) (lines left : List Line) (old client : ClientState B) (told : List Told) → IsRunning count lines left old told client → length left ≡ 0
+    → (setup : Setup) × (old.caller.token.start ≡ Some (start setup)) × IsFollowing setup told lines (length lines) client
+running-done count lines left old client told running none =
     let at = running.3 in
     let end : at.0 ≡ length lines = omega (arith, none, at.2) in
-    (running.0, running.1, subst (λ (i : ℕ). IsFollowing running.0 lines i client) end at.3)
+    (running.0, running.1, subst (λ (i : ℕ). IsFollowing running.0 told lines i client) end at.3)
 
 abbrev setup_in : Option State → Setup → Setup
 setup_in (Some state) setup = state.setup
 setup_in None setup = setup
 
 -- a token is new in a display of one setup alone
-pub of-one-setup : {B : Type 0} (setup other : Setup) (lines : List Line) (token after : Token) (client : ClientState B) → IsNew setup token → HasEntered token client.caller → client.caller.token.start ≡ Some (start other) → HasPerformed other lines after → HasPerformed setup lines after
-of-one-setup setup other lines token after client new entered first done =
+pub of-one-setup : {B : Type 0} (setup other : Setup) (told : List Told) (lines : List Line) (token after : Token) (client : ClientState B) → IsNew setup token → HasEntered token client.caller → client.caller.token.start ≡ Some (start other)
+    → HasPerformed other told lines after → HasPerformed setup told lines after
+of-one-setup setup other told lines token after client new entered first done =
     let same : other ≡ setup = ap (λ (s : Option State). setup_in s setup) (sym first ∙ entered.start ∙ new.begun) in
-    subst (λ (s : Setup). HasPerformed s lines after) same done
+    subst (λ (s : Setup). HasPerformed s told lines after) same done
+
+-- as many entries stand by their numbers as there are
+placed-length : (e : Entry) (es : List Entry) → length (placed e es) ≡ suc (length es)
+placed-length e [] = refl
+placed-length e (next ∷ more) = by_test (nat_le (call_of e) (call_of next)) (placed-length e more)
+  where
+    by_test : (b : Bool) → length (placed e more) ≡ suc (length more) → length (cond b (e ∷ next ∷ more) (next ∷ placed e more)) ≡ suc (suc (length more))
+    by_test true is = refl
+    by_test false is = ap suc is
+
+by_call-length : (es : List Entry) → length (by_call es) ≡ length es
+by_call-length [] = refl
+by_call-length (e ∷ es) = placed-length e (by_call es) ∙ ap suc (by_call-length es)
+
+-- a client's entries in what it has seen are those that it knows, by their numbers
+mine-sorted : (token : Token) → IsAccount token → by_call (of_client token.account.number token.seen) ≡ mine_of token
+mine-sorted token is =
+    let current = is.standing.current in
+    own-sorted token.account.number token.account.used token.seen (mine_of token) current.history.once is.in_order
+    (λ e at owner. ⊎_elim (λ there. there) (λ out. absurd (subst (λ os. Has os out.0) is.idle out.1)) (current.known.known e at owner))
+    current.known.mine
 
 -- once no line is left, and the client has ended, it has kept to its lines
-pub performed : {B : Type 0} (setup : Setup) (lines : List Line) (i : ℕ) (client : ClientState B) (token : Token)
-    → IsFollowing setup lines i client → length lines ≤ i → token.account.number ≡ client.caller.token.account.number → token.start ≡ client.caller.token.start → HasEnded client.caller token → HasPerformed setup lines token
-performed setup lines i client token following done number start_is ended =
+pub performed : {B : Type 0} (setup : Setup) (told : List Told) (lines : List Line) (i : ℕ) (client : ClientState B) (token : Token)
+    → IsFollowing setup told lines i client → length lines ≤ i → token.account.number ≡ client.caller.token.account.number → token.start ≡ client.caller.token.start → HasEnded client.caller token → HasPerformed setup told lines token
+performed setup told lines i client token following done number start_is ended =
     let before = following.gives in
     let n : ℕ = client.caller.token.account.number in
+    let S : List Entry = token.seen in
     let is : IsAccount token = ended.account_is in
-    let same : is.setup ≡ setup = ap (λ (first : Option State). setup_in first setup) (sym is.begun ∙ start_is ∙ following.begun) in
-    let Left : List Line → Type 0 = λ ls. GivesAll n (known client.caller) ls [] (known client.caller) in
-    let none : Left (drop i lines) = subst Left (sym (drop_all i lines done)) (refl, refl) in
-    let All : List Entry → Type 0 = λ xs. GivesAll n (first_known setup n) lines xs (known client.caller) in
+    let same : is.setup ≡ setup = ap (λ (first : Option State). setup_in first setup) (sym is.standing.begun ∙ start_is ∙ following.begun) in
+    let sorted : by_call (of_client token.account.number S) ≡ mine_of token = mine-sorted token is in
+    let long : length (map call_of (mine_of token)) ≡ length (mine_of token) = simp length-map in
+    let counted : token.account.used ≡ length (of_client token.account.number S) =
+    sym (length-range_with_len 1 token.account.used) ∙ ap (λ (ns : List ℕ). length ns) (sym is.in_order) ∙ long ∙ ap (λ (es : List Entry). length es) (sym sorted) ∙ by_call-length (of_client token.account.number S) in
     let tail : List Entry = ended.ending ++ entries.Act n ended.last Leave act_replies.Ok ∷ [] in
-    let calls : GivesCalls setup n lines (mine_of token) = record {
-      first = 1;
-      last = ended.last;
-      middle = before.0;
-      ending = ended.ending;
-      known = known client.caller;
-      at_end = ended.after;
-      whole = ended.own ∙ ap (λ (xs : List Entry). xs ++ tail) before.1;
-      lines_give = subst All (append-nil before.0) (before.2 [] (known client.caller) none);
-      end_gives = ended.plays;
-    } in
-    let Calls : ℕ → Type 0 = λ k. GivesCalls setup k lines (mine_of token) in
-    let Own : Setup → Type 0 = λ s. IsOwn s token.account.number (mine_of token) in
+    let calls : (values : Values) → AreTold values told → GivesCalls setup S values n lines (mine_of token) = λ values as_told.
+        let none : GivesAll S values n [] (known client.caller) (drop i lines) [] (known client.caller) = subst (λ (ls : List Line). GivesAll S values n [] (known client.caller) ls [] (known client.caller)) (sym (drop_all i lines done)) (refl, refl) in
+        record {
+          first = 1;
+          last = ended.last;
+          middle = before.0;
+          ending = ended.ending;
+          known = known client.caller;
+          at_end = ended.after;
+          whole = ended.own ∙ ap (λ (xs : List Entry). xs ++ tail) before.1;
+          lines_give = subst (λ (xs : List Entry). GivesAll S values n [] (first_known setup n) lines xs (known client.caller)) (append-nil before.0) (before.2 S values [] (known client.caller) ended.more as_told none);
+          end_gives = ended.plays;
+          end_placed = ended.placed;
+        } in
     record {
-      in_step = is.in_step;
-      kept = record { own = subst Own same is.own; calls = subst Calls (sym number) calls };
+      current = is.standing.current;
+      kept = λ values as_told. record {
+        own = subst (λ (s : Setup). OwnStand s token.account.number [] S) same is.standing.own;
+        follows = record {
+          numbers = ap (λ (es : List Entry). map call_of es) sorted ∙ is.in_order ∙ ap (range_with_len 1) counted;
+          calls = subst (GivesCalls setup S values token.account.number lines) (sym sorted) (subst (λ (k : ℕ). GivesCalls setup S values k lines (mine_of token)) (sym number) (calls values as_told));
+        };
+      };
     }
 
 -- what is left of a client after a line that it couldn't make, and behind those before it
@@ -209,3 +249,19 @@ on_err (Err e) p = p
 -- what is told of a result that is Ok
 pub ok-told : {T E : Type 0} {P : Type 0} (r : Result T E) (x : T) → r ≡ Ok x → OnOk r P → P
 ok-told {T = T} {E = E} {P = P} r x is told = let Told : Result T E → Type 0 = λ y. OnOk y P in subst Told is told
+
+-- what a client that has only seen more has left
+pub kept-seen : {B : Type 0} (old new : ClientState B) → HasSeenMore old new → HasKept old new
+kept-seen old new seen =
+    let same : length (mine_of new.caller.token) ≡ length (mine_of old.caller.token) = ap (λ a. length a.mine) seen.account in
+    record { number = ap (λ a. a.number) seen.account; few = inr (omega (arith, same)) }
+
+pub kept-behind : {B : Type 0} (old mid new : ClientState B) → HasSeenMore old mid → HasKept mid new → HasKept old new
+kept-behind old mid new seen kept =
+    let same : length (mine_of mid.caller.token) ≡ length (mine_of old.caller.token) = ap (λ a. length a.mine) seen.account in
+    record { number = kept.number ∙ ap (λ a. a.number) seen.account; few = by_case same kept.few }
+  where
+    by_case : length (mine_of mid.caller.token) ≡ length (mine_of old.caller.token) → (new.stopped ≡ true) ⊎ (length (mine_of new.caller.token) ≤ length (mine_of mid.caller.token) + 19)
+        → (new.stopped ≡ true) ⊎ (length (mine_of new.caller.token) ≤ length (mine_of old.caller.token) + 19)
+    by_case same (inl stopped) = inl stopped
+    by_case same (inr few) = inr (omega (arith, few, same))

@@ -92,10 +92,17 @@ fn follow<'a, B: Naming, N: Rings, R: Wait>(
         give_up_all(rt, labels);
     }
     let (token, ended) = client.end(rt, alloc, book, driver);
-    Performed {
-        token,
-        told,
-        done: went && ended.is_ok(),
+    match ended {
+        Ok(_) => Performed {
+            token,
+            told,
+            done: went,
+        },
+        Err(_) => Performed {
+            token,
+            told,
+            done: false,
+        },
     }
 }
 

@@ -10,4 +10,4 @@ follow-requires g c = (c.requires.0, c.requires.1.1, following-first c.requires.
 pub returns-in-Ok-clause-performed : goal.returns-in-Ok-clause-performed
 returns-in-Ok-clause-performed g c = λ yes setup new.
     let done = c.follow.ensures.performed yes in
-    of-one-setup setup done.0 c.args.lines.items c.args.token c.follow.result.token c.in-Ok.client new c.in-Ok.ensures.0 done.1 done.2
+    of-one-setup setup done.0 c.follow.result.told.items c.args.lines.items c.args.token c.follow.result.token c.in-Ok.client new c.in-Ok.ensures.0 done.1 done.2
