@@ -4,9 +4,11 @@ use Rattle.std.specs.List.{AllByRecursion}
 use mathlib.Core.List.{IsPrefix}
 use Rattle.vg_history.specs.History.{Ordered}
 use Rattle.vg_history.specs.Lists.{Has}
-use Rattle.vg_history.proofs.ListLemmas.{prefix_self, prefix_trans}
+use Rattle.vg_history.proofs.ListLemmas.{prefix_trans}
 use Rattle.vg_book.specs.Opening.{first_lanes}
-use Rattle.vg_book.specs.Own.{IsInStep, own}
+use Rattle.vg_book.specs.Own.{own}
+use Rattle.vg_book.specs.Places.{IsCurrent}
+use Rattle.vg_labels.specs.Labels.{Values}
 use Rattle.vg_book.specs.Tokens.{IsClosed}
 use Rattle.vg_front.specs.Desks as desks
 use Rattle.vg_client_holds.specs.declared.act.Act.{Act}
@@ -23,11 +25,9 @@ use Rattle.vg_scanout.specs.declared.scanout.Frame.{Frame}
 use Rattle.vg_script.specs.declared.types.Line.{Line}
 use Rattle.vg_script.specs.declared.types.Script.{Script}
 use Rattle.vg_driver.specs.Tickets.{Token}
-use Rattle.vg_client.specs.Accounts.{mine_of}
 use Rattle.vg_worker.proofs.LaneLemmas.{lanes_are_new, lanes_long}
 use Rattle.vg_run_threads.specs.Session.{HasJoined, HaveAllJoined, IsEnd, Lane, Root}
-use Rattle.vg_script_part.specs.Kept.{Kept}
-use Rattle.vg_legal.specs.Kept.{KeptAll}
+use Rattle.vg_legal.specs.Kept.{HasKeptTo, KeptAll}
 use Rattle.vg_journal.specs.declared.journal.Journal.{Journal}
 use Rattle.vg_legal.specs.Legal.{FollowAll, IsLegalJournal, is_on_control, is_on_cursor}
 use Rattle.vg_script_part.specs.Performing.{lines_of}
@@ -44,45 +44,53 @@ lanes-new first n lanes is are = subst (λ (ls : List Lane). (length ls ≡ 66) 
 )
 
 -- the laws of the book and of clients' own entries
-abbrev pub InStep : Type 0
-InStep = (r : Root) (machine : State) (es : List Entry) (c : Token) → IsClosed display r machine es → Has r.accounts c.account → IsPrefix c.seen r.seen → IsInStep c → own c.account.number es ≡ c.account.mine
+abbrev pub Closed : Type 0
+Closed = (r : Root) (machine : State) (es : List Entry) (c : Token) → IsClosed display r machine es → Has r.accounts c.account → IsPrefix c.seen r.seen → IsCurrent display c → own c.account.number es ≡ own c.account.number c.seen
 
 abbrev pub OneHistory : Type 0
-OneHistory = (setup : Setup) (clients : List (List Line)) (H : List Entry) → Agrees setup H → Ordered display H → AllByRecursion (IsOwned (length clients)) H → KeptAll setup 1 clients H → Sound setup H × FollowAll setup 1 clients H
+OneHistory = (setup : Setup) (values : Values) (clients : List (List Line)) (H : List Entry) → Agrees setup H → Ordered display H → AllByRecursion (IsOwned (length clients)) H → KeptAll setup values 1 clients H
+    → Sound setup H × FollowAll setup values 1 clients H
 
--- a client has kept to its lines in the whole history
-kept-whole : (script : Script) (root : Root) (H : List Entry) (frames : List Frame) (n : ℕ) → InStep → HasJoined script root n → IsEnd root H frames → Kept (setup_of script) n (lines_of script n) (of_client n H)
-kept-whole script root H frames n law joined end =
+-- a client has seen a beginning of the whole history, with all that is its own
+kept-to : (script : Script) (values : Values) (root : Root) (H : List Entry) (frames : List Frame) (n : ℕ) → Closed → HasJoined script values root n → IsEnd root H frames → HasKeptTo (setup_of script) values n (lines_of script n) H
+kept-to script values root H frames n law joined end =
     let token : Token = joined.token in
     let there : Has end.last.accounts token.account = subst (λ as'. Has as' token.account) (sym end.accounts) joined.there in
-    let whole : own token.account.number H ≡ mine_of token = law end.last end.machine H token end.closed there (prefix_trans token.seen root.seen end.last.seen joined.seen end.more) joined.performed.in_step in
-    let mine : mine_of token ≡ of_client n H = sym whole ∙ own_is_of_client token.account.number H ∙ ap (λ (k : ℕ). of_client k H) joined.number_is in
-    subst (λ (es : List Entry). Kept (setup_of script) n (lines_of script n) es) mine (subst (λ (k : ℕ). Kept (setup_of script) k (lines_of script n) (mine_of token)) joined.number_is joined.performed.kept)
+    let seen : IsPrefix token.seen end.last.seen = prefix_trans token.seen root.seen end.last.seen joined.seen end.more in
+    let whole : own token.account.number H ≡ own token.account.number token.seen = law end.last end.machine H token end.closed there seen joined.current in
+    let all : of_client token.account.number H ≡ of_client token.account.number token.seen = sym (own_is_of_client token.account.number H) ∙ whole ∙ own_is_of_client token.account.number token.seen in
+    record {
+      seen = token.seen;
+      begins = prefix_trans token.seen end.last.seen H seen end.closed.more;
+      all = subst (λ (k : ℕ). of_client k H ≡ of_client k token.seen) joined.number_is all;
+      kept = joined.kept;
+    }
 
-kept-from : (setup : Setup) (H : List Entry) (first : ℕ) (clients : List (List Line)) → ((i : ℕ) → i < length clients → Kept setup (first + i) (get_or clients i []) (of_client (first + i) H)) → KeptAll setup first clients H
-kept-from setup H first [] all = tt
-kept-from setup H first (lines ∷ more) all =
+kept-from : (setup : Setup) (values : Values) (H : List Entry) (first : ℕ) (clients : List (List Line)) → ((i : ℕ) → i < length clients → HasKeptTo setup values (first + i) (get_or clients i []) H) → KeptAll setup values first clients H
+kept-from setup values H first [] all = tt
+kept-from setup values H first (lines ∷ more) all =
     let same : first + 0 ≡ first = omega arith in (
-      (H, prefix_self H, refl, subst (λ (k : ℕ). Kept setup k lines (of_client k H)) same (all 0 (omega arith))),
-      kept-from setup H (first + 1) more (λ i within.
+      subst (λ (k : ℕ). HasKeptTo setup values k lines H) same (all 0 (omega arith)),
+      kept-from setup values H (first + 1) more (λ i within.
           let next : first + suc i ≡ (first + 1) + i = omega arith in
-          subst (λ (k : ℕ). Kept setup k (get_or more i []) (of_client k H)) next (all (suc i) (omega (arith, within)))),
+          subst (λ (k : ℕ). HasKeptTo setup values k (get_or more i []) H) next (all (suc i) (omega (arith, within)))),
     )
 
-pub is-run : (script : Script) (root : Root) (H : List Entry) (frames : List Frame) → InStep → OneHistory → HaveAllJoined script root → IsEnd root H frames → IsRunOf (setup_of script) script.clients H frames
+pub is-run : (script : Script) (root : Root) (H : List Entry) (frames : List Frame) → Closed → OneHistory → HaveAllJoined script root → IsEnd root H frames → IsRunOf (setup_of script) script.clients H frames
 is-run script root H frames law one joined end =
     let setup : Setup = setup_of script in
     let begun : end.last.start ≡ Some (start setup) = end.start ∙ joined.start in
     let agrees : Agrees setup H = end.closed.history.agrees (start setup) begun in
     let count : end.last.given ≡ length script.clients = end.given ∙ joined.given in
     let owned : AllByRecursion (IsOwned (length script.clients)) H = all_owned (length script.clients) H (λ entry at. let w = end.closed.clients entry at in (w.0, omega (arith, w.1, count))) in
-    let kept : KeptAll setup 1 script.clients H = kept-from setup H 1 script.clients (λ i within.
+    let kept : KeptAll setup joined.values 1 script.clients H = kept-from setup joined.values H 1 script.clients (λ i within.
     let place : (1 + i) - 1 ≡ i = omega arith in
-    let whole = kept-whole script root H frames (1 + i) law (joined.clients (1 + i) (omega arith) (omega (arith, within))) end in
-    subst (λ (k : ℕ). Kept setup (1 + i) (get_or script.clients k []) (of_client (1 + i) H)) place whole) in
-    let result = one setup script.clients H agrees end.closed.history.ordered owned kept in
+    let whole = kept-to script joined.values root H frames (1 + i) law (joined.clients (1 + i) (omega arith) (omega (arith, within))) end in
+    subst (λ (k : ℕ). HasKeptTo setup joined.values (1 + i) (get_or script.clients k []) H) place whole) in
+    let result = one setup joined.values script.clients H agrees end.closed.history.ordered owned kept in
     record {
       sound = result.0;
+      values = joined.values;
       follows = result.1;
       owners = owned;
       frames_are = end.frames_are ∙ ap (λ (s : State). s.scanouts.frames) (end.closed.state (start setup) begun);

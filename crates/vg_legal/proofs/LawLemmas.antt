@@ -1,6 +1,11 @@
 -- A script of at most one client has at most one legal history.
-use Rattle.std.proofs.Common.{◌≡◌, ◌+◌, ◌≤◌, ◌∙◌, sym, ap, refl, subst, arith, ℕ, zero, suc, Bool, true, false, List, [], ◌∷◌, ◌++◌, count_by, length, map, append_assoc, Option, Some, None, Result, Ok, Err}
-use Rattle.std.specs.List.{AllByRecursion, range_with_len}
+use Rattle.std.proofs.Common.{◌≡◌, ◌+◌, ◌≤◌, ◌∙◌, sym, ap, refl, subst, arith, cc, ◌==◌, ◌||◌, ℕ, zero, suc, Bool, true, false, List, [], ◌∷◌, ◌++◌, count_by, length, map, append_assoc, Option, Some, None, Result, Ok, Err}
+use Rattle.std.specs.Prelude.{All, IfSome, IsTrue}
+use Rattle.std.specs.List.{AllByRecursion, list_any, range_with_len}
+use Rattle.std.proofs.lemmas.Bool.Decides.{nat_tests}
+use Rattle.std.proofs.lemmas.List.Folds.{list_any-append}
+use Rattle.vg_calls.specs.declared.call.Call.{Call}
+use Rattle.vg_calls.specs.declared.call.Call.TheVariants as calls
 use Rattle.vg_client_holds.specs.declared.setup.Setup.{Setup}
 use Rattle.vg_client_holds.specs.declared.act.Act.{Act}
 use Rattle.vg_client_holds.specs.declared.act.Act.TheVariants.{Enter, Leave, Denied}
@@ -20,7 +25,12 @@ use Rattle.vg_script.specs.declared.types.Line.{Line}
 use Rattle.vg_tasks.specs.declared.task.Deed.{Deed}
 use Rattle.vg_tasks.specs.declared.task.Deed.TheVariants as deeds
 use Rattle.vg_tasks.specs.declared.task.Task.{Task}
-use Rattle.vg_script_part.specs.Follows.{AreInPlace, Follows, GivesAll, GivesCalls}
+use Rattle.vg_script.specs.Waits.{AreKnown, label_list, waits}
+use Rattle.vg_script.specs.Waits as labels_of
+use Rattle.vg_labels.specs.declared.label.Given.{Given}
+use Rattle.vg_labels.specs.Labels.{Values}
+use Rattle.vg_script_part.specs.Values.{HasGiven, heard_call, token_of, value_of}
+use Rattle.vg_script_part.specs.Follows.{Follows, GivesAll, GivesCalls}
 use Rattle.vg_client.specs.Calls.{GivesTasks, IsAsked, IsDone, Plays, learned}
 use Rattle.vg_tasks.specs.Known.{Known, first_known}
 use Rattle.vg_legal.specs.Legal.{FollowAll}
@@ -28,7 +38,7 @@ use Rattle.vg_client.specs.Given.{given_of, left_after}
 use Rattle.vg_driver.specs.declared.ask.Ask.TheVariants as asks
 use Rattle.vg_driver.specs.Requests.{denied_by, raw_request, request_by}
 use Rattle.vg_tasks.specs.Tasks.{end_tasks, tasks_of}
-use Rattle.vg_legal.proofs.OrderLemmas.{by_call-in_place, of_client-all}
+use Rattle.vg_legal.proofs.OrderLemmas.{alone-sorted}
 
 -- what is left of a client's history from its k-th number on
 record Left (state : State) (before : List Entry) (k : ℕ) (xs : List Entry) : Type 0 where
@@ -175,10 +185,40 @@ same_tasks client (Err what) f f' r r' known K K' state before k gives gives' le
       right = subst Behind (sym same) other.left;
     }
 
--- what lines give is determined
-same_lines : (client : ℕ) (lines : List Line) (f f' r r' : List Entry) (known K K' : Known) (state : State) (before : List Entry) (k : ℕ)
-    → GivesAll client known lines f K → GivesAll client known lines f' K' → Left state before k (f ++ r) → Left state before k (f' ++ r') → Same f f' K K' r r'
-same_lines client [] f f' r r' known K K' state before k gives gives' left left' =
+-- two values of labels that are one for these labels
+abbrev Agree : List ℕ → Values → Values → Type 0
+Agree labels V V' = (l : ℕ) → IsTrue (list_any (λ other. other == l) labels) → V l ≡ V' l
+
+-- a call that waits for such a label is one
+heard-same : (labels : List ℕ) (V V' : Values) (call : Call) → Agree labels V V' → IfSome (waits call) (λ l. IsTrue (list_any (λ other. other == l) labels)) → heard_call V call ≡ heard_call V' call
+heard-same labels V V' (calls.Import label token) agree known = ap (λ (v : Option Given). calls.Import label (token_of v)) (agree label known)
+heard-same labels V V' call agree known = refl
+
+-- what a line gives is one where its entry is
+given-same : (V V' : Values) (label : Option ℕ) (front front' : List Entry) → front ≡ front' → HasGiven V label front → HasGiven V' label front' → (l : ℕ) → IsTrue (list_any (λ other. other == l) (label_list label)) → V l ≡ V' l
+given-same V V' None front front' same gave gave' l at = absurd at
+given-same V V' (Some label) front front' same gave gave' l at =
+    let one : gave.0 ∷ [] ≡ gave'.0 ∷ [] = sym gave.1 ∙ same ∙ gave'.1 in
+    let entry : gave.0 ≡ gave'.0 = cc one in
+    let is : (label == l) ≡ true = true-of (label == l) at in
+    let number : label ≡ l = grind (arith, nat_tests, is) in
+    ap V (sym number) ∙ gave.2 ∙ ap (λ (e : Entry). Some (value_of e)) entry ∙ sym gave'.2 ∙ ap V' number
+  where
+    true-of : (b : Bool) → IsTrue (b || false) → b ≡ true
+    true-of true t = refl
+    true-of false t = absurd t
+
+agree-more : (labels more : List ℕ) (V V' : Values) → Agree labels V V' → Agree more V V' → Agree (labels ++ more) V V'
+agree-more labels more V V' one other l at = by_test (list_any (λ x. x == l) labels) (list_any (λ x. x == l) more) (subst (λ (b : Bool). IsTrue b) (list_any-append (λ x. x == l) labels more) at) (one l) (other l)
+  where
+    by_test : (a b : Bool) → IsTrue (a || b) → (IsTrue a → V l ≡ V' l) → (IsTrue b → V l ≡ V' l) → V l ≡ V' l
+    by_test true b t p q = p tt
+    by_test false b t p q = q t
+
+-- what lines give is determined, where each label that a line waits for was given before it
+same_lines : (G H : List Entry) (V V' : Values) (client : ℕ) (labels : List ℕ) (lines : List Line) (f f' r r' : List Entry) (known K K' : Known) (state : State) (before : List Entry) (k : ℕ)
+    → Agree labels V V' → AreKnown labels lines → GivesAll G V client [] known lines f K → GivesAll H V' client [] known lines f' K' → Left state before k (f ++ r) → Left state before k (f' ++ r') → Same f f' K K' r r'
+same_lines G H V V' client labels [] f f' r r' known K K' state before k agree are gives gives' left left' =
     let One : List Entry → Type 0 = λ xs. Left state before k (xs ++ r) in
     let Other : List Entry → Type 0 = λ xs. Left state before k (xs ++ r') in
     record {
@@ -190,15 +230,17 @@ same_lines client [] f f' r r' known K K' state before k gives gives' left left'
       left = subst One gives.0 left;
       right = subst Other gives'.0 left';
     }
-same_lines client (line ∷ lines) f f' r r' known K K' state before k gives gives' left left' =
+same_lines G H V V' client labels (line ∷ lines) f f' r r' known K K' state before k agree are gives gives' left left' =
     let Whole : List Entry → Type 0 = λ xs. Left state before k xs in
     let split : f ++ r ≡ gives.0 ++ (gives.1 ++ r) = ap (λ (xs : List Entry). xs ++ r) gives.3 ∙ append_assoc gives.0 gives.1 r in
     let split' : f' ++ r' ≡ gives'.0 ++ (gives'.1 ++ r') = ap (λ (xs : List Entry). xs ++ r') gives'.3 ∙ append_assoc gives'.0 gives'.1 r' in
-    let here = same_tasks client (tasks_of known line.call) gives.0 gives'.0 (gives.1 ++ r) (gives'.1 ++ r') known gives.2 gives'.2 state before k
-    gives.4 gives'.4 (subst Whole split left) (subst Whole split' left') in
-    let Next : Known → Type 0 = λ next. GivesAll client next lines gives'.1 K' in
-    let rest = same_lines client lines gives.1 gives'.1 r r' gives.2 K K' here.state here.before here.k
-    gives.5 (subst Next (sym here.known) gives'.5) here.left here.right in
+    let call : heard_call V line.call ≡ heard_call V' line.call = heard-same labels V V' line.call agree are.0 in
+    let here = same_tasks client (tasks_of known (heard_call V line.call)) gives.0 gives'.0 (gives.1 ++ r) (gives'.1 ++ r') known gives.2 gives'.2 state before k
+    gives.4.given (subst (λ (c : Call). GivesTasks client known (tasks_of known c) gives'.0 gives'.2) (sym call) gives'.4.given) (subst Whole split left) (subst Whole split' left') in
+    let more : Agree (labels ++ label_list (labels_of.gives line.call)) V V' = agree-more labels (label_list (labels_of.gives line.call)) V V' agree (given-same V V' (labels_of.gives line.call) gives.0 gives'.0 here.front gives.4.gave gives'.4.gave) in
+    let Next : Known → Type 0 = λ next. GivesAll H V' client [] next lines gives'.1 K' in
+    let rest = same_lines G H V V' client (labels ++ label_list (labels_of.gives line.call)) lines gives.1 gives'.1 r r' gives.2 K K' here.state here.before here.k
+    more are.1 gives.5 (subst Next (sym here.known) gives'.5) here.left here.right in
     record {
       front = gives.3 ∙ ap (λ (xs : List Entry). xs ++ gives.1) here.front ∙ ap (λ (xs : List Entry). gives'.0 ++ xs) rest.front ∙ sym gives'.3;
       known = rest.known;
@@ -210,9 +252,9 @@ same_lines client (line ∷ lines) f f' r r' known K K' state before k gives giv
     }
 
 -- what a client gives is determined
-same_calls : (setup : Setup) (client : ℕ) (lines : List Line) (G H : List Entry) (state : State) (before : List Entry) (k : ℕ) → GivesCalls setup client lines G → GivesCalls setup client lines H
+same_calls : (setup : Setup) (client : ℕ) (lines : List Line) (V V' : Values) (G H : List Entry) (state : State) (before : List Entry) (k : ℕ) → AreKnown [] lines → GivesCalls setup G V client lines G → GivesCalls setup H V' client lines H
     → Left state before k G → Left state before k H → G ≡ H
-same_calls setup client lines G H state before k calls calls' left left' =
+same_calls setup client lines V V' G H state before k are calls calls' left left' =
     let Whole : List Entry → Type 0 = λ xs. Left state before k xs in
     let enter : Entry = entries.Act client calls.first Enter act_replies.Ok in
     let enter' : Entry = entries.Act client calls'.first Enter act_replies.Ok in
@@ -224,8 +266,8 @@ same_calls setup client lines G H state before k calls calls' left left' =
     let other = begun state before k enter' (calls'.middle ++ tail') (subst Whole calls'.whole left') in
     let entered : enter ≡ enter' = same_act state before k client Enter calls.first calls'.first act_replies.Ok act_replies.Ok one.here other.here in
     let Behind : Entry → Type 0 = λ x. Left (after state x) (before ++ x ∷ []) (k + 1) (calls'.middle ++ tail') in
-    let given = same_lines client lines calls.middle calls'.middle tail tail' (first_known setup client) calls.known calls'.known (after state enter) (before ++ enter ∷ []) (k + 1)
-    calls.lines_give calls'.lines_give one.left (subst Behind (sym entered) other.left) in
+    let given = same_lines G H V V' client [] lines calls.middle calls'.middle tail tail' (first_known setup client) calls.known calls'.known (after state enter) (before ++ enter ∷ []) (k + 1)
+    (λ l none. absurd none) are calls.lines_give calls'.lines_give one.left (subst Behind (sym entered) other.left) in
     let Ending : Known → Type 0 = λ known. Plays client false known (end_tasks known) calls'.ending calls'.at_end [] in
     let ended = same_plays client false calls.ending calls'.ending (leave ∷ []) (leave' ∷ []) (end_tasks calls.known) calls.known calls.at_end calls'.at_end given.state given.before given.k
     calls.end_gives (subst Ending (sym given.known) calls'.end_gives) given.left given.right in
@@ -252,27 +294,24 @@ one_client [] owners = tt
 one_client (entry ∷ more) owners = (omega (arith, owners.0.0, owners.0.1), one_client more owners.1)
 
 -- the history of client 1 alone: what its calls give, with nothing before it
-record Alone (setup : Setup) (lines : List Line) (H : List Entry) : Type 0 where
-  calls : GivesCalls setup 1 lines H
+record Alone (setup : Setup) (values : Values) (lines : List Line) (H : List Entry) : Type 0 where
+  calls : GivesCalls setup H values 1 lines H
   left : Left (start setup) [] 1 H
 
-alone : (setup : Setup) (lines : List Line) (H : List Entry) → Sound setup H → Follows setup lines H 1 → OfClients 1 H → Alone setup lines H
-alone setup lines H sound follows owners =
-    let mine = of_client-all 1 H (one_client H owners) in
-    let place : AreInPlace H = subst AreInPlace mine follows.in_place in
-    let sorted : by_call (of_client 1 H) ≡ H = ap by_call mine ∙ by_call-in_place H place in
-    let Calls : List Entry → Type 0 = λ xs. GivesCalls setup 1 lines xs in
+alone : (setup : Setup) (values : Values) (lines : List Line) (H : List Entry) → Sound setup H → Follows setup values lines H 1 → OfClients 1 H → Alone setup values lines H
+alone setup values lines H sound follows owners =
+    let sorted : by_call (of_client 1 H) ≡ H = alone-sorted setup H values lines sound follows (one_client H owners) in
     record {
-      calls = subst Calls sorted follows.calls;
+      calls = subst (GivesCalls setup H values 1 lines) sorted follows.calls;
       left = record { count = length (of_client 1 H); numbers = ap (map call_of) (sym sorted) ∙ follows.numbers; agrees = sound.agrees; order = sound.order };
     }
 
 -- two histories of at most one client's lines are one
-pub same_history : (clients : List (List Line)) (setup : Setup) (G H : List Entry) → length clients ≤ 1 → Sound setup G → FollowAll setup 1 clients G → OfClients (length clients) G
-    → Sound setup H → FollowAll setup 1 clients H → OfClients (length clients) H → G ≡ H
-same_history [] setup G H one sound follows owners sound' follows' owners' = no_entries G owners ∙ sym (no_entries H owners')
-same_history (lines ∷ []) setup G H one sound follows owners sound' follows' owners' =
-    let left = alone setup lines G sound follows.0 owners in
-    let right = alone setup lines H sound' follows'.0 owners' in
-    same_calls setup 1 lines G H (start setup) [] 1 left.calls right.calls left.left right.left
-same_history (lines ∷ other ∷ more) setup G H one sound follows owners sound' follows' owners' = absurd (omega arith)
+pub same_history : (clients : List (List Line)) (setup : Setup) (V V' : Values) (G H : List Entry) → length clients ≤ 1 → All (AreKnown []) clients → Sound setup G → FollowAll setup V 1 clients G → OfClients (length clients) G
+    → Sound setup H → FollowAll setup V' 1 clients H → OfClients (length clients) H → G ≡ H
+same_history [] setup V V' G H one are sound follows owners sound' follows' owners' = no_entries G owners ∙ sym (no_entries H owners')
+same_history (lines ∷ []) setup V V' G H one are sound follows owners sound' follows' owners' =
+    let left = alone setup V lines G sound follows.0 owners in
+    let right = alone setup V' lines H sound' follows'.0 owners' in
+    same_calls setup 1 lines V V' G H (start setup) [] 1 (are 0 lines (omega arith)) left.calls right.calls left.left right.left
+same_history (lines ∷ other ∷ more) setup V V' G H one are sound follows owners sound' follows' owners' = absurd (omega arith)

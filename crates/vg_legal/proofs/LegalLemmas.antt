@@ -18,10 +18,11 @@ pub legal-journal : (script : Script) (setup : Setup) (clients : List (List Line
     → IsLegalJournal script (record { setup = setup; entries = entries; control = control; cursor = cursor; frames = frames' })
 legal-journal script setup clients H entries frames frames' control cursor is_setup are_clients run is_history is_frames is_control is_cursor =
     let Sounds : Setup → Type 0 = λ s. Sound s H in
-    let Follow : Setup → List (List Line) → Type 0 = λ s cs. FollowAll s 1 cs H in
+    let Follow : Setup → List (List Line) → Type 0 = λ s cs. FollowAll s run.values 1 cs H in
     let Own : List (List Line) → Type 0 = λ cs. AllByRecursion (IsOwned (length cs)) H in
     let legal : Legal script H = record {
       sound = subst Sounds is_setup run.sound;
+      values = run.values;
       follows = subst (λ (cs : List (List Line)). Follow (setup_of script) cs) are_clients (subst (λ (s : Setup). Follow s clients) is_setup run.follows);
       clients = subst Own are_clients run.owners;
     } in (

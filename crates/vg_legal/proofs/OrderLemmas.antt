@@ -1,13 +1,28 @@
-use Rattle.std.proofs.Common.{◌≡◌, ◌≢◌, ◌+◌, ◌-◌, ◌<◌, ◌≤◌, ◌==◌, ◌∙◌, sym, ap, refl, subst, arith, ℕ, zero, suc, Bool, true, false, cond, List, [], ◌∷◌, ◌++◌, length, map, filter, append_assoc, nat_le}
+-- A history of one client alone stands by the numbers of its entries.
+use Rattle.std.proofs.Common.{◌≡◌, ◌≢◌, inl, inr, ◌+◌, ◌<◌, ◌≤◌, ◌==◌, ◌∙◌, sym, ap, refl, subst, arith, cc, ℕ, zero, suc, Bool, true, false, cond, List, [], ◌∷◌, ◌++◌, length, map, append_assoc, nat_le, nat_lt}
 use Rattle.std.specs.List.{AllByRecursion, range_with_len}
-use Rattle.std.proofs.lemmas.List.{append-nil, length-map}
-use Rattle.std.proofs.lemmas.List.FromFn.{length-range_with_len}
 use Rattle.std.proofs.lemmas.Bool.Decides.{nat_tests}
-use Rattle.vg_machine.specs.Entries.{Entry}
+use mathlib.Core.List.{IsPrefix}
+use Rattle.vg_history.specs.Lists.{Has}
 use Rattle.vg_history.specs.declared.entry.Entry.TheVariants as entries
-use Rattle.vg_machine.specs.Order.{AreInOrder, GiveUp, IsFirst, IsInOrder, LaneOrder, by_call, call_of, client_of, is_leave, is_of_lane, numbers_below, of_client, placed}
-use Rattle.vg_script_part.specs.Follows.{AreInPlace}
-use Rattle.vg_run_threads.proofs.RangeLemmas.{range-more}
+use Rattle.vg_history.proofs.ListLemmas.{has_last, has_left, has_right}
+use Rattle.vg_book.specs.Places.{IsPlaced}
+use Rattle.vg_client_holds.specs.declared.act.Act.TheVariants.{Enter, Leave}
+use Rattle.vg_client_holds.specs.declared.act.ActReply.TheVariants as act_replies
+use Rattle.vg_client_holds.specs.declared.setup.Setup.{Setup}
+use Rattle.vg_labels.specs.Labels.{Values}
+use Rattle.vg_machine.specs.Entries.{Entry}
+use Rattle.vg_machine.specs.Order.{AreInOrder, Sound, by_call, call_of, client_of, of_client, placed}
+use Rattle.vg_script.specs.declared.types.Line.{Line}
+use Rattle.vg_client.specs.Own.{ArePlaced}
+use Rattle.vg_client.proofs.OwnLemmas.{all-has, all-more, all-of, by_call-of}
+use Rattle.vg_tasks.specs.Known.{Known}
+use Rattle.vg_script_part.specs.Follows.{Follows, GivesAll, GivesCalls}
+
+-- each of these entries stands before those with greater numbers
+abbrev pub AreInPlace : List Entry → Type 0
+AreInPlace [] = Unit {0}
+AreInPlace (entry ∷ more) = AllByRecursion (λ later. call_of entry < call_of later) more × AreInPlace more
 
 -- a history of one client alone is all its own
 pub of_client-all : (client : ℕ) (H : List Entry) → AllByRecursion (λ e. client_of e ≡ client) H → of_client client H ≡ H
@@ -16,33 +31,7 @@ of_client-all client (entry ∷ more) mine =
     let test : (client_of entry == client) ≡ true = grind (arith, nat_tests, mine.0) in
     rw test (ap (λ (rest : List Entry). entry ∷ rest) (of_client-all client more mine.1))
 
--- the numbers of entries that are numbered one after another
-all_above : (H : List Entry) (k first count : ℕ) → map call_of H ≡ range_with_len first count → k < first → AllByRecursion (λ later. k < call_of later) H
-all_above [] k first count numbers h = tt
-all_above (entry ∷ more) k first zero numbers h = absurd (cc)
-all_above (entry ∷ more) k first (suc count) numbers h =
-    let head : call_of entry ≡ first = cc in
-    let rest : map call_of more ≡ range_with_len (first + 1) count = cc in
-    (omega arith, all_above more k (first + 1) count rest (omega arith))
-
-all_below : (H : List Entry) (k first count : ℕ) → map call_of H ≡ range_with_len first count → first + count ≤ k → AllByRecursion (λ e. call_of e < k) H
-all_below [] k first count numbers h = tt
-all_below (entry ∷ more) k first zero numbers h = absurd (cc)
-all_below (entry ∷ more) k first (suc count) numbers h =
-    let head : call_of entry ≡ first = cc in
-    let rest : map call_of more ≡ range_with_len (first + 1) count = cc in
-    (omega arith, all_below more k (first + 1) count rest (omega arith))
-
--- entries that are numbered one after another are in place
-pub in_place-numbered : (H : List Entry) (first count : ℕ) → map call_of H ≡ range_with_len first count → AreInPlace H
-in_place-numbered [] first count numbers = tt
-in_place-numbered (entry ∷ more) first zero numbers = absurd (cc)
-in_place-numbered (entry ∷ more) first (suc count) numbers =
-    let head : call_of entry ≡ first = cc in
-    let rest : map call_of more ≡ range_with_len (first + 1) count = cc in
-    (all_above more (call_of entry) (first + 1) count rest (omega arith), in_place-numbered more (first + 1) count rest)
-
--- and they stand by their numbers
+-- and it stands by its numbers, where its entries are in place
 placed-before : (entry : Entry) (more : List Entry) → AllByRecursion (λ later. call_of entry < call_of later) more → placed entry more ≡ entry ∷ more
 placed-before entry [] above = refl
 placed-before entry (next ∷ more) above =
@@ -53,94 +42,95 @@ pub by_call-in_place : (H : List Entry) → AreInPlace H → by_call H ≡ H
 by_call-in_place [] place = refl
 by_call-in_place (entry ∷ more) place = ap (placed entry) (by_call-in_place more place.1) ∙ placed-before entry more place.0
 
-map-more : (H : List Entry) (entry : Entry) → map call_of (H ++ entry ∷ []) ≡ map call_of H ++ call_of entry ∷ []
-map-more [] entry = refl
-map-more (first ∷ more) entry = ap (λ (rest : List ℕ). call_of first ∷ rest) (map-more more entry)
+-- what stands in a front without an entry stands before that
+front-before : (front before rest : List Entry) (x : Entry) → IsPrefix front (before ++ (x ∷ rest)) → (Has front x → ⊥) → (e : Entry) → Has front e → Has before e
+front-before [] before rest x p apart e at = absurd at
+front-before (z ∷ zs) [] rest x p apart e at = let all : z ∷ (zs ++ p.0) ≡ x ∷ rest = p.1 in let same : z ≡ x = cc all in absurd (apart (inl same))
+front-before (z ∷ zs) (b ∷ bs) rest x p apart e (inl same) = let all : z ∷ (zs ++ p.0) ≡ b ∷ (bs ++ (x ∷ rest)) = p.1 in let first : z ≡ b = cc all in inl (sym first ∙ same)
+front-before (z ∷ zs) (b ∷ bs) rest x p apart e (inr at) =
+    let all : z ∷ (zs ++ p.0) ≡ b ∷ (bs ++ (x ∷ rest)) = p.1 in
+    let more : zs ++ p.0 ≡ bs ++ (x ∷ rest) = cc all in
+    inr (front-before zs bs rest x (p.0, more) (λ h. apart (inr h)) e at)
 
-pub all-more : (P : Entry → Type 0) (H : List Entry) (entry : Entry) → AllByRecursion P H → P entry → AllByRecursion P (H ++ entry ∷ [])
-all-more P [] entry all here = (here, tt)
-all-more P (first ∷ more) entry all here = (all.0, all-more P more entry all.1 here)
+-- each of these is client 1's
+abbrev AreMine : List Entry → Type 0
+AreMine es = AllByRecursion (λ e. client_of e ≡ 1) es
 
-all-filter : (P : Entry → Type 0) (test : Entry → Bool) (H : List Entry) → AllByRecursion P H → AllByRecursion P (filter test H)
-all-filter P test [] all = tt
-all-filter P test (first ∷ more) all = by_test (test first) (all-filter P test more all.1)
+-- an entry has a number that none before it has
+record IsLater (before : List Entry) (later : Entry) : Type 0 where
+  counted : 1 ≤ call_of later
+  fresh : (e : Entry) → Has before e → call_of e ≢ call_of later
+
+laters : (before rest : List Entry) → AreInOrder before rest → AreMine before → AreMine rest → (y : Entry) → Has rest y → IsLater before y
+laters before [] order mine others y at = absurd at
+laters before (z ∷ zs) order mine others y (inl same) =
+    let all : of_client (client_of z) before ≡ before = ap (λ (c : ℕ). of_client c before) others.0 ∙ of_client-all 1 before mine in
+    let fresh : AllByRecursion (λ e. call_of e ≢ call_of z) before = subst (λ (es : List Entry). AllByRecursion (λ e. call_of e ≢ call_of z) es) all order.0.call.fresh in
+    subst (IsLater before) same (record { counted = order.0.call.counted; fresh = λ e at. all-has (λ x. call_of x ≢ call_of z) before e fresh at })
+laters before (z ∷ zs) order mine others y (inr at) =
+    let rest = laters (before ++ z ∷ []) zs order.1 (all-more (λ e. client_of e ≡ 1) before z mine others.0) others.1 y at in
+    record { counted = rest.counted; fresh = λ e h. rest.fresh e (has_left before (z ∷ []) e h) }
+
+-- a history whose entries stand behind all of their client's earlier calls has them in place
+in-place : (H before rest : List Entry) → H ≡ before ++ rest → AreInOrder before rest → AreMine before → AreMine rest → ((e : Entry) → Has H e → IsPlaced H 1 [] (call_of e)) → AreInPlace rest
+in-place H before [] is order mine others placed = tt
+in-place H before (x ∷ more) is order mine others placed =
+    let moved : before ++ (x ∷ more) ≡ (before ++ x ∷ []) ++ more = simp append_assoc in
+    let mine' : AreMine (before ++ x ∷ []) = all-more (λ e. client_of e ≡ 1) before x mine others.0 in
+    let here : IsPlaced H 1 [] (call_of x) = placed x (subst (λ (es : List Entry). Has es x) (sym is) (has_right before (x ∷ more) x (inl refl))) in (
+      all-of (λ later. call_of x < call_of later) more (λ y at. above here y (laters (before ++ x ∷ []) more order.1 mine' others.1 y at)),
+      in-place H (before ++ x ∷ []) more (is ∙ moved) order.1 mine' others.1 placed,
+    )
   where
-    by_test : (b : Bool) → AllByRecursion P (filter test more) → AllByRecursion P (cond b (first ∷ filter test more) (filter test more))
-    by_test true rest = (all.0, rest)
-    by_test false rest = rest
+    not-before : IsPlaced H 1 [] (call_of x) → (y : Entry) → IsLater (before ++ x ∷ []) y → call_of y < call_of x → ⊥
+    not-before here y later low =
+        let counted = later.counted in
+        let behind = here (call_of y) (omega (arith, counted)) low (λ none. none) in
+        let e : Entry = behind.has.0 in
+        let apart : Has behind.front x → ⊥ = λ h. behind.apart (x, h, others.0, refl) in
+        let there : Has before e = front-before behind.front before more x (subst (λ (es : List Entry). IsPrefix behind.front es) is behind.begins) apart e behind.has.1 in
+        later.fresh e (has_left before (x ∷ []) e there) behind.has.3
 
-all-map : (P Q : Entry → Type 0) (H : List Entry) → ((e : Entry) → P e → Q e) → AllByRecursion P H → AllByRecursion Q H
-all-map P Q [] f all = tt
-all-map P Q (first ∷ more) f all = (f first all.0, all-map P Q more f all.1)
+    above : IsPlaced H 1 [] (call_of x) → (y : Entry) → IsLater (before ++ x ∷ []) y → call_of x < call_of y
+    above here y later = by_test (nat_lt (call_of y) (call_of x)) refl
+      where
+        by_test : (b : Bool) → nat_lt (call_of y) (call_of x) ≡ b → call_of x < call_of y
+        by_test true is' = let low : call_of y < call_of x = grind (arith, nat_tests, is') in absurd (not-before here y later low)
+        by_test false is' =
+            let low : call_of x ≤ call_of y = grind (arith, nat_tests, is') in
+            let other : call_of x ≢ call_of y = later.fresh x (has_last before x) in
+            omega (arith, low, other)
 
-pub order-more : (before H : List Entry) (entry : Entry) → AreInOrder before H → IsInOrder (before ++ H) entry → AreInOrder before (H ++ entry ∷ [])
-order-more before [] entry order here = let P : List Entry → Type 0 = λ xs. IsInOrder xs entry in (subst P (append-nil before) here, tt)
-order-more before (first ∷ more) entry order here =
-    let moved : before ++ (first ∷ more) ≡ (before ++ first ∷ []) ++ more = simp append_assoc in
-    let P : List Entry → Type 0 = λ xs. IsInOrder xs entry in
-    (order.0, order-more (before ++ first ∷ []) more entry order.1 (subst P moved here))
+-- all entries of a client are placed
+all-append : (P : Entry → Type 0) (xs ys : List Entry) → AllByRecursion P xs → AllByRecursion P ys → AllByRecursion P (xs ++ ys)
+all-append P [] ys one other = other
+all-append P (x ∷ xs) ys one other = (one.0, all-append P xs ys one.1 other)
 
-not-same : (k : ℕ) (e : Entry) → call_of e < k → call_of e ≢ k
-not-same k e below = λ same. absurd (omega arith)
+lines-placed : (H : List Entry) (values : Values) (client : ℕ) (known known' : Known) (lines : List Line) (mine : List Entry) → GivesAll H values client [] known lines mine known' → ArePlaced H client [] mine
+lines-placed H values client known known' [] mine given = subst (ArePlaced H client []) (sym given.0) tt
+lines-placed H values client known known' (line ∷ lines) mine given =
+    subst (ArePlaced H client []) (sym given.3) (all-append (λ e. IsPlaced H client [] (call_of e)) given.0 given.1 given.4.placed (lines-placed H values client given.2 known' lines given.1 given.5))
 
-below-all : (H : List Entry) (entry : Entry) → AllByRecursion (λ e. call_of e < call_of entry) H → AllByRecursion (λ e. call_of e < call_of entry) (numbers_below entry H)
-below-all H (entries.Act client call act reply) all = all
-below-all H (entries.Command client call request reply) all = all-filter (λ e. call_of e < call) (is_of_lane request.lane) H all
+first-number : (mine rest : List Entry) (first : Entry) (count : ℕ) → mine ≡ first ∷ rest → map call_of mine ≡ range_with_len 1 count → call_of first ≡ 1
+first-number mine rest first zero is numbers = let all : call_of first ∷ map call_of rest ≡ [] = ap (map call_of) (sym is) ∙ numbers in absurd (cc all)
+first-number mine rest first (suc count) is numbers = let all : call_of first ∷ map call_of rest ≡ 1 ∷ range_with_len 2 count = ap (map call_of) (sym is) ∙ numbers in cc all
 
--- a client's entries with one more of its own
-pub of_client-more : (client : ℕ) (H : List Entry) (entry : Entry) → client_of entry ≡ client → of_client client (H ++ entry ∷ []) ≡ of_client client H ++ entry ∷ []
-of_client-more client [] entry owner =
-    let test : (client_of entry == client) ≡ true = grind (arith, nat_tests, owner) in
-    rw test refl
-of_client-more client (first ∷ more) entry owner = by_test (client_of first == client) (of_client-more client more entry owner)
-  where
-    by_test : (b : Bool) → of_client client (more ++ entry ∷ []) ≡ of_client client more ++ entry ∷ []
-        → cond b (first ∷ of_client client (more ++ entry ∷ [])) (of_client client (more ++ entry ∷ [])) ≡ cond b (first ∷ of_client client more) (of_client client more) ++ entry ∷ []
-    by_test true e = ap (λ (xs : List Entry). first ∷ xs) e
-    by_test false e = e
+calls-placed : (setup : Setup) (H : List Entry) (values : Values) (client : ℕ) (lines : List Line) (mine : List Entry) (count : ℕ) → map call_of mine ≡ range_with_len 1 count → GivesCalls setup H values client lines mine → ArePlaced H client [] mine
+calls-placed setup H values client lines mine count numbers calls =
+    let enter : Entry = entries.Act client calls.first Enter act_replies.Ok in
+    let tail : List Entry = calls.ending ++ entries.Act client calls.last Leave act_replies.Ok ∷ [] in
+    let one : calls.first ≡ 1 = first-number mine (calls.middle ++ tail) enter count calls.whole numbers in
+    subst (ArePlaced H client []) (sym calls.whole) (
+      λ i low high out. absurd (omega (arith, low, high, one)),
+      all-append (λ e. IsPlaced H client [] (call_of e)) calls.middle tail (lines-placed H values client _ calls.known lines calls.middle calls.lines_give) calls.end_placed,
+    )
 
--- no more are a client's than there are
-pub of_client-few : (client : ℕ) (H : List Entry) → length (of_client client H) ≤ length H
-of_client-few client [] = omega arith
-of_client-few client (first ∷ more) = by_test (client_of first == client) (of_client-few client more)
-  where
-    by_test : (b : Bool) → length (of_client client more) ≤ length more → length (cond b (first ∷ of_client client more) (of_client client more)) ≤ length (first ∷ more)
-    by_test true few = omega arith
-    by_test false few = omega arith
-
--- where a client's entries have the numbers 1 to n, there are n
-pub numbered-length : (mine : List Entry) (used : ℕ) → map call_of mine ≡ range_with_len 1 used → length mine ≡ used
-numbered-length mine used numbers = let e : length (map call_of mine) ≡ length mine = simp length-map in sym e ∙ ap length numbers ∙ length-range_with_len 1 used
-
--- and they stand by their numbers
-pub numbered-sorted : (mine : List Entry) (used : ℕ) → map call_of mine ≡ range_with_len 1 used → by_call mine ≡ mine
-numbered-sorted mine used numbers = by_call-in_place mine (in_place-numbered mine 1 used numbers)
-
--- one entry more has the next number
-pub numbered-more : (mine : List Entry) (used : ℕ) (entry : Entry) → map call_of mine ≡ range_with_len 1 used → call_of entry ≡ used + 1 → map call_of (mine ++ entry ∷ []) ≡ range_with_len 1 (used + 1)
-numbered-more mine used entry numbers number = map-more mine entry ∙ ap (λ (xs : List ℕ). xs ++ call_of entry ∷ []) numbers ∙ range-more 1 used (call_of entry) (omega arith)
-
--- what a client gives up stands after all its calls
-give_up : (H : List Entry) (used : ℕ) (entry : Entry) → map call_of (of_client (client_of entry) H) ≡ range_with_len 1 used → call_of entry ≡ used + 1 → GiveUp H entry
-give_up H used (entries.Act client call act reply) numbers number = λ gives.
-    let same : used ≡ call - 1 = omega arith in
-    ap (map call_of) (numbered-sorted (of_client client H) used numbers) ∙ numbers ∙ ap (range_with_len 1) same
-give_up H used (entries.Command client call request reply) numbers number = tt
-
--- a client's next entry stands in order
-pub in_order : (H : List Entry) (used : ℕ) (entry : Entry) → map call_of (of_client (client_of entry) H) ≡ range_with_len 1 used → AllByRecursion (λ e. is_leave e ≡ false) (of_client (client_of entry) H)
-    → call_of entry ≡ used + 1 → LaneOrder H entry → (used ≡ 0 → IsFirst entry) → IsInOrder H entry
-in_order H used entry numbers present number lane first =
-    let mine : List Entry = of_client (client_of entry) H in
-    let below : AllByRecursion (λ e. call_of e < call_of entry) mine = all_below mine (call_of entry) 1 used numbers (omega arith) in
-    record {
-      lane = lane;
-      call = record {
-        counted = omega arith;
-        fresh = all-map (λ e. call_of e < call_of entry) (λ e. call_of e ≢ call_of entry) mine (not-same (call_of entry)) below;
-        rising = below-all mine entry below;
-        first = λ none. first (sym (numbered-length mine used numbers) ∙ ap length none);
-        present = present;
-      };
-      give_up = give_up H used entry numbers number;
-    }
+-- so a sound history of client 1 alone stands by the numbers of its entries
+pub alone-sorted : (setup : Setup) (H : List Entry) (values : Values) (lines : List Line) → Sound setup H → Follows setup values lines H 1 → AreMine H → by_call (of_client 1 H) ≡ H
+alone-sorted setup H values lines sound follows owned =
+    let mine : of_client 1 H ≡ H = of_client-all 1 H owned in
+    let sorted : List Entry = by_call (of_client 1 H) in
+    let all : ArePlaced H 1 [] sorted = calls-placed setup H values 1 lines sorted (length (of_client 1 H)) follows.numbers follows.calls in
+    let each : (e : Entry) → Has H e → IsPlaced H 1 [] (call_of e) = λ e at.
+        all-has (λ x. IsPlaced H 1 [] (call_of x)) sorted e all (by_call-of (of_client 1 H) e (subst (λ (es : List Entry). Has es e) (sym mine) at)) in
+    ap by_call mine ∙ by_call-in_place H (in-place H [] H refl sound.order tt owned each)

@@ -9,6 +9,7 @@ use Rattle.vg_script.specs.declared.types.Script.{Script}
 use Rattle.vg_calls.specs.declared.call.Call.{Call}
 use Rattle.vg_journal.specs.declared.journal.Journal.{Journal}
 use Rattle.vg_client_holds.specs.declared.setup.Setup.{Setup}
+use Rattle.vg_labels.specs.Labels.{Values}
 use Rattle.vg_script_part.specs.Setup.{setup_of}
 use Rattle.vg_script_part.specs.Follows.{Follows}
 
@@ -20,19 +21,20 @@ is_left call = false
 abbrev pub AreFinished : List (List Line) → Type 0
 AreFinished clients = All (λ lines. All (λ line. is_left line.call ≡ false) lines) clients
 
--- Each client follows its lines, from this client on.
-abbrev pub FollowAll : Setup → ℕ → List (List Line) → List Entry → Type 0
-FollowAll setup client [] H = Unit {0}
-FollowAll setup client (lines ∷ more) H = Follows setup lines H client × FollowAll setup (client + 1) more H
+-- Each client follows its lines, by these values of labels, from this client on.
+abbrev pub FollowAll : Setup → Values → ℕ → List (List Line) → List Entry → Type 0
+FollowAll setup values client [] H = Unit {0}
+FollowAll setup values client (lines ∷ more) H = Follows setup values lines H client × FollowAll setup values (client + 1) more H
 
 -- The entry belongs to a client of the script.
 abbrev pub IsOfClients : Script → Entry → Type 0
 IsOfClients script entry = (1 ≤ client_of entry) × (client_of entry ≤ length script.clients)
 
--- A history that the clients of the script can have with the display.
+-- A history that the clients of the script can have with the display, and what each label of the script was given in it.
 pub record Legal (script : Script) (H : List Entry) : Type 0 where
   pub sound : Sound (setup_of script) H
-  pub follows : FollowAll (setup_of script) 1 script.clients H
+  pub values : Values
+  pub follows : FollowAll (setup_of script) values 1 script.clients H
   pub clients : AllByRecursion (IsOfClients script) H
 
 -- A command on the control queue, which is the first of the display's queues, and on the cursor queue.

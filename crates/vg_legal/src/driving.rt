@@ -16,7 +16,7 @@ use std::alloc::{AllocError, Global};
 use std::marker::{Brand, Send, Sync};
 use std::sync::Wait;
 use std::thread::Threads;
-use vg_book::{Carried, LaneToken, Naming, Opened, history_in_step};
+use vg_book::{Carried, LaneToken, Naming, Opened, calls_stand_behind};
 use vg_driver::Driver;
 use vg_front::Front;
 use vg_history::Turn;
@@ -141,8 +141,8 @@ pub fn drive_in<B: Naming + Send + Sync, N: Rings + Send + Sync, G: Gate, R: Thr
     ensures journal { IfOk result (λ driven. IsLegalJournal script driven.journal) }
     ensures completed { IfOk result (λ driven. HaveCompleted driven.journal.entries driven.control driven.cursor) }
 {
-    // Laws, and no work: the history has each client's entries as it made them, and so it is one that the clients can have.
-    history_in_step::<Display>();
+    // Laws, and no work: each client has seen all that the history has of it, and so it is one that the clients can have.
+    calls_stand_behind::<Display>();
     clients_make_one_history();
     let Device {
         opened,

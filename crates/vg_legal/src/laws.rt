@@ -1,10 +1,12 @@
 //! Laws of the definitions, each the contract of a function that does nothing.
 
-ghost use Rattle.std.specs.Prelude.{◌≡◌, ◌≤◌, List, [], length};
+ghost use Rattle.std.specs.Prelude.{◌≡◌, ◌≤◌, List, [], length, All};
 ghost use Rattle.std.specs.List.{AllByRecursion};
 ghost use Rattle.vg_history.specs.History.{Ordered};
 ghost use Rattle.vg_script.specs.declared.types.Line.{Line as Lines};
 ghost use Rattle.vg_script.specs.declared.types.Script.{Script as Scripts};
+ghost use Rattle.vg_script.specs.Waits.{AreKnown};
+ghost use Rattle.vg_labels.specs.Labels.{Values};
 ghost use Rattle.vg_client_holds.specs.declared.setup.Setup.{Setup as Setups};
 ghost use Rattle.vg_machine.specs.Entries.{Entry as Entries};
 ghost use Rattle.vg_machine.specs.Order.{Sound};
@@ -15,10 +17,11 @@ ghost use Rattle.vg_legal.specs.Legal.{AreFinished, FollowAll, IsLegalJournal, L
 ghost use Rattle.vg_legal.specs.Run.{IsOwned};
 ghost use Rattle.vg_script_part.specs.Setup.{setup_of};
 
-/// A script of at most one client, none of whose commands is left unfinished, has at most one legal
-/// history. So what is written is a function of the script.
+/// A script of at most one client, none of whose commands is left unfinished, and each of whose lines that waits for a label stands
+/// behind the one that gives it, as in each that is read, has at most one legal history. So what is written is a function of the
+/// script.
 pub fn at_most_one_history()
-    ensures { (script : Scripts) (G H : List Entries) → length script.clients ≤ 1 → AreFinished script.clients → Legal script G → Legal script H → G ≡ H }
+    ensures { (script : Scripts) (G H : List Entries) → length script.clients ≤ 1 → AreFinished script.clients → All (AreKnown []) script.clients → Legal script G → Legal script H → G ≡ H }
 {}
 
 /// A law, and no work: the journal of a script without clients has no entries, nothing on either ring, and no frames.
@@ -28,10 +31,10 @@ pub fn nothing_without_clients()
 {}
 
 /// A law, and no work: a history that the display agrees with, whose lanes are in order, and of which each client knows that
-/// its own entries are numbered, in order, allowed, and those of its lines, is one that the display and these clients can have.
-/// What a client knows is of its own entries alone, in any beginning of the history that has them all. Clients are numbered
-/// from 1, and no entry is another's.
+/// its own entries are numbered, stand rightly, and are those of its lines, is one that the display and these clients can have.
+/// What a client knows is of any beginning of the history that has all entries of its own; what labels were given is the same for
+/// all. Clients are numbered from 1, and no entry is another's.
 pub fn clients_make_one_history()
-    ensures { (setup : Setups) (clients : List (List Lines)) (H : List Entries) → Agrees setup H → Ordered display H → AllByRecursion (IsOwned (length clients)) H → KeptAll setup 1 clients H
-        → Sound setup H × FollowAll setup 1 clients H }
+    ensures { (setup : Setups) (values : Values) (clients : List (List Lines)) (H : List Entries) → Agrees setup H → Ordered display H → AllByRecursion (IsOwned (length clients)) H → KeptAll setup values 1 clients H
+        → Sound setup H × FollowAll setup values 1 clients H }
 {}

@@ -1,7 +1,7 @@
 -- Clients on threads, and what they leave.
-use Rattle.std.proofs.Common.{◌≡◌, inl, inr, ⊎_elim, ◌+◌, ◌-◌, ◌<◌, ◌≤◌, ◌∙◌, sym, ap, refl, subst, subst₂, arith, add-one, append_assoc, append-nil, ℕ, zero, suc, true, false, List, [], ◌∷◌, ◌++◌, length, map, get_or, Some, None}
+use Rattle.std.proofs.Common.{◌≡◌, inl, inr, ⊎_elim, ◌+◌, ◌-◌, ◌<◌, ◌≤◌, ◌∙◌, sym, ap, refl, subst, subst₂, arith, add-one, append_assoc, append-nil, ℕ, zero, suc, true, false, List, [], ◌∷◌, ◌++◌, length, map, get_or, Option, Some, None}
 use Rattle.std.specs.Prelude.{All, sum_by}
-use Rattle.std.specs.List.{fold}
+use Rattle.std.specs.List.{fold, range_with_len}
 use Rattle.std.proofs.lemmas.List.{map-append}
 use Rattle.std.proofs.lemmas.List.Elements.{All-append, All-nil}
 use Rattle.std.proofs.lemmas.Simd.{map-map}
@@ -10,8 +10,8 @@ use mathlib.Core.List.{IsPrefix}
 use native.Mathlib.Decide.{ℕ_discrete}
 use Rattle.vg_history.specs.History.{ordinals}
 use Rattle.vg_history.specs.Lists.{Has, upto}
-use Rattle.vg_history.proofs.ListLemmas.{has_map, has_snoc, has_upto, map_has, prefix_self, prefix_trans}
-use Rattle.vg_book.specs.Own.{IsInStep}
+use Rattle.vg_history.proofs.ListLemmas.{has_left, has_map, has_right, has_snoc, has_upto, map_has, prefix_self, prefix_trans}
+use Rattle.vg_book.specs.Places.{IsCurrent}
 use Rattle.vg_book.specs.Tokens.{AllJoined, IsClosed, MakesClient, TakesIn}
 use Rattle.vg_jobs.specs.Jobs.{AllGive}
 use Rattle.vg_jobs.proofs.JobLemmas.{given_same}
@@ -29,12 +29,15 @@ use Rattle.vg_scanout.specs.declared.scanout.Frame.{Frame}
 use Rattle.vg_script.specs.declared.types.Line.{Line}
 use Rattle.vg_script.specs.declared.types.Script.{Script}
 use Rattle.vg_script.specs.Limits.{ScriptInLimits}
+use Rattle.vg_script.specs.Waits.{given_in, given_in_all, gives, label_list}
+use Rattle.vg_labels.specs.Labels.{AreOf, Values}
 use Rattle.vg_driver.specs.Halves.{HasHeard}
 use Rattle.vg_driver.specs.Tickets.{Account, Token}
 use Rattle.vg_client.specs.Accounts.{IsNew, mine_of}
 use Rattle.vg_script_part.specs.declared.performing.Performed.{Performed}
-use Rattle.vg_run_threads.specs.Session.{AreAsked, AreNew, HasCompleted, HasJoined, HasTakenAll, HasTakenLanes, HaveAllJoined, HaveCompleted, IsEnd, IsReady, IsRootWith, Lane, Performs, Root, counted_of, number_of}
-use Rattle.vg_script_part.specs.Performing.{AreInLimits, HasPerformed, lines_of}
+use Rattle.vg_run_threads.specs.Session.{AreAllTold, AreAsked, AreNew, HasCompleted, HasJoined, HasTakenAll, HasTakenLanes, HaveAllJoined, HaveCompleted, IsEnd, IsReady, IsRootWith, Lane, Performs, Root, counted_of, number_of}
+use Rattle.vg_script_part.specs.Follows.{Kept}
+use Rattle.vg_script_part.specs.Performing.{AreInLimits, HasPerformed, IsLabel, lines_of}
 use Rattle.vg_script_part.specs.Setup.{setup_of}
 use Rattle.vg_run_threads.proofs.RangeLemmas.{upto-range}
 use Rattle.vg_run_threads.proofs.CrossingLemmas.{all-asked-more, completed-lane}
@@ -47,13 +50,15 @@ upto-more : (n : ℕ) → upto n ++ (n + 1) ∷ [] ≡ upto (n + 1)
 upto-more n = rw add-one refl
 
 -- a new client's token
-new-client : (setup : Setup) (n : ℕ) (root root' : Root) (holds : Holds) (token : Token) → IsRootWith setup n root → MakesClient display root holds root' token → IsInStep token → holds ≡ first_holds setup (n + 1) → IsNew setup token
-new-client setup n root root' holds token is makes step first =
+new-client : (setup : Setup) (n : ℕ) (root root' : Root) (holds : Holds) (token : Token) → IsRootWith setup n root → MakesClient display root holds root' token → IsCurrent display token → holds ≡ first_holds setup (n + 1) → IsNew setup token
+new-client setup n root root' holds token is makes current first =
     let number : token.account.number ≡ n + 1 = ap (λ (t : Token). t.account.number) makes.client ∙ ap (λ (k : ℕ). k + 1) is.given in
     record {
       begun = ap (λ (t : Token). t.start) makes.client ∙ is.start;
-      in_step = step;
+      current = current;
+      opening = ap (λ (t : Token). t.account.opening) makes.client ∙ first ∙ ap (first_holds setup) (sym number);
       used = ap (λ (t : Token). t.account.used) makes.client;
+      idle = ap (λ (t : Token). t.account.out) makes.client;
       holds = ap (λ (t : Token). t.account.holds) makes.client ∙ first ∙ ap (first_holds setup) (sym number);
       mine = ap (λ (t : Token). mine_of t) makes.client;
     }
@@ -72,26 +77,62 @@ few-from acc (lines ∷ more) (suc k) = omega (arith, few-from (acc + length lin
 few-of : (clients : List (List Line)) (k : ℕ) → length (get_or clients k []) ≤ sum_by length clients
 few-of clients k = omega (arith, few-from 0 clients k)
 
-lines-in : (s : Script) (number : ℕ) → ScriptInLimits s → 1 ≤ number → number ≤ length s.clients → AreInLimits (setup_of s) (lines_of s number)
-lines-in s number limits low high =
-    (limits.count.1, omega (arith, limits.lines, few-of s.clients (number - 1)), limits.calls (number - 1) [] (omega (arith, low, high)))
+-- the labels that are given are numbers from 1 on
+range-within : (first count n : ℕ) (ns : List ℕ) → ns ≡ range_with_len first count → Has ns n → (first ≤ n) × (n < first + count)
+range-within first zero n ns is at = absurd (subst (λ (xs : List ℕ). Has xs n) is at)
+range-within first (suc count) n ns is at = ⊎_elim
+    (λ (same : first ≡ n). (omega (arith, same), omega (arith, same)))
+    (λ (more : Has (range_with_len (first + 1) count) n). let w = range-within (first + 1) count n (range_with_len (first + 1) count) refl more in let low = w.0 in let high = w.1 in (omega (arith, low), omega (arith, high)))
+    (subst (λ (xs : List ℕ). Has xs n) is at)
 
-module _ {X : Type 0} (token : X → Token) (lines : X → List Line) where
+given-at : (lines : List Line) (i n : ℕ) (d : Line) → i < length lines → gives (get_or lines i d).call ≡ Some n → Has (given_in lines) n
+given-at [] i n d within is = absurd (omega (arith, within))
+given-at (line ∷ more) zero n d within is = has_left (label_list (gives line.call)) (given_in more) n (subst (λ (l : Option ℕ). Has (label_list l) n) (sym is) (inl refl))
+given-at (line ∷ more) (suc i) n d within is = has_right (label_list (gives line.call)) (given_in more) n (given-at more i n d (omega (arith, within)) is)
+
+given-in-all : (clients : List (List Line)) (k n : ℕ) → Has (given_in (get_or clients k [])) n → Has (given_in_all clients) n
+given-in-all [] k n at = absurd at
+given-in-all (lines ∷ more) zero n at = has_left (given_in lines) (given_in_all more) n at
+given-in-all (lines ∷ more) (suc k) n at = has_right (given_in lines) (given_in_all more) n (given-in-all more k n at)
+
+gives-label : (s : Script) (number i : ℕ) (d : Line) → ScriptInLimits s → i < length (lines_of s number) → (label : Option ℕ) → gives (get_or (lines_of s number) i d).call ≡ label → IsLabel s.labels label
+gives-label s number i d limits within None is = tt
+gives-label s number i d limits within (Some n) is =
+    let w = range-within 1 s.labels n (given_in_all s.clients) limits.labels (given-in-all s.clients (number - 1) n (given-at (lines_of s number) i n d within is)) in
+    let high = w.1 in
+    (w.0, omega (arith, high))
+
+lines-in : (s : Script) (number : ℕ) → ScriptInLimits s → 1 ≤ number → number ≤ length s.clients → AreInLimits (setup_of s) s.labels (lines_of s number)
+lines-in s number limits low high =
+    let at : number - 1 < length s.clients = omega (arith, low, high) in (
+      limits.count.1,
+      omega (arith, limits.lines, few-of s.clients (number - 1)),
+      λ i d within. record {
+        limits = limits.calls (number - 1) [] at i d within;
+        gives_one = gives-label s number i d limits within _ refl;
+        waits_one = limits.known (number - 1) [] at i d within;
+      },
+    )
+
+module _ {X : Type 0} (token : X → Token) (lines : X → List Line) (labels : X → List ℕ) where
   -- these are the lines of the job's client
   abbrev pub HasLines : Script → X → Type 0
   HasLines s job = lines job ≡ lines_of s (number_of (token job))
 
-  -- so many clients were made, each for a job with its lines
-  abbrev pub IsMade : Setup → Script → ℕ → Root → List X → Type 0
-  IsMade setup s n root jobs = IsRootWith setup n root × AreNew setup n (map token jobs) × All (HasLines s) jobs
+  abbrev pub HasLabels : List ℕ → X → Type 0
+  HasLabels ls job = labels job ≡ ls
 
-  pub made-none : (setup : Setup) (s : Script) (root : Root) (jobs : List X) → IsRootWith setup 0 root → jobs ≡ [] → IsMade setup s 0 root jobs
-  made-none setup s root jobs is none = subst (λ (xs : List X). IsMade setup s 0 root xs) (sym none) (is, record { numbers = refl; new = λ t at. absurd at }, All-nil _)
+  -- so many clients were made, each for a job with its lines and with these labels
+  abbrev pub IsMade : Setup → Script → List ℕ → ℕ → Root → List X → Type 0
+  IsMade setup s ls n root jobs = IsRootWith setup n root × AreNew setup n (map token jobs) × All (HasLines s) jobs × All (HasLabels ls) jobs
 
-  pub made-more : (setup : Setup) (s : Script) (n : ℕ) (root root' : Root) (holds : Holds) (made : Token) (jobs jobs' : List X) (job : X) → IsMade setup s n root jobs → MakesClient display root holds root' made → IsInStep made
-      → holds ≡ first_holds setup (n + 1) → token job ≡ made → lines job ≡ get_or s.clients n [] → jobs' ≡ jobs ++ job ∷ [] → IsMade setup s (n + 1) root' jobs'
-  made-more setup s n root root' holds made jobs jobs' job h makes step first is of more =
-      let fresh = new-client setup n root root' holds made h.0 makes step first in
+  pub made-none : (setup : Setup) (s : Script) (ls : List ℕ) (root : Root) (jobs : List X) → IsRootWith setup 0 root → jobs ≡ [] → IsMade setup s ls 0 root jobs
+  made-none setup s ls root jobs is none = subst (λ (xs : List X). IsMade setup s ls 0 root xs) (sym none) (is, record { numbers = refl; new = λ t at. absurd at }, All-nil _, All-nil _)
+
+  pub made-more : (setup : Setup) (s : Script) (ls : List ℕ) (n : ℕ) (root root' : Root) (holds : Holds) (made : Token) (jobs jobs' : List X) (job : X) → IsMade setup s ls n root jobs → MakesClient display root holds root' made → IsCurrent display made
+      → holds ≡ first_holds setup (n + 1) → token job ≡ made → lines job ≡ get_or s.clients n [] → labels job ≡ ls → jobs' ≡ jobs ++ job ∷ [] → IsMade setup s ls (n + 1) root' jobs'
+  made-more setup s ls n root root' holds made jobs jobs' job h makes current first is of by more =
+      let fresh = new-client setup n root root' holds made h.0 makes current first in
       let number : made.account.number ≡ n + 1 = ap (λ (t : Token). t.account.number) makes.client ∙ ap (λ (k : ℕ). k + 1) h.0.given in
       let numbered : number_of (token job) ≡ n + 1 = ap number_of is ∙ number in
       let at : n ≡ number_of (token job) - 1 = omega (arith, numbered) in
@@ -110,34 +151,40 @@ module _ {X : Type 0} (token : X → Token) (lines : X → List Line) where
         lanes_made = makes.lanes_made ∙ h.0.lanes_made;
         start = makes.start ∙ h.0.start;
       } in
-      subst (λ (xs : List X). IsMade setup s (n + 1) root' xs) (sym more) (
+      subst (λ (xs : List X). IsMade setup s ls (n + 1) root' xs) (sym more) (
         root-is,
         subst (AreNew setup (n + 1)) (sym split) all,
         All-append (HasLines s) jobs (job ∷ []) h.2 (all-one (HasLines s) job has),
+        All-append (HasLabels ls) jobs (job ∷ []) h.3 (all-one (HasLabels ls) job by),
       )
 
   -- each job may begin
-  is-ready : (s : Script) (job : X) → ScriptInLimits s → HasLines s job → IsNew (setup_of s) (token job) → 1 ≤ number_of (token job) → number_of (token job) ≤ length s.clients → IsReady (lines job) (token job)
-  is-ready s job limits is new low high = (setup_of s, (new, subst (λ (ls : List Line). AreInLimits (setup_of s) ls) (sym is) (lines-in s (number_of (token job)) limits low high)))
+  is-ready : (s : Script) (ls : List ℕ) (job : X) → ScriptInLimits s → length ls ≡ s.labels → HasLines s job → HasLabels ls job → IsNew (setup_of s) (token job) → 1 ≤ number_of (token job) → number_of (token job) ≤ length s.clients
+      → IsReady (length (labels job)) (lines job) (token job)
+  is-ready s ls job limits count is by new low high =
+      let many : s.labels ≡ length (labels job) = sym count ∙ ap (λ (xs : List ℕ). length xs) (sym by) in
+      let within : AreInLimits (setup_of s) s.labels (lines job) = subst (λ (xs : List Line). AreInLimits (setup_of s) s.labels xs) (sym is) (lines-in s (number_of (token job)) limits low high) in
+      (setup_of s, (new, subst (λ (k : ℕ). AreInLimits (setup_of s) k (lines job)) many within))
 
-  pub all-ready : (setup : Setup) (s : Script) (jobs : List X) → setup ≡ setup_of s → ScriptInLimits s → AreNew setup (length s.clients) (map token jobs) → All (HasLines s) jobs
-      → All (λ job. IsReady (lines job) (token job)) jobs
-  all-ready setup s jobs is limits new has = each jobs (λ t at. subst (λ (x : Setup). IsNew x t) is (new.new t at))
-      (λ t at. upto-has (length s.clients) (number_of t) (subst (λ (ns : List ℕ). Has ns (number_of t)) new.numbers (has_map number_of (map token jobs) t at))) has
+  pub all-ready : (setup : Setup) (s : Script) (ls : List ℕ) (jobs : List X) → setup ≡ setup_of s → ScriptInLimits s → length ls ≡ s.labels → AreNew setup (length s.clients) (map token jobs) → All (HasLines s) jobs → All (HasLabels ls) jobs
+      → All (λ job. IsReady (length (labels job)) (lines job) (token job)) jobs
+  all-ready setup s ls jobs is limits count new has by = each jobs (λ t at. subst (λ (x : Setup). IsNew x t) is (new.new t at))
+      (λ t at. upto-has (length s.clients) (number_of t) (subst (λ (ns : List ℕ). Has ns (number_of t)) new.numbers (has_map number_of (map token jobs) t at))) has by
     where
       upto-has : (n k : ℕ) → Has (upto n) k → (1 ≤ k) × (k ≤ n)
       upto-has zero k at = absurd at
       upto-has (suc n) k at = ⊎_elim (λ there. let r = upto-has n k there in (r.0, omega (arith, r.1))) (λ same. (omega (arith, same), omega (arith, same))) (has_snoc (upto n) (suc n) k at)
 
-      each : (js : List X) → ((t : Token) → Has (map token js) t → IsNew (setup_of s) t) → ((t : Token) → Has (map token js) t → (1 ≤ number_of t) × (number_of t ≤ length s.clients)) → All (HasLines s) js
-          → All (λ job. IsReady (lines job) (token job)) js
-      each [] fresh within of k d lt = absurd (omega (arith, lt))
-      each (j ∷ js) fresh within of zero d lt = let w = within (token j) (inl refl) in is-ready s j limits (of 0 j (omega arith)) (fresh (token j) (inl refl)) w.0 w.1
-      each (j ∷ js) fresh within of (suc k) d lt = each js (λ t at. fresh t (inr at)) (λ t at. within t (inr at)) (λ i e l. of (suc i) e (omega (arith, l))) k d (omega (arith, lt))
+      each : (js : List X) → ((t : Token) → Has (map token js) t → IsNew (setup_of s) t) → ((t : Token) → Has (map token js) t → (1 ≤ number_of t) × (number_of t ≤ length s.clients)) → All (HasLines s) js → All (HasLabels ls) js
+          → All (λ job. IsReady (length (labels job)) (lines job) (token job)) js
+      each [] fresh within of as k d lt = absurd (omega (arith, lt))
+      each (j ∷ js) fresh within of as zero d lt = let w = within (token j) (inl refl) in is-ready s ls j limits count (of 0 j (omega arith)) (as 0 j (omega arith)) (fresh (token j) (inl refl)) w.0 w.1
+      each (j ∷ js) fresh within of as (suc k) d lt =
+          each js (λ t at. fresh t (inr at)) (λ t at. within t (inr at)) (λ i e l. of (suc i) e (omega (arith, l))) (λ i e l. as (suc i) e (omega (arith, l))) k d (omega (arith, lt))
 
   module _ {B : Type 0} where
     abbrev Gives : X → Performed B → Type 0
-    Gives job performed = Performs (lines job) (token job) performed
+    Gives job performed = Performs (labels job) (lines job) (token job) performed
 
     abbrev number-of : Performed B → ℕ
     number-of p = p.token.account.number
@@ -148,6 +195,14 @@ module _ {X : Type 0} (token : X → Token) (lines : X → List Line) where
     all-idle (j ∷ js) [] h k d lt = absurd h
     all-idle (j ∷ js) (p ∷ ps) h zero d lt = h.0.1
     all-idle (j ∷ js) (p ∷ ps) h (suc k) d lt = all-idle js ps h.1 k d (omega (arith, lt))
+
+    -- what each was told is of these labels
+    pub all-of : (ls : List ℕ) (jobs : List X) (ps : List (Performed B)) → AllGive Gives jobs ps → All (HasLabels ls) jobs → All (λ p. AreOf ls p.told.items) ps
+    all-of ls [] [] h by k d lt = absurd (omega (arith, lt))
+    all-of ls [] (p ∷ ps) h by k d lt = absurd h
+    all-of ls (j ∷ js) [] h by k d lt = absurd (omega (arith, lt))
+    all-of ls (j ∷ js) (p ∷ ps) h by zero d lt = subst (λ (xs : List ℕ). AreOf xs p.told.items) (by 0 j (omega arith)) h.0.2
+    all-of ls (j ∷ js) (p ∷ ps) h by (suc k) d lt = all-of ls js ps h.1 (λ i e l. by (suc i) e (omega (arith, l))) k d (omega (arith, lt))
 
     same-numbers : (jobs : List X) (ps : List (Performed B)) → AllGive Gives jobs ps → map number-of ps ≡ map number_of (map token jobs)
     same-numbers jobs ps h = given_same Gives (λ j. number_of (token j)) number-of jobs ps h (λ j p gave. gave.0) ∙ sym (map-map number_of token jobs)
@@ -163,33 +218,37 @@ module _ {X : Type 0} (token : X → Token) (lines : X → List Line) where
     giver s (j ∷ js) (x ∷ ps) h of p (inl e) = (j, of 0 j (omega arith), inl refl, subst (λ (y : Performed B). Gives j y) e h.0)
     giver s (j ∷ js) (x ∷ ps) h of p (inr at) = let by = giver s js ps h.1 (λ i e l. of (suc i) e (omega (arith, l))) p at in (by.0, by.1, inr by.2, by.3)
 
-    has-joined : (s : Script) (old new : Root) (jobs : List X) (ps : List (Performed B)) → AreNew (setup_of s) (length s.clients) (map token jobs) → All (HasLines s) jobs → AllGive Gives jobs ps
-        → HasTakenAll old ps new → old.accounts ≡ [] → (number : ℕ) → 1 ≤ number → number ≤ length s.clients → HasJoined s new number
-    has-joined s old new jobs ps fresh of h taken none number low high =
+    has-joined : (s : Script) (values : Values) (old new : Root) (jobs : List X) (ps : List (Performed B)) → AreNew (setup_of s) (length s.clients) (map token jobs) → All (HasLines s) jobs → AllGive Gives jobs ps → AreAllTold values ps
+        → HasTakenAll old ps new → old.accounts ≡ [] → (number : ℕ) → 1 ≤ number → number ≤ length s.clients → HasJoined s values new number
+    has-joined s values old new jobs ps fresh of h told taken none number low high =
         let found = map_has number-of ps number (subst (λ (ns : List ℕ). Has ns number) (sym (same-numbers jobs ps h ∙ fresh.numbers)) (has_upto (length s.clients) number low high)) in
         let p : Performed B = found.0 in
         let by = giver s jobs ps h of p found.1 in
-        let told = taken.each p found.1 in
+        let took = taken.each p found.1 in
         let gave : Gives by.0 p = by.3 in
         let here : number_of (token by.0) ≡ number = sym gave.0 ∙ found.2 in
         let its : lines by.0 ≡ lines_of s number = by.1 ∙ ap (lines_of s) here in
         let accounts : new.accounts ≡ map (λ (q : Performed B). q.token.account) ps = taken.accounts ∙ ap (λ as'. as' ++ map (λ (q : Performed B). q.token.account) ps) none in
+        let performed : HasPerformed (setup_of s) p.told.items (lines by.0) p.token = gave.3 took.0 (setup_of s) (fresh.new (token by.0) by.2) in
+        let kept : Kept (setup_of s) values p.token.account.number (lines by.0) p.token.seen = performed.kept values (told p found.1) in
         record {
           token = p.token;
           number_is = found.2;
           there = subst (λ as'. Has as' p.token.account) (sym accounts) (has_map (λ (q : Performed B). q.token.account) ps p found.1);
-          seen = told.1;
-          performed = subst (λ (ls : List Line). HasPerformed (setup_of s) ls p.token) its (gave.2 told.0 (setup_of s) (fresh.new (token by.0) by.2));
+          seen = took.1;
+          current = performed.current;
+          kept = subst (λ (ls : List Line). Kept (setup_of s) values number ls p.token.seen) its (subst (λ (k : ℕ). Kept (setup_of s) values k (lines by.0) p.token.seen) found.2 kept);
         }
 
-    pub all-joined : (setup : Setup) (s : Script) (old new : Root) (jobs : List X) (ps : List (Performed B)) → setup ≡ setup_of s → IsRootWith setup (length s.clients) old → AreNew setup (length s.clients) (map token jobs)
-        → All (HasLines s) jobs → AllGive Gives jobs ps → HasTakenAll old ps new → HaveAllJoined s new
-    all-joined setup s old new jobs ps is root fresh of h taken = record {
+    pub all-joined : (setup : Setup) (s : Script) (values : Values) (old new : Root) (jobs : List X) (ps : List (Performed B)) → setup ≡ setup_of s → IsRootWith setup (length s.clients) old → AreNew setup (length s.clients) (map token jobs)
+        → All (HasLines s) jobs → AllGive Gives jobs ps → AreAllTold values ps → HasTakenAll old ps new → HaveAllJoined s new
+    all-joined setup s values old new jobs ps is root fresh of h told taken = record {
       given = taken.given ∙ root.given;
       lanes = taken.lanes ∙ root.lanes;
       lanes_made = taken.lanes_made ∙ root.lanes_made;
       start = taken.start ∙ root.start ∙ ap (λ (x : Setup). Some (start x)) is;
-      clients = has-joined s old new jobs ps (subst (λ (x : Setup). AreNew x (length s.clients) (map token jobs)) is fresh) of h taken root.accounts;
+      values = values;
+      clients = has-joined s values old new jobs ps (subst (λ (x : Setup). AreNew x (length s.clients) (map token jobs)) is fresh) of h told taken root.accounts;
     }
 
 -- the clients that were taken in

@@ -1,5 +1,5 @@
 -- One client's part of a script, from its entry to its end.
-use Rattle.std.specs.Prelude.{◌≡◌, ◌⊎◌, ◌≤◌, ◌+◌, ◌-◌, ◌*◌, ℕ, true, false, List, [], ◌∷◌, ◌++◌, length, drop, get_or, Option, Some, None, All}
+use Rattle.std.specs.Prelude.{◌≡◌, ◌⊎◌, ◌≤◌, ◌+◌, ◌-◌, ◌*◌, ℕ, true, false, List, [], ◌∷◌, ◌++◌, length, drop, get_or, Option, Some, None, All, IfSome}
 use mathlib.Core.List.{IsPrefix}
 use Rattle.vg_book.specs.Places.{HasCall, IsCurrent}
 use Rattle.vg_driver.specs.Tickets.{Token}
@@ -14,7 +14,7 @@ use Rattle.vg_calls.specs.declared.call.Call.{Call}
 use Rattle.vg_calls.specs.declared.call.Call.TheVariants as calls
 use Rattle.vg_script.specs.declared.types.Line.{Line}
 use Rattle.vg_script.specs.declared.types.Script.{Script}
-use Rattle.vg_script.specs.Limits.{CallInLimits}
+use Rattle.vg_script.specs.Limits.{CallInLimits, IsBetween}
 use Rattle.vg_script.specs.Waits.{gives, waits}
 use Rattle.vg_client.specs.Accounts.{IsNew, mine_of}
 use Rattle.vg_client.specs.Callers.{ClientState, IsReady, known}
@@ -35,8 +35,7 @@ lines_of script client = get_or script.clients (client - 1) []
 
 -- It is the number of one of so many labels, if it is one.
 abbrev pub IsLabel : ℕ → Option ℕ → Type 0
-IsLabel count None = Unit {0}
-IsLabel count (Some label) = (1 ≤ label) × (label ≤ count)
+IsLabel count label = IfSome label (IsBetween 1 count)
 
 -- A call is within its limits, and speaks of no labels but so many.
 pub record IsLineCall (displays count : ℕ) (call : Call) : Type 0 where

@@ -8,5 +8,5 @@ pub returns-clause-journal : goal.returns-clause-journal
 returns-clause-journal g c =
     let script = c.args.script in
     let closed = c.in_ok-closed.closed in
-    let run = is-run script c.run_threads.new.root closed.history closed.frames.items c.history_in_step.ensures.own c.clients_make_one_history.ensures c.in_ok-front.ensures.joined c.in_ok-closed.ensures.ended in
+    let run = is-run script c.run_threads.new.root closed.history closed.frames.items c.calls_stand_behind.ensures.closed c.clients_make_one_history.ensures c.in_ok-front.ensures.joined c.in_ok-closed.ensures.ended in
     legal-run script c.journal_of.result c.args.setup closed.history closed.frames.items c.requires.setup run c.journal_of.ensures.parts c.journal_of.ensures.control c.journal_of.ensures.cursor

@@ -11,7 +11,7 @@ new-requires g c = subst IsSetup (sym c.requires.setup) (displays-in c.args.scri
 pub loop-lines-init : goal.loop-lines-init
 loop-lines-init g c =
     let all : c.args.script.clients ≡ c.into_iter-lines-iterator.result.rest.items = search rules in
-    (made-none (λ job. job.token) (λ job. job.lines.items) c.args.setup.now c.args.script c.args.root.now c.new-jobs.result.items c.requires.root c.new-jobs.ensures.items, refl, all)
+    (made-none (λ job. job.token) (λ job. job.lines.items) (λ job. job.labels.now.items) c.args.setup.now c.args.script c.args.labels.now.items c.args.root.now c.new-jobs.result.items c.requires.root c.new-jobs.ensures.items, refl, all)
 
 pub overflow_add-number : goal.overflow_add-number
 overflow_add-number g c =
@@ -25,8 +25,8 @@ loop-lines-preserved g c =
     let all : c.args.script.clients ≡ c.loop-lines.yielded ++ c.in-Some.lines ∷ c.next.new.self.rest.items = c.loop-lines.invariant.2 ∙ ap (λ (ls : List (List Line)). c.loop-lines.yielded ++ ls) c.in-Some.ensures.steps.0 in
     let here : get_or c.args.script.clients c.loop-lines.number [] ≡ c.in-Some.lines = ap (λ (n : ℕ). get_or c.args.script.clients n []) c.loop-lines.invariant.1
     ∙ ap (λ (ls : List (List Line)). get_or ls (length c.loop-lines.yielded) []) all ∙ at-end c.loop-lines.yielded c.next.new.self.rest.items c.in-Some.lines in (
-      made-more (λ job. job.token) (λ job. job.lines.items) c.args.setup.now c.args.script c.loop-lines.number c.loop-lines.root c.client-token.new.self c.new.result c.client-token.result c.loop-lines.jobs.items _ _
-          c.loop-lines.invariant.0 c.client-token.ensures (c.entries_in_step.ensures.made _ _ _ _ c.client-token.ensures) c.new.ensures refl (c.into_vec.ensures ∙ sym here) c.in_ok-push.ensures.items,
+      made-more (λ job. job.token) (λ job. job.lines.items) (λ job. job.labels.now.items) c.args.setup.now c.args.script c.args.labels.now.items c.loop-lines.number c.loop-lines.root c.client-token.new.self c.new.result c.client-token.result c.loop-lines.jobs.items _ _
+          c.loop-lines.invariant.0 c.client-token.ensures (c.calls_stand_behind.ensures.made _ _ _ _ c.client-token.ensures) c.new.ensures refl (c.into_vec.ensures ∙ sym here) refl c.in_ok-push.ensures.items,
       omega (arith, c.loop-lines.invariant.1, length-append c.loop-lines.yielded (c.in-Some.lines ∷ [])),
       all ∙ sym (append_assoc c.loop-lines.yielded (c.in-Some.lines ∷ []) c.next.new.self.rest.items),
     )

@@ -4,4 +4,4 @@ use Rattle.vg_run_threads.proofs.threads.performers.Given as goal
 
 abbrev pub invariant-loop-lines : goal.invariant-loop-lines
 invariant-loop-lines g l =
-    IsMade (λ job. job.token) (λ job. job.lines.items) l.setup l.fn.script l.number l.root l.jobs.items × (l.number ≡ length l.yielded) × (l.fn.script.clients ≡ l.yielded ++ l.lines-iterator.rest.items)
+    IsMade (λ job. job.token) (λ job. job.lines.items) (λ job. job.labels.now.items) l.setup l.fn.script l.labels.items l.number l.root l.jobs.items × (l.number ≡ length l.yielded) × (l.fn.script.clients ≡ l.yielded ++ l.lines-iterator.rest.items)
