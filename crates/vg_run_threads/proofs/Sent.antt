@@ -13,7 +13,12 @@ use Rattle.vg_ring.specs.declared.rings.Rings as Rings
 use Rattle.vg_driver.specs.contracts.driver.Driver as driver
 use Rattle.vg_driver.proofs.Sent.{act_reply_send, act_send, display_send, half_send, reply_send, request_send}
 use Rattle.vg_worker.proofs.Sent.{book_shared, client_sent}
+use Rattle.vg_labels.proofs.Sent.{label_sync, told_send}
+use Rattle.vg_labels.specs.contracts.label.Label as label
+use Rattle.vg_machine.specs.contracts.display.Display as display
+use Rattle.vg_machine.specs.contracts.machine.DisplayMachine.TheImpl as machine
 use Rattle.vg_run_threads.specs.contracts.threads.Performing as performing
+use Rattle.vg_run_threads.specs.contracts.threads.Waiting as waiting
 use Rattle.vg_script_part.specs.contracts.performing.Performed as performed
 
 seq_send : (X : RattleType) → IsSend X → IsSend (seq.the_row X)
@@ -21,14 +26,20 @@ seq_send X x = search (sendable, crosses) depth 20
 
 -- a call, as a line has it
 call_send : IsSend (enum.field call.the_type).row
-call_send = enum_send (enum.shape call.the_type) (tt, (search (sendable, crosses, seq_send) depth 20, (search (sendable, crosses, seq_send) depth 20, (search (sendable, crosses, seq_send) depth 20, (search (sendable, crosses, seq_send) depth 20, (search (sendable, crosses, seq_send) depth 20, (search (sendable, crosses, seq_send) depth 20, (search (sendable, crosses, seq_send) depth 20, (search (sendable, crosses, seq_send) depth 20, (search (sendable, crosses, seq_send) depth 20, (search (sendable, crosses, seq_send) depth 20, (search (sendable, crosses, seq_send) depth 20, (search (sendable, crosses, seq_send) depth 20, (search (sendable, crosses, seq_send) depth 20, (search (sendable, crosses, seq_send) depth 20, (search (sendable, crosses, seq_send) depth 20, (search (sendable, crosses, seq_send) depth 20, tt)))))))))))))))))
+call_send = enum_send (enum.shape call.the_type) (tt, (search (sendable, crosses, seq_send) depth 20, (search (sendable, crosses, seq_send) depth 20, (search (sendable, crosses, seq_send) depth 20, (search (sendable, crosses, seq_send) depth 20, (search (sendable, crosses, seq_send) depth 20, (search (sendable, crosses, seq_send) depth 20, (search (sendable, crosses, seq_send) depth 20, (search (sendable, crosses, seq_send) depth 20, (search (sendable, crosses, seq_send) depth 20, (search (sendable, crosses, seq_send) depth 20, (search (sendable, crosses, seq_send) depth 20, (search (sendable, crosses, seq_send) depth 20, (search (sendable, crosses, seq_send) depth 20, (search (sendable, crosses, seq_send) depth 20, (search (sendable, crosses, seq_send) depth 20, (search (sendable, crosses, seq_send) depth 20, (search (sendable, crosses, seq_send) depth 20, (search (sendable, crosses, seq_send) depth 20, tt)))))))))))))))))))
 
 line_send : IsSend line.the_row
 line_send = let T = line.the_type in recorded_send _ _ _ T.to_one (struct_send (shape T) (search sendable, (call_send, tt)))
 
 module _ (B : RattleType) (gb : Naming.Ghosts B.Denot) where
-  pub performed_sent : IsSend (performed.the_row B gb)
-  performed_sent = search (sendable, crosses, client_sent) depth 20
+  labels_shared : IsSync (label.the_row display.the_row B _ _ _ _ _ _ _ machine.ghosts gb)
+  labels_shared = label_sync display.the_row B _ _ _ _ _ _ _ display_send act_send act_reply_send request_send reply_send machine.ghosts gb
+
+  pub performed_sent : (κ : NamedLft) → IsSend (performed.the_row κ B gb)
+  performed_sent κ = search (sendable, crosses, client_sent, told_send) depth 20
+
+  pub waiting_shared : (κ : NamedLft) → IsSync (waiting.the_row κ B gb)
+  waiting_shared κ = search (sendable, crosses, labels_shared) depth 20
 
   module _ (N : RattleType) (gn : Rings.Ghosts N.Denot) (n : IsSend N) where
     pub driver_shared : IsSync (driver.the_row B N gb gn)
@@ -36,4 +47,4 @@ module _ (B : RattleType) (gb : Naming.Ghosts B.Denot) where
 
     pub performing_sent : (κ : NamedLft) → IsSend (performing.the_row κ B N gb gn)
     performing_sent κ = let T = performing.the_type κ B N gb gn in
-        recorded_send _ _ _ T.to_one (struct_send (shape T) (search (sendable, crosses) depth 20, (search (sendable, crosses, book_shared) depth 20, (search (sendable, crosses, driver_shared) depth 20, (search (sendable, crosses, line_send) depth 20, (search (sendable, crosses, client_sent) depth 20, tt))))))
+        recorded_send _ _ _ T.to_one (struct_send (shape T) (search (sendable, crosses) depth 20, (search (sendable, crosses, book_shared) depth 20, (search (sendable, crosses, driver_shared) depth 20, (search (sendable, crosses, labels_shared) depth 20, (search (sendable, crosses, line_send) depth 20, (search (sendable, crosses, client_sent) depth 20, tt)))))))

@@ -3,7 +3,7 @@ use Rattle.std.proofs.Crossing.{crosses}
 use Rattle.vg_worker.proofs.Sent.{worker_sent}
 use Rattle.vg_labels.specs.Labels.{values_of}
 use Rattle.vg_run_threads.proofs.SessionLemmas.{all-idle, all-joined, all-of, all-ready}
-use Rattle.vg_run_threads.proofs.Sent.{performed_sent, performing_sent}
+use Rattle.vg_run_threads.proofs.Sent.{performed_sent, performing_sent, waiting_shared}
 use Rattle.vg_run_threads.proofs.threads.run_threads.Goals as goal
 
 pub all-requires-send-D : goal.all-requires-send-D
@@ -14,6 +14,9 @@ all-requires-send-A g c κs within = let n = c.type_bounds.send-N in search (sen
 
 pub all-requires-send-W : goal.all-requires-send-W
 all-requires-send-W g c κs within = let n = c.type_bounds.send-N in let y = c.type_bounds.sync-G in search (sendable, crosses, worker_sent) depth 20
+
+pub all-requires-sync-Q : goal.all-requires-sync-Q
+all-requires-sync-Q g c κs within = search (sendable, crosses, waiting_shared) depth 20
 
 pub all-requires-after_bounds : goal.all-requires-after_bounds
 all-requires-after_bounds g c κs within =
