@@ -16,6 +16,7 @@ use Rattle.vg_machine.specs.Entries.{Entry}
 use Rattle.vg_client_holds.specs.declared.holds.Holds.{Holds}
 use Rattle.vg_client_holds.specs.Holds.{Deniable}
 use Rattle.vg_machine.specs.Order.{call_of, is_leave, updated}
+use Rattle.vg_machine.specs.Replay.{display}
 use Rattle.vg_calls.specs.declared.call.Call.{Call}
 use Rattle.vg_client.specs.declared.caller.Caller.{Caller}
 use Rattle.vg_client.specs.declared.given.Added.{Added}
@@ -36,13 +37,15 @@ use Rattle.vg_names.specs.Names.{NamesState, is_numbered, without_name}
 use Rattle.vg_tasks.specs.Fits.{IsFit}
 use Rattle.vg_client.specs.Outcomes.{HasPlayed, IsNumbered, last_given}
 use Rattle.vg_tasks.specs.Table.{page_entry}
-use Rattle.vg_driver.specs.Tickets.{Token}
+use Rattle.vg_driver.specs.Tickets.{Account, Token}
 use Rattle.vg_client.specs.Accounts.{IsAccount, IsActive, IsNextOf, IsAdded, IsAddedAct, IsPresent, IsUnadded, leaves, mine_of}
+use Rattle.vg_client.proofs.AccountLemmas.{met-active}
 use Rattle.vg_client.proofs.HoldsLemmas.{updated-displays}
 use Rattle.vg_client.proofs.OutcomeLemmas.{played-more}
 use Rattle.vg_client.proofs.OwnLemmas.{all-map, all-more, numbers-more}
 use Rattle.vg_tasks.proofs.TaskLemmas.{fit-append, weights-append}
-use Rattle.vg_book.specs.Places.{HasCall, IsPlaced, begun_of}
+use Rattle.vg_book.specs.Places.{HasCall, IsCurrent, IsPlaced, begun_of}
+use Rattle.vg_book.specs.Tokens.{Watched}
 use Rattle.vg_book.specs.Views.{order_call}
 use Rattle.vg_client.specs.Own.{ArePlaced}
 use Rattle.vg_history.specs.Lists.{Has}
@@ -568,3 +571,21 @@ end-unleft client client' tasks mine token are plays added un =
 pub err-then : {T E : Type 0} {P Q : Type 0} (r : Result T E) → (P → Q) → OnErr r P → OnErr r Q
 err-then (Ok x) f p = tt
 err-then (Err e) f p = f p
+
+-- a client that has met a note can make calls as before
+pub ready-met : {B : Type 0} (client client' : Caller B) → IsReady client → IsCurrent display client'.token → Watched display client.token client'.token → client'.names ≡ client.names → client'.shows.items ≡ client.shows.items → IsReady client'
+ready-met client client' ready current watched names shows =
+    let same = watched.account in
+    let used : client'.token.account.used ≡ client.token.account.used = ap (λ (a : Account). a.used) same in
+    let displays : client'.token.account.holds.displays ≡ client.token.account.holds.displays = ap (λ (a : Account). a.holds.displays) same in
+    let made : client'.names.made ≡ client.names.made = ap (λ (ns : NamesState). ns.made) names in
+    let shown : length client'.shows.items ≡ length client.shows.items = ap (λ (ss : List (Option ℕ)). length ss) shows in
+    record {
+      active = met-active client.token client'.token ready.active current same watched.start watched.more;
+      small = record {
+        few_displays = omega (arith, displays, ready.small.few_displays);
+        current = subst (λ (ns : NamesState). length ns.current ≤ ns.made) (sym names) ready.small.current;
+        made = omega (arith, made, used, ready.small.made);
+        scanouts = omega (arith, shown, ready.small.scanouts);
+      };
+    }
