@@ -15,7 +15,7 @@ use std::sync::{Mutex, Wait};
 use std::thread::Threads;
 use vg_book::{Book, ClientToken, LaneToken, Naming, Opened, Root};
 use vg_history::{History, Machine};
-use vg_jobs::{Job, all};
+use vg_jobs::{Job, Nobody, all};
 
 /// A client that adds 1 by an act and asks a lane to add 1, so many times. It halts the desk that it is at in this round.
 #[derive(Drop)]
@@ -232,7 +232,7 @@ pub fn run_all<B: Naming + Send + Sync, R: Threads + Wait + Sync>(
     ) else {
         return Err(AllocError);
     };
-    let Ok((done, served)) = all(rt, &stop, askers, servers) else {
+    let Ok((done, served)) = all(rt, &stop, askers, servers, &Nobody) else {
         return Err(AllocError);
     };
     join_all(&book, &mut root, done)?;

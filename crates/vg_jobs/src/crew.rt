@@ -30,6 +30,14 @@ pub trait Quit {
     fn quit<R: Wait>(&self, rt: &R);
 }
 
+/// Jobs of which none waits for another ask nobody.
+#[derive(Drop)]
+pub struct Nobody;
+
+impl Quit for Nobody {
+    fn quit<R: Wait>(&self, _rt: &R) {}
+}
+
 /// The promise that a thread gives what its job may give.
 #[derive(Drop)]
 struct JobGives<J: Drop> {

@@ -3,4 +3,4 @@
 
 mod crew;
 
-pub use crew::{Job, Quit, all, both, each};
+pub use crew::{Job, Nobody, Quit, all, both, each};
