@@ -29,7 +29,7 @@ seq_send : (T : RattleType) → IsSend T → IsSend (seq.the_row T)
 seq_send T t = search (sendable, crosses) depth 20
 
 pub act_send : IsSend act.the_row
-act_send = search (sendable, crosses) depth 20
+act_send = search (sendable, crosses) depth 40
 
 pub act_reply_send : IsSend act_reply.the_row
 act_reply_send = search (sendable, crosses) depth 20

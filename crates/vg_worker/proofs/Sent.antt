@@ -74,7 +74,7 @@ display_send = let D = display_in.the_type in
     )))
 
 pub act_send : IsSend act.the_row
-act_send = search (sendable, crosses) depth 20
+act_send = search (sendable, crosses) depth 40
 
 pub act_reply_send : IsSend act_reply.the_row
 act_reply_send = search (sendable, crosses) depth 20
