@@ -7,7 +7,8 @@ use Rattle.vg_script.specs.declared.types.Script.{Script}
 use Rattle.vg_script.specs.declared.types.ScriptFault.{ScriptFault}
 use Rattle.vg_script.specs.Lines.{lines_of}
 use Rattle.vg_script_words.specs.Words.{is_text}
-use Rattle.vg_script.specs.Seen.{Seen, nothing_seen}
+use Rattle.vg_script.specs.Seen.{Seen}
+use Rattle.vg_script.specs.Labels.{start_of}
 use Rattle.vg_script.specs.Grammar.{Form, line_form, settled_form, after_line, fault_at, script_of, scan, read_script, Parses, Faulty}
 use Rattle.vg_script_words.specs.Kinds.{kind_code}
 use Rattle.vg_script.specs.Faults.{fails, has_fault, form_gives, given, seen_after, AreFaultless, HasFirstFault, IsScriptOf}
@@ -176,7 +177,7 @@ fault_is a b k m p q = cc
 pub fault_to : (bytes : List ℕ) (line kind : ℕ) → Faulty bytes line kind → HasFirstFault (lines_of bytes) line kind
 unfolding read_script
 fault_to bytes line kind h =
-    elim (find nothing_seen (lines_of bytes) line kind h) [
+    elim (find (start_of (lines_of bytes)) (lines_of bytes) line kind h) [
       | inl f ↦ inl (record { front = f.front; faulty = f.faulty; behind = f.behind; why = f.why; parts = f.parts; number = omega (arith, f.number); code = f.code; before = f.before; has = f.has; least = f.least })
       | inr f ↦ inr (record { number = omega (arith, f.number); code = f.code; before = f.before; none = f.none })
     ]
@@ -184,13 +185,13 @@ fault_to bytes line kind h =
 pub fault_from : (bytes : List ℕ) (line kind : ℕ) → HasFirstFault (lines_of bytes) line kind → Faulty bytes line kind
 unfolding read_script
 fault_from bytes line kind (inl f) =
-    let seen = seen_after nothing_seen f.front in
-    let over = passed nothing_seen f.front (f.faulty ∷ f.behind) f.before in
+    let seen = seen_after (start_of (lines_of bytes)) f.front in
+    let over = passed (start_of (lines_of bytes)) f.front (f.faulty ∷ f.behind) f.before in
     let stops : after_line seen f.faulty ≡ Err f.why = after_is seen f.faulty ∙ least_stops (λ k. has_fault k seen f.faulty) (given seen f.faulty) f.why f.has f.least in
-    ap (λ ls. scan nothing_seen ls) f.parts ∙ over.0 ∙ scan-err seen f.why f.faulty f.behind stops ∙ fault_is _ _ _ _ (omega (arith, f.number, over.1)) (sym f.code)
+    ap (λ ls. scan (start_of (lines_of bytes)) ls) f.parts ∙ over.0 ∙ scan-err seen f.why f.faulty f.behind stops ∙ fault_is _ _ _ _ (omega (arith, f.number, over.1)) (sym f.code)
 fault_from bytes line kind (inr f) =
-    let over = passed nothing_seen (lines_of bytes) [] f.before in
-    ap (λ ls. scan nothing_seen ls) (sym (append-nil (lines_of bytes))) ∙ over.0 ∙ end_of _ f.none ∙ fault_is _ _ _ _ (omega (arith, f.number, over.1)) (sym f.code)
+    let over = passed (start_of (lines_of bytes)) (lines_of bytes) [] f.before in
+    ap (λ ls. scan (start_of (lines_of bytes)) ls) (sym (append-nil (lines_of bytes))) ∙ over.0 ∙ end_of _ f.none ∙ fault_is _ _ _ _ (omega (arith, f.number, over.1)) (sym f.code)
 
 -- `IsScriptOf`, after something was seen.
 record Good (start : Seen) (lines : List (List ℕ)) (script : Script) : Type 0 where
@@ -218,13 +219,13 @@ good start (text ∷ more) script h = good_line start text more script (good (gi
 
 pub script_to : (bytes : List ℕ) (script : Script) → Parses bytes script → IsScriptOf (lines_of bytes) script
 unfolding read_script
-script_to bytes script h = let g = good nothing_seen (lines_of bytes) script h in record { before = g.before; some = g.some; same = g.same }
+script_to bytes script h = let g = good (start_of (lines_of bytes)) (lines_of bytes) script h in record { before = g.before; some = g.some; same = g.same }
 
 pub script_from : (bytes : List ℕ) (script : Script) → IsScriptOf (lines_of bytes) script → Parses bytes script
 unfolding read_script
 script_from bytes script s =
-    let over = passed nothing_seen (lines_of bytes) [] s.before in
-    ap (λ ls. scan nothing_seen ls) (sym (append-nil (lines_of bytes))) ∙ over.0 ∙ end_ok _ s.some ∙ ap (λ x. Ok x) (sym s.same)
+    let over = passed (start_of (lines_of bytes)) (lines_of bytes) [] s.before in
+    ap (λ ls. scan (start_of (lines_of bytes)) ls) (sym (append-nil (lines_of bytes))) ∙ over.0 ∙ end_ok _ s.some ∙ ap (λ x. Ok x) (sym s.same)
 
 pub one_of_both : (bytes : List ℕ) → ((script : Script) × Parses bytes script) ⊎ ((line : ℕ) × (kind : ℕ) × Faulty bytes line kind)
 one_of_both bytes = which bytes (read_script bytes) refl

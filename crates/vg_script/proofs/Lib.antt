@@ -6,3 +6,4 @@ pub mod Scans
 pub mod FaultLaws
 pub mod LimitLaws
 pub mod NameLaws
+pub mod LabelLemmas

@@ -9,8 +9,9 @@ use Rattle.vg_script.specs.declared.types.ScriptFault.{ScriptFault}
 use Rattle.vg_script.specs.Lines.{lines_of}
 use Rattle.vg_script_words.specs.Words.{words_of, is_text, is_number, value, is_within}
 use Rattle.vg_call_lines.specs.Args.{no_args, one_arg, two_args}
-use Rattle.vg_script.specs.Seen.{Seen, add_line, nothing_seen}
-use Rattle.vg_call_lines.specs.Tables.{no_names}
+use Rattle.vg_script.specs.Seen.{Seen, add_line}
+use Rattle.vg_script.specs.Labels.{start_of}
+use Rattle.vg_call_lines.specs.Tables.{without_names}
 use Rattle.vg_call_lines.specs.Rows.{Row, row_of}
 use Rattle.vg_script_words.specs.Kinds.{kind_code}
 use Rattle.vg_script.specs.Features.{feature_of, is_same}
@@ -68,7 +69,7 @@ client_form seen = Some (record {
   numbers = true;
   limits = nat_lt (length seen.clients) 16;
   names = true;
-  gives = record seen { clients = seen.clients ++ [] ∷ []; table = no_names };
+  gives = record seen { clients = seen.clients ++ [] ∷ []; table = without_names seen.table };
 })
 
 -- A line of a client. All clients together have at most 100,000 of them.
@@ -153,7 +154,7 @@ scan seen [] = if length seen.displays == 0 then Err (fault_at (seen.lines + 1) 
 scan seen (line ∷ more) = go_on (seen.lines + 1) (after_line seen line) (λ next. scan next more)
 
 unfoldable pub read_script : List ℕ → Result Script ScriptFault
-read_script bytes = scan nothing_seen (lines_of bytes)
+read_script bytes = scan (start_of (lines_of bytes)) (lines_of bytes)
 
 -- The bytes are the text of this script.
 abbrev pub Parses : List ℕ → Script → Type 0

@@ -1,6 +1,8 @@
 pub mod Lines
 pub mod Features
 pub mod Seen
+pub mod Labels
+pub mod LabelsWithin
 pub mod Grammar
 pub mod ReadingWithin
 pub mod Faults

@@ -35,9 +35,9 @@ pub fn script_limits()
 {}
 
 /// After lines without a fault a name is that of a buffer of the last client, with this number, exactly where some line is
-/// `buffer` and this name, no line behind it is `close` and this name or begins another client, and the client's lines have
+/// `buffer` and this name, or `import`, a label and this name, no line behind it is `close` and this name or begins another client, and the client's lines have
 /// defined so many names with it.
 pub fn defined_names()
-    ensures { (lines : List (List ℕ)) (name : List ℕ) (number : ℕ) → AreFaultless nothing_seen lines
-        → (((seen_after nothing_seen lines).table.names name ≡ Some (buffer_of number)) ↔ IsDefinedBy lines name number) }
+    ensures { (labels : List ℕ → ℕ) (lines : List (List ℕ)) (name : List ℕ) (number : ℕ) → AreFaultless (nothing_seen labels) lines
+        → (((seen_after (nothing_seen labels) lines).table.names name ≡ Some (buffer_of number)) ↔ IsDefinedBy lines name number) }
 {}

@@ -3,6 +3,7 @@
 
 mod calls;
 mod features;
+mod labels;
 mod laws;
 mod reader;
 mod text;

@@ -6,6 +6,7 @@ use crate::calls::{add_line, past_limit};
 use crate::features::{feature_of, is_among};
 use crate::types::{Feature, Line, Script, ScriptFault};
 use std::alloc::{AllocError, Global};
+use std::collections::BTreeMap;
 use vg_call_lines::{Names, call_of};
 use vg_list::Seq;
 use vg_script_words::{Kind, Stop, both_spelled, is, is_text, limited, put_words, size, spelled};
@@ -32,12 +33,14 @@ pub(crate) struct Reader<'a> {
 
 impl<'a> Reader<'a> {
     ghost use Rattle.std.specs.Prelude.{◌≡◌, ◌==◌, ◌&&◌, not, is_none, ◌+◌, ◌-◌, ◌<◌, ◌^◌, [], ◌∷◌, map, IfOk};
+    ghost use Rattle.vg_call_lines.specs.Tables.{numbers_of};
     ghost use Rattle.vg_script.specs.Seen.{Seen, nothing_seen};
     ghost use Rattle.vg_script.specs.Grammar.{display_form, memory_form, without_form, client_form, called_form, worded_form, form_of, feature_form, settled, settled_form, after_line, scan};
     ghost use Rattle.vg_script.specs.ReadingWithin.{seen, Goes, MayDefine};
 
-    pub(crate) fn new(alloc: Global) -> Reader<'a>
-        ensures { seen result ≡ nothing_seen }
+    /// Before the first line of a text with these labels.
+    pub(crate) fn new(alloc: Global, labels: BTreeMap<&'a [u8], u32>) -> Reader<'a>
+        ensures { seen result ≡ nothing_seen (numbers_of labels.entry) }
     {
         Reader {
             lines: 0,
@@ -46,7 +49,7 @@ impl<'a> Reader<'a> {
             without: Vec::new(alloc),
             clients: Vec::new(alloc),
             count: 0,
-            names: Names::new(alloc),
+            names: Names::new(alloc, labels),
         }
     }
 
