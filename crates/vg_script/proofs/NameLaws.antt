@@ -1,14 +1,15 @@
 -- Which names are defined after lines that have no fault, and their numbers.
-use Rattle.std.proofs.Common.{◌≡◌, ℕ, ◌+◌, ◌==◌, ◌⊎◌, inl, inr, ◌&&◌, ◌||◌, Bool, true, false, List, [], ◌∷◌, ◌++◌, length, Option, Some, None, if◌then◌else◌, arith, refl, ap, sym, ◌∙◌, subst, rules}
-use Rattle.std.specs.Prelude.{All, option_map, bytes_eq, codes, slice_index, is_none}
+use Rattle.std.proofs.Common.{◌≡◌, ℕ, ◌+◌, ◌==◌, ◌⊎◌, inl, inr, ◌&&◌, ◌||◌, not, Bool, true, false, List, [], ◌∷◌, ◌++◌, length, Option, Some, None, if◌then◌else◌, arith, refl, ap, sym, ◌∙◌, subst, rules}
+use Rattle.std.specs.Prelude.{All, option_map, bytes_eq, codes, slice_index, is_none, is_some}
+use Rattle.vg_script.specs.Labels.{with_found, label_among, label_of, labels_of}
 use Rattle.std.specs.Bool.{⊤}
 use Rattle.std.proofs.lemmas.Slice.Eq.{bytes_eq-Decides}
 use Rattle.std.proofs.lemmas.List.Elements.{All-nil, All-cons, All-head, All-tail}
 use Rattle.vg_chain.specs.declared.shape.Shape.{Shape}
 use Rattle.vg_wire.specs.declared.request.Queue.{Queue}
 use Rattle.vg_script_words.specs.declared.kind.Kind.{Kind}
-use Rattle.vg_script_words.specs.declared.kind.Kind.TheVariants.{Word, Name}
-use Rattle.vg_script_words.specs.Words.{words_of}
+use Rattle.vg_script_words.specs.declared.kind.Kind.TheVariants.{Text, Word, Name}
+use Rattle.vg_script_words.specs.Words.{words_of, is_text}
 use Rattle.vg_call_lines.specs.Args.{no_args, one_arg, two_args, three_args, four_args, five_args, six_args}
 use Rattle.vg_call_lines.proofs.Counts.{no_args_give, one_arg_gives, two_args_give, three_args_give, four_args_give, five_args_give, six_args_give}
 use Rattle.vg_call_lines.specs.declared.names.Named.{Named}
@@ -41,7 +42,7 @@ changed [] table = table
 changed (first ∷ []) table = if bytes_eq first (codes "client") then without_names table else table
 changed (first ∷ second ∷ []) table = chosen_two (bytes_eq first (codes "client")) (bytes_eq first (codes "close")) second table
 changed (first ∷ second ∷ third ∷ more) table =
-    chosen (bytes_eq first (codes "client")) (bytes_eq first (codes "buffer")) (bytes_eq first (codes "close")) (bytes_eq first (codes "import")) (bytes_eq first (codes "export")) second third table
+    chosen (bytes_eq first (codes "client")) (bytes_eq first (codes "buffer")) (bytes_eq first (codes "close")) (bytes_eq first (codes "import")) (is_some (label_among (first ∷ second ∷ third ∷ more))) second third table
 
 same_bytes : (a b : List ℕ) → bytes_eq a b ≡ true → a ≡ b
 same_bytes a b h = search (rules, bytes_eq-Decides)
@@ -63,7 +64,8 @@ plain word one h p = (apart word one (codes "client") h p.0, apart word one (cod
 unchanged : (word : List ℕ) (args : List (List ℕ)) (table : NameTable) → Plain word → table ≡ changed (word ∷ args) table
 unchanged word [] table p = rw p.0 refl
 unchanged word (second ∷ []) table p = rw (p.0, p.2) refl
-unchanged word (second ∷ third ∷ more) table p = rw (p.0, p.1, p.2, p.3, p.4) refl
+unchanged word (second ∷ third ∷ []) table p = rw (p.0, p.1, p.2, p.3, p.4) refl
+unchanged word (second ∷ third ∷ fourth ∷ more) table p = rw (p.0, p.1, p.2, p.3) refl
 
 buffer_changes : (word second third : List ℕ) (more : List (List ℕ)) (table : NameTable) → bytes_eq word (codes "buffer") ≡ true
     → with_name second kinds.Buffer table ≡ changed (word ∷ second ∷ third ∷ more) table
@@ -402,8 +404,89 @@ counts [] table = refl
 counts (first ∷ []) table = counts_one (bytes_eq first (codes "client")) table
 counts (first ∷ second ∷ []) table = counts_two (bytes_eq first (codes "client")) (bytes_eq first (codes "close")) second table
 counts (first ∷ second ∷ third ∷ more) table =
-    counts_more (bytes_eq first (codes "client")) (bytes_eq first (codes "buffer")) (bytes_eq first (codes "close")) (bytes_eq first (codes "import")) (bytes_eq first (codes "export")) second third table
+    counts_more (bytes_eq first (codes "client")) (bytes_eq first (codes "buffer")) (bytes_eq first (codes "close")) (bytes_eq first (codes "import")) (is_some (label_among (first ∷ second ∷ third ∷ more))) second third table
     (not_both first (codes "close") (codes "import") refl (bytes_eq first (codes "close")) refl)
+
+-- How many labels were defined after these words.
+exports_first : (first second third : List ℕ) (more : List (List ℕ)) → is_some (label_among (first ∷ second ∷ third ∷ more)) ≡ true → bytes_eq first (codes "export") ≡ true
+exports_first first second third [] h = by_test (bytes_eq first (codes "export")) refl h
+  where
+    by_test : (b : Bool) → bytes_eq first (codes "export") ≡ b → is_some (if b then Some third else None) ≡ true → bytes_eq first (codes "export") ≡ true
+    by_test true e t = e
+    by_test false e t = absurd (cc t)
+exports_first first second third (fourth ∷ more) h = absurd (cc h)
+
+other_exports : (first second third : List ℕ) (more : List (List ℕ)) (other : List ℕ) → bytes_eq (codes "export") other ≡ false → (b : Bool) → is_some (label_among (first ∷ second ∷ third ∷ more)) ≡ b → bytes_eq first other && b ≡ false
+other_exports first second third more other d true e = let f = apart first (codes "export") other (exports_first first second third more e) d in grind (arith, f)
+other_exports first second third more other d false e = by_test (bytes_eq first other)
+  where
+    by_test : (c : Bool) → c && false ≡ false
+    by_test true = refl
+    by_test false = refl
+
+found_length : (o : Option (List ℕ)) → length (with_found o []) ≡ (if is_some o then 1 else 0)
+found_length None = refl
+found_length (Some label) = refl
+
+exports_more : (client buffer close import export : Bool) (second third : List ℕ) (table : NameTable) → client && export ≡ false → buffer && export ≡ false → close && export ≡ false → import && export ≡ false
+    → (chosen client buffer close import export second third table).exported ≡ table.exported + (if export then 1 else 0)
+exports_more client buffer close import false second third table a b c d = none client buffer close import
+  where
+    none : (client buffer close import : Bool) → (chosen client buffer close import false second third table).exported ≡ table.exported + 0
+    none true buffer close import = omega arith
+    none false true close import = omega arith
+    none false false true import = omega arith
+    none false false false true = omega arith
+    none false false false false = omega arith
+exports_more true buffer close import true second third table a b c d = absurd (cc a)
+exports_more false true close import true second third table a b c d = absurd (cc b)
+exports_more false false true import true second third table a b c d = absurd (cc c)
+exports_more false false false true true second third table a b c d = absurd (cc d)
+exports_more false false false false true second third table a b c d = refl
+
+one_exports : (client : Bool) (table : NameTable) → (if client then without_names table else table).exported ≡ table.exported
+one_exports true table = refl
+one_exports false table = refl
+
+two_export : (client close : Bool) (second : List ℕ) (table : NameTable) → (chosen_two client close second table).exported ≡ table.exported
+two_export true close second table = refl
+two_export false true second table = refl
+two_export false false second table = refl
+
+exports : (words : List (List ℕ)) (table : NameTable) → (changed words table).exported ≡ table.exported + length (with_found (label_among words) [])
+exports [] table = omega arith
+exports (first ∷ []) table = let e = one_exports (bytes_eq first (codes "client")) table in omega (arith, e)
+exports (first ∷ second ∷ []) table = let e = two_export (bytes_eq first (codes "client")) (bytes_eq first (codes "close")) second table in omega (arith, e)
+exports (first ∷ second ∷ third ∷ more) table =
+    exports_more (bytes_eq first (codes "client")) (bytes_eq first (codes "buffer")) (bytes_eq first (codes "close")) (bytes_eq first (codes "import")) (is_some (label_among (first ∷ second ∷ third ∷ more))) second third table
+    (other_exports first second third more (codes "client") refl (is_some (label_among (first ∷ second ∷ third ∷ more))) refl)
+    (other_exports first second third more (codes "buffer") refl (is_some (label_among (first ∷ second ∷ third ∷ more))) refl)
+    (other_exports first second third more (codes "close") refl (is_some (label_among (first ∷ second ∷ third ∷ more))) refl)
+    (other_exports first second third more (codes "import") refl (is_some (label_among (first ∷ second ∷ third ∷ more))) refl)
+    ∙ ap (λ (n : ℕ). table.exported + n) (sym (found_length (label_among (first ∷ second ∷ third ∷ more))))
+
+text_label : (line : List ℕ) → is_text line ≡ true → label_of line ≡ label_among (words_of line)
+text_label line h = rw h refl
+
+not_not : (b : Bool) → not b ≡ false → b ≡ true
+not_not true h = refl
+not_not false h = absurd (cc h)
+
+found_behind : (o : Option (List ℕ)) (labels : List (List ℕ)) → length (with_found o labels) ≡ length (with_found o []) + length labels
+found_behind None labels = omega arith
+found_behind (Some label) labels = omega arith
+
+-- After lines without a fault as many labels were defined as they have.
+pub all_exported : (start : Seen) (lines : List (List ℕ)) → AreFaultless start lines → (seen_after start lines).table.exported ≡ start.table.exported + length (labels_of lines)
+unfolding labels_of
+all_exported start [] faultless = omega arith
+all_exported start (line ∷ more) faultless =
+    let e = all_exported (given start line) more faultless.1 in
+    let f = ap (λ (t : NameTable). t.exported) (line_changes start line faultless.0) in
+    let g = exports (words_of line) start.table in
+    let h = ap (λ o. length (with_found o [])) (text_label line (not_not (is_text line) (faultless.0 Text))) in
+    let i = found_behind (label_of line) (labels_of more) in
+    omega (arith, e, f, g, h, i)
 
 -- Words that define a name, that end it, and that do neither.
 defined_more : (client buffer close import export : Bool) (second third name : List ℕ) (table : NameTable) → client ≡ false → close && import ≡ false
@@ -431,7 +514,7 @@ defining name [] table h = absurd (cc h)
 defining name (first ∷ []) table h = absurd (cc h)
 defining name (first ∷ second ∷ []) table h = absurd (cc h)
 defining name (first ∷ second ∷ third ∷ more) table h =
-    defined_more (bytes_eq first (codes "client")) (bytes_eq first (codes "buffer")) (bytes_eq first (codes "close")) (bytes_eq first (codes "import")) (bytes_eq first (codes "export")) second third name table
+    defined_more (bytes_eq first (codes "client")) (bytes_eq first (codes "buffer")) (bytes_eq first (codes "close")) (bytes_eq first (codes "import")) (is_some (label_among (first ∷ second ∷ third ∷ more))) second third name table
     (neither first (codes "buffer") (codes "import") (codes "client") refl refl (bytes_eq first (codes "buffer")) (bytes_eq first (codes "import")) refl refl (either_defines (bytes_eq first (codes "buffer")) (bytes_eq first (codes "import")) (bytes_eq second name) (bytes_eq third name) h))
     (not_both first (codes "close") (codes "import") refl (bytes_eq first (codes "close")) refl) h
 
@@ -453,7 +536,7 @@ ended name [] table c = absurd (cc c)
 ended name (first ∷ []) table c = let d : bytes_eq first (codes "client") ≡ true = grind arith in rw d refl
 ended name (first ∷ second ∷ []) table c = ended_two (bytes_eq first (codes "client")) (bytes_eq first (codes "close")) second name table c
 ended name (first ∷ second ∷ third ∷ more) table c =
-    ended_more (bytes_eq first (codes "client")) (bytes_eq first (codes "buffer")) (bytes_eq first (codes "close")) (bytes_eq first (codes "import")) (bytes_eq first (codes "export")) second third name table
+    ended_more (bytes_eq first (codes "client")) (bytes_eq first (codes "buffer")) (bytes_eq first (codes "close")) (bytes_eq first (codes "import")) (is_some (label_among (first ∷ second ∷ third ∷ more))) second third name table
     (not_both first (codes "buffer") (codes "close") refl (bytes_eq first (codes "buffer")) refl) c
 
 left_two : (client close : Bool) (second name : List ℕ) (table : NameTable) → (client || (close && bytes_eq second name)) ≡ false → (chosen_two client close second table).names name ≡ table.names name
@@ -475,7 +558,7 @@ left name [] table b c = refl
 left name (first ∷ []) table b c = let d : bytes_eq first (codes "client") ≡ false = grind arith in rw d refl
 left name (first ∷ second ∷ []) table b c = left_two (bytes_eq first (codes "client")) (bytes_eq first (codes "close")) second name table c
 left name (first ∷ second ∷ third ∷ more) table b c =
-    left_more (bytes_eq first (codes "client")) (bytes_eq first (codes "buffer")) (bytes_eq first (codes "close")) (bytes_eq first (codes "import")) (bytes_eq first (codes "export")) second third name table b c
+    left_more (bytes_eq first (codes "client")) (bytes_eq first (codes "buffer")) (bytes_eq first (codes "close")) (bytes_eq first (codes "import")) (is_some (label_among (first ∷ second ∷ third ∷ more))) second third name table b c
 
 abbrev Keeps : List ℕ → List ℕ → Type 0
 Keeps name line = end_name name (words_of line) ≡ false

@@ -7,6 +7,7 @@ use Rattle.vg_script.specs.declared.types.Script.{Script}
 use Rattle.vg_script_words.specs.Words.{is_text}
 use Rattle.vg_script.specs.Seen.{Seen}
 use Rattle.vg_script.specs.Labels.{start_of}
+use Rattle.vg_script.specs.Waits.{HasNoCycle, IsFirstInCycle}
 use Rattle.vg_script.specs.Grammar.{Form, line_form, script_of}
 use Rattle.vg_script_words.specs.Kinds.{kind_code}
 
@@ -60,11 +61,19 @@ pub record LacksDisplay (lines : List (List ℕ)) (line kind : ℕ) : Type 0 whe
   pub before : AreFaultless (start_of lines) lines
   pub none : length (seen_after (start_of lines) lines).displays ≡ 0
 
-abbrev pub HasFirstFault : List (List ℕ) → ℕ → ℕ → Type 0
-HasFirstFault lines line kind = IsFaultOfLine lines line kind ⊎ LacksDisplay lines line kind
+-- No line has a fault of the kinds 1 to 5, there is a display, and this is the first line that waits for a label and, by steps, for itself.
+pub record WaitsInCycle (lines : List (List ℕ)) (line kind : ℕ) : Type 0 where
+  pub code : kind ≡ 6
+  pub before : AreFaultless (start_of lines) lines
+  pub some : 0 < length (seen_after (start_of lines) lines).displays
+  pub first : IsFirstInCycle (seen_after (start_of lines) lines).clients line
 
--- No line has a fault, there is a display, and the script is what the lines give.
+abbrev pub HasFirstFault : List (List ℕ) → ℕ → ℕ → Type 0
+HasFirstFault lines line kind = IsFaultOfLine lines line kind ⊎ LacksDisplay lines line kind ⊎ WaitsInCycle lines line kind
+
+-- No line has a fault, there is a display, no line waits for itself, and the script is what the lines give.
 pub record IsScriptOf (lines : List (List ℕ)) (script : Script) : Type 0 where
   pub before : AreFaultless (start_of lines) lines
   pub some : 0 < length (seen_after (start_of lines) lines).displays
   pub same : script ≡ script_of (seen_after (start_of lines) lines)
+  pub apart : HasNoCycle script.clients

@@ -1,5 +1,7 @@
 -- The limits that each script keeps.
-use Rattle.std.specs.Prelude.{◌≡◌, ℕ, ℤ, pos, negsuc, ◌*◌, ◌<◌, ◌≤◌, is_some, None, List, length, sum_by, count_by, All, IsTrue}
+use Rattle.std.specs.Prelude.{◌≡◌, ℕ, ℤ, pos, negsuc, ◌*◌, ◌<◌, ◌≤◌, is_some, None, List, length, sum_by, count_by, All, IsTrue, IfSome}
+use Rattle.std.specs.List.{range_with_len}
+use Rattle.vg_script.specs.Waits.{waits, given_in_all}
 use Rattle.std.specs.Bool.{⊤}
 use Rattle.vg_formats.specs.Formats.{format_of}
 use Rattle.vg_chain.specs.declared.shape.Shape.{Shape}
@@ -67,3 +69,6 @@ pub record ScriptInLimits (script : Script) : Type 0 where
   pub clients : length script.clients ≤ 16
   pub lines : sum_by length script.clients ≤ 100000
   pub calls : All (ClientInLimits (length script.displays)) script.clients
+  -- the labels that lines give are 1, 2, 3, in the order of the text, and each that a line waits for is one of them
+  pub labels : given_in_all script.clients ≡ range_with_len 1 script.labels
+  pub known : All (λ lines. All (λ line. IfSome (waits line.call) (IsBetween 1 script.labels)) lines) script.clients

@@ -5,7 +5,7 @@ ghost use Rattle.vg_script.specs.Labels.{start_of};
 ghost use Rattle.vg_script.specs.Lines.{lines_of};
 ghost use Rattle.vg_script.specs.Grammar.{Parses, Faulty, read_script, scan};
 ghost use Rattle.vg_script.specs.Limits.{ScriptInLimits};
-ghost use Rattle.vg_script.specs.ReadingWithin.{seen};
+ghost use Rattle.vg_script.specs.ReadingWithin.{seen, answered};
 
 use crate::labels::labels;
 use crate::reader::Reader;
@@ -27,8 +27,22 @@ pub fn parse(alloc: Global, bytes: &[u8]) -> Result<Result<Script, ScriptFault>,
         → r ≡ Err (record { line = line; kind = kind })) }
 {
     match read_lines(alloc, bytes)? {
-        Ok(reader) => Ok(reader.finish()),
+        Ok(reader) => {
+            let cycle = reader.cycle(alloc)?;
+            Ok(unless(cycle, reader.finish()))
+        }
         Err(fault) => Ok(Err(fault)),
+    }
+}
+
+/// What was read, unless a line of this number waits for itself.
+fn unless(cycle: Option<u32>, read: Result<Script, ScriptFault>) -> Result<Script, ScriptFault>
+    ensures { result ≡ answered cycle read }
+{
+    let script = read?;
+    match cycle {
+        Some(line) => Err(ScriptFault { line, kind: 6 }),
+        None => Ok(script),
     }
 }
 
