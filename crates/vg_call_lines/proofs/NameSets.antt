@@ -13,14 +13,14 @@ cond-if : (b : Bool) (x y : Option Named) → cond b x y ≡ (if b then x else y
 cond-if true x y = refl
 cond-if false x y = refl
 
--- The table of a map and a count.
-abbrev pub table_with : BTreeMap (Bor (List ℕ)) Named → ℕ → NameTable
-table_with map count = record { names = names_of map; count = count }
+module _ (labels : List ℕ → ℕ) (exported : ℕ) (old new : BTreeMap (Bor (List ℕ)) Named) (name : List ℕ) (count : ℕ) where
+  -- The table of a map and a count.
+  abbrev pub table_with : BTreeMap (Bor (List ℕ)) Named → ℕ → NameTable
+  table_with map count = record { names = names_of map; count = count; labels = labels; exported = exported }
 
-abbrev counted : ℕ → (List ℕ → Option Named) → NameTable
-counted count names = record { names = names; count = count }
+  abbrev counted : ℕ → (List ℕ → Option Named) → NameTable
+  counted count names = record { names = names; count = count; labels = labels; exported = exported }
 
-module _ (old new : BTreeMap (Bor (List ℕ)) Named) (name : List ℕ) (count : ℕ) where
   pub named : (kind : NameKind) → UpdatesBy (λ x y. slice_cmp nat_cmp x.now y.now) (λ k. slice_cmp nat_cmp name k.now) old new (Some (record { kind = kind; number = count + 1 }))
       → table_with new (count + 1) ≡ with_name name kind (table_with old count)
   named kind updates =

@@ -1,5 +1,5 @@
 -- How the code's values stand for those of the other modules here.
-use Rattle.std.specs.Prelude.{◌≡◌, Bool, true, false, Option, Some, None, Result, Ok, Err}
+use Rattle.std.specs.Prelude.{◌≡◌, ℕ, ◌+◌, Bool, true, false, Option, Some, None, Result, Ok, Err}
 use Rattle.std.specs.Bool.{⊤}
 use Rattle.vg_calls.specs.declared.call.Call.{Call}
 use Rattle.vg_script_words.specs.declared.kind.Kind.{Kind}
@@ -7,11 +7,11 @@ use Rattle.vg_script_words.specs.declared.kind.Kind.TheVariants.{Name}
 use Rattle.vg_script_words.specs.declared.kind.Stop.{Stop}
 use Rattle.vg_script_words.specs.declared.kind.Stop.TheVariants.{Memory, Fault}
 use Rattle.vg_call_lines.specs.declared.names.Names.{Names}
-use Rattle.vg_call_lines.specs.Tables.{NameTable, names_of}
+use Rattle.vg_call_lines.specs.Tables.{NameTable, names_of, numbers_of, with_label}
 
--- The names that are defined, and how many were.
+-- The names that are defined, and how many were, and the labels.
 abbrev pub table_of : Names → NameTable
-table_of names = record { names = names_of names.named; count = names.count }
+table_of names = record { names = names_of names.named; count = names.count; labels = numbers_of names.labels; exported = names.exported }
 
 -- There is such a value and the answer is it, or there is none and the answer is a fault of this kind.
 abbrev pub Finds : {X : Type 0} → Option X → Kind → Result X Kind → Type 0
@@ -23,6 +23,16 @@ abbrev pub Knows : {X : Type 0} → Bool → X → Result X Stop → Type 0
 Knows test name (Ok read) = (test ≡ true) × (read ≡ name)
 Knows test name (Err Memory) = ⊤
 Knows test name (Err (Fault kind)) = (kind ≡ Name) × (test ≡ false)
+
+-- A label is as it has to be and this is its number, or it isn't.
+abbrev pub IsNumbered : Bool → ℕ → Option ℕ → Type 0
+IsNumbered test number (Some found) = (test ≡ true) × (found ≡ number)
+IsNumbered test number None = test ≡ false
+
+-- A label is as it has to be and is defined now, with this number, or it isn't and nothing has changed.
+abbrev pub IsGiven : Bool → (old new : NameTable) → Option ℕ → Type 0
+IsGiven test old new (Some number) = (test ≡ true) × (number ≡ old.exported + 1) × (new ≡ with_label old)
+IsGiven test old new None = (test ≡ false) × (new ≡ old)
 
 -- What the reading of a line gave, where memory may be wanting: the call and the names after it, or the
 -- kind of the fault.

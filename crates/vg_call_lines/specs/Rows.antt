@@ -1,7 +1,7 @@
 -- The lines of a client, one row for each word: what has to hold of how its numbers are spelled, of the limits
 -- and of the names, and which call it is. `displays` is how many displays there are, and `table` has the names
 -- that are defined before the line. A word or a count of arguments that the grammar doesn't know has no row.
-use Rattle.std.specs.Prelude.{ℕ, ◌*◌, ◌/◌, ◌&&◌, ◌||◌, not, nat_lt, nat_le, Bool, true, is_none, is_some, List, length, Option, Some, None, Result, Ok, Err, if◌then◌else◌, codes, bytes_eq}
+use Rattle.std.specs.Prelude.{ℕ, ◌*◌, ◌/◌, ◌+◌, ◌==◌, ◌&&◌, ◌||◌, not, nat_lt, nat_le, Bool, true, is_none, is_some, List, length, Option, Some, None, Result, Ok, Err, if◌then◌else◌, codes, bytes_eq}
 use Rattle.std.specs.Int.{is_in_range}
 use Rattle.vg_script_words.specs.declared.kind.Kind.{Kind}
 use Rattle.vg_script_words.specs.declared.kind.Kind.TheVariants.{Word, Number, Limit, Name}
@@ -14,12 +14,12 @@ use Rattle.vg_chain.specs.declared.shape.Shape.TheVariants.{Plain, Pieces, Indir
 use Rattle.vg_chain.specs.declared.chain.ChainFault.TheVariants.{Index, Loop, Nested, NextWithIndirect, TableLength, Order, Range}
 use Rattle.vg_chain.specs.Space.{most_room}
 use Rattle.vg_calls.specs.declared.call.Call.{Call}
-use Rattle.vg_calls.specs.declared.call.Call.TheVariants.{Info, Edid, Buffer, Store, Load, Send, Flush, Take, Drop, Hide, Show, Flip, Cursor, Move, Uuid, Close, Raw}
+use Rattle.vg_calls.specs.declared.call.Call.TheVariants.{Info, Edid, Buffer, Store, Load, Send, Flush, Take, Drop, Hide, Show, Flip, Cursor, Move, Uuid, Export, Import, Close, Raw}
 use Rattle.vg_calls.specs.declared.call.NameRef.{NameRef}
 use Rattle.vg_call_lines.specs.declared.names.NameKind.TheVariants as kinds
 use Rattle.vg_script_words.specs.Words.{is_number, value, is_within, is_hex, hex_bytes, is_hex_or_none, bytes_or_none, is_name, is_no_name, is_signed, signed_value, is_position}
 use Rattle.vg_call_lines.specs.Args.{no_args, one_arg, two_args, three_args, four_args, five_args, six_args}
-use Rattle.vg_call_lines.specs.Tables.{NameTable, with_name, without_name, is_kind, ref_to}
+use Rattle.vg_call_lines.specs.Tables.{NameTable, with_name, without_name, with_label, is_kind, ref_to}
 
 pub record Row : Type 0 where
   -- each number and HEX is well spelled
@@ -213,6 +213,26 @@ uuid_row table name = Some (record {
   after = table;
 })
 
+-- export A X, where X is a label that no line before has defined
+unfoldable pub export_row : NameTable → (name label : List ℕ) → Option Row
+export_row table name label = Some (record {
+  numbers = true;
+  limits = true;
+  names = is_kind kinds.Buffer (table.names name) && is_name label && table.labels label == table.exported + 1;
+  call = Export (ref_to table name) (table.exported + 1);
+  after = with_label table;
+})
+
+-- import X A, where X is a label that some line defines; its token isn't known before the run
+unfoldable pub import_row : NameTable → (label name : List ℕ) → Option Row
+import_row table label name = Some (record {
+  numbers = true;
+  limits = true;
+  names = is_name label && not (table.labels label == 0) && is_name name && is_none (table.names name);
+  call = Import (table.labels label) None;
+  after = with_name name kinds.Buffer table;
+})
+
 -- close A
 unfoldable pub close_row : NameTable → (name : List ℕ) → Option Row
 close_row table name = Some (record {
@@ -272,9 +292,15 @@ request_row table queue shape room hex = None
 unfoldable pub raw_row : NameTable → (queue room shape hex : List ℕ) → Option Row
 raw_row table queue room shape hex = request_row table (queue_of queue) (shape_of shape) room hex
 
--- The row of a line, by its first word and the arguments behind it, in four parts. Each part but the last goes on
--- to the one that stands above it here, where the word is none of its own. The last part: cursors, names, and
--- requests that are given by their bytes.
+-- The row of a line, by its first word and the arguments behind it, in five parts. Each part but the last goes on
+-- to the one that stands above it here, where the word is none of its own. The last part: what clients share.
+unfoldable pub row_of_shared : List ℕ → NameTable → List (List ℕ) → Option Row
+row_of_shared word table args =
+    if bytes_eq word (codes "export") then two_args (export_row table) args
+    else if bytes_eq word (codes "import") then two_args (import_row table) args
+    else None
+
+-- The fourth: cursors, names, and requests that are given by their bytes.
 unfoldable pub row_of_others : List ℕ → ℕ → NameTable → List (List ℕ) → Option Row
 row_of_others word displays table args =
     if bytes_eq word (codes "cursor") then six_args (cursor_row displays table) args
@@ -282,7 +308,7 @@ row_of_others word displays table args =
     else if bytes_eq word (codes "uuid") then one_arg (uuid_row table) args
     else if bytes_eq word (codes "close") then one_arg (close_row table) args
     else if bytes_eq word (codes "raw") then four_args (raw_row table) args
-    else None
+    else row_of_shared word table args
 
 -- The third: scanouts.
 unfoldable pub row_of_scanouts : List ℕ → ℕ → NameTable → List (List ℕ) → Option Row

@@ -9,21 +9,43 @@ use Rattle.vg_call_lines.specs.declared.names.NameKind.{NameKind}
 use Rattle.vg_call_lines.specs.declared.names.NameKind.TheVariants.{Buffer}
 use Rattle.vg_call_lines.specs.declared.names.Named.{Named}
 
--- Which names of a client are defined, and how many its lines have defined so far, those that have ended among them.
+-- Which names of a client are defined, and how many its lines have defined so far, those that have ended among them; and the labels
+-- of the whole text.
 pub record NameTable : Type 0 where
   pub names : List ℕ → Option Named
   pub count : ℕ
+  -- the number of each label that the text defines, its place from 1 on among them, and 0 of any other word
+  pub labels : List ℕ → ℕ
+  -- how many labels the lines so far have defined
+  pub exported : ℕ
 
 -- The names of a map by parts of a text.
 abbrev pub names_of : BTreeMap (Bor (List ℕ)) Named → List ℕ → Option Named
 names_of map q = get_by (λ k. slice_cmp nat_cmp q k.now) map
 
-abbrev pub no_names : NameTable
-no_names = record { names = λ q. None; count = 0 }
+-- The numbers of a map by parts of a text, 0 where there is none.
+abbrev pub number_or_none : Option ℕ → ℕ
+number_or_none (Some number) = number
+number_or_none None = 0
+
+abbrev pub numbers_of : BTreeMap (Bor (List ℕ)) ℕ → List ℕ → ℕ
+numbers_of map q = number_or_none (get_by (λ k. slice_cmp nat_cmp q k.now) map)
+
+-- No names, before the first line of a text with these labels.
+abbrev pub no_names : (List ℕ → ℕ) → NameTable
+no_names labels = record { names = λ q. None; count = 0; labels = labels; exported = 0 }
+
+-- No names, where the labels stay: so a client begins.
+abbrev pub without_names : NameTable → NameTable
+without_names table = record table { names = λ q. None; count = 0 }
+
+-- One label more was defined.
+abbrev pub with_label : NameTable → NameTable
+with_label table = record table { exported = table.exported + 1 }
 
 -- A table with one name more, which has the next number, and without one.
 abbrev pub with_name : List ℕ → NameKind → NameTable → NameTable
-with_name name kind table = record {
+with_name name kind table = record table {
   names = λ q. if bytes_eq name q then Some (record { kind = kind; number = table.count + 1 }) else table.names q;
   count = table.count + 1;
 }

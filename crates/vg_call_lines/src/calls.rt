@@ -1,7 +1,7 @@
 //! Which line of a client some words are.
 
 ghost use Rattle.std.specs.Prelude.{◌+◌, ◌-◌, ◌<◌, ◌≤◌, ◌^◌, map};
-ghost use Rattle.vg_call_lines.specs.Rows.{judged_row, row_of, row_of_buffers, row_of_scanouts, row_of_others, buffer_row, store_row, load_row, send_row, flush_row, show_row, flip_row, cursor_row, move_row, raw_row};
+ghost use Rattle.vg_call_lines.specs.Rows.{judged_row, row_of, row_of_buffers, row_of_scanouts, row_of_others, row_of_shared, buffer_row, store_row, load_row, send_row, flush_row, show_row, flip_row, cursor_row, move_row, raw_row, export_row, import_row};
 ghost use Rattle.vg_call_lines.specs.Args.{two_args, three_args, four_args, five_args, six_args};
 ghost use Rattle.vg_call_lines.specs.Code.{table_of, Judges};
 
@@ -73,12 +73,12 @@ fn call_of_buffers<'a>(
 
 /// The call of a line about a scanout, or else of one of those below.
 #[tactic(auto, unfolding(crate::specs::Rows::row_of_scanouts))]
-fn call_of_scanouts(
+fn call_of_scanouts<'a>(
     alloc: Global,
-    names: &mut Names,
+    names: &mut Names<'a>,
     displays: usize,
     word: &[u8],
-    args: &[&[u8]],
+    args: &[&'a [u8]],
 ) -> Result<Call, Stop>
     requires displays { displays ≤ 16 }
     requires count { (table_of names.old).count < 2 ^ 32 - 1 }
@@ -104,14 +104,14 @@ fn call_of_scanouts(
     call_of_others(alloc, names, displays, word, args)
 }
 
-/// The call of a line about a cursor or a name, or of a request that is given by its bytes.
+/// The call of a line about a cursor or a name, or of a request that is given by its bytes, or else of one of those below.
 #[tactic(auto, unfolding(crate::specs::Rows::row_of_others))]
-fn call_of_others(
+fn call_of_others<'a>(
     alloc: Global,
-    names: &mut Names,
+    names: &mut Names<'a>,
     displays: usize,
     word: &[u8],
-    args: &[&[u8]],
+    args: &[&'a [u8]],
 ) -> Result<Call, Stop>
     requires displays { displays ≤ 16 }
     requires count { (table_of names.old).count < 2 ^ 32 - 1 }
@@ -133,6 +133,23 @@ fn call_of_others(
     }
     if is(word, b"raw") {
         return raw(alloc, names, args);
+    }
+    call_of_shared(names, word, args)
+}
+
+/// The call of a line about what clients share.
+#[tactic(auto, unfolding(crate::specs::Rows::row_of_shared))]
+fn call_of_shared<'a>(names: &mut Names<'a>, word: &[u8], args: &[&'a [u8]]) -> Result<Call, Stop>
+    requires count { (table_of names.old).count < 2 ^ 32 - 1 }
+    ensures call { Judges (table_of names.new) result
+        (judged_row (row_of_shared word.now (table_of names.old) (map (λ arg. arg.now) args.now))) }
+    ensures count { (table_of names.new).count ≤ (table_of names.old).count + 1 }
+{
+    if is(word, b"export") {
+        return with_args!(args, [name, label] => rows::export(names, name, label));
+    }
+    if is(word, b"import") {
+        return import(names, args);
     }
     Err(Stop::Fault(Kind::Word))
 }
@@ -211,4 +228,13 @@ fn raw(alloc: Global, names: &Names, args: &[&[u8]]) -> Result<Call, Stop>
         (judged_row (four_args (raw_row (table_of names.now)) (map (λ arg. arg.now) args.now))) }
 {
     with_args!(args, [queue, room, shape, hex] => rows::raw(alloc, names, queue, room, shape, hex))
+}
+
+fn import<'a>(names: &mut Names<'a>, args: &[&'a [u8]]) -> Result<Call, Stop>
+    requires { (table_of names.old).count < 2 ^ 32 - 1 }
+    ensures call { Judges (table_of names.new) result
+        (judged_row (two_args (import_row (table_of names.old)) (map (λ arg. arg.now) args.now))) }
+    ensures count { (table_of names.new).count ≤ (table_of names.old).count + 1 }
+{
+    with_args!(args, [label, name] => rows::import(names, label, name))
 }

@@ -2,6 +2,7 @@
 
 use std::alloc::{AllocError, Global};
 use std::collections::BTreeMap;
+use vg_script_words::is_name;
 
 /// What a name is the name of.
 #[derive(Clone, Copy, PartialEq, Eq)]
@@ -18,25 +19,32 @@ pub struct Named {
 }
 
 /// The names of a client that are defined, as parts of the text, and how many its lines have defined so far, those that have
-/// ended among them.
+/// ended among them; and the labels of the whole text.
 #[derive(Drop)]
 pub struct Names<'a> {
     pub named: BTreeMap<&'a [u8], Named>,
     pub count: u32,
+    /// The number of each label that the text defines.
+    pub labels: BTreeMap<&'a [u8], u32>,
+    /// How many labels the lines so far have defined.
+    pub exported: u32,
 }
 
 impl<'a> Names<'a> {
-    ghost use Rattle.std.specs.Prelude.{◌≡◌, ◌+◌, ◌-◌, ◌<◌, ◌≤◌, ◌^◌, OnOk, is_some};
-    ghost use Rattle.vg_call_lines.specs.Tables.{with_name, without_name, no_names};
-    ghost use Rattle.vg_call_lines.specs.Code.{table_of};
+    ghost use Rattle.std.specs.Prelude.{◌≡◌, ◌+◌, ◌-◌, ◌<◌, ◌≤◌, ◌^◌, ◌==◌, ◌&&◌, not, OnOk, is_some};
+    ghost use Rattle.vg_call_lines.specs.Tables.{with_name, without_name, without_names, no_names, numbers_of};
+    ghost use Rattle.vg_script_words.specs.Words.{is_name};
+    ghost use Rattle.vg_call_lines.specs.Code.{table_of, IsNumbered, IsGiven};
 
-    /// No names.
-    pub fn new(alloc: Global) -> Names<'a>
-        ensures { table_of result ≡ no_names }
+    /// No names, of a text with these labels.
+    pub fn new(alloc: Global, labels: BTreeMap<&'a [u8], u32>) -> Names<'a>
+        ensures { table_of result ≡ no_names (numbers_of labels.entry) }
     {
         Names {
             named: BTreeMap::new(alloc),
             count: 0,
+            labels,
+            exported: 0,
         }
     }
 
@@ -73,9 +81,34 @@ impl<'a> Names<'a> {
         self.named.remove(name);
     }
 
-    /// Ends all names, and the numbers begin again.
+    /// The number of a label, where it is well spelled and the text defines it.
+    pub(crate) fn label(&self, label: &[u8]) -> Option<u32>
+        ensures { IsNumbered (is_name label.now && not ((table_of self.now).labels label.now == 0)) ((table_of self.now).labels label.now) result }
+    {
+        if !is_name(label) {
+            return None;
+        }
+        match self.labels.get(label).copied() {
+            Some(number) if number > 0 => Some(number),
+            _ => None,
+        }
+    }
+
+    /// Takes a label as defined by this line, where no line before has defined it, and gives its number.
+    pub(crate) fn give(&mut self, label: &[u8]) -> Option<u32>
+        ensures { IsGiven (is_name label.now && (table_of self.old).labels label.now == (table_of self.old).exported + 1) (table_of self.old) (table_of self.new) result }
+    {
+        let number = self.label(label)?;
+        if number - 1 != self.exported {
+            return None;
+        }
+        self.exported = number;
+        Some(number)
+    }
+
+    /// Ends all names, and their numbers begin again. The labels stay.
     pub fn clear(&mut self)
-        ensures { table_of self.new ≡ no_names }
+        ensures { table_of self.new ≡ without_names (table_of self.old) }
     {
         self.named.clear();
         self.count = 0;

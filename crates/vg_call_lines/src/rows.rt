@@ -5,7 +5,7 @@ ghost use Rattle.vg_chain.specs.declared.shape.Shape.TheVariants as shapes;
 ghost use Rattle.vg_call_lines.specs.declared.names.NameKind.TheVariants as kinds;
 ghost use Rattle.vg_script_words.specs.Words.{is_number, value, is_within, is_signed, signed_value, is_position, is_no_name};
 ghost use Rattle.vg_call_lines.specs.Tables.{is_kind, ref_to};
-ghost use Rattle.vg_call_lines.specs.Rows.{judged_row, is_format, is_any, are_times, is_scanout, are_numbers, are_any, rect_of, ref_or_none, queue_of, shape_of, bad_shape_of, info_row, edid_row, buffer_row, store_row, load_row, send_row, flush_row, take_row, drop_row, hide_row, show_row, flip_row, cursor_row, move_row, uuid_row, close_row, raw_row};
+ghost use Rattle.vg_call_lines.specs.Rows.{judged_row, is_format, is_any, are_times, is_scanout, are_numbers, are_any, rect_of, ref_or_none, queue_of, shape_of, bad_shape_of, info_row, edid_row, buffer_row, store_row, load_row, send_row, flush_row, take_row, drop_row, hide_row, show_row, flip_row, cursor_row, move_row, uuid_row, export_row, import_row, close_row, raw_row};
 ghost use Rattle.vg_script_words.specs.Code.{Passes, Yields};
 ghost use Rattle.vg_call_lines.specs.Code.{table_of, Judges, Finds, Knows};
 
@@ -308,6 +308,38 @@ pub(crate) fn uuid(names: &Names, name: &[u8]) -> Result<Call, Stop>
 {
     let name = known(names, name)?;
     Ok(Call::Uuid { name })
+}
+
+/// `export A X`
+#[tactic(auto, unfolding(crate::specs::Rows::export_row))]
+pub(crate) fn export(names: &mut Names, name: &[u8], label: &[u8]) -> Result<Call, Stop>
+    ensures call { Judges (table_of names.new) result
+        (judged_row (export_row (table_of names.old) name.now label.now)) }
+    ensures count { (table_of names.new).count ≡ (table_of names.old).count }
+{
+    let name = known(names, name)?;
+    match names.give(label) {
+        Some(label) => Ok(Call::Export { name, label }),
+        None => Err(Stop::Fault(Kind::Name)),
+    }
+}
+
+/// `import X A`
+#[tactic(auto, unfolding(crate::specs::Rows::import_row))]
+pub(crate) fn import<'a>(names: &mut Names<'a>, label: &[u8], name: &'a [u8]) -> Result<Call, Stop>
+    requires { (table_of names.old).count < 2 ^ 32 - 1 }
+    ensures call { Judges (table_of names.new) result
+        (judged_row (import_row (table_of names.old) label.now name.now)) }
+    ensures count { (table_of names.new).count ≤ (table_of names.old).count + 1 }
+{
+    let Some(label) = names.label(label) else {
+        return Err(Stop::Fault(Kind::Name));
+    };
+    if !is_name(name) || names.has(name) {
+        return Err(Stop::Fault(Kind::Name));
+    }
+    names.define(name, NameKind::Buffer)?;
+    Ok(Call::Import { label, token: None })
 }
 
 /// `close A`

@@ -1,5 +1,6 @@
 -- `scan` finds the first fault.
-use Rattle.std.proofs.Common.{◌≡◌, ℕ, ◌+◌, ◌==◌, ◌<◌, ◌⊎◌, inl, inr, not, Bool, true, false, List, [], ◌∷◌, ◌++◌, length, Option, Some, None, Result, Ok, Err, if◌then◌else◌, arith, refl, ap, sym, ◌∙◌, lit<, append-nil}
+use Rattle.std.proofs.Common.{◌≡◌, ℕ, ◌+◌, ◌==◌, ◌<◌, ◌⊎◌, inl, inr, not, Bool, true, false, List, [], ◌∷◌, ◌++◌, length, Option, Some, None, Result, Ok, Err, if◌then◌else◌, arith, refl, ap, sym, ◌∙◌, lit<, append-nil, subst}
+use Rattle.vg_script.specs.Waits.{IsFirstInCycle}
 use Rattle.std.proofs.lemmas.Bool.Decides.{nat_tests}
 use Rattle.vg_script_words.specs.declared.kind.Kind.{Kind}
 use Rattle.vg_script_words.specs.declared.kind.Kind.TheVariants.{Text, Word, Number, Limit, Name}
@@ -7,7 +8,8 @@ use Rattle.vg_script.specs.declared.types.Script.{Script}
 use Rattle.vg_script.specs.declared.types.ScriptFault.{ScriptFault}
 use Rattle.vg_script.specs.Lines.{lines_of}
 use Rattle.vg_script_words.specs.Words.{is_text}
-use Rattle.vg_script.specs.Seen.{Seen, nothing_seen}
+use Rattle.vg_script.specs.Seen.{Seen}
+use Rattle.vg_script.specs.Labels.{start_of}
 use Rattle.vg_script.specs.Grammar.{Form, line_form, settled_form, after_line, fault_at, script_of, scan, read_script, Parses, Faulty}
 use Rattle.vg_script_words.specs.Kinds.{kind_code}
 use Rattle.vg_script.specs.Faults.{fails, has_fault, form_gives, given, seen_after, AreFaultless, HasFirstFault, IsScriptOf}
@@ -173,30 +175,11 @@ end_ok seen h = grind (arith, nat_tests)
 fault_is : (a b k m : ℕ) → a ≡ b → k ≡ m → ◌≡◌ {A = Result Script ScriptFault} (Err (record { line = a; kind = k })) (Err (record { line = b; kind = m }))
 fault_is a b k m p q = cc
 
-pub fault_to : (bytes : List ℕ) (line kind : ℕ) → Faulty bytes line kind → HasFirstFault (lines_of bytes) line kind
-unfolding read_script
-fault_to bytes line kind h =
-    elim (find nothing_seen (lines_of bytes) line kind h) [
-      | inl f ↦ inl (record { front = f.front; faulty = f.faulty; behind = f.behind; why = f.why; parts = f.parts; number = omega (arith, f.number); code = f.code; before = f.before; has = f.has; least = f.least })
-      | inr f ↦ inr (record { number = omega (arith, f.number); code = f.code; before = f.before; none = f.none })
-    ]
-
-pub fault_from : (bytes : List ℕ) (line kind : ℕ) → HasFirstFault (lines_of bytes) line kind → Faulty bytes line kind
-unfolding read_script
-fault_from bytes line kind (inl f) =
-    let seen = seen_after nothing_seen f.front in
-    let over = passed nothing_seen f.front (f.faulty ∷ f.behind) f.before in
-    let stops : after_line seen f.faulty ≡ Err f.why = after_is seen f.faulty ∙ least_stops (λ k. has_fault k seen f.faulty) (given seen f.faulty) f.why f.has f.least in
-    ap (λ ls. scan nothing_seen ls) f.parts ∙ over.0 ∙ scan-err seen f.why f.faulty f.behind stops ∙ fault_is _ _ _ _ (omega (arith, f.number, over.1)) (sym f.code)
-fault_from bytes line kind (inr f) =
-    let over = passed nothing_seen (lines_of bytes) [] f.before in
-    ap (λ ls. scan nothing_seen ls) (sym (append-nil (lines_of bytes))) ∙ over.0 ∙ end_of _ f.none ∙ fault_is _ _ _ _ (omega (arith, f.number, over.1)) (sym f.code)
-
 -- `IsScriptOf`, after something was seen.
-record Good (start : Seen) (lines : List (List ℕ)) (script : Script) : Type 0 where
-  before : AreFaultless start lines
-  some : 0 < length (seen_after start lines).displays
-  same : script ≡ script_of (seen_after start lines)
+pub record Good (start : Seen) (lines : List (List ℕ)) (script : Script) : Type 0 where
+  pub before : AreFaultless start lines
+  pub some : 0 < length (seen_after start lines).displays
+  pub same : script ≡ script_of (seen_after start lines)
 
 good_end : (start : Seen) (script : Script) (b : Bool) → (length start.displays == 0) ≡ b → ◌≡◌ {A = Result Script ScriptFault} (if b then Err (fault_at (start.lines + 1) Word) else Ok (script_of start)) (Ok script)
     → Good start [] script
@@ -216,19 +199,50 @@ unfolding scan
 good start [] script h = good_end start script (length start.displays == 0) refl h
 good start (text ∷ more) script h = good_line start text more script (good (given start text) more script) h (after_line start text) refl
 
-pub script_to : (bytes : List ℕ) (script : Script) → Parses bytes script → IsScriptOf (lines_of bytes) script
+-- The script at the end has the clients that were seen.
+pub end_clients : (seen : Seen) (script : Script) → scan seen [] ≡ Ok script → script.clients ≡ seen.clients
+end_clients seen script h = ap (λ (s : Script). s.clients) (good seen [] script h).same
+
+-- What is read of a text that has no fault of the kinds 1 to 5.
+pub good_script : (bytes : List ℕ) (script : Script) → read_script bytes ≡ Ok script → Good (start_of (lines_of bytes)) (lines_of bytes) script
 unfolding read_script
-script_to bytes script h = let g = good nothing_seen (lines_of bytes) script h in record { before = g.before; some = g.some; same = g.same }
+good_script bytes script h = good (start_of (lines_of bytes)) (lines_of bytes) script h
+
+reads : (bytes : List ℕ) → AreFaultless (start_of (lines_of bytes)) (lines_of bytes) → 0 < length (seen_after (start_of (lines_of bytes)) (lines_of bytes)).displays
+    → read_script bytes ≡ Ok (script_of (seen_after (start_of (lines_of bytes)) (lines_of bytes)))
+unfolding read_script
+reads bytes before some =
+    let over = passed (start_of (lines_of bytes)) (lines_of bytes) [] before in
+    ap (λ ls. scan (start_of (lines_of bytes)) ls) (sym (append-nil (lines_of bytes))) ∙ over.0 ∙ end_ok _ some
+
+read_to : (bytes : List ℕ) (line kind : ℕ) → read_script bytes ≡ Err (record { line = line; kind = kind }) → HasFirstFault (lines_of bytes) line kind
+unfolding read_script
+read_to bytes line kind h =
+    elim (find (start_of (lines_of bytes)) (lines_of bytes) line kind h) [
+      | inl f ↦ inl (record { front = f.front; faulty = f.faulty; behind = f.behind; why = f.why; parts = f.parts; number = omega (arith, f.number); code = f.code; before = f.before; has = f.has; least = f.least })
+      | inr f ↦ inr (inl (record { number = omega (arith, f.number); code = f.code; before = f.before; none = f.none }))
+    ]
+
+pub fault_to : (bytes : List ℕ) (line kind : ℕ) → Faulty bytes line kind → HasFirstFault (lines_of bytes) line kind
+fault_to bytes line kind (inl h) = read_to bytes line kind h
+fault_to bytes line kind (inr h) =
+    let g = good_script bytes h.1 h.2 in
+    inr (inr (record { code = h.0; before = g.before; some = g.some; first = subst (λ (s : Script). IsFirstInCycle s.clients line) g.same h.3 }))
+
+pub fault_from : (bytes : List ℕ) (line kind : ℕ) → HasFirstFault (lines_of bytes) line kind → Faulty bytes line kind
+unfolding read_script
+fault_from bytes line kind (inl f) =
+    let seen = seen_after (start_of (lines_of bytes)) f.front in
+    let over = passed (start_of (lines_of bytes)) f.front (f.faulty ∷ f.behind) f.before in
+    let stops : after_line seen f.faulty ≡ Err f.why = after_is seen f.faulty ∙ least_stops (λ k. has_fault k seen f.faulty) (given seen f.faulty) f.why f.has f.least in
+    inl (ap (λ ls. scan (start_of (lines_of bytes)) ls) f.parts ∙ over.0 ∙ scan-err seen f.why f.faulty f.behind stops ∙ fault_is _ _ _ _ (omega (arith, f.number, over.1)) (sym f.code))
+fault_from bytes line kind (inr (inl f)) =
+    let over = passed (start_of (lines_of bytes)) (lines_of bytes) [] f.before in
+    inl (ap (λ ls. scan (start_of (lines_of bytes)) ls) (sym (append-nil (lines_of bytes))) ∙ over.0 ∙ end_of _ f.none ∙ fault_is _ _ _ _ (omega (arith, f.number, over.1)) (sym f.code))
+fault_from bytes line kind (inr (inr f)) = inr (f.code, script_of (seen_after (start_of (lines_of bytes)) (lines_of bytes)), reads bytes f.before f.some, f.first)
+
+pub script_to : (bytes : List ℕ) (script : Script) → Parses bytes script → IsScriptOf (lines_of bytes) script
+script_to bytes script h = let g = good_script bytes script h.0 in record { before = g.before; some = g.some; same = g.same; apart = h.1 }
 
 pub script_from : (bytes : List ℕ) (script : Script) → IsScriptOf (lines_of bytes) script → Parses bytes script
-unfolding read_script
-script_from bytes script s =
-    let over = passed nothing_seen (lines_of bytes) [] s.before in
-    ap (λ ls. scan nothing_seen ls) (sym (append-nil (lines_of bytes))) ∙ over.0 ∙ end_ok _ s.some ∙ ap (λ x. Ok x) (sym s.same)
-
-pub one_of_both : (bytes : List ℕ) → ((script : Script) × Parses bytes script) ⊎ ((line : ℕ) × (kind : ℕ) × Faulty bytes line kind)
-one_of_both bytes = which bytes (read_script bytes) refl
-  where
-    which : (bytes : List ℕ) (r : Result Script ScriptFault) → read_script bytes ≡ r → ((script : Script) × Parses bytes script) ⊎ ((line : ℕ) × (kind : ℕ) × Faulty bytes line kind)
-    which bytes (Ok script) e = inl (script, e)
-    which bytes (Err fault) e = inr (fault.line, fault.kind, e)
+script_from bytes script s = (reads bytes s.before s.some ∙ ap (λ x. Ok x) (sym s.same), s.apart)

@@ -4,5 +4,12 @@ pub mod ClientLists
 pub mod CallForms
 pub mod Scans
 pub mod FaultLaws
-pub mod LimitLaws
 pub mod NameLaws
+pub mod LabelLaws
+pub mod LimitLaws
+pub mod LabelLemmas
+pub mod SearchLemmas
+pub mod WaitLemmas
+pub mod JudgeLaws
+pub mod WalkLemmas
+pub mod KnownLaws

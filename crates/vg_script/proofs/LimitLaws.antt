@@ -1,7 +1,7 @@
 -- What the lines give keeps the limits.
-use Rattle.std.proofs.Common.{◌≡◌, ℕ, zero, suc, ◌+◌, ◌/◌, ◌==◌, ◌<◌, ◌≤◌, nat_lt, Bool, true, false, List, [], ◌∷◌, ◌++◌, length, Option, Some, None, Result, Ok, Err, if◌then◌else◌, arith, refl, ap, sym, ◌∙◌, subst, length-append, lit≤}
+use Rattle.std.proofs.Common.{◌≡◌, ℕ, zero, suc, ◌+◌, ◌/◌, ◌==◌, ◌<◌, ◌≤◌, nat_lt, Bool, true, false, List, [], ◌∷◌, ◌++◌, length, Option, Some, None, Ok, if◌then◌else◌, arith, refl, ap, sym, ◌∙◌, subst, length-append, lit≤}
 use Rattle.std.specs.List.{list_any}
-use Rattle.std.specs.Prelude.{pos, negsuc, ◌-ℤ◌, nat_le, ◌&&◌, sum_by, count_by, All, option_map, unwrap_or, IfOk, bytes_eq, codes, slice_index, IfSome}
+use Rattle.std.specs.Prelude.{pos, negsuc, ◌-ℤ◌, nat_le, ◌&&◌, sum_by, count_by, All, option_map, unwrap_or, bytes_eq, codes, slice_index, IfSome}
 use Rattle.std.specs.Bool.{⊤}
 use Rattle.std.proofs.lemmas.Bool.Decides.{nat_tests}
 use Rattle.std.proofs.lemmas.Int.{ints}
@@ -11,7 +11,6 @@ use Rattle.vg_script_words.specs.declared.kind.Kind.{Kind}
 use Rattle.vg_script_words.specs.declared.kind.Kind.TheVariants.{Word, Limit}
 use Rattle.vg_script.specs.declared.types.Line.{Line}
 use Rattle.vg_script.specs.declared.types.Script.{Script}
-use Rattle.vg_script.specs.declared.types.ScriptFault.{ScriptFault}
 use Rattle.vg_script.specs.declared.types.Feature.{Feature}
 use Rattle.vg_script.specs.declared.types.Feature.TheVariants.{Edid, Uuid, Blob, Context}
 use Rattle.vg_chain.specs.declared.shape.Shape.{Shape}
@@ -21,13 +20,17 @@ use Rattle.vg_script_words.specs.Words.{words_of, hex_bytes, value, is_position,
 use Rattle.vg_call_lines.specs.Args.{no_args, one_arg, two_args, three_args, four_args, five_args, six_args}
 use Rattle.vg_call_lines.proofs.Counts.{no_args_give, one_arg_gives, two_args_give, three_args_give, four_args_give, five_args_give, six_args_give}
 use Rattle.vg_script.specs.Features.{feature_of, is_same}
+use Rattle.vg_script.specs.Labels.{start_of}
 use Rattle.vg_script.specs.Seen.{Seen, nothing_seen, add_line}
 use Rattle.vg_call_lines.specs.Tables.{NameTable}
-use Rattle.vg_call_lines.specs.Rows.{Row, info_row, edid_row, buffer_row, store_row, load_row, send_row, flush_row, take_row, drop_row, hide_row, show_row, flip_row, cursor_row, move_row, uuid_row, close_row, raw_row, request_row, queue_of, shape_of, bad_shape_of, row_of, row_of_buffers, row_of_scanouts, row_of_others}
-use Rattle.vg_script.specs.Grammar.{Form, display_form, memory_form, feature_form, without_form, client_form, row_form, skipped_form, called_form, worded_form, form_of, line_form, one_more, script_of, scan, read_script, Parses}
+use Rattle.vg_call_lines.specs.Rows.{Row, info_row, edid_row, buffer_row, store_row, load_row, send_row, flush_row, take_row, drop_row, hide_row, show_row, flip_row, cursor_row, move_row, uuid_row, export_row, import_row, close_row, raw_row, request_row, queue_of, shape_of, bad_shape_of, row_of, row_of_buffers, row_of_scanouts, row_of_others, row_of_shared}
+use Rattle.vg_script.specs.Grammar.{Form, display_form, memory_form, feature_form, without_form, client_form, row_form, skipped_form, called_form, worded_form, form_of, line_form, one_more, script_of, read_script}
 use Rattle.vg_script.specs.Faults.{fails, given, form_gives, seen_after, AreFaultless, has_fault}
 use Rattle.vg_script.specs.Limits.{IsBetween, IsPosition, ShapeInLimits, CallInLimits, ClientInLimits, DisplayInLimits, ScriptInLimits}
-use Rattle.vg_script.proofs.FaultLaws.{script_to}
+use Rattle.std.specs.List.{range_with_len}
+use Rattle.vg_script.specs.Waits.{waits, given_in_all}
+use Rattle.vg_script.proofs.LabelLaws.{all_labelled}
+use Rattle.vg_script.proofs.FaultLaws.{good_script}
 use Rattle.vg_script.proofs.ClientLists.{length-add_line, lines-add_line}
 
 -- ---- the rows
@@ -132,6 +135,14 @@ uuid_fits : (n : ℕ) (table : NameTable) (name : List ℕ) → RowFits n (uuid_
 unfolding uuid_row
 uuid_fits n table name = λ h. tt
 
+export_fits : (n : ℕ) (table : NameTable) (name label : List ℕ) → RowFits n (export_row table name label)
+unfolding export_row
+export_fits n table name label = λ h. tt
+
+import_fits : (n : ℕ) (table : NameTable) (label name : List ℕ) → RowFits n (import_row table label name)
+unfolding import_row
+import_fits n table label name = λ h. refl
+
 close_fits : (n : ℕ) (table : NameTable) (name : List ℕ) → RowFits n (close_row table name)
 unfolding close_row
 close_fits n table name = λ h. tt
@@ -184,7 +195,7 @@ unfolding raw_row
 raw_fits n table queue room shape hex = request_fits n table (queue_of queue) (shape_of shape) room hex (shape_fits shape)
 
 row_fits : (word : List ℕ) (n : ℕ) (table : NameTable) (args : List (List ℕ)) → RowFits n (row_of word n table args)
-unfolding row_of row_of_buffers row_of_scanouts row_of_others
+unfolding row_of row_of_buffers row_of_scanouts row_of_others row_of_shared
 row_fits word n table args =
     either_fits n (bytes_eq word (codes "info")) (no_args (info_row table) args) _ (no_args_give (RowFits n) tt (info_row table) (info_fits n table) args)
     (either_fits n (bytes_eq word (codes "edid")) (one_arg (edid_row table) args) _ (one_arg_gives (RowFits n) tt (edid_row table) (edid_fits n table) args)
@@ -202,7 +213,9 @@ row_fits word n table args =
     (either_fits n (bytes_eq word (codes "move")) (three_args (move_row n table) args) _ (three_args_give (RowFits n) tt (move_row n table) (move_fits n table) args)
     (either_fits n (bytes_eq word (codes "uuid")) (one_arg (uuid_row table) args) _ (one_arg_gives (RowFits n) tt (uuid_row table) (uuid_fits n table) args)
     (either_fits n (bytes_eq word (codes "close")) (one_arg (close_row table) args) _ (one_arg_gives (RowFits n) tt (close_row table) (close_fits n table) args)
-    (either_fits n (bytes_eq word (codes "raw")) (four_args (raw_row table) args) _ (four_args_give (RowFits n) tt (raw_row table) (raw_fits n table) args) tt))))))))))))))))
+    (either_fits n (bytes_eq word (codes "raw")) (four_args (raw_row table) args) _ (four_args_give (RowFits n) tt (raw_row table) (raw_fits n table) args)
+    (either_fits n (bytes_eq word (codes "export")) (two_args (export_row table) args) _ (two_args_give (RowFits n) tt (export_row table) (export_fits n table) args)
+    (either_fits n (bytes_eq word (codes "import")) (two_args (import_row table) args) _ (two_args_give (RowFits n) tt (import_row table) (import_fits n table) args) tt))))))))))))))))))
 
 -- ---- the forms
 
@@ -369,15 +382,16 @@ lines_within : (seen : Seen) (lines : List (List ℕ)) → Within seen → AreFa
 lines_within seen [] w none = w
 lines_within seen (line ∷ more) w none = lines_within (given seen line) more (line_within seen line w none.0) none.1
 
-nothing_within : Within nothing_seen
-nothing_within = record { few = lit≤ tt; sizes = All-nil DisplayInLimits; pages = tt; features = λ feature. lit≤ tt; clients = lit≤ tt; lines = lit≤ tt; calls = All-nil (ClientInLimits 0) }
+nothing_within : (labels : List ℕ → ℕ) → Within (nothing_seen labels)
+nothing_within labels = record { few = lit≤ tt; sizes = All-nil DisplayInLimits; pages = tt; features = λ feature. lit≤ tt; clients = lit≤ tt; lines = lit≤ tt; calls = All-nil (ClientInLimits 0) }
 
 pages_within : (pages : Option ℕ) → IfSome pages (IsBetween 1 16384) → IsBetween 1 16384 (unwrap_or pages 4096)
 pages_within None w = (lit≤ tt, lit≤ tt)
 pages_within (Some n) w = w
 
-made_within : (seen : Seen) → Within seen → 0 < length seen.displays → ScriptInLimits (script_of seen)
-made_within seen w some = record {
+made_within : (seen : Seen) → Within seen → 0 < length seen.displays → given_in_all seen.clients ≡ range_with_len 1 seen.table.exported
+    → All (λ lines. All (λ line. IfSome (waits line.call) (IsBetween 1 seen.table.exported)) lines) seen.clients → ScriptInLimits (script_of seen)
+made_within seen w some labels known = record {
   count = (omega arith, w.few);
   sizes = w.sizes;
   pages = pages_within seen.pages w.pages;
@@ -385,15 +399,12 @@ made_within seen w some = record {
   clients = w.clients;
   lines = w.lines;
   calls = w.calls;
+  labels = labels;
+  known = known;
 }
 
-pub script_within : (bytes : List ℕ) (script : Script) → Parses bytes script → ScriptInLimits script
+pub script_within : (bytes : List ℕ) (script : Script) → read_script bytes ≡ Ok script → ScriptInLimits script
 script_within bytes script h =
-    let s = script_to bytes script h in
-    subst ScriptInLimits (sym s.same) (made_within (seen_after nothing_seen (lines_of bytes)) (lines_within nothing_seen (lines_of bytes) nothing_within s.before) s.some)
-
-pub answer_within : (bytes : List ℕ) (last : Seen) (answer : Result Script ScriptFault) → scan nothing_seen (lines_of bytes) ≡ scan last []
-    → answer ≡ scan last [] → IfOk answer (λ script. ScriptInLimits script)
-unfolding read_script
-answer_within bytes last (Err fault) same h = tt
-answer_within bytes last (Ok script) same h = script_within bytes script (same ∙ sym h)
+    let s = good_script bytes script h in
+    let labels = all_labelled (lines_of bytes) s.before in
+    subst ScriptInLimits (sym s.same) (made_within (seen_after (start_of (lines_of bytes)) (lines_of bytes)) (lines_within (start_of (lines_of bytes)) (lines_of bytes) (nothing_within _) s.before) s.some labels.0 labels.1)

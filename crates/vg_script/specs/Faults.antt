@@ -5,7 +5,9 @@ use Rattle.vg_script_words.specs.declared.kind.Kind.{Kind}
 use Rattle.vg_script_words.specs.declared.kind.Kind.TheVariants.{Text, Word, Number, Limit, Name}
 use Rattle.vg_script.specs.declared.types.Script.{Script}
 use Rattle.vg_script_words.specs.Words.{is_text}
-use Rattle.vg_script.specs.Seen.{Seen, nothing_seen}
+use Rattle.vg_script.specs.Seen.{Seen}
+use Rattle.vg_script.specs.Labels.{start_of}
+use Rattle.vg_script.specs.Waits.{HasNoCycle, IsFirstInCycle}
 use Rattle.vg_script.specs.Grammar.{Form, line_form, script_of}
 use Rattle.vg_script_words.specs.Kinds.{kind_code}
 
@@ -48,22 +50,30 @@ pub record IsFaultOfLine (lines : List (List ℕ)) (line kind : ℕ) : Type 0 wh
   pub parts : lines ≡ front ++ faulty ∷ behind
   pub number : line ≡ length front + 1
   pub code : kind ≡ kind_code why
-  pub before : AreFaultless nothing_seen front
-  pub has : has_fault why (seen_after nothing_seen front) faulty ≡ true
-  pub least : (lesser : Kind) → kind_code lesser < kind_code why → has_fault lesser (seen_after nothing_seen front) faulty ≡ false
+  pub before : AreFaultless (start_of lines) front
+  pub has : has_fault why (seen_after (start_of lines) front) faulty ≡ true
+  pub least : (lesser : Kind) → kind_code lesser < kind_code why → has_fault lesser (seen_after (start_of lines) front) faulty ≡ false
 
 -- No line has a fault, and there is no display: a fault of a word, at the line after the last.
 pub record LacksDisplay (lines : List (List ℕ)) (line kind : ℕ) : Type 0 where
   pub number : line ≡ length lines + 1
   pub code : kind ≡ 2
-  pub before : AreFaultless nothing_seen lines
-  pub none : length (seen_after nothing_seen lines).displays ≡ 0
+  pub before : AreFaultless (start_of lines) lines
+  pub none : length (seen_after (start_of lines) lines).displays ≡ 0
+
+-- No line has a fault of the kinds 1 to 5, there is a display, and this is the first line that waits for a label and, by steps, for itself.
+pub record WaitsInCycle (lines : List (List ℕ)) (line kind : ℕ) : Type 0 where
+  pub code : kind ≡ 6
+  pub before : AreFaultless (start_of lines) lines
+  pub some : 0 < length (seen_after (start_of lines) lines).displays
+  pub first : IsFirstInCycle (seen_after (start_of lines) lines).clients line
 
 abbrev pub HasFirstFault : List (List ℕ) → ℕ → ℕ → Type 0
-HasFirstFault lines line kind = IsFaultOfLine lines line kind ⊎ LacksDisplay lines line kind
+HasFirstFault lines line kind = IsFaultOfLine lines line kind ⊎ LacksDisplay lines line kind ⊎ WaitsInCycle lines line kind
 
--- No line has a fault, there is a display, and the script is what the lines give.
+-- No line has a fault, there is a display, no line waits for itself, and the script is what the lines give.
 pub record IsScriptOf (lines : List (List ℕ)) (script : Script) : Type 0 where
-  pub before : AreFaultless nothing_seen lines
-  pub some : 0 < length (seen_after nothing_seen lines).displays
-  pub same : script ≡ script_of (seen_after nothing_seen lines)
+  pub before : AreFaultless (start_of lines) lines
+  pub some : 0 < length (seen_after (start_of lines) lines).displays
+  pub same : script ≡ script_of (seen_after (start_of lines) lines)
+  pub apart : HasNoCycle script.clients

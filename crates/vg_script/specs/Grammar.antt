@@ -1,5 +1,5 @@
 -- A script's grammar: what has to hold of each line, what it gives, and which fault a text has first.
-use Rattle.std.specs.Prelude.{◌≡◌, ℕ, ◌+◌, ◌==◌, ◌&&◌, not, nat_lt, Bool, true, List, [], ◌∷◌, ◌++◌, length, sum_by, Option, Some, None, is_none, option_map, unwrap_or, Result, Ok, Err, if◌then◌else◌, codes, bytes_eq, slice_index}
+use Rattle.std.specs.Prelude.{◌≡◌, ◌⊎◌, ℕ, ◌+◌, ◌==◌, ◌&&◌, not, nat_lt, Bool, true, List, [], ◌∷◌, ◌++◌, length, sum_by, Option, Some, None, is_none, option_map, unwrap_or, Result, Ok, Err, if◌then◌else◌, codes, bytes_eq, slice_index}
 use Rattle.vg_script_words.specs.declared.kind.Kind.{Kind}
 use Rattle.vg_script_words.specs.declared.kind.Kind.TheVariants.{Text, Word, Number, Limit, Name}
 use Rattle.std.specs.List.{list_any}
@@ -9,8 +9,10 @@ use Rattle.vg_script.specs.declared.types.ScriptFault.{ScriptFault}
 use Rattle.vg_script.specs.Lines.{lines_of}
 use Rattle.vg_script_words.specs.Words.{words_of, is_text, is_number, value, is_within}
 use Rattle.vg_call_lines.specs.Args.{no_args, one_arg, two_args}
-use Rattle.vg_script.specs.Seen.{Seen, add_line, nothing_seen}
-use Rattle.vg_call_lines.specs.Tables.{no_names}
+use Rattle.vg_script.specs.Seen.{Seen, add_line}
+use Rattle.vg_script.specs.Labels.{start_of}
+use Rattle.vg_script.specs.Waits.{HasNoCycle, IsFirstInCycle}
+use Rattle.vg_call_lines.specs.Tables.{without_names}
 use Rattle.vg_call_lines.specs.Rows.{Row, row_of}
 use Rattle.vg_script_words.specs.Kinds.{kind_code}
 use Rattle.vg_script.specs.Features.{feature_of, is_same}
@@ -68,7 +70,7 @@ client_form seen = Some (record {
   numbers = true;
   limits = nat_lt (length seen.clients) 16;
   names = true;
-  gives = record seen { clients = seen.clients ++ [] ∷ []; table = no_names };
+  gives = record seen { clients = seen.clients ++ [] ∷ []; table = without_names seen.table };
 })
 
 -- A line of a client. All clients together have at most 100,000 of them.
@@ -140,7 +142,7 @@ fault_at line kind = record { line = line; kind = kind_code kind }
 
 -- The script of a text that has no fault. It has 4,096 pages where it doesn't say how many.
 abbrev pub script_of : Seen → Script
-script_of seen = record { displays = seen.displays; pages = unwrap_or seen.pages 4096; without = seen.without; clients = seen.clients }
+script_of seen = record { displays = seen.displays; pages = unwrap_or seen.pages 4096; without = seen.without; clients = seen.clients; labels = seen.table.exported }
 
 abbrev pub go_on : ℕ → Result Seen Kind → (Seen → Result Script ScriptFault) → Result Script ScriptFault
 go_on line (Ok seen) more = more seen
@@ -153,12 +155,16 @@ scan seen [] = if length seen.displays == 0 then Err (fault_at (seen.lines + 1) 
 scan seen (line ∷ more) = go_on (seen.lines + 1) (after_line seen line) (λ next. scan next more)
 
 unfoldable pub read_script : List ℕ → Result Script ScriptFault
-read_script bytes = scan nothing_seen (lines_of bytes)
+read_script bytes = scan (start_of (lines_of bytes)) (lines_of bytes)
 
--- The bytes are the text of this script.
+-- The bytes are the text of this script: its lines give it, and none of them waits, by steps, for itself.
 abbrev pub Parses : List ℕ → Script → Type 0
-Parses bytes script = read_script bytes ≡ Ok script
+Parses bytes script = (read_script bytes ≡ Ok script) × HasNoCycle script.clients
+
+-- The lines give a script in which some wait for themselves, and this is the first line that waits for a label and does so: a fault of kind 6.
+abbrev pub Circles : List ℕ → ℕ → ℕ → Type 0
+Circles bytes line kind = (kind ≡ 6) × (script : Script) × (read_script bytes ≡ Ok script) × IsFirstInCycle script.clients line
 
 -- The bytes are no script, and their first fault is of this kind and stands in this line.
 abbrev pub Faulty : List ℕ → ℕ → ℕ → Type 0
-Faulty bytes line kind = read_script bytes ≡ Err (record { line = line; kind = kind })
+Faulty bytes line kind = (read_script bytes ≡ Err (record { line = line; kind = kind })) ⊎ Circles bytes line kind

@@ -1,6 +1,11 @@
 pub mod Lines
 pub mod Features
 pub mod Seen
+pub mod Labels
+pub mod LabelsWithin
+pub mod Waits
+pub mod SearchWithin
+pub mod WalkWithin
 pub mod Grammar
 pub mod ReadingWithin
 pub mod Faults

@@ -1,5 +1,7 @@
 -- The limits that each script keeps.
-use Rattle.std.specs.Prelude.{ℕ, ℤ, pos, negsuc, ◌*◌, ◌<◌, ◌≤◌, is_some, List, length, sum_by, count_by, All, IsTrue}
+use Rattle.std.specs.Prelude.{◌≡◌, ℕ, ℤ, pos, negsuc, ◌*◌, ◌<◌, ◌≤◌, is_some, None, List, length, sum_by, count_by, All, IsTrue, IfSome}
+use Rattle.std.specs.List.{range_with_len}
+use Rattle.vg_script.specs.Waits.{waits, given_in_all}
 use Rattle.std.specs.Bool.{⊤}
 use Rattle.vg_formats.specs.Formats.{format_of}
 use Rattle.vg_chain.specs.declared.shape.Shape.{Shape}
@@ -10,7 +12,7 @@ use Rattle.vg_script.specs.declared.types.Feature.{Feature}
 use Rattle.vg_script.specs.declared.types.Line.{Line}
 use Rattle.vg_script.specs.declared.types.Script.{Script}
 use Rattle.vg_script.specs.Features.{is_same}
-use Rattle.vg_calls.specs.declared.call.Call.TheVariants.{Info, Edid, Buffer, Store, Load, Send, Flush, Take, Drop, Hide, Show, Flip, Cursor, Move, Uuid, Close, Raw}
+use Rattle.vg_calls.specs.declared.call.Call.TheVariants.{Info, Edid, Buffer, Store, Load, Send, Flush, Take, Drop, Hide, Show, Flip, Cursor, Move, Uuid, Export, Import, Close, Raw}
 
 abbrev pub IsBetween : ℕ → ℕ → ℕ → Type 0
 IsBetween low high n = (low ≤ n) × (n ≤ high)
@@ -48,6 +50,8 @@ CallInLimits displays (Cursor scanout name x y hot_x hot_y) =
     (scanout < displays) × IsPosition x × IsPosition y × IsBetween 0 4294967295 hot_x × IsBetween 0 4294967295 hot_y
 CallInLimits displays (Move scanout x y) = (scanout < displays) × IsPosition x × IsPosition y
 CallInLimits displays (Uuid name) = ⊤
+CallInLimits displays (Export name label) = ⊤
+CallInLimits displays (Import label token) = token ≡ None
 CallInLimits displays (Close name) = ⊤
 CallInLimits displays (Raw queue room shape bytes) = IsBetween 0 most_room room × ShapeInLimits shape × IsBetween 0 4096 (length bytes)
 
@@ -65,3 +69,6 @@ pub record ScriptInLimits (script : Script) : Type 0 where
   pub clients : length script.clients ≤ 16
   pub lines : sum_by length script.clients ≤ 100000
   pub calls : All (ClientInLimits (length script.displays)) script.clients
+  -- the labels that lines give are 1, 2, 3, in the order of the text, and each that a line waits for is one of them
+  pub labels : given_in_all script.clients ≡ range_with_len 1 script.labels
+  pub known : All (λ lines. All (λ line. IfSome (waits line.call) (IsBetween 1 script.labels)) lines) script.clients

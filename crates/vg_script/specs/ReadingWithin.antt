@@ -1,5 +1,5 @@
 -- How the reader's fields stand for what has been seen.
-use Rattle.std.specs.Prelude.{◌≡◌, ◌<◌, ◌^◌, Result, Ok, Err}
+use Rattle.std.specs.Prelude.{◌≡◌, ℕ, ◌<◌, ◌^◌, Option, Some, None, Result, Ok, Err}
 use Rattle.std.specs.Bool.{⊤}
 use Rattle.vg_calls.specs.declared.call.Call.{Call}
 use Rattle.vg_script_words.specs.declared.kind.Kind.{Kind}
@@ -7,6 +7,8 @@ use Rattle.vg_script_words.specs.declared.kind.Kind.TheVariants.{Text, Word, Num
 use Rattle.vg_script_words.specs.declared.kind.Stop.{Stop}
 use Rattle.vg_script_words.specs.declared.kind.Stop.TheVariants.{Memory, Fault}
 use Rattle.vg_script.specs.declared.reader.Reader.{Reader}
+use Rattle.vg_script.specs.declared.types.Script.{Script}
+use Rattle.vg_script.specs.declared.types.ScriptFault.{ScriptFault}
 use Rattle.vg_script.specs.Seen.{Seen}
 use Rattle.vg_call_lines.specs.Code.{table_of}
 
@@ -35,3 +37,9 @@ abbrev pub past_limit : Result Call Stop → Stop
 past_limit (Ok call) = Fault Limit
 past_limit (Err Memory) = Memory
 past_limit (Err (Fault kind)) = Fault (past_kind kind)
+
+-- What is read of a text, unless a line of this number waits for itself.
+abbrev pub answered : Option ℕ → Result Script ScriptFault → Result Script ScriptFault
+answered None read = read
+answered (Some line) (Err fault) = Err fault
+answered (Some line) (Ok script) = Err (record { line = line; kind = 6 })

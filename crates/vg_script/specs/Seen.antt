@@ -24,6 +24,6 @@ add_line [] line = []
 add_line (client ∷ []) line = (client ++ line ∷ []) ∷ []
 add_line (client ∷ next ∷ more) line = client ∷ add_line (next ∷ more) line
 
--- Before the first line.
-abbrev pub nothing_seen : Seen
-nothing_seen = record { lines = 0; displays = []; pages = None; without = []; clients = []; table = no_names }
+-- Before the first line of a text with these labels.
+abbrev pub nothing_seen : (List ℕ → ℕ) → Seen
+nothing_seen labels = record { lines = 0; displays = []; pages = None; without = []; clients = []; table = no_names labels }

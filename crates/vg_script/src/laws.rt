@@ -1,11 +1,12 @@
 //! What holds of the grammar itself: each function here does nothing, and its contract is a law.
 
-ghost use Rattle.std.specs.Prelude.{◌≡◌, ◌⊎◌, ◌↔◌, ℕ, List, Some};
+ghost use Rattle.std.specs.Prelude.{◌≡◌, ◌≤◌, ◌⊎◌, ◌↔◌, ℕ, List, [], length, All, Some};
 ghost use Rattle.vg_script.specs.declared.types.Script.{Script};
 ghost use Rattle.vg_script.specs.Lines.{lines_of};
 ghost use Rattle.vg_script.specs.Grammar.{Parses, Faulty};
 ghost use Rattle.vg_script.specs.Faults.{HasFirstFault, IsScriptOf, AreFaultless, seen_after};
 ghost use Rattle.vg_script.specs.Names.{IsDefinedBy, buffer_of};
+ghost use Rattle.vg_script.specs.Waits.{AreKnown};
 ghost use Rattle.vg_script.specs.Seen.{nothing_seen};
 ghost use Rattle.vg_script.specs.Limits.{ScriptInLimits};
 
@@ -20,8 +21,8 @@ pub fn script_or_fault()
 {}
 
 /// The fault of a text stands in its first line that has one, and is of the least kind that this line has. Where
-/// no line has one, the text lacks a display and the fault stands behind its last line, or it is the script that
-/// its lines give.
+/// no line has one, the text lacks a display and the fault stands behind its last line, or some lines wait for
+/// themselves and the fault stands at the first import of these, or it is the script that its lines give.
 pub fn first_fault()
     ensures fault { (bytes : List ℕ) (line kind : ℕ)
         → (Faulty bytes line kind ↔ HasFirstFault (lines_of bytes) line kind) }
@@ -34,10 +35,15 @@ pub fn script_limits()
     ensures { (bytes : List ℕ) (script : Script) → Parses bytes script → ScriptInLimits script }
 {}
 
+/// Where a script has one client, each line that waits for a label stands behind the one that gives it.
+pub fn labels_are_known()
+    ensures { (bytes : List ℕ) (script : Script) → Parses bytes script → length script.clients ≤ 1 → All (AreKnown []) script.clients }
+{}
+
 /// After lines without a fault a name is that of a buffer of the last client, with this number, exactly where some line is
-/// `buffer` and this name, no line behind it is `close` and this name or begins another client, and the client's lines have
+/// `buffer` and this name, or `import`, a label and this name, no line behind it is `close` and this name or begins another client, and the client's lines have
 /// defined so many names with it.
 pub fn defined_names()
-    ensures { (lines : List (List ℕ)) (name : List ℕ) (number : ℕ) → AreFaultless nothing_seen lines
-        → (((seen_after nothing_seen lines).table.names name ≡ Some (buffer_of number)) ↔ IsDefinedBy lines name number) }
+    ensures { (labels : List ℕ → ℕ) (lines : List (List ℕ)) (name : List ℕ) (number : ℕ) → AreFaultless (nothing_seen labels) lines
+        → (((seen_after (nothing_seen labels) lines).table.names name ≡ Some (buffer_of number)) ↔ IsDefinedBy lines name number) }
 {}

@@ -3,12 +3,14 @@
 
 mod calls;
 mod features;
+mod labels;
 mod laws;
 mod reader;
 mod text;
 mod types;
+mod waits;
 
-pub use laws::{defined_names, first_fault, script_limits, script_or_fault};
+pub use laws::{defined_names, first_fault, labels_are_known, script_limits, script_or_fault};
 pub use text::parse;
 pub use types::{Feature, Line, Script, ScriptFault};
 pub use vg_call_lines::{NameKind, Named};

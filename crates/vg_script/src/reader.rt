@@ -5,7 +5,9 @@ ghost use Rattle.std.specs.Prelude.{◌≡◌, ◌≤◌, length, sum_by};
 use crate::calls::{add_line, past_limit};
 use crate::features::{feature_of, is_among};
 use crate::types::{Feature, Line, Script, ScriptFault};
+use crate::waits::cycle;
 use std::alloc::{AllocError, Global};
+use std::collections::BTreeMap;
 use vg_call_lines::{Names, call_of};
 use vg_list::Seq;
 use vg_script_words::{Kind, Stop, both_spelled, is, is_text, limited, put_words, size, spelled};
@@ -28,16 +30,21 @@ pub(crate) struct Reader<'a> {
     ghost few: { length displays.items ≤ 16 },
     ghost counted: { count ≡ sum_by length clients.items },
     ghost named: { names.count ≤ lines },
+    ghost clients_few: { length clients.items ≤ 16 },
+    ghost lines_few: { count ≤ 100000 },
 }
 
 impl<'a> Reader<'a> {
     ghost use Rattle.std.specs.Prelude.{◌≡◌, ◌==◌, ◌&&◌, not, is_none, ◌+◌, ◌-◌, ◌<◌, ◌^◌, [], ◌∷◌, map, IfOk};
+    ghost use Rattle.vg_call_lines.specs.Tables.{numbers_of};
     ghost use Rattle.vg_script.specs.Seen.{Seen, nothing_seen};
     ghost use Rattle.vg_script.specs.Grammar.{display_form, memory_form, without_form, client_form, called_form, worded_form, form_of, feature_form, settled, settled_form, after_line, scan};
     ghost use Rattle.vg_script.specs.ReadingWithin.{seen, Goes, MayDefine};
+    ghost use Rattle.vg_script.specs.SearchWithin.{cycle_line};
 
-    pub(crate) fn new(alloc: Global) -> Reader<'a>
-        ensures { seen result ≡ nothing_seen }
+    /// Before the first line of a text with these labels.
+    pub(crate) fn new(alloc: Global, labels: BTreeMap<&'a [u8], u32>) -> Reader<'a>
+        ensures { seen result ≡ nothing_seen (numbers_of labels.entry) }
     {
         Reader {
             lines: 0,
@@ -46,7 +53,7 @@ impl<'a> Reader<'a> {
             without: Vec::new(alloc),
             clients: Vec::new(alloc),
             count: 0,
-            names: Names::new(alloc),
+            names: Names::new(alloc, labels),
         }
     }
 
@@ -226,6 +233,13 @@ impl<'a> Reader<'a> {
         }
     }
 
+    /// The number of the first line that waits for a label and, by steps, for itself, where there is one.
+    pub(crate) fn cycle(&self, alloc: Global) -> Result<Option<u32>, AllocError>
+        ensures { IfOk result (λ line. line ≡ cycle_line (seen self.now).clients) }
+    {
+        cycle(alloc, self.clients.as_slice(), self.count)
+    }
+
     /// The script of the lines, if there was a display.
     #[tactic(auto, unfolding(crate::specs::Grammar::scan))]
     pub(crate) fn finish(self) -> Result<Script, ScriptFault>
@@ -239,7 +253,7 @@ impl<'a> Reader<'a> {
             without,
             clients,
             count: _,
-            names: _,
+            names,
         } = self;
         if displays.is_empty() {
             return Err(ScriptFault {
@@ -252,6 +266,7 @@ impl<'a> Reader<'a> {
             pages: pages.unwrap_or(4_096),
             without: Seq::from_vec(without),
             clients: Seq::from_vec(clients),
+            labels: names.exported,
         })
     }
 }

@@ -1,12 +1,13 @@
 //! The script of a text, or its first fault.
 
 ghost use Rattle.std.specs.Prelude.{◌≡◌, ◌<◌, ◌-◌, ◌^◌, length, IfOk, IfErr, [], ℕ};
-ghost use Rattle.vg_script.specs.Seen.{nothing_seen};
+ghost use Rattle.vg_script.specs.Labels.{start_of};
 ghost use Rattle.vg_script.specs.Lines.{lines_of};
 ghost use Rattle.vg_script.specs.Grammar.{Parses, Faulty, read_script, scan};
 ghost use Rattle.vg_script.specs.Limits.{ScriptInLimits};
-ghost use Rattle.vg_script.specs.ReadingWithin.{seen};
+ghost use Rattle.vg_script.specs.ReadingWithin.{seen, answered};
 
+use crate::labels::labels;
 use crate::reader::Reader;
 use crate::types::{Script, ScriptFault};
 use std::alloc::{AllocError, Global};
@@ -26,8 +27,22 @@ pub fn parse(alloc: Global, bytes: &[u8]) -> Result<Result<Script, ScriptFault>,
         → r ≡ Err (record { line = line; kind = kind })) }
 {
     match read_lines(alloc, bytes)? {
-        Ok(reader) => Ok(reader.finish()),
+        Ok(reader) => {
+            let cycle = reader.cycle(alloc)?;
+            Ok(unless(cycle, reader.finish()))
+        }
         Err(fault) => Ok(Err(fault)),
+    }
+}
+
+/// What was read, unless a line of this number waits for itself.
+fn unless(cycle: Option<u32>, read: Result<Script, ScriptFault>) -> Result<Script, ScriptFault>
+    ensures { result ≡ answered cycle read }
+{
+    let script = read?;
+    match cycle {
+        Some(line) => Err(ScriptFault { line, kind: 6 }),
+        None => Ok(script),
     }
 }
 
@@ -38,10 +53,10 @@ fn read_lines<'a>(
     requires { length bytes.now < 2 ^ 32 - 1 }
     ensures lines { IfOk result (λ r. IfOk r (λ reader. (seen reader).lines < 2 ^ 32 - 1)) }
     ensures reader { IfOk result (λ r. IfOk r (λ reader.
-        scan nothing_seen (lines_of bytes.now) ≡ scan (seen reader) [])) }
-    ensures fault { IfOk result (λ r. IfErr r (λ fault. scan nothing_seen (lines_of bytes.now) ≡ Err fault)) }
+        scan (start_of (lines_of bytes.now)) (lines_of bytes.now) ≡ scan (seen reader) [])) }
+    ensures fault { IfOk result (λ r. IfErr r (λ fault. scan (start_of (lines_of bytes.now)) (lines_of bytes.now) ≡ Err fault)) }
 {
-    let mut reader = Reader::new(alloc);
+    let mut reader = Reader::new(alloc, labels(alloc, bytes)?);
     let mut words = Vec::new(alloc);
     let mut rest = bytes;
     while !rest.is_empty() {

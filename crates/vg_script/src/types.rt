@@ -14,6 +14,8 @@ pub struct Script {
     pub without: Seq<Feature>,
     /// The lines of each client, in the order of the text.
     pub clients: Seq<Seq<Line>>,
+    /// How many labels the lines define. They are numbered from 1 on in the order of the text.
+    pub labels: u32,
 }
 
 /// A feature of the device that a script can leave out. VIRTIO 1.2, 5.7.3.
@@ -43,6 +45,6 @@ pub struct Line {
 pub struct ScriptFault {
     /// The number of the faulty line, from 1 on.
     pub line: u32,
-    /// 1 a byte or the line's length, 2 a word, 3 a number's or HEX's spelling, 4 a limit, 5 a name.
+    /// 1 a byte or the line's length, 2 a word, 3 a number's or HEX's spelling, 4 a limit, 5 a name, 6 a wait cycle.
     pub kind: u8,
 }

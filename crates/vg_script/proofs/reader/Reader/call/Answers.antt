@@ -1,8 +1,9 @@
-use Rattle.std.proofs.Common.{rules, map, arith, ◌≡◌, ◌<◌, length, ◌∙◌}
+use Rattle.std.proofs.Common.{rules, map, arith, ◌≡◌, ◌<◌, length, ap, ◌∙◌}
 use Rattle.vg_script.specs.ReadingWithin.{seen}
 use Rattle.vg_call_lines.specs.Code.{table_of}
 use Rattle.vg_script.proofs.CallForms.{goes_misplaced, goes_past, goes_err, goes_ok}
-use Rattle.vg_script.proofs.ClientLists.{one_line_added}
+use Rattle.vg_script.proofs.ClientLists.{one_line_added, length-add_line}
+use Rattle.vg_script.specs.Seen.{add_line}
 use Rattle.vg_script.proofs.reader.Reader.call.Goals as goal
 
 pub returns-then-is_empty : goal.returns-then-is_empty
@@ -21,6 +22,9 @@ invariant_of-self-in-Ok c =
       few = c.args.self.now.few;
       counted = search (rules, one_line_added c.args.self.now.clients.items (record { number = c.args.self.now.lines; call = c.in-Ok.call }) some);
       named = omega (arith, c.requires.0, c.call_of-read.ensures.count);
+      clients_few = (let same : c.add_line.new.clients.items ≡ add_line c.args.self.now.clients.items (record { number = c.args.self.now.lines; call = c.in-Ok.call }) = search rules in
+          let length_is = ap length same in omega (arith, length_is, length-add_line c.args.self.now.clients.items (record { number = c.args.self.now.lines; call = c.in-Ok.call }), c.args.self.now.clients_few));
+      lines_few = search arith;
     }
 
 pub returns-in_ok-add_line-in-Ok : goal.returns-in_ok-add_line-in-Ok
