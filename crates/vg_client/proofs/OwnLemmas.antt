@@ -99,7 +99,7 @@ own-of client (x ∷ xs) e (inr has) owner = by_test (client_of x == client) (ow
     by_test true more = inr more
     by_test false more = more
 
-of_client-append : (client : ℕ) (xs ys : List Entry) → of_client client (xs ++ ys) ≡ of_client client xs ++ of_client client ys
+pub of_client-append : (client : ℕ) (xs ys : List Entry) → of_client client (xs ++ ys) ≡ of_client client xs ++ of_client client ys
 of_client-append client [] ys = refl
 of_client-append client (x ∷ xs) ys = by_test (client_of x == client) (of_client-append client xs ys)
   where
@@ -195,7 +195,7 @@ by_call-in : (xs : List Entry) (e : Entry) → Has (by_call xs) e → Has xs e
 by_call-in [] e has = absurd has
 by_call-in (x ∷ xs) e has = ⊎_elim (λ same. inl same) (λ h. inr (by_call-in xs e h)) (placed-in x (by_call xs) e has)
 
-by_call-of : (xs : List Entry) (e : Entry) → Has xs e → Has (by_call xs) e
+pub by_call-of : (xs : List Entry) (e : Entry) → Has xs e → Has (by_call xs) e
 by_call-of [] e has = absurd has
 by_call-of (x ∷ xs) e (inl same) = placed-of x (by_call xs) e (inl same)
 by_call-of (x ∷ xs) e (inr has) = placed-of x (by_call xs) e (inr (by_call-of xs e has))

@@ -131,6 +131,13 @@ impl<B: Naming> Client<B> {
         }
     }
 
+    /// The client's number.
+    pub fn number(&self) -> u32
+        ensures { result ≡ self.now.caller.token.account.number }
+    {
+        self.caller.token.number()
+    }
+
     /// How many call numbers it has drawn.
     pub fn calls(&self) -> u64
         ensures { result ≡ self.now.caller.token.account.used }
@@ -149,6 +156,7 @@ impl<B: Naming> Client<B> {
     /// Sees all that the note has seen.
     pub fn meet(&mut self, book: &Book<Display, B>, note: Note<Display, B>)
         ensures account { self.new.caller.token.account ≡ self.old.caller.token.account }
+        ensures start { self.new.caller.token.start ≡ self.old.caller.token.start }
         ensures more { IsPrefix self.old.caller.token.seen self.new.caller.token.seen }
         ensures met { IsPrefix note.seen self.new.caller.token.seen }
         ensures known { known self.new.caller ≡ known self.old.caller }
