@@ -117,7 +117,7 @@ fn run_lines<'a, B: Naming, N: Rings, R: Wait>(
     client: &mut Client<B>,
     told: &mut Vec<Told<'a>>,
 ) -> bool
-    requires { (setup : Setup) × AreInLimits setup (length labels.now.items) lines.items × IsFollowing setup told.old.items lines.items 0 client.old }
+    requires following { (setup : Setup) × AreInLimits setup (length labels.now.items) lines.items × IsFollowing setup told.old.items lines.items 0 client.old }
     requires told { AreOf labels.now.items told.old.items }
     ensures number { client.new.caller.token.account.number ≡ client.old.caller.token.account.number }
     ensures few { (client.new.stopped ≡ true) ⊎ (length (mine_of client.new.caller.token) < 2 ^ 24) }

@@ -4,7 +4,7 @@ use Rattle.vg_script_part.proofs.LineLemmas.{line-fits, running-done, running-fi
 use Rattle.vg_script_part.proofs.performing.run_lines.Goals as goal
 
 pub loop-line-init : goal.loop-line-init
-loop-line-init g c = (running-first c.requires.0.0 (length c.args.labels.now.items) c.args.lines.items c.reverse.new.self.items c.args.told.now.items c.args.client.now c.requires.0.1 c.requires.0.2 c.reverse.ensures.items, c.requires.1)
+loop-line-init g c = (running-first c.requires.following.0 (length c.args.labels.now.items) c.args.lines.items c.reverse.new.self.items c.args.told.now.items c.args.client.now c.requires.following.1 c.requires.following.2 c.reverse.ensures.items, c.requires.told)
 
 pub run_line-requires-clause-call : goal.run_line-requires-clause-call
 run_line-requires-clause-call g c = line-fits (length c.args.labels.now.items) c.args.lines.items c.loop-line.left.items c.pop.new.self.items c.args.client.now c.loop-line.client c.loop-line.told.items c.in-Some.line c.loop-line.invariant.0 c.in-Some.ensures.items
