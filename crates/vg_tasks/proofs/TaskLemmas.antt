@@ -82,11 +82,13 @@ end-few leased count current =
     let both = weights-append (leases_back leased 0 count) (map release_task current) in
     omega (arith, one, other, both)
 
-pub close-few : (key : ℕ) (shows : List (Option ℕ)) (held : Held) → length shows ≤ 16 → weights (clear_tasks key 0 shows ++ release_task held ∷ []) ≤ 19
-close-few key shows held small =
+pub close-few : (only : Bool) (key : ℕ) (shows : List (Option ℕ)) (held : Held) → length shows ≤ 16 → weights (cond only (clear_tasks key 0 shows) [] ++ release_task held ∷ []) ≤ 19
+close-few true key shows held small =
     let one = clear-few key 0 shows in
     let both = weights-append (clear_tasks key 0 shows) (release_task held ∷ []) in
     omega (arith, one, both, small)
+close-few false key shows held small = omega arith
 
-pub close-fit : (key : ℕ) (shows : List (Option ℕ)) (held : Held) → AllByRecursion IsFit (clear_tasks key 0 shows ++ release_task held ∷ [])
-close-fit key shows held = fit-append (clear_tasks key 0 shows) (release_task held ∷ []) (clear-fit key 0 shows) ((tt, tt), tt)
+pub close-fit : (only : Bool) (key : ℕ) (shows : List (Option ℕ)) (held : Held) → AllByRecursion IsFit (cond only (clear_tasks key 0 shows) [] ++ release_task held ∷ [])
+close-fit true key shows held = fit-append (clear_tasks key 0 shows) (release_task held ∷ []) (clear-fit key 0 shows) ((tt, tt), tt)
+close-fit false key shows held = ((tt, tt), tt)

@@ -2,6 +2,7 @@
 use Rattle.std.specs.Prelude.{◌≤◌}
 use Rattle.vg_client_holds.specs.declared.act.Act as the_act
 use Rattle.vg_client_holds.specs.declared.act.Act.TheVariants as acts
+use Rattle.vg_client_holds.specs.declared.act.What.TheVariants.{Name}
 use Rattle.vg_driver.specs.Asks.{IsAsk}
 use Rattle.vg_tasks.specs.declared.task.Change.{Change}
 use Rattle.vg_tasks.specs.declared.task.Change.TheVariants.{NewBuffer}
@@ -14,10 +15,11 @@ abbrev pub HasFewBytes : the_act.Act → Type 0
 HasFewBytes (acts.Reserve width height format bytes) = bytes ≤ 1228800
 HasFewBytes act = Unit {0}
 
--- What is done for a task is no client's first act, nor its last, nor the telling of a denial; and a request of it is no longer than may be sent.
+-- What is done for a task is no client's first act, nor its last, nor the telling of a denial, but of a name; and a request of it is no longer than may be sent.
 abbrev pub IsFitDeed : Deed → Type 0
 IsFitDeed (deeds.Act acts.Enter) = ⊥
 IsFitDeed (deeds.Act acts.Leave) = ⊥
+IsFitDeed (deeds.Act (acts.Denied Name)) = Unit {0}
 IsFitDeed (deeds.Act (acts.Denied what)) = ⊥
 IsFitDeed (deeds.Act act) = HasFewBytes act
 IsFitDeed (deeds.Ask ask) = IsAsk ask

@@ -1,5 +1,5 @@
 -- The tasks that calls are made of: for each what is done, and what the answer changes.
-use Rattle.std.specs.Prelude.{ℕ, ℤ, pos, ◌+◌, ◌*◌, List, map, Some, None}
+use Rattle.std.specs.Prelude.{ℕ, ℤ, pos, ◌+◌, ◌-◌, ◌*◌, ◌^◌, min, List, map, Some, None}
 use Rattle.vg_formats.specs.declared.rect.Rect.{Rect}
 use Rattle.vg_formats.specs.declared.entry.MemEntry.{MemEntry}
 use Rattle.vg_pages.specs.Memory.{page_address}
@@ -11,9 +11,10 @@ use Rattle.vg_wire_ext.specs.declared.command.Command.TheVariants.{TwoD, Edid, A
 use Rattle.vg_chain.specs.declared.shape.Shape.{Shape}
 use Rattle.vg_client_holds.specs.declared.act.Act as the_act
 use Rattle.vg_client_holds.specs.declared.act.Act.TheVariants as acts
+use Rattle.vg_client_holds.specs.declared.act.What.TheVariants.{Name}
 use Rattle.vg_names.specs.declared.names.Held.{Held}
 use Rattle.vg_tasks.specs.declared.task.Change.{Change}
-use Rattle.vg_tasks.specs.declared.task.Change.TheVariants.{Nothing, NewBuffer, EndOfName, Shows, GoesOn}
+use Rattle.vg_tasks.specs.declared.task.Change.TheVariants.{Nothing, NewBuffer, Imported, EndOfName, Shows, GoesOn}
 use Rattle.vg_tasks.specs.declared.task.Deed.TheVariants.{Act, Ask}
 use Rattle.vg_tasks.specs.declared.task.Task.{Task}
 use Rattle.vg_driver.specs.declared.ask.Ask.TheVariants.{Command, Raw}
@@ -70,9 +71,24 @@ store_task key offset bytes times = act_task (acts.Store key offset bytes times)
 abbrev pub load_task : ℕ → ℕ → ℕ → Task
 load_task key offset n = act_task (acts.Load key offset n)
 
+-- The place of a rectangle's first pixel in a buffer; one that no offset can tell is told as the greatest there is, past the end of
+-- each buffer too.
+abbrev pub offset_of : Held → Rect → ℕ
+offset_of held rect = min (4 * (held.width * rect.y + rect.x)) (2 ^ 64 - 1)
+
 -- A transfer takes each pixel from its own place in the buffer.
 abbrev pub send_task : Held → Rect → Task
-send_task held rect = two_d_task (commands.Transfer rect (4 * (held.width * rect.y + rect.x)) held.key) Nothing
+send_task held rect = two_d_task (commands.Transfer rect (offset_of held rect) held.key) Nothing
+
+abbrev pub export_task : ℕ → Task
+export_task key = act_task (acts.Export key)
+
+abbrev pub import_task : ℕ → Task
+import_task token = record { deed = Act (acts.Import token); change = Imported }
+
+-- There is no token: that is denied, and the name never is current.
+abbrev pub no_import_task : Task
+no_import_task = record { deed = Act (acts.Denied Name); change = Imported }
 
 abbrev pub flush_task : ℕ → Rect → Task
 flush_task key rect = two_d_task (commands.Flush rect key) Nothing

@@ -1,5 +1,6 @@
 -- The tasks of each call of a client, one after another. A task gives one entry.
 use Rattle.std.specs.Prelude.{ℕ, ℤ, zero, suc, ◌+◌, ◌==◌, Bool, false, if◌then◌else◌, List, [], ◌∷◌, ◌++◌, map, Option, Some, None, Result, Ok, Err}
+use Rattle.std.specs.List.{count_by}
 use Rattle.vg_formats.specs.declared.rect.Rect.{Rect}
 use Rattle.vg_client_holds.specs.declared.act.What.{What}
 use Rattle.vg_client_holds.specs.declared.act.What.TheVariants.{Name, Scanout}
@@ -12,7 +13,7 @@ use Rattle.vg_calls.specs.declared.call.NameRef.{NameRef}
 use Rattle.vg_tasks.specs.declared.task.Task.{Task}
 use Rattle.vg_tasks.specs.Known.{Known}
 use Rattle.vg_names.specs.Names.{NamesState, found}
-use Rattle.vg_tasks.specs.Table.{clear_task, cursor_task, drop_task, edid_task, flush_task, hide_cursor_task, hide_task, info_task, load_task, move_task, raw_task, release_task, reserve_task, send_task, show_task, store_task, take_task, uuid_task}
+use Rattle.vg_tasks.specs.Table.{clear_task, cursor_task, drop_task, edid_task, export_task, flush_task, hide_cursor_task, hide_task, import_task, info_task, load_task, move_task, no_import_task, raw_task, release_task, reserve_task, send_task, show_task, store_task, take_task, uuid_task}
 
 -- The tasks of a call on a name: where the name isn't current the call is denied for it.
 abbrev pub if_current : Option Held → (Held → List Task) → Result (List Task) What
@@ -50,11 +51,25 @@ abbrev pub clear_tasks : ℕ → ℕ → List (Option ℕ) → List Task
 clear_tasks key n [] = []
 clear_tasks key n (shown ∷ more) = (if is_shown key shown then clear_task n ∷ [] else []) ++ clear_tasks key (n + 1) more
 
-abbrev pub close_tasks : List (Option ℕ) → Held → List Task
-close_tasks shows held = clear_tasks held.key 0 shows ++ release_task held ∷ []
+abbrev pub is_of_key : ℕ → Held → Bool
+is_of_key key held = held.key == key
+
+-- No other current name of the client stands for the same buffer.
+abbrev pub is_only_name : List Held → Held → Bool
+is_only_name current held = count_by (is_of_key held.key) current == 1
+
+-- Where this is the client's only name for the buffer, each scanout on which the client shows it is disabled before the hold is
+-- given up.
+abbrev pub close_tasks : List Held → List (Option ℕ) → Held → List Task
+close_tasks current shows held = (if is_only_name current held then clear_tasks held.key 0 shows else []) ++ release_task held ∷ []
+
+-- The import of a token, if there is one.
+abbrev pub import_tasks : Option ℕ → List Task
+import_tasks (Some token) = import_task token ∷ []
+import_tasks None = no_import_task ∷ []
 
 -- The tasks of a call, by what its client knows; or what is denied before there is any: a name that isn't current, and the end
--- of a lease that there isn't.
+-- of a lease that there isn't. An import without a token is denied by its task, since its name takes a number.
 abbrev pub tasks_of : Known → Call → Result (List Task) What
 tasks_of known calls.Info = Ok (info_task ∷ [])
 tasks_of known (calls.Edid scanout) = Ok (edid_task scanout ∷ [])
@@ -71,8 +86,10 @@ tasks_of known (calls.Flip scanout name) = with_held known.names name (flip_task
 tasks_of known (calls.Cursor scanout name x y hot_x hot_y) = cursor_tasks known.names scanout name x y hot_x hot_y
 tasks_of known (calls.Move scanout x y) = Ok (move_task scanout x y ∷ [])
 tasks_of known (calls.Uuid name) = with_held known.names name (λ held. uuid_task held.key ∷ [])
+tasks_of known (calls.Export name label) = with_held known.names name (λ held. export_task held.key ∷ [])
+tasks_of known (calls.Import label token) = Ok (import_tasks token)
 tasks_of known (calls.Raw queue room shape bytes) = Ok (raw_task queue room shape bytes ∷ [])
-tasks_of known (calls.Close name) = with_held known.names name (close_tasks known.shows)
+tasks_of known (calls.Close name) = with_held known.names name (close_tasks known.names.current known.shows)
 
 -- The leased ones of so many scanouts from this one on are given back, rising.
 abbrev pub leases_back : List ℕ → ℕ → ℕ → List Task

@@ -1,13 +1,13 @@
 //! The tasks that calls are made of. A task gives one entry: an act, or a command to the device.
 
-ghost use Rattle.std.specs.Prelude.{◌≡◌, ◌≤◌, ◌<◌, ◌^◌, map, length, IfOk};
+ghost use Rattle.std.specs.Prelude.{◌≡◌, ◌≤◌, ◌<◌, ◌^◌, ◌+◌, ◌-◌, ◌*◌, min, map, length, IfOk};
 ghost use Rattle.vg_client_holds.specs.declared.act.Act.TheVariants as acts;
 ghost use Rattle.vg_tasks.specs.Table as table;
 ghost use Rattle.vg_tasks.specs.Table.{no_rect, page_entry};
 
 use std::alloc::{AllocError, Global};
 use vg_chain::Shape;
-use vg_client_holds::Act;
+use vg_client_holds::{Act, What};
 use vg_driver::{Ask, Way};
 use vg_formats::{MemEntry, Rect};
 use vg_list::Seq;
@@ -42,6 +42,8 @@ pub enum Change {
         height: u32,
         format: u32,
     },
+    /// The next name is that of the buffer that was imported; or it never is current.
+    Imported,
     /// The name of a buffer that was released ends. What no one holds any more is taken down.
     EndOfName {
         number: u32,
@@ -208,16 +210,53 @@ pub(crate) fn store_task(key: u32, offset: u32, bytes: Seq<u8>, times: u32) -> T
 
 /// TRANSFER_TO_HOST_2D of a rectangle of a buffer, each pixel from its own place.
 pub(crate) fn send_task(held: Held, rect: Rect) -> Task
-    requires { held.width ≤ 640 }
     ensures { result ≡ table.send_task held rect }
 {
-    let pixel = u64::from(held.width) * u64::from(rect.y) + u64::from(rect.x);
     let command = Command2d::Transfer {
         rect,
-        offset: 4 * pixel,
+        offset: offset_of(held.width, rect.x, rect.y),
         resource: held.key,
     };
     two_d_task(command, Change::Nothing)
+}
+
+/// The place of a pixel in a buffer of this width; one that no offset can tell is told as the greatest there is.
+fn offset_of(width: u32, x: u32, y: u32) -> u64
+    ensures { result ≡ min (4 * (width * y + x)) (2 ^ 64 - 1) }
+{
+    let pixel = u64::from(width) * u64::from(y) + u64::from(x);
+    pixel.saturating_mul(4)
+}
+
+/// Gives a token for a buffer.
+pub(crate) fn export_task(key: u32) -> Task
+    ensures { result ≡ table.export_task key }
+{
+    act_task(Act::Export { key })
+}
+
+/// Takes a hold of a token's buffer, for a new name.
+pub(crate) fn import_task(token: u32) -> Task
+    ensures { result ≡ table.import_task token }
+{
+    Task {
+        deed: Deed::Act {
+            act: Act::Import { token },
+        },
+        change: Change::Imported,
+    }
+}
+
+/// Tells that there is no token to import by.
+pub(crate) fn no_import_task() -> Task
+    ensures { result ≡ table.no_import_task }
+{
+    Task {
+        deed: Deed::Act {
+            act: Act::Denied { what: What::Name },
+        },
+        change: Change::Imported,
+    }
 }
 
 /// RESOURCE_FLUSH

@@ -8,13 +8,13 @@ ghost use Rattle.vg_client_holds.specs.Holds.{Deniable as MayDeny, has_number};
 ghost use Rattle.vg_client_holds.specs.declared.act.What.TheVariants as whats;
 ghost use Rattle.vg_tasks.specs.Table as table;
 ghost use Rattle.vg_tasks.specs.Tasks as plan;
-ghost use Rattle.vg_tasks.specs.Tasks.{clear_tasks, leases_back, with_held};
+ghost use Rattle.vg_tasks.specs.Tasks.{clear_tasks, is_only_name, leases_back, with_held};
 
 use crate::queue::Tasks;
 use crate::task::{
-    Task, act_task, clear_task, cursor_task, drop_task, edid_task, flush_task, hide_cursor_task,
-    hide_task, info_task, move_task, raw_task, release_task, reserve_task, send_task, show_task,
-    store_task, uuid_task,
+    Task, act_task, clear_task, cursor_task, drop_task, edid_task, export_task, flush_task,
+    hide_cursor_task, hide_task, import_task, info_task, move_task, no_import_task, raw_task,
+    release_task, reserve_task, send_task, show_task, store_task, uuid_task,
 };
 use std::alloc::{AllocError, Global};
 use vg_calls::{Call, NameRef};
@@ -76,6 +76,8 @@ pub fn tasks_of(
         } => cursor_tasks(alloc, names, scanout, name, x, y, hot_x, hot_y),
         Call::Move { scanout, x, y } => one(alloc, move_task(scanout, x, y)),
         Call::Uuid { name } => uuid_tasks(alloc, names, name),
+        Call::Export { name, .. } => export_tasks(alloc, names, name),
+        Call::Import { token, .. } => import_tasks(alloc, token),
         Call::Raw {
             queue,
             room,
@@ -229,7 +231,6 @@ fn flip_tasks(
 }
 
 fn flip_held(alloc: Global, scanout: u32, held: Held) -> Result<Result<Tasks, What>, AllocError>
-    requires { held.width ≤ 640 }
     ensures plans { Plans (Ok (plan.flip_tasks scanout held)) result }
     ensures denied { IfOk result (λ done. OnErr done ⊥) }
 {
@@ -296,6 +297,30 @@ fn uuid_tasks(
     }
 }
 
+fn export_tasks(
+    alloc: Global,
+    names: &Names,
+    name: NameRef,
+) -> Result<Result<Tasks, What>, AllocError>
+    ensures plans { Plans (with_held names.now name (λ held. table.export_task held.key ∷ [])) result }
+    ensures denied { IfOk result (λ done. IfErr done (λ what. what ≡ whats.Name)) }
+{
+    match names.find(name.number) {
+        Some(held) => one(alloc, export_task(held.key)),
+        None => Ok(Err(What::Name)),
+    }
+}
+
+fn import_tasks(alloc: Global, token: Option<u32>) -> Result<Result<Tasks, What>, AllocError>
+    ensures plans { Plans (Ok (plan.import_tasks token)) result }
+    ensures denied { IfOk result (λ done. OnErr done ⊥) }
+{
+    match token {
+        Some(token) => one(alloc, import_task(token)),
+        None => one(alloc, no_import_task()),
+    }
+}
+
 fn close_tasks(
     alloc: Global,
     names: &Names,
@@ -303,27 +328,59 @@ fn close_tasks(
     name: NameRef,
 ) -> Result<Result<Tasks, What>, AllocError>
     requires { length shows.now ≤ 16 }
-    ensures plans { Plans (with_held names.now name (plan.close_tasks shows.now)) result }
+    ensures plans { Plans (with_held names.now name (plan.close_tasks names.now.current shows.now)) result }
     ensures denied { IfOk result (λ done. IfErr done (λ what. what ≡ whats.Name)) }
 {
     match names.find(name.number) {
-        Some(held) => close_held(alloc, shows, held),
+        Some(held) => close_held(alloc, names, shows, held),
         None => Ok(Err(What::Name)),
     }
 }
 
 fn close_held(
     alloc: Global,
+    names: &Names,
     shows: &[Option<u32>],
     held: Held,
 ) -> Result<Result<Tasks, What>, AllocError>
     requires { length shows.now ≤ 16 }
-    ensures plans { Plans (Ok (clear_tasks held.key 0 shows.now ++ table.release_task held ∷ [])) result }
+    ensures plans { Plans (Ok (plan.close_tasks names.now.current shows.now held)) result }
     ensures denied { IfOk result (λ done. OnErr done ⊥) }
 {
-    let mut tasks = clear_each(alloc, held.key, shows)?;
+    let mut tasks = clear_only(alloc, names, shows, held)?;
     tasks.push(release_task(held))?;
     Ok(Ok(tasks))
+}
+
+/// Disables each scanout on which the client shows the buffer of its only name for it.
+fn clear_only(
+    alloc: Global,
+    names: &Names,
+    shows: &[Option<u32>],
+    held: Held,
+) -> Result<Tasks, AllocError>
+    requires { length shows.now ≤ 16 }
+    ensures { IfOk result (λ tasks. tasks ≡ (if is_only_name names.now.current held then clear_tasks held.key 0 shows.now else [])) }
+{
+    let tasks = clear_each(alloc, held.key, shows)?;
+    if tasks.len() == 0 {
+        // Nothing is shown, so there is no need to look at all names.
+        return Ok(tasks);
+    }
+    let current = names.current(alloc)?;
+    if is_only_name(current.as_slice(), held) {
+        Ok(tasks)
+    } else {
+        Ok(Tasks::new(alloc))
+    }
+}
+
+/// Whether these have one name for the buffer.
+fn is_only_name(current: &[Held], held: Held) -> bool
+    ensures { result ≡ plan.is_only_name current.now held }
+{
+    let of_key = current.iter().filter(|one| one.key == held.key);
+    of_key.count() == 1
 }
 
 /// Disables each scanout on which the client shows the key.
