@@ -192,14 +192,14 @@ impl Share {
         Ok(Ok(self.exports.len() as u32))
     }
 
-    /// The key of the buffer for which the token was given, if it was.
-    pub fn exported_key(&self, token: u32) -> Option<u32>
-        ensures { result ≡ exported_key token self.now }
+    /// The key of a token's buffer, 0 where the token wasn't given.
+    pub fn token_key(&self, token: u32) -> u32
+        ensures { result ≡ token_key token self.now }
     {
-        if token == 0 {
-            return None;
+        match self.exported_key(token) {
+            Some(key) => key,
+            None => 0,
         }
-        self.exports.get(token as usize - 1).copied()
     }
 
     /// The pages of a token's buffer, rising; none where there is no such buffer.
@@ -363,14 +363,14 @@ impl Share {
         None
     }
 
-    /// The key of a token's buffer, 0 where the token wasn't given.
-    fn token_key(&self, token: u32) -> u32
-        ensures { result ≡ token_key token self.now }
+    /// The key of the buffer for which the token was given, if it was.
+    fn exported_key(&self, token: u32) -> Option<u32>
+        ensures { result ≡ exported_key token self.now }
     {
-        match self.exported_key(token) {
-            Some(key) => key,
-            None => 0,
+        if token == 0 {
+            return None;
         }
+        self.exports.get(token as usize - 1).copied()
     }
 
     /// Why the token's buffer can't be imported, if it can't.
