@@ -1,5 +1,5 @@
 -- The tasks of calls: how those of the longer ones grow, how few they are, that they fit, and that each call has one.
-use Rattle.std.proofs.Common.{◌≡◌, ◌+◌, ◌-◌, ◌*◌, ◌<◌, ◌≤◌, ◌∙◌, ◌==◌, sym, ap, refl, arith, ℕ, zero, suc, Bool, true, false, cond, List, [], ◌∷◌, ◌++◌, length, map, drop, append_assoc, Option}
+use Rattle.std.proofs.Common.{◌≡◌, ◌+◌, ◌-◌, ◌*◌, ◌<◌, ◌≤◌, ◌∙◌, sym, ap, refl, arith, ℕ, zero, suc, Bool, true, false, cond, List, [], ◌∷◌, ◌++◌, length, map, drop, append_assoc, Option}
 use Rattle.std.specs.List.{AllByRecursion}
 use Rattle.vg_client_holds.specs.Holds.{has_number}
 use Rattle.vg_names.specs.declared.names.Held.{Held}
@@ -92,9 +92,3 @@ close-few false key shows held small = omega arith
 pub close-fit : (only : Bool) (key : ℕ) (shows : List (Option ℕ)) (held : Held) → AllByRecursion IsFit (cond only (clear_tasks key 0 shows) [] ++ release_task held ∷ [])
 close-fit true key shows held = fit-append (clear_tasks key 0 shows) (release_task held ∷ []) (clear-fit key 0 shows) ((tt, tt), tt)
 close-fit false key shows held = ((tt, tt), tt)
-
--- where there are none it is the same whether they are to be there
-pub none-or-none : (only : Bool) (tasks : List Task) → (length tasks == 0) ≡ true → tasks ≡ cond only tasks []
-none-or-none true tasks none = refl
-none-or-none false [] none = refl
-none-or-none false (task ∷ more) none = absurd (cc none)
