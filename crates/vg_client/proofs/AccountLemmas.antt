@@ -1,5 +1,5 @@
 -- One entry more of a client keeps what its token says of it.
-use Rattle.std.proofs.Common.{◌≡◌, ◌⊎◌, inl, inr, ⊎_elim, ◌+◌, ◌<◌, ◌≤◌, ◌==◌, ◌∙◌, sym, ap, refl, subst, arith, eq-eqb, ℕ, false, cond, List, [], ◌∷◌, ◌++◌, length, map, append_assoc, length-append, Option, Some, None}
+use Rattle.std.proofs.Common.{◌≡◌, ◌⊎◌, inl, inr, ⊎_elim, ◌+◌, ◌<◌, ◌≤◌, ◌∙◌, sym, ap, refl, subst, arith, eq-eqb, ℕ, false, cond, List, [], ◌∷◌, ◌++◌, length, map, append_assoc, length-append, Option, Some, None}
 use Rattle.std.specs.List.{AllByRecursion, range_with_len}
 use mathlib.Core.List.{IsPrefix}
 use mathlib.Core.Option.{some}

@@ -1,8 +1,5 @@
 -- What a client holds after one entry more, and what was allowed to it.
-use Rattle.std.proofs.Common.{◌≡◌, ◌∙◌, ap, refl, subst, sym, ℕ, List, [], ◌∷◌, ◌++◌, append_assoc, append-nil}
-use Rattle.vg_history.specs.History as history
-use Rattle.vg_history.proofs.HistoryLemmas.{holds_append, updated_own}
-use Rattle.vg_client_holds.specs.declared.setup.Setup.{Setup}
+use Rattle.std.proofs.Common.{◌≡◌, refl}
 use Rattle.vg_client_holds.specs.declared.holds.Holds.{Holds}
 use Rattle.vg_client_holds.specs.declared.act.Act.{Act}
 use Rattle.vg_client_holds.specs.declared.act.Act.TheVariants.{Reserve, Import, Release, Free, Take, Drop}
@@ -10,9 +7,8 @@ use Rattle.vg_client_holds.specs.declared.act.ActReply.{ActReply}
 use Rattle.vg_client_holds.specs.declared.act.ActReply.TheVariants as act_replies
 use Rattle.vg_machine.specs.Entries.{Entry}
 use Rattle.vg_history.specs.declared.entry.Entry.TheVariants as entries
-use Rattle.vg_client_holds.specs.Holds.{first_holds, update}
-use Rattle.vg_machine.specs.Order.{AreAllowed, IsAllowed, client_of, holds_of, updated}
-use Rattle.vg_machine.specs.Replay.{display}
+use Rattle.vg_client_holds.specs.Holds.{update}
+use Rattle.vg_machine.specs.Order.{updated}
 
 -- an act doesn't change how many displays there are
 update-displays : (holds : Holds) (act : Act) (reply : ActReply) → (update holds act reply).displays ≡ holds.displays

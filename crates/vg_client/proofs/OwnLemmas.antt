@@ -4,7 +4,6 @@ use Rattle.std.specs.List.{AllByRecursion, range_with_len}
 use Rattle.std.proofs.lemmas.Bool.Decides.{nat_tests}
 use Rattle.std.proofs.lemmas.List.{length-map}
 use Rattle.std.proofs.lemmas.List.FromFn.{length-range_with_len}
-use mathlib.Core.List.{IsPrefix}
 use Rattle.vg_history.specs.Entries.{EachOnce}
 use Rattle.vg_history.specs.declared.entry.Entry.TheVariants as entries
 use Rattle.vg_history.specs.Lists.{Has}
@@ -14,7 +13,7 @@ use Rattle.vg_client_holds.specs.Holds.{first_holds}
 use Rattle.vg_client_holds.specs.declared.holds.Holds.{Holds}
 use Rattle.vg_machine.specs.Entries.{Entry}
 use Rattle.vg_machine.specs.Replay.{display}
-use Rattle.vg_machine.specs.Order.{CallOrder, GiveUp, IsAllowed, IsFirst, by_call, call_of, client_of, holds_of, is_leave, is_of_lane, numbers_below, of_client, placed}
+use Rattle.vg_machine.specs.Order.{GiveUp, IsAllowed, IsFirst, by_call, call_of, client_of, holds_of, is_leave, is_of_lane, numbers_below, of_client, placed}
 use Rattle.vg_client.specs.Own.{IsOnItsLane, OwnStand, StandsOwn}
 
 range-suc : (first count : ℕ) → range_with_len first count ++ (first + count) ∷ [] ≡ range_with_len first (suc count)

@@ -26,7 +26,11 @@ use Rattle.vg_names.specs.declared.names.Held.{Held}
 use Rattle.vg_client.specs.declared.outcome.Played.{Played}
 use Rattle.vg_tasks.specs.declared.task.Change.{Change}
 use Rattle.vg_tasks.specs.declared.task.Change.TheVariants.{NewBuffer, Imported, EndOfName, Shows}
+use Rattle.vg_tasks.specs.declared.task.Deed.{Deed}
+use Rattle.vg_tasks.specs.declared.task.Deed.TheVariants as deeds
 use Rattle.vg_tasks.specs.declared.task.Task.{Task}
+use Rattle.vg_driver.specs.declared.ask.Ask.{Ask}
+use Rattle.vg_driver.specs.Asks.{denied_for, request_for}
 use Rattle.vg_client.specs.Calls.{Begins, BeginsTasks, Gives, GivesTasks, IsAsked, IsDenial, IsDone, IsEntryOf, IsFrontOf, Plays, learned, names_after, names_imported, names_reserved, shows_after}
 use Rattle.vg_tasks.specs.Tasks.{end_tasks, tasks_of}
 use Rattle.vg_client.specs.Callers.{BeginsEnd, HasAdded, HasDone, HasEnded, HasGoneOn, HasLeftBy, HasMade, IsFewPages, IsReady, IsSmall, known}
@@ -42,7 +46,7 @@ use Rattle.vg_client.specs.Accounts.{IsAccount, IsActive, IsNextOf, IsAdded, IsA
 use Rattle.vg_client.proofs.AccountLemmas.{met-active}
 use Rattle.vg_client.proofs.HoldsLemmas.{updated-displays}
 use Rattle.vg_client.proofs.OutcomeLemmas.{played-more}
-use Rattle.vg_client.proofs.OwnLemmas.{all-map, all-more, numbers-more}
+use Rattle.vg_client.proofs.OwnLemmas.{all-map, all-more, numbered-length, numbers-more}
 use Rattle.vg_tasks.proofs.TaskLemmas.{fit-append, weights-append}
 use Rattle.vg_book.specs.Places.{HasCall, IsCurrent, IsPlaced, begun_of}
 use Rattle.vg_book.specs.Tokens.{Watched}
@@ -453,6 +457,24 @@ denied-done client client' denied requests what is gave (reply, done, few) =
     let entry : Entry = Act client.token.account.number (client.token.account.used + 1) (acts.Denied what) reply in
     let P : Option What → Type 0 = λ d. IsAsked client.token.account.number d requests entry in
     (entry, subst P (sym is) (client.token.account.used + 1, reply, refl), done, few)
+
+-- what was done for a task, by what it is
+pub act-made : {B : Type 0} (client client' : Caller B) (deed : Deed) (act : the_act.Act) → deed ≡ deeds.Act act → (gave : Added)
+    → (reply : ActReply) × HasDone client (Act client.token.account.number (client.token.account.used + 1) act reply) gave client' × IsFewPages gave.given
+    → (entry : Entry) × IsDone client.token.account.number client.token.account.holds deed entry × HasDone client entry gave client' × IsFewPages gave.given
+act-made client client' deed act is gave (reply, done, few) =
+    let entry : Entry = Act client.token.account.number (client.token.account.used + 1) act reply in
+    (entry, subst (λ (d : Deed). IsDone client.token.account.number client.token.account.holds d entry) (sym is) (client.token.account.used + 1, reply, refl), done, few)
+
+pub ask-made : {B : Type 0} (client client' : Caller B) (deed : Deed) (ask : Ask) → deed ≡ deeds.Ask ask → (gave : Added)
+    → (entry : Entry) × IsAsked client.token.account.number (denied_for client.token.account.holds ask) (request_for ask) entry × HasDone client entry gave client' × IsFewPages gave.given
+    → (entry : Entry) × IsDone client.token.account.number client.token.account.holds deed entry × HasDone client entry gave client' × IsFewPages gave.given
+ask-made client client' deed ask is gave (entry, asked, done, few) =
+    (entry, subst (λ (d : Deed). IsDone client.token.account.number client.token.account.holds d entry) (sym is) asked, done, few)
+
+-- as many numbers are drawn as there are entries
+pub used-length : (token : Token) → IsActive token → length (mine_of token) ≡ token.account.used
+used-length token active = numbered-length (mine_of token) 1 token.account.used active.account_is.in_order
 
 -- a denial that was told, and what it was answered
 pub denied-told : {B : Type 0} (client client' : Caller B) (what : What) (gathered gathered' : Played) (gave : Added) → IsReady client → HasPlayed client.token.seen [] client.token.seen gathered

@@ -1,12 +1,19 @@
-use Rattle.std.proofs.Common.{◌∙◌, ◌++◌, ap, map}
+use Rattle.std.proofs.Common.{◌∙◌, ◌++◌, ap, arith, map}
 use Rattle.vg_client_holds.specs.declared.holds.Holds.{Holds}
 use Rattle.vg_tasks.specs.Table.{release_task}
 use Rattle.vg_tasks.specs.Tasks.{leases_back}
-use Rattle.vg_client.proofs.PlayLemmas.{end-stood, end-unbegun, end-unleft, ended-by, err-then, on_err, three-ok}
+use Rattle.vg_client.proofs.PlayLemmas.{end-stood, end-unbegun, end-unleft, ended-by, err-then, on_err, three-ok, used-length}
 use Rattle.vg_client.proofs.caller.end.Goals as goal
 
 pub returns-in_err-tasks-clause-begun : goal.returns-in_err-tasks-clause-begun
 returns-in_err-tasks-clause-begun g c = on_err _ (end-unbegun c.args.client.now c.requires.ready)
+
+pub play-requires-clause-room : goal.play-requires-clause-room
+play-requires-clause-room g c =
+    let ready = c.requires.ready in
+    let used = used-length c.args.client.now.token ready.active in
+    let displays = ap (λ (h : Holds). h.displays) c.holds.ensures in
+    omega (arith, used, displays, c.in_ok-tasks.ensures.few, ready.small.few_displays, ready.small.current, ready.small.made, c.requires.room)
 
 pub returns-in_err-play-clause-begun : goal.returns-in_err-play-clause-begun
 returns-in_err-play-clause-begun g c =

@@ -1,16 +1,27 @@
-use Rattle.std.proofs.Common.{◌≡◌, ◌∙◌, List, Option, ap, subst, ℕ}
+use Rattle.std.proofs.Common.{◌≡◌, ◌∙◌, List, Option, ap, arith, subst, ℕ}
 use Rattle.vg_client_holds.specs.declared.holds.Holds.{Holds}
 use Rattle.vg_client.specs.Callers.{known}
 use Rattle.vg_tasks.specs.Plans.{IsPlanOf}
 use Rattle.vg_tasks.specs.Known.{Known}
 use Rattle.vg_tasks.specs.Tasks.{tasks_of}
 use Rattle.vg_client.proofs.OutcomeLemmas.{ends-some, outcome-is}
-use Rattle.vg_client.proofs.PlayLemmas.{gives-planned, on_err, unbegun}
+use Rattle.vg_client.proofs.PlayLemmas.{gives-planned, on_err, unbegun, used-length}
 use Rattle.vg_client.proofs.GivesLemmas.{gives-some}
 use Rattle.vg_client.proofs.caller.make_call.Goals as goal
 
 pub returns-in_err-plan-clause-begun : goal.returns-in_err-plan-clause-begun
 returns-in_err-plan-clause-begun g c = on_err _ (unbegun c.args.call c.args.client.now c.requires.ready)
+
+pub made-made-requires : goal.made-made-requires
+made-made-requires g c =
+    let used = used-length c.args.client.now.token c.requires.ready.active in
+    omega (arith, used, c.requires.ready.small.made, c.requires.room)
+
+pub name_made-requires : goal.name_made-requires
+name_made-requires g c =
+    let used = used-length c.args.client.now.token c.requires.ready.active in
+    let made = c.made-made.ensures in
+    omega (arith, made, used, c.requires.ready.small.made, c.requires.room)
 
 pub outcome-requires : goal.outcome-requires
 outcome-requires g c =

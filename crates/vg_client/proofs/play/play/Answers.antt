@@ -1,9 +1,7 @@
 use Rattle.std.proofs.Common.{◌≡◌, ap, arith, []}
 use Rattle.vg_names.specs.Names.{NamesState}
-use Rattle.vg_client.specs.Accounts.{mine_of}
-use Rattle.vg_client.proofs.OwnLemmas.{numbered-length}
 use Rattle.vg_client.proofs.OutcomeLemmas.{played-none}
-use Rattle.vg_client.proofs.PlayLemmas.{added-length, left-smaller, on_err, played-all, playing-first, playing-more, stood-done, stood-make, stood-none}
+use Rattle.vg_client.proofs.PlayLemmas.{added-length, left-smaller, on_err, played-all, playing-first, playing-more, stood-done, stood-make, stood-none, used-length}
 use Rattle.vg_client.proofs.play.play.Goals as goal
 
 pub returns-in_err-played-clause-begun : goal.returns-in_err-played-clause-begun
@@ -20,7 +18,7 @@ returns-in_err-added-clause-begun g c =
 pub learn-requires-clause-room : goal.learn-requires-clause-room
 learn-requires-clause-room g c =
     let is = c.loop-task.invariant in
-    let used = numbered-length (mine_of c.loop-task.client.token) 1 c.loop-task.client.token.account.used is.on.ready.active.account_is.in_order in
+    let used = used-length c.loop-task.client.token is.on.ready.active in
     let names = ap (λ (n : NamesState). n.made) c.in_ok-added.ensures.done.2.names in
     omega (arith, names, is.on.ready.small.made, used, added-length is.on.added, is.room, c.requires.room)
 

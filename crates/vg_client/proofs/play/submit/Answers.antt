@@ -1,7 +1,7 @@
-use Rattle.std.proofs.Common.{◌≡◌, ◌+◌, ◌∙◌, ap, refl, sym}
+use Rattle.std.proofs.Common.{◌+◌, ◌∙◌, ap, refl, sym}
 use Rattle.vg_history.specs.declared.entry.Entry.TheVariants as entries
 use Rattle.vg_wire.specs.declared.request.Queue.{Queue}
-use Rattle.vg_driver.specs.Asks.{queue_for, request_for}
+use Rattle.vg_driver.specs.Asks.{request_for}
 use Rattle.vg_driver.proofs.OfferLemmas.{made_queue}
 use Rattle.vg_client.specs.declared.given.Given.TheVariants as givens
 use Rattle.vg_client.proofs.PlayLemmas.{done-by, on_err, unadded}

@@ -7,4 +7,4 @@ returns-clause-added g c =
     let token = c.args.token.now in
     let current = c.requires.account_is.standing.current in
     let law = c.calls_stand_behind.ensures in
-    act-added token c.act.new.self c.args.act c.in_ok-done.done.0 c.in_ok-done.done.1 c.requires (law.act _ _ _ _ _ current c.in_ok-done.ensures) (law.apart token (token.account.used + 1) current (omega arith)) c.in_ok-done.ensures
+    act-added token c.act.new.self c.args.act c.in_ok-done.done.0 c.in_ok-done.done.1 c.requires (law.act token c.act.new.self c.args.act c.in_ok-done.done.0 c.in_ok-done.done.1 current c.in_ok-done.ensures) (law.apart token (token.account.used + 1) current (omega arith)) c.in_ok-done.ensures

@@ -1,0 +1,19 @@
+use Rattle.std.proofs.Common.{◌≡◌, ◌∙◌, Some, None, ap, sym}
+use Rattle.vg_client_holds.specs.declared.holds.Holds.{Holds}
+use Rattle.vg_driver.specs.Asks.{denied_for, request_for}
+use Rattle.vg_client.proofs.PlayLemmas.{asked-done, denied-done, map_ok}
+use Rattle.vg_client.proofs.play.make_ask.Goals as goal
+
+pub returns-in-Some-clause-done : goal.returns-in-Some-clause-done
+returns-in-Some-clause-done g c =
+    let client = c.args.client.now in
+    let ask = c.args.ask.now in
+    let is : denied_for client.token.account.holds ask ≡ Some c.in-Some.what = ap (λ (h : Holds). denied_for h ask) (sym c.holds.ensures) ∙ sym c.in_ok-what.ensures.first ∙ c.in-Some.is in
+    map_ok c.make_act.result (λ added. denied-done client c.make_act.new.client (denied_for client.token.account.holds ask) (request_for ask) c.in-Some.what is added) c.make_act.ensures.done
+
+pub returns-in-None-clause-done : goal.returns-in-None-clause-done
+returns-in-None-clause-done g c =
+    let client = c.args.client.now in
+    let ask = c.args.ask.now in
+    let is : denied_for client.token.account.holds ask ≡ None = ap (λ (h : Holds). denied_for h ask) (sym c.holds.ensures) ∙ sym c.in_ok-what.ensures.first ∙ c.in-None.is in
+    map_ok c.submit.result (λ added. asked-done client c.submit.new.client (denied_for client.token.account.holds ask) (request_for ask) is added) c.submit.ensures.done
