@@ -14,7 +14,7 @@ use Rattle.vg_names.specs.Names.{NamesState, found}
 use Rattle.vg_names.specs.declared.names.Held.{Held}
 use Rattle.vg_tasks.specs.declared.task.Task.{Task}
 use Rattle.vg_tasks.specs.Table.{release_task}
-use Rattle.vg_tasks.specs.Tasks.{clear_tasks, close_tasks, cursor_tasks, drop_tasks, give_back, if_current, tasks_of}
+use Rattle.vg_tasks.specs.Tasks.{clear_tasks, close_tasks, cursor_tasks, drop_tasks, give_back, if_current, is_only_name, tasks_of}
 
 -- a call that isn't denied before there is any task has one
 abbrev HasTasks : Result (List Task) What → Type 0
@@ -52,9 +52,13 @@ has-tasks known (calls.Flip scanout name) = held-tasks (found name.number known.
 has-tasks known (calls.Cursor scanout name x y hot_x hot_y) = has-cursor_tasks known.names scanout name x y hot_x hot_y
 has-tasks known (calls.Move scanout x y) = omega arith
 has-tasks known (calls.Uuid name) = held-tasks (found name.number known.names) _ (λ one. omega arith)
+has-tasks known (calls.Export name label) = held-tasks (found name.number known.names) _ (λ one. omega arith)
+has-tasks known (calls.Import label (Some token)) = omega arith
+has-tasks known (calls.Import label None) = omega arith
 has-tasks known (calls.Raw queue room shape bytes) = omega arith
 has-tasks known (calls.Close name) =
-    held-tasks (found name.number known.names) (close_tasks known.shows) (λ one. let longer = length-append (clear_tasks one.key 0 known.shows) (release_task one ∷ []) in omega (arith, longer))
+    held-tasks (found name.number known.names) (close_tasks known.names.current known.shows)
+    (λ one. let longer = length-append (cond (is_only_name known.names.current one) (clear_tasks one.key 0 known.shows) []) (release_task one ∷ []) in omega (arith, longer))
 
 -- so it gives an entry
 gives-tasks : (client : ℕ) (known known' : Known) (plan : Result (List Task) What) → HasTasks plan → GivesTasks client known plan [] known' → ⊥

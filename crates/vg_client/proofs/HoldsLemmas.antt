@@ -5,7 +5,7 @@ use Rattle.vg_history.proofs.HistoryLemmas.{holds_append, updated_own}
 use Rattle.vg_client_holds.specs.declared.setup.Setup.{Setup}
 use Rattle.vg_client_holds.specs.declared.holds.Holds.{Holds}
 use Rattle.vg_client_holds.specs.declared.act.Act.{Act}
-use Rattle.vg_client_holds.specs.declared.act.Act.TheVariants.{Reserve, Release, Free, Take, Drop}
+use Rattle.vg_client_holds.specs.declared.act.Act.TheVariants.{Reserve, Import, Release, Free, Take, Drop}
 use Rattle.vg_client_holds.specs.declared.act.ActReply.{ActReply}
 use Rattle.vg_client_holds.specs.declared.act.ActReply.TheVariants as act_replies
 use Rattle.vg_machine.specs.Entries.{Entry}
@@ -17,6 +17,7 @@ use Rattle.vg_machine.specs.Replay.{display}
 -- an act doesn't change how many displays there are
 update-displays : (holds : Holds) (act : Act) (reply : ActReply) → (update holds act reply).displays ≡ holds.displays
 update-displays holds (Reserve width height format bytes) (act_replies.Reserved key pages) = refl
+update-displays holds (Import token) (act_replies.Imported key geometry pages) = refl
 update-displays holds (Release key) act_replies.Kept = refl
 update-displays holds (Release key) act_replies.Last = refl
 update-displays holds (Free key) act_replies.Ok = refl

@@ -12,28 +12,34 @@ use Rattle.vg_calls.specs.declared.call.NameRef.{NameRef}
 use Rattle.vg_names.specs.declared.names.Held.{Held}
 use Rattle.vg_names.specs.Names.{NamesState, found, without_name}
 use Rattle.vg_tasks.specs.declared.task.Change.{Change}
-use Rattle.vg_tasks.specs.declared.task.Change.TheVariants.{NewBuffer, EndOfName}
+use Rattle.vg_tasks.specs.declared.task.Change.TheVariants.{NewBuffer, Imported, EndOfName}
 use Rattle.vg_tasks.specs.declared.task.Task.{Task}
 use Rattle.vg_tasks.specs.Known.{Known}
 use Rattle.vg_tasks.specs.Table.{clear_task, release_task}
-use Rattle.vg_tasks.specs.Tasks.{clear_tasks, cursor_tasks, drop_tasks, give_back, if_current, is_shown, tasks_of}
+use Rattle.vg_tasks.specs.Tasks.{clear_tasks, cursor_tasks, drop_tasks, give_back, if_current, is_only_name, is_shown, tasks_of}
 use Rattle.vg_client.specs.declared.given.Given.{Given}
 use Rattle.vg_client.specs.declared.given.Given.TheVariants as givens
 use Rattle.vg_client.specs.Given.{follow_ups, given_of, goes_on, is_accepted, left_after}
-use Rattle.vg_client.specs.Calls.{Gives, GivesTasks, Plays, learned, names_after, names_reserved}
+use Rattle.vg_client.specs.Calls.{Gives, GivesTasks, Plays, learned, names_after, names_imported, names_reserved}
 use Rattle.vg_client.specs.Numbers.{defines}
 
 -- how many names a task defines
 abbrev new_names : Change → ℕ
 new_names (NewBuffer width height format) = 1
+new_names Imported = 1
 new_names change = 0
 
 reserved-one : (width height : ℕ) (given : Given) (names : NamesState) → (names_reserved width height given names).made ≡ names.made + 1
 reserved-one width height (givens.Act (act_replies.Reserved key pages)) names = refl
 reserved-one width height given names = refl
 
+imported-one : (given : Given) (names : NamesState) → (names_imported given names).made ≡ names.made + 1
+imported-one (givens.Act (act_replies.Imported key geometry pages)) names = refl
+imported-one given names = refl
+
 after-made : (change : Change) (given : Given) (names : NamesState) → (names_after change given names).made ≡ names.made + new_names change
 after-made (NewBuffer width height format) given names = reserved-one width height given names
+after-made Imported given names = imported-one given names
 after-made (EndOfName number key) given names = by_test (is_accepted given)
   where
     by_test : (b : Bool) → (cond b (without_name number names) names).made ≡ names.made + 0
@@ -96,6 +102,10 @@ clear-none key n (shown ∷ more) = by_test (is_shown key shown) (clear-none key
     by_test true none = (refl, none)
     by_test false none = none
 
+close-none : (only : Bool) (held : Held) (shows : List (Option ℕ)) → NoneNew (cond only (clear_tasks held.key 0 shows) [] ++ release_task held ∷ [])
+close-none true held shows = none-append (clear_tasks held.key 0 shows) (release_task held ∷ []) (clear-none held.key 0 shows) (refl, tt)
+close-none false held shows = (refl, tt)
+
 cursor-none : (names : NamesState) (scanout : ℕ) (name : Option NameRef) (x y : ℤ) (hot_x hot_y : ℕ) → PlansNone (cursor_tasks names scanout name x y hot_x hot_y)
 cursor-none names scanout None x y hot_x hot_y = (refl, tt)
 cursor-none names scanout (Some name) x y hot_x hot_y = held-none (found name.number names) _ (λ one. (refl, tt))
@@ -123,9 +133,11 @@ plans-none known (calls.Flip scanout name) other = held-none (found name.number 
 plans-none known (calls.Cursor scanout name x y hot_x hot_y) other = cursor-none known.names scanout name x y hot_x hot_y
 plans-none known (calls.Move scanout x y) other = (refl, tt)
 plans-none known (calls.Uuid name) other = held-none (found name.number known.names) _ (λ one. (refl, tt))
+plans-none known (calls.Export name label) other = held-none (found name.number known.names) _ (λ one. (refl, tt))
+plans-none known (calls.Import label token) other = absurd (cc other)
 plans-none known (calls.Raw queue room shape bytes) other = (refl, tt)
 plans-none known (calls.Close name) other =
-    held-none (found name.number known.names) _ (λ one. none-append (clear_tasks one.key 0 known.shows) (release_task one ∷ []) (clear-none one.key 0 known.shows) (refl, tt))
+    held-none (found name.number known.names) _ (λ one. close-none (is_only_name known.names.current one) one known.shows)
 
 gives-none : (client : ℕ) (known known' : Known) (plan : Result (List Task) What) (mine : List Entry) → PlansNone plan → GivesTasks client known plan mine known' → known'.names.made ≡ known.names.made
 gives-none client known known' (Ok tasks) mine none gives = plays-none client true known known' tasks mine none gives
@@ -134,4 +146,6 @@ gives-none client known known' (Err what) mine none gives = ap (λ (k : Known). 
 -- a call defines a name or none
 pub call-counted : (client : ℕ) (known known' : Known) (call : Call) (mine : List Entry) → Gives client known call mine known' → known'.names.made ≡ known.names.made + cond (defines call) 1 0
 call-counted client known known' (calls.Buffer width height format) mine gives = plays-one client true known known' _ [] mine refl tt gives
+call-counted client known known' (calls.Import label (Some token)) mine gives = plays-one client true known known' _ [] mine refl tt gives
+call-counted client known known' (calls.Import label None) mine gives = plays-one client true known known' _ [] mine refl tt gives
 call-counted client known known' call mine gives = let same = gives-none client known known' (tasks_of known call) mine (plans-none known call refl) gives in omega (arith, same)

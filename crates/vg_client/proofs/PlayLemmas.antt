@@ -24,9 +24,9 @@ use Rattle.vg_client.specs.declared.given.Given.TheVariants as givens
 use Rattle.vg_names.specs.declared.names.Held.{Held}
 use Rattle.vg_client.specs.declared.outcome.Played.{Played}
 use Rattle.vg_tasks.specs.declared.task.Change.{Change}
-use Rattle.vg_tasks.specs.declared.task.Change.TheVariants.{NewBuffer, EndOfName, Shows}
+use Rattle.vg_tasks.specs.declared.task.Change.TheVariants.{NewBuffer, Imported, EndOfName, Shows}
 use Rattle.vg_tasks.specs.declared.task.Task.{Task}
-use Rattle.vg_client.specs.Calls.{Begins, BeginsTasks, Gives, GivesTasks, IsAsked, IsDenial, IsDone, IsEntryOf, IsFrontOf, Plays, learned, names_after, names_reserved, shows_after}
+use Rattle.vg_client.specs.Calls.{Begins, BeginsTasks, Gives, GivesTasks, IsAsked, IsDenial, IsDone, IsEntryOf, IsFrontOf, Plays, learned, names_after, names_imported, names_reserved, shows_after}
 use Rattle.vg_tasks.specs.Tasks.{end_tasks, tasks_of}
 use Rattle.vg_client.specs.Callers.{BeginsEnd, HasAdded, HasDone, HasEnded, HasGoneOn, HasLeftBy, HasMade, IsFewPages, IsReady, IsSmall, known}
 use Rattle.vg_tasks.specs.Plans.{IsFitPlan, IsPlanOf, weight_of, weights}
@@ -117,8 +117,15 @@ reserved-little width height (givens.Act (act_replies.Reserved key pages)) names
     (omega (arith, longer, small), omega arith, omega arith)
 reserved-little width height given names small = (omega (arith, small), omega arith, omega arith)
 
+imported-little : (given : Given) (names : NamesState) → length names.current ≤ names.made → GrowLittle names (names_imported given names)
+imported-little (givens.Act (act_replies.Imported key geometry pages)) names small =
+    let longer = length-append names.current (record { number = names.made + 1; key = key; width = geometry.width; height = geometry.height } ∷ []) in
+    (omega (arith, longer, small), omega arith, omega arith)
+imported-little given names small = (omega (arith, small), omega arith, omega arith)
+
 names-little : (change : Change) (given : Given) (names : NamesState) → length names.current ≤ names.made → GrowLittle names (names_after change given names)
 names-little (NewBuffer width height format) given names small = reserved-little width height given names small
+names-little Imported given names small = imported-little given names small
 names-little (EndOfName number key) given names small = by_test (is_accepted given) (filter-fewer (λ held. not (is_numbered number held)) names.current)
   where
     by_test : (b : Bool) → length (filter (λ held. not (is_numbered number held)) names.current) ≤ length names.current → GrowLittle names (cond b (without_name number names) names)

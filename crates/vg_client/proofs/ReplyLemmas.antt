@@ -31,6 +31,8 @@ few-effect : (state : State) (client : ℕ) (act : Act) → HasFewBytes act → 
 few-effect state client (acts.Reserve width height format bytes) few = few-replied (reserve_refusal bytes state.memory) state _ _ (few-taken bytes (free_pages state.memory.taken) few)
 few-effect state client (acts.Store key offset bytes times) few = few-replied _ state _ act_replies.Ok tt
 few-effect state client (acts.Load key offset n) few = few-replied _ state _ (act_replies.Bytes _) tt
+few-effect state client (acts.Export key) few = few-replied _ state _ (act_replies.Exported _) tt
+few-effect state client (acts.Import token) few = few-replied _ state _ (act_replies.Imported _ _ _) tt
 few-effect state client (acts.Release key) few = few-replied _ state _ _ (few-released (has_holder key (released client key state.share)))
 few-effect state client (acts.Free key) few = few-replied _ state _ act_replies.Ok tt
 few-effect state client (acts.Take scanout) few = few-replied _ state _ act_replies.Ok tt

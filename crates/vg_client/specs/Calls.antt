@@ -15,7 +15,7 @@ use Rattle.vg_calls.specs.declared.call.NameRef.{NameRef}
 use Rattle.vg_client.specs.declared.given.Given.{Given}
 use Rattle.vg_client.specs.declared.given.Given.TheVariants as givens
 use Rattle.vg_tasks.specs.declared.task.Change.{Change}
-use Rattle.vg_tasks.specs.declared.task.Change.TheVariants.{NewBuffer, EndOfName, Shows}
+use Rattle.vg_tasks.specs.declared.task.Change.TheVariants.{NewBuffer, Imported, EndOfName, Shows}
 use Rattle.vg_tasks.specs.declared.task.Deed.{Deed}
 use Rattle.vg_tasks.specs.declared.task.Deed.TheVariants as deeds
 use Rattle.vg_tasks.specs.declared.task.Task.{Task}
@@ -45,9 +45,15 @@ abbrev pub names_reserved : ℕ → ℕ → Given → NamesState → NamesState
 names_reserved width height (givens.Act (act_replies.Reserved key pages)) names = with_name key width height names
 names_reserved width height given names = with_none names
 
--- A name is current from the reserve of its buffer until the release of it, where these are accepted.
+-- The names after a buffer was to be imported: its size is the one that was reserved.
+abbrev pub names_imported : Given → NamesState → NamesState
+names_imported (givens.Act (act_replies.Imported key geometry pages)) names = with_name key geometry.width geometry.height names
+names_imported given names = with_none names
+
+-- A name is current from the reserve, or the import, of its buffer until the release of it, where these are accepted.
 abbrev pub names_after : Change → Given → NamesState → NamesState
 names_after (NewBuffer width height format) given names = names_reserved width height given names
+names_after Imported given names = names_imported given names
 names_after (EndOfName number key) given names = if is_accepted given then without_name number names else names
 names_after change given names = names
 

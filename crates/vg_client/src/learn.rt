@@ -1,7 +1,7 @@
 //! What a client learns from what a task was answered.
 
-ghost use Rattle.std.specs.Prelude.{◌≡◌, ◌≤◌, ◌<◌, ◌^◌, OnOk};
-ghost use Rattle.vg_client.specs.Calls.{names_after, names_reserved, shows_after};
+ghost use Rattle.std.specs.Prelude.{◌≡◌, ◌<◌, ◌^◌, OnOk};
+ghost use Rattle.vg_client.specs.Calls.{names_after, names_imported, names_reserved, shows_after};
 ghost use Rattle.vg_tasks.specs.Fits.{IsFitChange};
 ghost use Rattle.vg_tasks.specs.declared.task.Change.TheVariants as changes;
 
@@ -29,6 +29,7 @@ pub(crate) fn learn<B: Naming>(
         Change::NewBuffer { width, height, .. } => {
             name_reserved(&mut client.names, width, height, given)
         }
+        Change::Imported => name_imported(&mut client.names, given),
         Change::EndOfName { number, .. } => {
             if is_accepted(given) {
                 client.names.end(number);
@@ -50,15 +51,26 @@ fn name_reserved(
     height: u32,
     given: &Given,
 ) -> Result<(), AllocError>
-    requires width { width ≤ 640 }
-    requires height { height ≤ 480 }
-    requires room { names.old.made < 2 ^ 31 }
+    requires { names.old.made < 2 ^ 31 }
     ensures { OnOk result (names.new ≡ names_reserved width height given.now names.old) }
 {
     match given {
         Given::Act {
             reply: ActReply::Reserved { key, .. },
         } => names.make(*key, width, height),
+        _ => names.make_none(),
+    }
+}
+
+/// The next name: that of the buffer that was imported, or one that never is current.
+fn name_imported(names: &mut Names, given: &Given) -> Result<(), AllocError>
+    requires { names.old.made < 2 ^ 31 }
+    ensures { OnOk result (names.new ≡ names_imported given.now names.old) }
+{
+    match given {
+        Given::Act {
+            reply: ActReply::Imported { key, geometry, .. },
+        } => names.make(*key, geometry.width, geometry.height),
         _ => names.make_none(),
     }
 }
