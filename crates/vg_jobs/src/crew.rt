@@ -84,12 +84,7 @@ fn apart<
     J: Job<D> + Send + 's,
     Q: Quit,
     R: Threads + Wait + Sync + 's,
->(
-    rt: &'s R,
-    scope: &Scope<'s, X>,
-    jobs: Vec<J>,
-    quit: &Q,
-) -> Result<Vec<D>, AllocError>
+>(rt: &'s R, scope: &Scope<'s, X>, jobs: Vec<J>, quit: &Q) -> Result<Vec<D>, AllocError>
     requires { All J.is_ready jobs.items }
     ensures { IfOk result (λ v. AllGive J.gives jobs.items v.items) }
 {

@@ -1,5 +1,5 @@
 -- A history of one client alone stands by the numbers of its entries.
-use Rattle.std.proofs.Common.{◌≡◌, ◌≢◌, inl, inr, ◌+◌, ◌<◌, ◌≤◌, ◌==◌, ◌∙◌, sym, ap, refl, subst, arith, cc, ℕ, zero, suc, Bool, true, false, cond, List, [], ◌∷◌, ◌++◌, length, map, append_assoc, nat_le, nat_lt}
+use Rattle.std.proofs.Common.{◌≡◌, ◌≢◌, inl, inr, ◌+◌, ◌<◌, ◌≤◌, ◌==◌, ◌∙◌, sym, ap, refl, subst, arith, ℕ, zero, suc, Bool, true, false, cond, List, [], ◌∷◌, ◌++◌, length, map, append_assoc, nat_le, nat_lt}
 use Rattle.std.specs.List.{AllByRecursion, range_with_len}
 use Rattle.std.proofs.lemmas.Bool.Decides.{nat_tests}
 use mathlib.Core.List.{IsPrefix}
@@ -132,5 +132,5 @@ alone-sorted setup H values lines sound follows owned =
     let sorted : List Entry = by_call (of_client 1 H) in
     let all : ArePlaced H 1 [] sorted = calls-placed setup H values 1 lines sorted (length (of_client 1 H)) follows.numbers follows.calls in
     let each : (e : Entry) → Has H e → IsPlaced H 1 [] (call_of e) = λ e at.
-        all-has (λ x. IsPlaced H 1 [] (call_of x)) sorted e all (by_call-of (of_client 1 H) e (subst (λ (es : List Entry). Has es e) (sym mine) at)) in
+    all-has (λ x. IsPlaced H 1 [] (call_of x)) sorted e all (by_call-of (of_client 1 H) e (subst (λ (es : List Entry). Has es e) (sym mine) at)) in
     ap by_call mine ∙ by_call-in_place H (in-place H [] H refl sound.order tt owned each)

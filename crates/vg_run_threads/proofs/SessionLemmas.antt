@@ -177,10 +177,10 @@ module _ {X : Type 0} (token : X → Token) (lines : X → List Line) (labels : 
 
       each : (js : List X) → ((t : Token) → Has (map token js) t → IsNew (setup_of s) t) → ((t : Token) → Has (map token js) t → (1 ≤ number_of t) × (number_of t ≤ length s.clients)) → All (HasLines s) js → All (HasLabels ls) js
           → All (λ job. IsReady (length (labels job)) (lines job) (token job)) js
-      each [] fresh within of as k d lt = absurd (omega (arith, lt))
-      each (j ∷ js) fresh within of as zero d lt = let w = within (token j) (inl refl) in is-ready s ls j limits count (of 0 j (omega arith)) (as 0 j (omega arith)) (fresh (token j) (inl refl)) w.0 w.1
-      each (j ∷ js) fresh within of as (suc k) d lt =
-          each js (λ t at. fresh t (inr at)) (λ t at. within t (inr at)) (λ i e l. of (suc i) e (omega (arith, l))) (λ i e l. as (suc i) e (omega (arith, l))) k d (omega (arith, lt))
+      each [] fresh within of its k d lt = absurd (omega (arith, lt))
+      each (j ∷ js) fresh within of its zero d lt = let w = within (token j) (inl refl) in is-ready s ls j limits count (of 0 j (omega arith)) (its 0 j (omega arith)) (fresh (token j) (inl refl)) w.0 w.1
+      each (j ∷ js) fresh within of its (suc k) d lt =
+          each js (λ t at. fresh t (inr at)) (λ t at. within t (inr at)) (λ i e l. of (suc i) e (omega (arith, l))) (λ i e l. its (suc i) e (omega (arith, l))) k d (omega (arith, lt))
 
   module _ {B : Type 0} where
     abbrev Gives : X → Performed B → Type 0

@@ -34,7 +34,7 @@ use Rattle.vg_tasks.specs.Plans.{IsCallFit}
 use Rattle.vg_labels.specs.declared.table.Told.{Told}
 use Rattle.vg_labels.specs.Labels.{AreTold, Values}
 use Rattle.vg_script_part.specs.Follows.{GivesAll, GivesCalls}
-use Rattle.vg_script_part.specs.Performing.{AreInLimits, GivesRest, HasDoneLine, HasKept, HasPerformed, HasSeenMore, IsFollowing, IsLineCall}
+use Rattle.vg_script_part.specs.Performing.{AreInLimits, GivesRest, HasDoneLine, HasKept, HasPerformed, HasSeenMore, Hears, IsFollowing, IsLineCall}
 
 pub following-first : {B : Type 0} (setup : Setup) (lines : List Line) (token : Token) (client : ClientState B) → IsNew setup token → HasEntered token client.caller → client.stopped ≡ false → IsFollowing setup [] lines 0 client
 following-first setup lines token client new entered goes_on =
@@ -200,19 +200,19 @@ performed setup told lines i client token following done number start_is ended =
     sym (length-range_with_len 1 token.account.used) ∙ ap (λ (ns : List ℕ). length ns) (sym is.in_order) ∙ long ∙ ap (λ (es : List Entry). length es) (sym sorted) ∙ by_call-length (of_client token.account.number S) in
     let tail : List Entry = ended.ending ++ entries.Act n ended.last Leave act_replies.Ok ∷ [] in
     let calls : (values : Values) → AreTold values told → GivesCalls setup S values n lines (mine_of token) = λ values as_told.
-        let none : GivesAll S values n [] (known client.caller) (drop i lines) [] (known client.caller) = subst (λ (ls : List Line). GivesAll S values n [] (known client.caller) ls [] (known client.caller)) (sym (drop_all i lines done)) (refl, refl) in
-        record {
-          first = 1;
-          last = ended.last;
-          middle = before.0;
-          ending = ended.ending;
-          known = known client.caller;
-          at_end = ended.after;
-          whole = ended.own ∙ ap (λ (xs : List Entry). xs ++ tail) before.1;
-          lines_give = subst (λ (xs : List Entry). GivesAll S values n [] (first_known setup n) lines xs (known client.caller)) (append-nil before.0) (before.2 S values [] (known client.caller) ended.more as_told none);
-          end_gives = ended.plays;
-          end_placed = ended.placed;
-        } in
+    let none : GivesAll S values n [] (known client.caller) (drop i lines) [] (known client.caller) = subst (λ (ls : List Line). GivesAll S values n [] (known client.caller) ls [] (known client.caller)) (sym (drop_all i lines done)) (refl, refl) in
+    record {
+      first = 1;
+      last = ended.last;
+      middle = before.0;
+      ending = ended.ending;
+      known = known client.caller;
+      at_end = ended.after;
+      whole = ended.own ∙ ap (λ (xs : List Entry). xs ++ tail) before.1;
+      lines_give = subst (λ (xs : List Entry). GivesAll S values n [] (first_known setup n) lines xs (known client.caller)) (append-nil before.0) (before.2 S values [] (known client.caller) ended.more as_told none);
+      end_gives = ended.plays;
+      end_placed = ended.placed;
+    } in
     record {
       current = is.standing.current;
       kept = λ values as_told. record {
@@ -265,3 +265,13 @@ kept-behind old mid new seen kept =
         → (new.stopped ≡ true) ⊎ (length (mine_of new.caller.token) ≤ length (mine_of old.caller.token) + 19)
     by_case same (inl stopped) = inl stopped
     by_case same (inr few) = inr (omega (arith, few, same))
+
+-- what follows of a result that is Ok
+pub ok_more : {T E : Type 0} {P Q : Type 0} (r : Result T E) → OnOk r P → (P → Q) → OnOk r Q
+ok_more (Ok x) p f = f p
+ok_more (Err e) p f = tt
+
+-- so is the call with what it heard
+pub heard-fits : (displays : ℕ) (labels : List ℕ) (seen : List Entry) (call heard : Call) (told told' : List Told) → CallInLimits displays call → Hears labels seen call told told' heard → IsCallFit displays heard
+heard-fits displays labels seen (calls.Import label token) heard told told' within hears = subst (λ (c : Call). IsCallFit displays c) (sym hears.call_is) tt
+heard-fits displays labels seen call heard told told' within hears = subst (λ (c : Call). IsCallFit displays c) (sym hears.0) (call-fits displays call within)

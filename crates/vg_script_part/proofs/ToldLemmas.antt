@@ -1,5 +1,5 @@
 -- What a client hears and tells with a line, and what that makes of its entries.
-use Rattle.std.proofs.Common.{◌≡◌, ◌+◌, ◌-◌, ◌≤◌, ◌∙◌, sym, ap, refl, subst, arith, cc, ℕ, Bool, true, false, cond, List, [], ◌∷◌, ◌++◌, length, map, not, ◌||◌, append_assoc, Option, Some, None, Result, Ok, Err}
+use Rattle.std.proofs.Common.{◌≡◌, ◌+◌, ◌-◌, ◌≤◌, ◌∙◌, sym, ap, refl, subst, arith, ℕ, Bool, true, false, cond, List, [], ◌∷◌, ◌++◌, length, map, not, ◌||◌, append_assoc, Option, Some, None, Result, Ok, Err}
 use Rattle.std.specs.List.{AllByRecursion, range_with_len}
 use mathlib.Core.List.{IsPrefix}
 use Rattle.vg_history.specs.Lists.{Has}
@@ -31,7 +31,6 @@ use Rattle.vg_client.specs.Calls.{Gives, GivesTasks, Plays, learned}
 use Rattle.vg_client.specs.Given.{given_of, goes_on, is_accepted, left_after}
 use Rattle.vg_client.specs.Outcomes.{EndsWith, IsOutcome, last_of}
 use Rattle.vg_client.specs.Own.{ArePlaced}
-use Rattle.vg_client.specs.declared.given.Given as answers
 use Rattle.vg_client.specs.declared.outcome.Last.{Last}
 use Rattle.vg_client.specs.declared.outcome.Outcome.{Outcome}
 use Rattle.vg_labels.specs.declared.label.Given.{Given}
@@ -96,14 +95,14 @@ same-either : (b : Bool) → ◌≡◌ {A = List Task} (cond b [] []) []
 same-either true = refl
 same-either false = refl
 
-nothing-left : (stops : Bool) (given : answers.Given) → left_after stops changes.Nothing given [] ≡ []
-nothing-left stops given = same-either (not stops || goes_on changes.Nothing given || is_accepted given)
+nothing-left : (stops : Bool) (e : Entry) → left_after stops changes.Nothing (given_of e) [] ≡ []
+nothing-left stops e = same-either (not stops || goes_on changes.Nothing (given_of e) || is_accepted (given_of e))
 
 one-played : (client : ℕ) (known known' : Known) (task : Task) (mine : List Entry) → task.change ≡ changes.Nothing → Plays client true known (task ∷ []) mine known' [] → (e : Entry) × (mine ≡ e ∷ [])
 one-played client known known' task [] nothing plays = let none : [] ≡ task ∷ [] = plays.1 in absurd (cc none)
 one-played client known known' task (e ∷ more) nothing plays =
     let Left : List Task → Type 0 = λ tasks. Plays client true (learned known task e) tasks more known' [] in
-    let left : left_after true task.change (given_of e) [] ≡ [] = ap (λ (c : Change). left_after true c (given_of e) []) nothing ∙ nothing-left true (given_of e) in
+    let left : left_after true task.change (given_of e) [] ≡ [] = ap (λ (c : Change). left_after true c (given_of e) []) nothing ∙ nothing-left true e in
     (e, ap (λ (es : List Entry). e ∷ es) (none-more more (subst Left left plays.1)))
   where
     none-more : (es : List Entry) → Plays client true (learned known task e) [] es known' [] → es ≡ []
@@ -189,13 +188,13 @@ line-done labels old mid new label call heard told told1 told2 mine outcome idle
     let number : n ≡ old.caller.token.account.number = ap (λ (a : Account). a.number) seen.account in
     let none : begun_of mid.caller.token.account ≡ [] = ap (λ (a : Account). begun_of a) seen.account ∙ ap (λ os. map order_call os) idle in
     let line : (H : List Entry) (values : Values) → IsPrefix new.caller.token.seen H → AreTold values told2 → IsLine H values n [] (known mid.caller) call mine (known new.caller) = λ H values begins all.
-        let all1 : AreTold values told1 = tells-before values labels label (given_by new outcome.last) told1 told2 tells all in
-        record {
-          given = subst (λ (c : Call). Gives n (known mid.caller) c mine (known new.caller)) (sym (hears-call values labels mid.caller.token.seen call told told1 heard hears all1)) given;
-          placed = placed-more new.caller.token.seen H n [] mine begins (subst (λ (b : List ℕ). ArePlaced new.caller.token.seen n b mine) none on.placed);
-          heard = has-heard values labels mid.caller.token.seen H n mine call told told1 heard hears all1 (prefix_trans mid.caller.token.seen new.caller.token.seen H on.added.more begins) on.apart;
-          gave = subst (λ (l : Option ℕ). HasGiven values l mine) is (has-given values labels mid.caller.token.seen mid new label call heard told told1 told2 mine outcome is hears given on out tells all);
-        } in
+    let all1 : AreTold values told1 = tells-before values labels label (given_by new outcome.last) told1 told2 tells all in
+    record {
+      given = subst (λ (c : Call). Gives n (known mid.caller) c mine (known new.caller)) (sym (hears-call values labels mid.caller.token.seen call told told1 heard hears all1)) given;
+      placed = placed-more new.caller.token.seen H n [] mine begins (subst (λ (b : List ℕ). ArePlaced new.caller.token.seen n b mine) none on.placed);
+      heard = has-heard values labels mid.caller.token.seen H n mine call told told1 heard hears all1 (prefix_trans mid.caller.token.seen new.caller.token.seen H on.added.more begins) on.apart;
+      gave = subst (λ (l : Option ℕ). HasGiven values l mine) is (has-given values labels mid.caller.token.seen mid new label call heard told told1 told2 mine outcome is hears given on out tells all);
+    } in
     let Line : ℕ → Known → Type 0 = λ k known0. (H : List Entry) (values : Values) → IsPrefix new.caller.token.seen H → AreTold values told2 → IsLine H values k [] known0 call mine (known new.caller) in
     record {
       mine = mine;

@@ -125,7 +125,7 @@ pub record HasDoneLine {B : Type 0} (told told' : List Told) (old new : ClientSt
 abbrev pub GivesRest : Setup → List Entry → List Told → ℕ → List Line → List Line → Known → List Entry → Type 0
 GivesRest setup seen told client lines left known mine = (middle : List Entry) × (mine ≡ entries.Act client 1 Enter act_replies.Ok ∷ middle)
     × ((H : List Entry) (values : Values) (rest : List Entry) (after : Known) → IsPrefix seen H → AreTold values told
-        → GivesAll H values client [] known left rest after → GivesAll H values client [] (first_known setup client) lines (middle ++ rest) after)
+    → GivesAll H values client [] known left rest after → GivesAll H values client [] (first_known setup client) lines (middle ++ rest) after)
 
 -- How far a client has come with its lines: it has done the first so many.
 pub record IsFollowing {B : Type 0} (setup : Setup) (told : List Told) (lines : List Line) (i : ℕ) (client : ClientState B) : Type 0 where
