@@ -1,5 +1,5 @@
 -- Clients on threads, and what they leave.
-use Rattle.std.proofs.Common.{◌≡◌, inl, inr, ⊎_elim, ◌+◌, ◌-◌, ◌<◌, ◌≤◌, ◌∙◌, sym, ap, refl, subst, subst₂, arith, add-one, append_assoc, append-nil, ℕ, zero, suc, true, false, List, [], ◌∷◌, ◌++◌, length, map, get_or, Option, Some, None}
+use Rattle.std.proofs.Common.{◌≡◌, inl, inr, ⊎_elim, ◌+◌, ◌-◌, ◌<◌, ◌≤◌, ◌∙◌, sym, ap, refl, subst, subst₂, arith, add-one, append_assoc, append-nil, ℕ, zero, suc, true, false, List, [], ◌∷◌, ◌++◌, length, map, get_or, take, Option, Some, None}
 use Rattle.std.specs.Prelude.{All, sum_by}
 use Rattle.std.specs.List.{fold, range_with_len}
 use Rattle.std.proofs.lemmas.List.{map-append}
@@ -30,7 +30,7 @@ use Rattle.vg_script.specs.declared.types.Line.{Line}
 use Rattle.vg_script.specs.declared.types.Script.{Script}
 use Rattle.vg_script.specs.Limits.{ScriptInLimits}
 use Rattle.vg_script.specs.Waits.{given_in, given_in_all, gives, label_list}
-use Rattle.vg_labels.specs.Labels.{AreOf, Values}
+use Rattle.vg_labels.specs.Labels.{AreOf, AreTold, Values}
 use Rattle.vg_driver.specs.Halves.{HasHeard}
 use Rattle.vg_driver.specs.Tickets.{Account, Token}
 use Rattle.vg_client.specs.Accounts.{IsNew, mine_of}
@@ -250,6 +250,15 @@ module _ {X : Type 0} (token : X → Token) (lines : X → List Line) (labels : 
       values = values;
       clients = has-joined s values old new jobs ps (subst (λ (x : Setup). AreNew x (length s.clients) (map token jobs)) is fresh) of h told taken root.accounts;
     }
+
+-- one client more that was told so
+pub told-more : {B : Type 0} (values : Values) (ps : List (Performed B)) (i : ℕ) (x : Performed B) → x ≡ get_or ps i x → i < length ps → AreAllTold values (take i ps) → AreTold values x.told.items → AreAllTold values (take (suc i) ps)
+told-more values [] i x is within before here = absurd (omega (arith, within))
+told-more values (y ∷ ys) zero x is within before here = λ p at. ⊎_elim (λ same. subst (λ q. AreTold values q.told.items) (is ∙ same) here) (λ none. absurd none) at
+told-more values (y ∷ ys) (suc i) x is within before here = λ p at. ⊎_elim
+    (λ same. before p (inl same))
+    (λ more. told-more values ys i x is (omega (arith, within)) (λ q h. before q (inr h)) here p more)
+    at
 
 -- the clients that were taken in
 module _ {B : Type 0} where

@@ -207,7 +207,7 @@ fn join_all<'a, B: Naming>(
     performed: Vec<Performed<'a, B>>,
 ) -> Result<(), AllocError>
     requires { All (λ p. p.token.account.out ≡ []) performed.items }
-    ensures { OnOk result (HasTakenAll root.old performed.items root.new) }
+    ensures { OnOk result (HasTakenAll root.old performed.entry.items root.new) }
 {
     for client in performed {
         let Performed { token, done, .. } = client;

@@ -21,16 +21,16 @@ use Rattle.vg_book_uses.proofs.share.run_all.Goals as goal
 desk_send : (g : Over) → IsSend (desk.the_row (param 0 g.row.B) g.B.Naming)
 desk_send g = search (sendable, crosses, pass_send, sent_send, answered_send) depth 20
 
-client_done : (g : Over) (κs : contract.Lifetimes.Lfts 7) → IsSend (lts.arg-12-0 g.row.B g.row.R g.B.laws g.R.laws g.B.Naming g.B.Naming-dict g.R.Threads g.R.Threads-dict g.R.Wait g.R.Wait-dict κs)
+client_done : (g : Over) (κs : contract.Lifetimes.Lfts 9) → IsSend (lts.arg-12-0 g.row.B g.row.R g.B.laws g.R.laws g.B.Naming g.B.Naming-dict g.R.Threads g.R.Threads-dict g.R.Wait g.R.Wait-dict κs)
 client_done g κs = search (sendable, crosses, client_send) depth 20
 
-lane_done : (g : Over) (κs : contract.Lifetimes.Lfts 7) → IsSend (lts.arg-12-1 g.row.B g.row.R g.B.laws g.R.laws g.B.Naming g.B.Naming-dict g.R.Threads g.R.Threads-dict g.R.Wait g.R.Wait-dict κs)
+lane_done : (g : Over) (κs : contract.Lifetimes.Lfts 9) → IsSend (lts.arg-12-1 g.row.B g.row.R g.B.laws g.R.laws g.B.Naming g.B.Naming-dict g.R.Threads g.R.Threads-dict g.R.Wait g.R.Wait-dict κs)
 lane_done g κs = search (sendable, crosses, lane_send) depth 20
 
-asking_send : (g : Over) (κs : contract.Lifetimes.Lfts 7) → IsSend (lts.arg-12-2 g.row.B g.row.R g.B.laws g.R.laws g.B.Naming g.B.Naming-dict g.R.Threads g.R.Threads-dict g.R.Wait g.R.Wait-dict κs)
+asking_send : (g : Over) (κs : contract.Lifetimes.Lfts 9) → IsSend (lts.arg-12-2 g.row.B g.row.R g.B.laws g.R.laws g.B.Naming g.B.Naming-dict g.R.Threads g.R.Threads-dict g.R.Wait g.R.Wait-dict κs)
 asking_send g κs = search (sendable, crosses, client_send, book_sync, desk_send) depth 20
 
-serving_send : (g : Over) (κs : contract.Lifetimes.Lfts 7) → IsSend (lts.arg-12-3 g.row.B g.row.R g.B.laws g.R.laws g.B.Naming g.B.Naming-dict g.R.Threads g.R.Threads-dict g.R.Wait g.R.Wait-dict κs)
+serving_send : (g : Over) (κs : contract.Lifetimes.Lfts 9) → IsSend (lts.arg-12-3 g.row.B g.row.R g.B.laws g.R.laws g.B.Naming g.B.Naming-dict g.R.Threads g.R.Threads-dict g.R.Wait g.R.Wait-dict κs)
 serving_send g κs = search (sendable, crosses, lane_send, book_sync, desk_send) depth 20
 
 pub all-requires-send-D : goal.all-requires-send-D
