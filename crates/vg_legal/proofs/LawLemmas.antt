@@ -1,5 +1,5 @@
 -- A script of at most one client has at most one legal history.
-use Rattle.std.proofs.Common.{◌≡◌, ◌+◌, ◌≤◌, ◌∙◌, sym, ap, refl, subst, arith, ◌==◌, ◌||◌, ℕ, zero, suc, Bool, true, false, List, [], ◌∷◌, ◌++◌, count_by, length, map, append_assoc, Option, Some, None, Result, Ok, Err}
+use Rattle.std.proofs.Common.{◌≡◌, ◌+◌, ◌≤◌, ◌∙◌, sym, ap, refl, subst, true≢false, arith, ◌==◌, ◌||◌, ℕ, zero, suc, Bool, true, false, List, [], ◌∷◌, ◌++◌, count_by, length, map, append_assoc, Option, Some, None, Result, Ok, Err}
 use Rattle.std.specs.Prelude.{All, IfSome, IsTrue}
 use Rattle.std.specs.List.{AllByRecursion, list_any, range_with_len}
 use Rattle.std.proofs.lemmas.Bool.Decides.{nat_tests}
@@ -196,7 +196,7 @@ heard-same labels V V' call agree known = refl
 
 -- what a line gives is one where its entry is
 given-same : (V V' : Values) (label : Option ℕ) (front front' : List Entry) → front ≡ front' → HasGiven V label front → HasGiven V' label front' → (l : ℕ) → IsTrue (list_any (λ other. other == l) (label_list label)) → V l ≡ V' l
-given-same V V' None front front' same gave gave' l at = absurd at
+given-same V V' None front front' same gave gave' l at = absurd (true≢false (sym at))
 given-same V V' (Some label) front front' same gave gave' l at =
     let one : gave.0 ∷ [] ≡ gave'.0 ∷ [] = sym gave.1 ∙ same ∙ gave'.1 in
     let entry : gave.0 ≡ gave'.0 = cc one in
@@ -206,13 +206,13 @@ given-same V V' (Some label) front front' same gave gave' l at =
   where
     true-of : (b : Bool) → IsTrue (b || false) → b ≡ true
     true-of true t = refl
-    true-of false t = absurd t
+    true-of false t = absurd (true≢false (sym t))
 
 agree-more : (labels more : List ℕ) (V V' : Values) → Agree labels V V' → Agree more V V' → Agree (labels ++ more) V V'
 agree-more labels more V V' one other l at = by_test (list_any (λ x. x == l) labels) (list_any (λ x. x == l) more) (subst (λ (b : Bool). IsTrue b) (list_any-append (λ x. x == l) labels more) at) (one l) (other l)
   where
     by_test : (a b : Bool) → IsTrue (a || b) → (IsTrue a → V l ≡ V' l) → (IsTrue b → V l ≡ V' l) → V l ≡ V' l
-    by_test true b t p q = p tt
+    by_test true b t p q = p refl
     by_test false b t p q = q t
 
 -- what lines give is determined, where each label that a line waits for was given before it
@@ -267,7 +267,7 @@ same_calls setup client lines V V' G H state before k are calls calls' left left
     let entered : enter ≡ enter' = same_act state before k client Enter calls.first calls'.first act_replies.Ok act_replies.Ok one.here other.here in
     let Behind : Entry → Type 0 = λ x. Left (after state x) (before ++ x ∷ []) (k + 1) (calls'.middle ++ tail') in
     let given = same_lines G H V V' client [] lines calls.middle calls'.middle tail tail' (first_known setup client) calls.known calls'.known (after state enter) (before ++ enter ∷ []) (k + 1)
-    (λ l none. absurd none) are calls.lines_give calls'.lines_give one.left (subst Behind (sym entered) other.left) in
+    (λ l none. absurd (true≢false (sym none))) are calls.lines_give calls'.lines_give one.left (subst Behind (sym entered) other.left) in
     let Ending : Known → Type 0 = λ known. Plays client false known (end_tasks known) calls'.ending calls'.at_end [] in
     let ended = same_plays client false calls.ending calls'.ending (leave ∷ []) (leave' ∷ []) (end_tasks calls.known) calls.known calls.at_end calls'.at_end given.state given.before given.k
     calls.end_gives (subst Ending (sym given.known) calls'.end_gives) given.left given.right in
