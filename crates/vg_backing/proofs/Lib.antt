@@ -1,1 +1,2 @@
 pub mod BackingLemmas
+pub mod HeldLemmas

@@ -1,6 +1,6 @@
 -- What holds of what so many arguments give, and of nothing, holds for all arguments.
 use Rattle.std.proofs.Common.{ℕ, List, [], ◌∷◌, Option, None}
-use Rattle.vg_call_lines.specs.Args.{no_args, one_arg, two_args, three_args, four_args, five_args, six_args}
+use Rattle.vg_call_lines.specs.Args.{no_args, one_arg, two_args, three_args, four_args, five_args, six_args, eleven_args}
 
 module _ {X : Type 0} (P : Option X → Type 0) (nothing : P None) where
   pub no_args_give : (given : Option X) → (P (given)) → (args : List (List ℕ)) → P (no_args given args)
@@ -51,3 +51,18 @@ module _ {X : Type 0} (P : Option X → Type 0) (nothing : P None) where
   six_args_give given holds (a ∷ b ∷ c ∷ d ∷ e ∷ []) = nothing
   six_args_give given holds (a ∷ b ∷ c ∷ d ∷ e ∷ f ∷ []) = holds a b c d e f
   six_args_give given holds (a ∷ b ∷ c ∷ d ∷ e ∷ f ∷ next ∷ more) = nothing
+
+  pub eleven_args_give : (given : (a b c d e f g h i j k : List ℕ) → Option X) → ((a b c d e f g h i j k : List ℕ) → P (given a b c d e f g h i j k)) → (args : List (List ℕ)) → P (eleven_args given args)
+  eleven_args_give given holds [] = nothing
+  eleven_args_give given holds (a ∷ []) = nothing
+  eleven_args_give given holds (a ∷ b ∷ []) = nothing
+  eleven_args_give given holds (a ∷ b ∷ c ∷ []) = nothing
+  eleven_args_give given holds (a ∷ b ∷ c ∷ d ∷ []) = nothing
+  eleven_args_give given holds (a ∷ b ∷ c ∷ d ∷ e ∷ []) = nothing
+  eleven_args_give given holds (a ∷ b ∷ c ∷ d ∷ e ∷ f ∷ []) = nothing
+  eleven_args_give given holds (a ∷ b ∷ c ∷ d ∷ e ∷ f ∷ g ∷ []) = nothing
+  eleven_args_give given holds (a ∷ b ∷ c ∷ d ∷ e ∷ f ∷ g ∷ h ∷ []) = nothing
+  eleven_args_give given holds (a ∷ b ∷ c ∷ d ∷ e ∷ f ∷ g ∷ h ∷ i ∷ []) = nothing
+  eleven_args_give given holds (a ∷ b ∷ c ∷ d ∷ e ∷ f ∷ g ∷ h ∷ i ∷ j ∷ []) = nothing
+  eleven_args_give given holds (a ∷ b ∷ c ∷ d ∷ e ∷ f ∷ g ∷ h ∷ i ∷ j ∷ k ∷ []) = holds a b c d e f g h i j k
+  eleven_args_give given holds (a ∷ b ∷ c ∷ d ∷ e ∷ f ∷ g ∷ h ∷ i ∷ j ∷ k ∷ next ∷ more) = nothing

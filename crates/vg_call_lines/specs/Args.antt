@@ -28,3 +28,7 @@ five_args given args = None
 abbrev pub six_args : {X : Type 0} → ((a b c d e f : List ℕ) → Option X) → List (List ℕ) → Option X
 six_args given (a ∷ b ∷ c ∷ d ∷ e ∷ f ∷ []) = given a b c d e f
 six_args given args = None
+
+abbrev pub eleven_args : {X : Type 0} → ((a b c d e f g h i j k : List ℕ) → Option X) → List (List ℕ) → Option X
+eleven_args given (a ∷ b ∷ c ∷ d ∷ e ∷ f ∷ g ∷ h ∷ i ∷ j ∷ k ∷ []) = given a b c d e f g h i j k
+eleven_args given args = None

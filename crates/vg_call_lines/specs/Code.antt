@@ -11,7 +11,7 @@ use Rattle.vg_call_lines.specs.Tables.{NameTable, names_of, numbers_of, with_lab
 
 -- The names that are defined, and how many were, and the labels.
 abbrev pub table_of : Names → NameTable
-table_of names = record { names = names_of names.named; count = names.count; labels = numbers_of names.labels; exported = names.exported }
+table_of names = record { names = names_of names.named; count = names.count; contexts = names.contexts; labels = numbers_of names.labels; exported = names.exported }
 
 -- There is such a value and the answer is it, or there is none and the answer is a fault of this kind.
 abbrev pub Finds : {X : Type 0} → Option X → Kind → Result X Kind → Type 0

@@ -14,12 +14,12 @@ use Rattle.vg_chain.specs.declared.shape.Shape.TheVariants.{Plain, Pieces, Indir
 use Rattle.vg_chain.specs.declared.chain.ChainFault.TheVariants.{Index, Loop, Nested, NextWithIndirect, TableLength, Order, Range}
 use Rattle.vg_chain.specs.Space.{most_room}
 use Rattle.vg_calls.specs.declared.call.Call.{Call}
-use Rattle.vg_calls.specs.declared.call.Call.TheVariants.{Info, Edid, Buffer, Store, Load, Send, Flush, Take, Drop, Hide, Show, Flip, Cursor, Move, Uuid, Export, Import, Close, Raw}
+use Rattle.vg_calls.specs.declared.call.Call.TheVariants.{Info, Edid, Buffer, Blob, Store, Load, Send, Flush, Take, Drop, Hide, Show, ShowBlob, Flip, Cursor, Move, Context, EndContext, Attach, Detach, Submit, Uuid, Export, Import, Close, Raw}
 use Rattle.vg_calls.specs.declared.call.NameRef.{NameRef}
 use Rattle.vg_call_lines.specs.declared.names.NameKind.TheVariants as kinds
 use Rattle.vg_script_words.specs.Words.{is_number, value, is_within, is_hex, hex_bytes, is_hex_or_none, bytes_or_none, is_name, is_no_name, is_signed, signed_value, is_position}
-use Rattle.vg_call_lines.specs.Args.{no_args, one_arg, two_args, three_args, four_args, five_args, six_args}
-use Rattle.vg_call_lines.specs.Tables.{NameTable, with_name, without_name, with_label, is_kind, ref_to}
+use Rattle.vg_call_lines.specs.Args.{no_args, one_arg, two_args, three_args, four_args, five_args, six_args, eleven_args}
+use Rattle.vg_call_lines.specs.Tables.{NameTable, with_name, with_context, without_name, with_label, is_kind, ref_to, context_ref_to}
 
 pub record Row : Type 0 where
   -- each number and HEX is well spelled
@@ -90,7 +90,17 @@ buffer_row table name width height format = Some (record {
   limits = is_within 1 640 width && is_within 1 480 height && is_format format;
   names = is_name name && is_none (table.names name);
   call = Buffer (value width) (value height) (value format);
-  after = with_name name kinds.Buffer table;
+  after = with_name name table;
+})
+
+-- blob A SIZE
+unfoldable pub blob_row : NameTable → (name size : List ℕ) → Option Row
+blob_row table name size = Some (record {
+  numbers = is_number size;
+  limits = is_within 1 1228800 size;
+  names = is_name name && is_none (table.names name);
+  call = Blob (value size);
+  after = with_name name table;
 })
 
 -- store A OFFSET HEX TIMES
@@ -173,6 +183,16 @@ show_row displays table scanout name x y width height = Some (record {
   after = table;
 })
 
+-- showblob S A X Y W H WIDTH HEIGHT F STRIDE OFFSET
+unfoldable pub showblob_row : ℕ → NameTable → (scanout name x y width height columns lines format stride offset : List ℕ) → Option Row
+showblob_row displays table scanout name x y width height columns lines format stride offset = Some (record {
+  numbers = is_number scanout && are_numbers x y width height && are_numbers columns lines format stride && is_number offset;
+  limits = is_scanout displays scanout && are_any x y width height && are_any columns lines format stride && is_any offset;
+  names = is_kind kinds.Buffer (table.names name);
+  call = ShowBlob (value scanout) (ref_to table name) (rect_of x y width height) (value columns) (value lines) (value format) (value stride) (value offset);
+  after = table;
+})
+
 -- flip S A
 unfoldable pub flip_row : ℕ → NameTable → (scanout name : List ℕ) → Option Row
 flip_row displays table scanout name = Some (record {
@@ -203,6 +223,56 @@ move_row displays table scanout x y = Some (record {
   after = table;
 })
 
+-- context K, of which a client has at most 255
+unfoldable pub context_row : NameTable → (name : List ℕ) → Option Row
+context_row table name = Some (record {
+  numbers = true;
+  limits = nat_lt table.contexts 255;
+  names = is_name name && is_none (table.names name);
+  call = Context;
+  after = with_context name table;
+})
+
+-- endcontext K
+unfoldable pub endcontext_row : NameTable → (name : List ℕ) → Option Row
+endcontext_row table name = Some (record {
+  numbers = true;
+  limits = true;
+  names = is_kind kinds.Context (table.names name);
+  call = EndContext (context_ref_to table name);
+  after = without_name name table;
+})
+
+-- attach K A
+unfoldable pub attach_row : NameTable → (context name : List ℕ) → Option Row
+attach_row table context name = Some (record {
+  numbers = true;
+  limits = true;
+  names = is_kind kinds.Context (table.names context) && is_kind kinds.Buffer (table.names name);
+  call = Attach (context_ref_to table context) (ref_to table name);
+  after = table;
+})
+
+-- detach K A
+unfoldable pub detach_row : NameTable → (context name : List ℕ) → Option Row
+detach_row table context name = Some (record {
+  numbers = true;
+  limits = true;
+  names = is_kind kinds.Context (table.names context) && is_kind kinds.Buffer (table.names name);
+  call = Detach (context_ref_to table context) (ref_to table name);
+  after = table;
+})
+
+-- submit K R
+unfoldable pub submit_row : NameTable → (context ring : List ℕ) → Option Row
+submit_row table context ring = Some (record {
+  numbers = is_number ring;
+  limits = is_within 0 63 ring;
+  names = is_kind kinds.Context (table.names context);
+  call = Submit (context_ref_to table context) (value ring);
+  after = table;
+})
+
 -- uuid A
 unfoldable pub uuid_row : NameTable → (name : List ℕ) → Option Row
 uuid_row table name = Some (record {
@@ -230,7 +300,7 @@ import_row table label name = Some (record {
   limits = true;
   names = is_name label && not (table.labels label == 0) && is_name name && is_none (table.names name);
   call = Import (table.labels label) None;
-  after = with_name name kinds.Buffer table;
+  after = with_name name table;
 })
 
 -- close A
@@ -292,13 +362,23 @@ request_row table queue shape room hex = None
 unfoldable pub raw_row : NameTable → (queue room shape hex : List ℕ) → Option Row
 raw_row table queue room shape hex = request_row table (queue_of queue) (shape_of shape) room hex
 
--- The row of a line, by its first word and the arguments behind it, in five parts. Each part but the last goes on
+-- The row of a line, by its first word and the arguments behind it, in six parts. Each part but the last goes on
 -- to the one that stands above it here, where the word is none of its own. The last part: what clients share.
 unfoldable pub row_of_shared : List ℕ → NameTable → List (List ℕ) → Option Row
 row_of_shared word table args =
     if bytes_eq word (codes "export") then two_args (export_row table) args
     else if bytes_eq word (codes "import") then two_args (import_row table) args
     else None
+
+-- The fifth: contexts.
+unfoldable pub row_of_contexts : List ℕ → NameTable → List (List ℕ) → Option Row
+row_of_contexts word table args =
+    if bytes_eq word (codes "context") then one_arg (context_row table) args
+    else if bytes_eq word (codes "endcontext") then one_arg (endcontext_row table) args
+    else if bytes_eq word (codes "attach") then two_args (attach_row table) args
+    else if bytes_eq word (codes "detach") then two_args (detach_row table) args
+    else if bytes_eq word (codes "submit") then two_args (submit_row table) args
+    else row_of_shared word table args
 
 -- The fourth: cursors, names, and requests that are given by their bytes.
 unfoldable pub row_of_others : List ℕ → ℕ → NameTable → List (List ℕ) → Option Row
@@ -308,7 +388,7 @@ row_of_others word displays table args =
     else if bytes_eq word (codes "uuid") then one_arg (uuid_row table) args
     else if bytes_eq word (codes "close") then one_arg (close_row table) args
     else if bytes_eq word (codes "raw") then four_args (raw_row table) args
-    else row_of_shared word table args
+    else row_of_contexts word table args
 
 -- The third: scanouts.
 unfoldable pub row_of_scanouts : List ℕ → ℕ → NameTable → List (List ℕ) → Option Row
@@ -317,6 +397,7 @@ row_of_scanouts word displays table args =
     else if bytes_eq word (codes "drop") then one_arg (drop_row displays table) args
     else if bytes_eq word (codes "hide") then one_arg (hide_row displays table) args
     else if bytes_eq word (codes "show") then six_args (show_row displays table) args
+    else if bytes_eq word (codes "showblob") then eleven_args (showblob_row displays table) args
     else if bytes_eq word (codes "flip") then two_args (flip_row displays table) args
     else row_of_others word displays table args
 
@@ -324,6 +405,7 @@ row_of_scanouts word displays table args =
 unfoldable pub row_of_buffers : List ℕ → ℕ → NameTable → List (List ℕ) → Option Row
 row_of_buffers word displays table args =
     if bytes_eq word (codes "buffer") then four_args (buffer_row table) args
+    else if bytes_eq word (codes "blob") then two_args (blob_row table) args
     else if bytes_eq word (codes "store") then four_args (store_row table) args
     else if bytes_eq word (codes "load") then three_args (load_row table) args
     else if bytes_eq word (codes "send") then five_args (send_row table) args

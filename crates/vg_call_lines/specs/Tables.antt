@@ -5,15 +5,19 @@ use Rattle.std.specs.Cmp.Lexicographic.{slice_cmp}
 use Rattle.std.specs.Ordering.{nat_cmp}
 use denote.Ref.{Bor}
 use Rattle.vg_calls.specs.declared.call.NameRef.{NameRef}
+use Rattle.vg_calls.specs.declared.call.ContextRef.{ContextRef}
 use Rattle.vg_call_lines.specs.declared.names.NameKind.{NameKind}
-use Rattle.vg_call_lines.specs.declared.names.NameKind.TheVariants.{Buffer}
+use Rattle.vg_call_lines.specs.declared.names.NameKind.TheVariants.{Buffer, Context}
 use Rattle.vg_call_lines.specs.declared.names.Named.{Named}
 
--- Which names of a client are defined, and how many its lines have defined so far, those that have ended among them; and the labels
--- of the whole text.
+-- Which names of a client are defined, and how many of each kind its lines have defined so far, those that have ended among them;
+-- and the labels of the whole text.
 pub record NameTable : Type 0 where
   pub names : List ℕ → Option Named
+  -- how many names of buffers
   pub count : ℕ
+  -- how many names of contexts
+  pub contexts : ℕ
   -- the number of each label that the text defines, its place from 1 on among them, and 0 of any other word
   pub labels : List ℕ → ℕ
   -- how many labels the lines so far have defined
@@ -33,21 +37,27 @@ numbers_of map q = number_or_none (get_by (λ k. slice_cmp nat_cmp q k.now) map)
 
 -- No names, before the first line of a text with these labels.
 abbrev pub no_names : (List ℕ → ℕ) → NameTable
-no_names labels = record { names = λ q. None; count = 0; labels = labels; exported = 0 }
+no_names labels = record { names = λ q. None; count = 0; contexts = 0; labels = labels; exported = 0 }
 
 -- No names, where the labels stay: so a client begins.
 abbrev pub without_names : NameTable → NameTable
-without_names table = record table { names = λ q. None; count = 0 }
+without_names table = record table { names = λ q. None; count = 0; contexts = 0 }
 
 -- One label more was defined.
 abbrev pub with_label : NameTable → NameTable
 with_label table = record table { exported = table.exported + 1 }
 
--- A table with one name more, which has the next number, and without one.
-abbrev pub with_name : List ℕ → NameKind → NameTable → NameTable
-with_name name kind table = record table {
-  names = λ q. if bytes_eq name q then Some (record { kind = kind; number = table.count + 1 }) else table.names q;
+-- A table with one name more, and without one. A buffer's name has the next number of buffers, a context's that of contexts.
+abbrev pub with_name : List ℕ → NameTable → NameTable
+with_name name table = record table {
+  names = λ q. if bytes_eq name q then Some (record { kind = Buffer; number = table.count + 1 }) else table.names q;
   count = table.count + 1;
+}
+
+abbrev pub with_context : List ℕ → NameTable → NameTable
+with_context name table = record table {
+  names = λ q. if bytes_eq name q then Some (record { kind = Context; number = table.contexts + 1 }) else table.names q;
+  contexts = table.contexts + 1;
 }
 
 abbrev pub without_name : List ℕ → NameTable → NameTable
@@ -55,6 +65,8 @@ without_name name table = record table { names = λ q. if bytes_eq name q then N
 
 abbrev pub are_same : NameKind → NameKind → Bool
 are_same Buffer Buffer = true
+are_same Context Context = true
+are_same one other = false
 
 -- Whether this is a name of that kind.
 abbrev pub is_kind : NameKind → Option Named → Bool
@@ -68,3 +80,6 @@ number_of None = 0
 
 abbrev pub ref_to : NameTable → List ℕ → NameRef
 ref_to table name = record { number = number_of (table.names name) }
+
+abbrev pub context_ref_to : NameTable → List ℕ → ContextRef
+context_ref_to table name = record { number = number_of (table.names name) }

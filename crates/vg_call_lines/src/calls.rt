@@ -1,8 +1,8 @@
 //! Which line of a client some words are.
 
-ghost use Rattle.std.specs.Prelude.{◌+◌, ◌-◌, ◌<◌, ◌≤◌, ◌^◌, map};
-ghost use Rattle.vg_call_lines.specs.Rows.{judged_row, row_of, row_of_buffers, row_of_scanouts, row_of_others, row_of_shared, buffer_row, store_row, load_row, send_row, flush_row, show_row, flip_row, cursor_row, move_row, raw_row, export_row, import_row};
-ghost use Rattle.vg_call_lines.specs.Args.{two_args, three_args, four_args, five_args, six_args};
+ghost use Rattle.std.specs.Prelude.{◌≡◌, ◌+◌, ◌-◌, ◌<◌, ◌≤◌, ◌^◌, map};
+ghost use Rattle.vg_call_lines.specs.Rows.{judged_row, row_of, row_of_buffers, row_of_scanouts, row_of_others, row_of_contexts, row_of_shared, buffer_row, blob_row, store_row, load_row, send_row, flush_row, show_row, showblob_row, flip_row, cursor_row, move_row, raw_row, context_row, attach_row, detach_row, submit_row, import_row};
+ghost use Rattle.vg_call_lines.specs.Args.{one_arg, two_args, three_args, four_args, five_args, six_args, eleven_args};
 ghost use Rattle.vg_call_lines.specs.Code.{table_of, Judges};
 
 use crate::args::with_args;
@@ -56,6 +56,9 @@ fn call_of_buffers<'a>(
     if is(word, b"buffer") {
         return buffer(names, args);
     }
+    if is(word, b"blob") {
+        return blob(names, args);
+    }
     if is(word, b"store") {
         return store(alloc, names, args);
     }
@@ -98,6 +101,9 @@ fn call_of_scanouts<'a>(
     if is(word, b"show") {
         return show(names, displays, args);
     }
+    if is(word, b"showblob") {
+        return show_blob(names, displays, args);
+    }
     if is(word, b"flip") {
         return flip(names, displays, args);
     }
@@ -134,6 +140,32 @@ fn call_of_others<'a>(
     if is(word, b"raw") {
         return raw(alloc, names, args);
     }
+    call_of_contexts(names, word, args)
+}
+
+/// The call of a line about a context, or else of one of those below.
+#[tactic(auto, unfolding(crate::specs::Rows::row_of_contexts))]
+fn call_of_contexts<'a>(names: &mut Names<'a>, word: &[u8], args: &[&'a [u8]]) -> Result<Call, Stop>
+    requires count { (table_of names.old).count < 2 ^ 32 - 1 }
+    ensures call { Judges (table_of names.new) result
+        (judged_row (row_of_contexts word.now (table_of names.old) (map (λ arg. arg.now) args.now))) }
+    ensures count { (table_of names.new).count ≤ (table_of names.old).count + 1 }
+{
+    if is(word, b"context") {
+        return context(names, args);
+    }
+    if is(word, b"endcontext") {
+        return with_args!(args, [name] => rows::end_context(names, name));
+    }
+    if is(word, b"attach") {
+        return attach(names, args);
+    }
+    if is(word, b"detach") {
+        return detach(names, args);
+    }
+    if is(word, b"submit") {
+        return submit(names, args);
+    }
     call_of_shared(names, word, args)
 }
 
@@ -161,6 +193,15 @@ fn buffer<'a>(names: &mut Names<'a>, args: &[&'a [u8]]) -> Result<Call, Stop>
     ensures count { (table_of names.new).count ≤ (table_of names.old).count + 1 }
 {
     with_args!(args, [name, width, height, format] => rows::buffer(names, name, width, height, format))
+}
+
+fn blob<'a>(names: &mut Names<'a>, args: &[&'a [u8]]) -> Result<Call, Stop>
+    requires { (table_of names.old).count < 2 ^ 32 - 1 }
+    ensures call { Judges (table_of names.new) result
+        (judged_row (two_args (blob_row (table_of names.old)) (map (λ arg. arg.now) args.now))) }
+    ensures count { (table_of names.new).count ≤ (table_of names.old).count + 1 }
+{
+    with_args!(args, [name, size] => rows::blob(names, name, size))
 }
 
 fn store(alloc: Global, names: &Names, args: &[&[u8]]) -> Result<Call, Stop>
@@ -199,6 +240,14 @@ fn show(names: &Names, displays: usize, args: &[&[u8]]) -> Result<Call, Stop>
     with_args!(args, [scanout, name, x, y, width, height] => rows::show(names, displays, scanout, name, x, y, width, height))
 }
 
+fn show_blob(names: &Names, displays: usize, args: &[&[u8]]) -> Result<Call, Stop>
+    requires { displays ≤ 16 }
+    ensures { Judges (table_of names.now) result
+        (judged_row (eleven_args (showblob_row displays (table_of names.now)) (map (λ arg. arg.now) args.now))) }
+{
+    with_args!(args, [scanout, name, x, y, width, height, columns, lines, format, stride, offset] => rows::show_blob(names, displays, scanout, name, x, y, width, height, columns, lines, format, stride, offset))
+}
+
 fn flip(names: &Names, displays: usize, args: &[&[u8]]) -> Result<Call, Stop>
     requires { displays ≤ 16 }
     ensures { Judges (table_of names.now) result
@@ -228,6 +277,35 @@ fn raw(alloc: Global, names: &Names, args: &[&[u8]]) -> Result<Call, Stop>
         (judged_row (four_args (raw_row (table_of names.now)) (map (λ arg. arg.now) args.now))) }
 {
     with_args!(args, [queue, room, shape, hex] => rows::raw(alloc, names, queue, room, shape, hex))
+}
+
+fn context<'a>(names: &mut Names<'a>, args: &[&'a [u8]]) -> Result<Call, Stop>
+    ensures call { Judges (table_of names.new) result
+        (judged_row (one_arg (context_row (table_of names.old)) (map (λ arg. arg.now) args.now))) }
+    ensures count { (table_of names.new).count ≡ (table_of names.old).count }
+{
+    with_args!(args, [name] => rows::context(names, name))
+}
+
+fn attach(names: &Names, args: &[&[u8]]) -> Result<Call, Stop>
+    ensures { Judges (table_of names.now) result
+        (judged_row (two_args (attach_row (table_of names.now)) (map (λ arg. arg.now) args.now))) }
+{
+    with_args!(args, [context, name] => rows::attach(names, context, name))
+}
+
+fn detach(names: &Names, args: &[&[u8]]) -> Result<Call, Stop>
+    ensures { Judges (table_of names.now) result
+        (judged_row (two_args (detach_row (table_of names.now)) (map (λ arg. arg.now) args.now))) }
+{
+    with_args!(args, [context, name] => rows::detach(names, context, name))
+}
+
+fn submit(names: &Names, args: &[&[u8]]) -> Result<Call, Stop>
+    ensures { Judges (table_of names.now) result
+        (judged_row (two_args (submit_row (table_of names.now)) (map (λ arg. arg.now) args.now))) }
+{
+    with_args!(args, [context, ring] => rows::submit(names, context, ring))
 }
 
 fn import<'a>(names: &mut Names<'a>, args: &[&'a [u8]]) -> Result<Call, Stop>

@@ -9,21 +9,27 @@ use vg_script_words::is_name;
 pub enum NameKind {
     /// A buffer's.
     Buffer,
+    /// A context's.
+    Context,
 }
 
-/// What a text is that is a name: of what it is the name, and its number among those that its client's lines define, from 1.
+/// What a text is that is a name: of what it is the name, and its number among those of this kind that its client's lines define,
+/// from 1.
 #[derive(Clone, Copy)]
 pub struct Named {
     pub kind: NameKind,
     pub number: u32,
 }
 
-/// The names of a client that are defined, as parts of the text, and how many its lines have defined so far, those that have
-/// ended among them; and the labels of the whole text.
+/// The names of a client that are defined, as parts of the text, and how many of each kind its lines have defined so far, those
+/// that have ended among them; and the labels of the whole text.
 #[derive(Drop)]
 pub struct Names<'a> {
     pub named: BTreeMap<&'a [u8], Named>,
+    /// How many names of buffers.
     pub count: u32,
+    /// How many names of contexts.
+    pub contexts: u32,
     /// The number of each label that the text defines.
     pub labels: BTreeMap<&'a [u8], u32>,
     /// How many labels the lines so far have defined.
@@ -32,7 +38,7 @@ pub struct Names<'a> {
 
 impl<'a> Names<'a> {
     ghost use Rattle.std.specs.Prelude.{◌≡◌, ◌+◌, ◌-◌, ◌<◌, ◌≤◌, ◌^◌, ◌==◌, ◌&&◌, not, OnOk, is_some};
-    ghost use Rattle.vg_call_lines.specs.Tables.{with_name, without_name, without_names, no_names, numbers_of};
+    ghost use Rattle.vg_call_lines.specs.Tables.{with_name, with_context, without_name, without_names, no_names, numbers_of};
     ghost use Rattle.vg_script_words.specs.Words.{is_name};
     ghost use Rattle.vg_call_lines.specs.Code.{table_of, IsNumbered, IsGiven};
 
@@ -43,6 +49,7 @@ impl<'a> Names<'a> {
         Names {
             named: BTreeMap::new(alloc),
             count: 0,
+            contexts: 0,
             labels,
             exported: 0,
         }
@@ -62,15 +69,29 @@ impl<'a> Names<'a> {
         self.named.get(name).copied()
     }
 
-    /// Defines a name, which gets the next number.
-    pub(crate) fn define(&mut self, name: &'a [u8], kind: NameKind) -> Result<(), AllocError>
+    /// Defines a buffer's name, which gets the next number of buffers.
+    pub(crate) fn define(&mut self, name: &'a [u8]) -> Result<(), AllocError>
         requires { (table_of self.old).count < 2 ^ 32 - 1 }
-        ensures names { OnOk result (table_of self.new ≡ with_name name.now kind (table_of self.old)) }
+        ensures names { OnOk result (table_of self.new ≡ with_name name.now (table_of self.old)) }
         ensures count { (table_of self.new).count ≤ (table_of self.old).count + 1 }
     {
         let number = self.count + 1;
+        let kind = NameKind::Buffer;
         self.named.insert(name, Named { kind, number })?;
         self.count = number;
+        Ok(())
+    }
+
+    /// Defines a context's name, which gets the next number of contexts.
+    pub(crate) fn define_context(&mut self, name: &'a [u8]) -> Result<(), AllocError>
+        requires { (table_of self.old).contexts < 2 ^ 32 - 1 }
+        ensures names { OnOk result (table_of self.new ≡ with_context name.now (table_of self.old)) }
+        ensures count { (table_of self.new).count ≡ (table_of self.old).count }
+    {
+        let number = self.contexts + 1;
+        let kind = NameKind::Context;
+        self.named.insert(name, Named { kind, number })?;
+        self.contexts = number;
         Ok(())
     }
 
@@ -112,5 +133,6 @@ impl<'a> Names<'a> {
     {
         self.named.clear();
         self.count = 0;
+        self.contexts = 0;
     }
 }

@@ -4,14 +4,14 @@ ghost use Rattle.std.specs.Prelude.{◌≡◌, ◌+◌, ◌-◌, ◌<◌, ◌≤
 ghost use Rattle.vg_chain.specs.declared.shape.Shape.TheVariants as shapes;
 ghost use Rattle.vg_call_lines.specs.declared.names.NameKind.TheVariants as kinds;
 ghost use Rattle.vg_script_words.specs.Words.{is_number, value, is_within, is_signed, signed_value, is_position, is_no_name};
-ghost use Rattle.vg_call_lines.specs.Tables.{is_kind, ref_to};
-ghost use Rattle.vg_call_lines.specs.Rows.{judged_row, is_format, is_any, are_times, is_scanout, are_numbers, are_any, rect_of, ref_or_none, queue_of, shape_of, bad_shape_of, info_row, edid_row, buffer_row, store_row, load_row, send_row, flush_row, take_row, drop_row, hide_row, show_row, flip_row, cursor_row, move_row, uuid_row, export_row, import_row, close_row, raw_row};
+ghost use Rattle.vg_call_lines.specs.Tables.{is_kind, number_of, ref_to, context_ref_to};
+ghost use Rattle.vg_call_lines.specs.Rows.{judged_row, is_format, is_any, are_times, is_scanout, are_numbers, are_any, rect_of, ref_or_none, queue_of, shape_of, bad_shape_of, info_row, edid_row, buffer_row, blob_row, store_row, load_row, send_row, flush_row, take_row, drop_row, hide_row, show_row, showblob_row, flip_row, cursor_row, move_row, context_row, endcontext_row, attach_row, detach_row, submit_row, uuid_row, export_row, import_row, close_row, raw_row};
 ghost use Rattle.vg_script_words.specs.Code.{Passes, Yields};
 ghost use Rattle.vg_call_lines.specs.Code.{table_of, Judges, Finds, Knows};
 
 use crate::names::{NameKind, Names};
 use std::alloc::Global;
-use vg_calls::{Call, NameRef};
+use vg_calls::{Call, ContextRef, NameRef};
 use vg_chain::{ChainFault, MOST_ROOM, Shape};
 use vg_formats::{Format, Rect};
 use vg_script_words::{
@@ -19,6 +19,9 @@ use vg_script_words::{
     position, size, spelled, value,
 };
 use vg_wire::Queue;
+
+/// How many contexts a client may make.
+const MOST_CONTEXTS: u32 = 255;
 
 /// `info`
 #[tactic(auto, unfolding(crate::specs::Rows::info_row))]
@@ -61,12 +64,29 @@ pub(crate) fn buffer<'a>(
     if !is_name(name) || names.has(name) {
         return Err(Stop::Fault(Kind::Name));
     }
-    names.define(name, NameKind::Buffer)?;
+    names.define(name)?;
     Ok(Call::Buffer {
         width,
         height,
         format,
     })
+}
+
+/// `blob A SIZE`
+#[tactic(auto, unfolding(crate::specs::Rows::blob_row))]
+pub(crate) fn blob<'a>(names: &mut Names<'a>, name: &'a [u8], size: &[u8]) -> Result<Call, Stop>
+    requires { (table_of names.old).count < 2 ^ 32 - 1 }
+    ensures call { Judges (table_of names.new) result
+        (judged_row (blob_row (table_of names.old) name.now size.now)) }
+    ensures count { (table_of names.new).count ≤ (table_of names.old).count + 1 }
+{
+    spelled(size)?;
+    let size = limited(size, 1, 1_228_800)?;
+    if !is_name(name) || names.has(name) {
+        return Err(Stop::Fault(Kind::Name));
+    }
+    names.define(name)?;
+    Ok(Call::Blob { size })
 }
 
 /// `store A OFFSET HEX TIMES`
@@ -229,6 +249,49 @@ pub(crate) fn show(
     })
 }
 
+/// `showblob S A X Y W H WIDTH HEIGHT F STRIDE OFFSET`
+#[tactic(auto, unfolding(crate::specs::Rows::showblob_row))]
+pub(crate) fn show_blob(
+    names: &Names,
+    displays: usize,
+    scanout: &[u8],
+    name: &[u8],
+    x: &[u8],
+    y: &[u8],
+    width: &[u8],
+    height: &[u8],
+    columns: &[u8],
+    lines: &[u8],
+    format: &[u8],
+    stride: &[u8],
+    offset: &[u8],
+) -> Result<Call, Stop>
+    requires { displays ≤ 16 }
+    ensures { Judges (table_of names.now) result
+        (judged_row (showblob_row displays (table_of names.now) scanout.now name.now x.now y.now width.now height.now columns.now lines.now format.now stride.now offset.now)) }
+{
+    spelled(scanout)?;
+    all_spelled(x, y, width, height)?;
+    all_spelled(columns, lines, format, stride)?;
+    spelled(offset)?;
+    let scanout = display(scanout, displays)?;
+    let rect = rect(x, y, width, height)?;
+    let (width, height) = pair(columns, lines)?;
+    let (format, stride) = pair(format, stride)?;
+    let offset = limited(offset, 0, u32::MAX)?;
+    let name = known(names, name)?;
+    Ok(Call::ShowBlob {
+        scanout,
+        name,
+        rect,
+        width,
+        height,
+        format,
+        stride,
+        offset,
+    })
+}
+
 /// `flip S A`
 #[tactic(auto, unfolding(crate::specs::Rows::flip_row))]
 pub(crate) fn flip(
@@ -300,6 +363,69 @@ pub(crate) fn move_cursor(
     Ok(Call::Move { scanout, x, y })
 }
 
+/// `context K`
+#[tactic(auto, unfolding(crate::specs::Rows::context_row))]
+pub(crate) fn context<'a>(names: &mut Names<'a>, name: &'a [u8]) -> Result<Call, Stop>
+    ensures call { Judges (table_of names.new) result
+        (judged_row (context_row (table_of names.old) name.now)) }
+    ensures count { (table_of names.new).count ≡ (table_of names.old).count }
+{
+    if names.contexts >= MOST_CONTEXTS {
+        return Err(Stop::Fault(Kind::Limit));
+    }
+    if !is_name(name) || names.has(name) {
+        return Err(Stop::Fault(Kind::Name));
+    }
+    names.define_context(name)?;
+    Ok(Call::Context)
+}
+
+/// `endcontext K`
+#[tactic(auto, unfolding(crate::specs::Rows::endcontext_row))]
+pub(crate) fn end_context(names: &mut Names, name: &[u8]) -> Result<Call, Stop>
+    ensures call { Judges (table_of names.new) result
+        (judged_row (endcontext_row (table_of names.old) name.now)) }
+    ensures count { (table_of names.new).count ≡ (table_of names.old).count }
+{
+    let context = known_context(names, name)?;
+    names.end(name);
+    Ok(Call::EndContext { context })
+}
+
+/// `attach K A`
+#[tactic(auto, unfolding(crate::specs::Rows::attach_row))]
+pub(crate) fn attach(names: &Names, context: &[u8], name: &[u8]) -> Result<Call, Stop>
+    ensures { Judges (table_of names.now) result
+        (judged_row (attach_row (table_of names.now) context.now name.now)) }
+{
+    let context = known_context(names, context)?;
+    let name = known(names, name)?;
+    Ok(Call::Attach { context, name })
+}
+
+/// `detach K A`
+#[tactic(auto, unfolding(crate::specs::Rows::detach_row))]
+pub(crate) fn detach(names: &Names, context: &[u8], name: &[u8]) -> Result<Call, Stop>
+    ensures { Judges (table_of names.now) result
+        (judged_row (detach_row (table_of names.now) context.now name.now)) }
+{
+    let context = known_context(names, context)?;
+    let name = known(names, name)?;
+    Ok(Call::Detach { context, name })
+}
+
+/// `submit K R`
+#[tactic(auto, unfolding(crate::specs::Rows::submit_row))]
+pub(crate) fn submit(names: &Names, context: &[u8], ring: &[u8]) -> Result<Call, Stop>
+    ensures { Judges (table_of names.now) result
+        (judged_row (submit_row (table_of names.now) context.now ring.now)) }
+{
+    spelled(ring)?;
+    let ring = ring_of(ring)?;
+    let context = known_context(names, context)?;
+    Ok(Call::Submit { context, ring })
+}
+
 /// `uuid A`
 #[tactic(auto, unfolding(crate::specs::Rows::uuid_row))]
 pub(crate) fn uuid(names: &Names, name: &[u8]) -> Result<Call, Stop>
@@ -338,7 +464,7 @@ pub(crate) fn import<'a>(names: &mut Names<'a>, label: &[u8], name: &'a [u8]) ->
     if !is_name(name) || names.has(name) {
         return Err(Stop::Fault(Kind::Name));
     }
-    names.define(name, NameKind::Buffer)?;
+    names.define(name)?;
     Ok(Call::Import { label, token: None })
 }
 
@@ -557,19 +683,41 @@ fn rect(x: &[u8], y: &[u8], width: &[u8], height: &[u8]) -> Result<Rect, Kind>
     })
 }
 
+/// The ring index of a timeline.
+fn ring_of(number: &[u8]) -> Result<u8, Kind>
+    requires { is_number number.now ≡ true }
+    ensures { Yields (is_within 0 63 number.now) (value number.now) Kind.Limit result }
+{
+    Ok(limited(number, 0, 63)? as u8)
+}
+
 /// A name, where it is that of a buffer.
 fn known(names: &Names, name: &[u8]) -> Result<NameRef, Stop>
     ensures { Knows (is_kind kinds.Buffer ((table_of names.now).names name.now)) (ref_to (table_of names.now) name.now) result }
 {
+    let number = number_of(names, name, NameKind::Buffer)?;
+    Ok(NameRef { number })
+}
+
+/// A name, where it is that of a context.
+fn known_context(names: &Names, name: &[u8]) -> Result<ContextRef, Stop>
+    ensures { Knows (is_kind kinds.Context ((table_of names.now).names name.now)) (context_ref_to (table_of names.now) name.now) result }
+{
+    let number = number_of(names, name, NameKind::Context)?;
+    Ok(ContextRef { number })
+}
+
+/// The number of a name, where it is one of this kind.
+fn number_of(names: &Names, name: &[u8], kind: NameKind) -> Result<u32, Stop>
+    ensures { Knows (is_kind kind ((table_of names.now).names name.now)) (number_of ((table_of names.now).names name.now)) result }
+{
     let Some(named) = names.find(name) else {
         return Err(Stop::Fault(Kind::Name));
     };
-    if named.kind != NameKind::Buffer {
+    if named.kind != kind {
         return Err(Stop::Fault(Kind::Name));
     }
-    Ok(NameRef {
-        number: named.number,
-    })
+    Ok(named.number)
 }
 
 /// A name, where it is that of a buffer, or none where it is `-`.

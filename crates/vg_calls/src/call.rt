@@ -11,6 +11,12 @@ pub struct NameRef {
     pub number: u32,
 }
 
+/// A context of a client: its number among all that the client's calls make, from 1. No context has the number 0.
+#[derive(Clone, Copy)]
+pub struct ContextRef {
+    pub number: u32,
+}
+
 /// A call of a client. Offsets and lengths are in bytes, rectangles in pixels. A `scanout` counts the displays from 0 on.
 #[derive(Drop)]
 pub enum Call {
@@ -26,6 +32,11 @@ pub enum Call {
         width: u32,
         height: u32,
         format: u32,
+    },
+    /// Makes a buffer of bytes, with a blob resource of its pages (VIRTIO 1.2, 5.7.6.8, RESOURCE_CREATE_BLOB), and defines a name for
+    /// it. `size` is in bytes.
+    Blob {
+        size: u32,
     },
     /// Writes `bytes` into a buffer, so many times one after another.
     Store {
@@ -68,6 +79,18 @@ pub enum Call {
         name: NameRef,
         rect: Rect,
     },
+    /// Shows a rectangle of a blob on a scanout: pixel (u, v) of `width` by `height` is the four bytes of the blob from
+    /// `offset + stride * v + 4 * u` on. `format` is a code of VIRTIO 1.2, 5.7.6.8.
+    ShowBlob {
+        scanout: u32,
+        name: NameRef,
+        rect: Rect,
+        width: u32,
+        height: u32,
+        format: u32,
+        stride: u32,
+        offset: u32,
+    },
     /// Transfers, shows and flushes a whole buffer.
     Flip {
         scanout: u32,
@@ -87,6 +110,27 @@ pub enum Call {
         scanout: u32,
         x: i32,
         y: i32,
+    },
+    /// Makes the client's next context.
+    Context,
+    /// Ends a context, and its name.
+    EndContext {
+        context: ContextRef,
+    },
+    /// Attaches a buffer's resource to a context.
+    Attach {
+        context: ContextRef,
+        name: NameRef,
+    },
+    /// Detaches a buffer's resource from a context.
+    Detach {
+        context: ContextRef,
+        name: NameRef,
+    },
+    /// Submits commands of no bytes on a timeline of a context, ring index 0 to 63.
+    Submit {
+        context: ContextRef,
+        ring: u8,
     },
     /// Asks for the UUID of a buffer's resource.
     Uuid {

@@ -3,4 +3,4 @@
 
 mod call;
 
-pub use call::{Call, NameRef};
+pub use call::{Call, ContextRef, NameRef};

@@ -1,7 +1,7 @@
 -- What a call gives at the least: an entry.
 use Rattle.std.proofs.Common.{◌≡◌, ◌≤◌, arith, ℕ, Bool, true, false, cond, List, [], ◌∷◌, length, length-append, subst, Option, Some, None, Result, Ok, Err, ℤ}
 use Rattle.vg_client_holds.specs.declared.act.What.{What}
-use Rattle.vg_client_holds.specs.declared.act.What.TheVariants.{Scanout}
+use Rattle.vg_client_holds.specs.declared.act.What.TheVariants.{Name, Scanout}
 use Rattle.vg_client_holds.specs.declared.holds.Holds.{Holds}
 use Rattle.vg_machine.specs.Entries.{Entry}
 use Rattle.vg_client_holds.specs.Holds.{has_number}
@@ -10,11 +10,12 @@ use Rattle.vg_calls.specs.declared.call.Call.TheVariants as calls
 use Rattle.vg_calls.specs.declared.call.NameRef.{NameRef}
 use Rattle.vg_client.specs.Calls.{Gives, GivesTasks}
 use Rattle.vg_tasks.specs.Known.{Known}
-use Rattle.vg_names.specs.Names.{NamesState, found}
+use Rattle.vg_names.specs.Names.{NamesState, found, has_one_name}
+use Rattle.vg_names.specs.Contexts.{is_current}
 use Rattle.vg_names.specs.declared.names.Held.{Held}
 use Rattle.vg_tasks.specs.declared.task.Task.{Task}
 use Rattle.vg_tasks.specs.Table.{release_task}
-use Rattle.vg_tasks.specs.Tasks.{clear_tasks, close_tasks, cursor_tasks, drop_tasks, give_back, if_current, is_only_name, tasks_of}
+use Rattle.vg_tasks.specs.Tasks.{clear_tasks, close_tasks, cursor_tasks, drop_tasks, give_back, if_current, tasks_of}
 
 -- a call that isn't denied before there is any task has one
 abbrev HasTasks : Result (List Task) What → Type 0
@@ -36,10 +37,16 @@ has-drop_tasks holds scanout = by_test (has_number scanout holds.scanouts)
     by_test true = omega arith
     by_test false = tt
 
+-- so has a call on a context
+context-tasks : (current : Bool) (plan : Result (List Task) What) → HasTasks plan → HasTasks (cond current plan (Err Name))
+context-tasks true plan has = has
+context-tasks false plan has = tt
+
 has-tasks : (known : Known) (call : Call) → HasTasks (tasks_of known call)
 has-tasks known calls.Info = omega arith
 has-tasks known (calls.Edid scanout) = omega arith
 has-tasks known (calls.Buffer width height format) = omega arith
+has-tasks known (calls.Blob size) = omega arith
 has-tasks known (calls.Store name offset bytes times) = held-tasks (found name.number known.names) _ (λ one. omega arith)
 has-tasks known (calls.Load name offset n) = held-tasks (found name.number known.names) _ (λ one. omega arith)
 has-tasks known (calls.Send name rect) = held-tasks (found name.number known.names) _ (λ one. omega arith)
@@ -48,9 +55,15 @@ has-tasks known (calls.Take scanout) = omega arith
 has-tasks known (calls.Drop scanout) = has-drop_tasks known.holds scanout
 has-tasks known (calls.Hide scanout) = omega arith
 has-tasks known (calls.Show scanout name rect) = held-tasks (found name.number known.names) _ (λ one. omega arith)
+has-tasks known (calls.ShowBlob scanout name rect width height format stride offset) = held-tasks (found name.number known.names) _ (λ one. omega arith)
 has-tasks known (calls.Flip scanout name) = held-tasks (found name.number known.names) _ (λ one. omega arith)
 has-tasks known (calls.Cursor scanout name x y hot_x hot_y) = has-cursor_tasks known.names scanout name x y hot_x hot_y
 has-tasks known (calls.Move scanout x y) = omega arith
+has-tasks known calls.Context = omega arith
+has-tasks known (calls.EndContext context) = context-tasks (is_current context.number known.contexts) _ (omega arith)
+has-tasks known (calls.Attach context name) = context-tasks (is_current context.number known.contexts) _ (held-tasks (found name.number known.names) _ (λ one. omega arith))
+has-tasks known (calls.Detach context name) = context-tasks (is_current context.number known.contexts) _ (held-tasks (found name.number known.names) _ (λ one. omega arith))
+has-tasks known (calls.Submit context ring) = context-tasks (is_current context.number known.contexts) _ (omega arith)
 has-tasks known (calls.Uuid name) = held-tasks (found name.number known.names) _ (λ one. omega arith)
 has-tasks known (calls.Export name label) = held-tasks (found name.number known.names) _ (λ one. omega arith)
 has-tasks known (calls.Import label (Some token)) = omega arith
@@ -58,7 +71,7 @@ has-tasks known (calls.Import label None) = omega arith
 has-tasks known (calls.Raw queue room shape bytes) = omega arith
 has-tasks known (calls.Close name) =
     held-tasks (found name.number known.names) (close_tasks known.names.current known.shows)
-    (λ one. let longer = length-append (cond (is_only_name known.names.current one) (clear_tasks one.key 0 known.shows) []) (release_task one ∷ []) in omega (arith, longer))
+    (λ one. let longer = length-append (cond (has_one_name one.key known.names.current) (clear_tasks one.key 0 known.shows) []) (release_task one ∷ []) in omega (arith, longer))
 
 -- so it gives an entry
 gives-tasks : (client : ℕ) (known known' : Known) (plan : Result (List Task) What) → HasTasks plan → GivesTasks client known plan [] known' → ⊥

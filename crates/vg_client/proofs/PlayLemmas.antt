@@ -1,9 +1,9 @@
 -- What the tasks of a call give, one entry after another.
-use Rattle.std.proofs.Common.{◌≡◌, ◌⊎◌, ◌+◌, ◌<◌, ◌≤◌, ◌∙◌, sym, ap, refl, subst, arith, inl, inr, ℕ, Bool, true, false, cond, not, ◌||◌, List, [], ◌∷◌, ◌++◌, length, map, filter, slice_set, append_assoc, append-nil, length-append, Option, Some, None, Result, Ok, Err}
+use Rattle.std.proofs.Common.{◌≡◌, ◌⊎◌, ◌+◌, ◌<◌, ◌≤◌, ◌∙◌, sym, ap, refl, subst, arith, inl, inr, ℕ, Bool, true, false, cond, not, ◌||◌, suc, List, [], ◌∷◌, ◌++◌, length, map, filter, slice_set, take, drop, append_assoc, append-nil, length-append, Option, Some, None, Result, Ok, Err}
 use Rattle.std.specs.Prelude.{IfErr, IfOk, OnErr, OnOk}
-use Rattle.std.specs.List.{AllByRecursion, range_with_len}
+use Rattle.std.specs.List.{AllByRecursion, position, range_with_len, remove}
 use mathlib.Core.List.{IsPrefix}
-use Rattle.std.proofs.lemmas.List.{length-map, length-set}
+use Rattle.std.proofs.lemmas.List.{length-drop, length-map, length-set, length-take}
 use Rattle.vg_client_holds.specs.declared.act.Act as the_act
 use Rattle.vg_client_holds.specs.declared.act.Act.TheVariants as acts
 use Rattle.vg_client_holds.specs.declared.act.ActReply.{ActReply}
@@ -25,19 +25,20 @@ use Rattle.vg_client.specs.declared.given.Given.TheVariants as givens
 use Rattle.vg_names.specs.declared.names.Held.{Held}
 use Rattle.vg_client.specs.declared.outcome.Played.{Played}
 use Rattle.vg_tasks.specs.declared.task.Change.{Change}
-use Rattle.vg_tasks.specs.declared.task.Change.TheVariants.{NewBuffer, Imported, EndOfName, Shows}
+use Rattle.vg_tasks.specs.declared.task.Change.TheVariants.{NewBuffer, NewBlob, Imported, EndOfName, Shows, NewContext, EndOfContext}
 use Rattle.vg_tasks.specs.declared.task.Deed.{Deed}
 use Rattle.vg_tasks.specs.declared.task.Deed.TheVariants as deeds
 use Rattle.vg_tasks.specs.declared.task.Task.{Task}
 use Rattle.vg_driver.specs.declared.ask.Ask.{Ask}
 use Rattle.vg_driver.specs.Asks.{denied_for, request_for}
-use Rattle.vg_client.specs.Calls.{Begins, BeginsTasks, Gives, GivesTasks, IsAsked, IsDenial, IsDone, IsEntryOf, IsFrontOf, Plays, learned, names_after, names_imported, names_reserved, shows_after}
+use Rattle.vg_client.specs.Calls.{Begins, BeginsTasks, Gives, GivesTasks, IsAsked, IsDenial, IsDone, IsEntryOf, IsFrontOf, Plays, contexts_after, learned, names_after, names_imported, names_reserved, shows_after}
 use Rattle.vg_tasks.specs.Tasks.{end_tasks, tasks_of}
 use Rattle.vg_client.specs.Callers.{BeginsEnd, HasAdded, HasDone, HasEnded, HasGoneOn, HasLeftBy, HasMade, IsFewPages, IsReady, IsSmall, known}
 use Rattle.vg_tasks.specs.Plans.{IsFitPlan, IsPlanOf, weight_of, weights}
 use Rattle.vg_client.specs.Given.{follow_ups, given_of, goes_on, is_accepted, left_after, tells_denial}
 use Rattle.vg_tasks.specs.Known.{Known}
 use Rattle.vg_names.specs.Names.{NamesState, is_numbered, without_name}
+use Rattle.vg_names.specs.Contexts.{ContextsState, is_context, with_context, with_no_context, without, without_at}
 use Rattle.vg_tasks.specs.Fits.{IsFit}
 use Rattle.vg_client.specs.Outcomes.{HasPlayed, IsNumbered, last_given}
 use Rattle.vg_tasks.specs.Table.{page_entry}
@@ -76,6 +77,8 @@ plays-more client stops known0 (first ∷ tasks) (e ∷ mine) known task left en
 follow-few : (change : Change) (given : Given) → weights (follow_ups change given) + 1 ≤ weight_of change
 follow-few (NewBuffer width height format) (givens.Act (act_replies.Reserved key pages)) = omega arith
 follow-few (NewBuffer width height format) given = omega arith
+follow-few (NewBlob size) (givens.Act (act_replies.Reserved key pages)) = omega arith
+follow-few (NewBlob size) given = omega arith
 follow-few (EndOfName number key) (givens.Act act_replies.Last) = omega arith
 follow-few (EndOfName number key) given = omega arith
 follow-few change given = omega arith
@@ -85,12 +88,17 @@ follow-fit (NewBuffer width height format) (givens.Act (act_replies.Reserved key
     let same : length (map page_entry pages) ≡ length pages = simp length-map in
     ((((tt, tt, refl), tt), tt), ((((tt, omega (arith, same, few), refl), omega (arith, same, few)), tt), tt))
 follow-fit (NewBuffer width height format) given few = tt
+follow-fit (NewBlob size) (givens.Act (act_replies.Reserved key pages)) few =
+    let same : length (map page_entry pages) ≡ length pages = simp length-map in
+    ((((tt, omega (arith, same, few), refl), omega (arith, same, few)), tt), tt)
+follow-fit (NewBlob size) given few = tt
 follow-fit (EndOfName number key) (givens.Act act_replies.Last) few = ((((tt, tt, refl), tt), tt), ((tt, tt), tt))
 follow-fit (EndOfName number key) given few = tt
 follow-fit change given few = tt
 
 weight-some : (change : Change) → 1 ≤ weight_of change
 weight-some (NewBuffer width height format) = omega arith
+weight-some (NewBlob size) = omega arith
 weight-some (EndOfName number key) = omega arith
 weight-some change = omega arith
 
@@ -136,6 +144,7 @@ imported-little given names small = (omega (arith, small), omega arith, omega ar
 
 names-little : (change : Change) (given : Given) (names : NamesState) → length names.current ≤ names.made → GrowLittle names (names_after change given names)
 names-little (NewBuffer width height format) given names small = reserved-little width height given names small
+names-little (NewBlob size) given names small = reserved-little 0 0 given names small
 names-little Imported given names small = imported-little given names small
 names-little (EndOfName number key) given names small = by_test (is_accepted given) (filter-fewer (λ held. not (is_numbered number held)) names.current)
   where
@@ -143,6 +152,33 @@ names-little (EndOfName number key) given names small = by_test (is_accepted giv
     by_test true fewer = (omega (arith, fewer, small), omega arith, omega arith)
     by_test false fewer = (small, omega arith, omega arith)
 names-little change given names small = (small, omega arith, omega arith)
+
+remove-fewer : (numbers : List ℕ) (place : ℕ) → length (remove numbers place) ≤ length numbers
+remove-fewer numbers place =
+    let both = length-append (take place numbers) (drop (suc place) numbers) in
+    let front = length-take place numbers in
+    let back = length-drop (suc place) numbers in
+    omega (arith, both, front, back)
+
+without-fewer : (number : ℕ) (numbers : List ℕ) → length (without number numbers) ≤ length numbers
+without-fewer number numbers = by_place (position (is_context number) numbers)
+  where
+    by_place : (place : Option ℕ) → length (without_at numbers place) ≤ length numbers
+    by_place (Some place) = remove-fewer numbers place
+    by_place None = omega arith
+
+-- the same of contexts
+abbrev pub MakeFew : ContextsState → ContextsState → Type 0
+MakeFew old new = (length new.current ≤ new.made) × (new.made ≤ old.made + 1)
+
+contexts-little : (change : Change) (given : Given) (contexts : ContextsState) → length contexts.current ≤ contexts.made → MakeFew contexts (contexts_after change given contexts)
+contexts-little NewContext given contexts small = by_test (is_accepted given)
+  where
+    by_test : (b : Bool) → MakeFew contexts (cond b (with_context contexts) (with_no_context contexts))
+    by_test true = let longer = length-append contexts.current ((contexts.made + 1) ∷ []) in (omega (arith, longer, small), omega arith)
+    by_test false = (omega (arith, small), omega arith)
+contexts-little (EndOfContext number) given contexts small = let fewer = without-fewer number contexts.current in (omega (arith, fewer, small), omega arith)
+contexts-little change given contexts small = (small, omega arith)
 
 shows-length : (change : Change) (given : Given) (shows : List (Option ℕ)) → length (shows_after change given shows) ≡ length shows
 shows-length (Shows scanout key) given shows = by_test (is_accepted given) (length-set shows scanout key)
@@ -156,10 +192,13 @@ small-more : (used used' : ℕ) (known known' : Known) (task : Task) (entry : En
 small-more used used' known known' task entry small next learns =
     let P : Known → Type 0 = λ k. IsSmall used' k in
     let names = names-little task.change (given_of entry) known.names small.current in
+    let contexts = contexts-little task.change (given_of entry) known.contexts small.current_contexts in
     subst P (sym learns) (record {
       few_displays = let same = updated-displays known.holds entry in omega (arith, same, small.few_displays);
       current = names.0;
       made = omega (arith, names.1, small.made, next);
+      current_contexts = contexts.0;
+      made_contexts = omega (arith, contexts.1, small.made_contexts, next);
       scanouts = let same = shows-length task.change (given_of entry) known.shows in omega (arith, same, small.scanouts);
     })
 
@@ -260,12 +299,18 @@ playing-first stops tasks client gathered ready fit has = record {
   has = has;
 }
 
-learned-is : (known0 known : Known) (task : Task) (entry : Entry) → known.holds ≡ updated known0.holds entry → known.names ≡ names_after task.change (given_of entry) known0.names → known.shows ≡ shows_after task.change (given_of entry) known0.shows
+-- what is known, part by part
+pub same-known : (holds holds' : Holds) (names names' : NamesState) (contexts contexts' : ContextsState) (shows shows' : List (Option ℕ)) → holds ≡ holds' → names ≡ names' → contexts ≡ contexts' → shows ≡ shows'
+    → ◌≡◌ {A = Known} (record { holds = holds; names = names; contexts = contexts; shows = shows }) (record { holds = holds'; names = names'; contexts = contexts'; shows = shows' })
+same-known holds holds' names names' contexts contexts' shows shows' same_holds same_names same_contexts same_shows = rw (same_holds, same_names, same_contexts, same_shows) refl
+
+learned-is : (known0 known : Known) (task : Task) (entry : Entry) → known.holds ≡ updated known0.holds entry → known.names ≡ names_after task.change (given_of entry) known0.names
+    → known.contexts ≡ contexts_after task.change (given_of entry) known0.contexts → known.shows ≡ shows_after task.change (given_of entry) known0.shows
     → known ≡ learned known0 task entry
-learned-is known0 known task entry holds names shows =
-    ap (λ (h : Holds). record { holds = h; names = known.names; shows = known.shows }) holds
-    ∙ ap (λ (ns : NamesState). record { holds = updated known0.holds entry; names = ns; shows = known.shows }) names
-    ∙ ap (λ (ss : List (Option ℕ)). record { holds = updated known0.holds entry; names = names_after task.change (given_of entry) known0.names; shows = ss }) shows
+learned-is known0 known task entry holds names contexts shows =
+    same-known known.holds (updated known0.holds entry) known.names (names_after task.change (given_of entry) known0.names)
+    known.contexts (contexts_after task.change (given_of entry) known0.contexts)
+    known.shows (shows_after task.change (given_of entry) known0.shows) holds names contexts shows
 
 -- the client after it learned from a task that was done; it has the token that it had
 pub added-same : {B : Type 0} (client client' client'' : Caller B) (mine : List Entry) → HasAdded client mine client' → client''.token ≡ client'.token → HasAdded client mine client''
@@ -288,13 +333,14 @@ next-plays stops tasks0 client0 client left left1 gathered task entry playing fi
 
 pub playing-more : {B : Type 0} (stops : Bool) (tasks0 : List Task) (client0 client client' client'' : Caller B) (left left1 left' : List Task) (gathered gathered' : Played) (task : Task) (entry : Entry) (gave : Added)
     → IsPlaying stops tasks0 client0 client left gathered → left ≡ task ∷ left1 → IsDone client.token.account.number client.token.account.holds task.deed entry → HasDone client entry gave client' → IsFewPages gave.given
-    → client''.token ≡ client'.token → client''.names ≡ names_after task.change gave.given client'.names → client''.shows.items ≡ shows_after task.change gave.given client'.shows.items → left' ≡ left_after stops task.change gave.given left1
+    → client''.token ≡ client'.token → client''.names ≡ names_after task.change gave.given client'.names → client''.contexts ≡ contexts_after task.change gave.given client'.contexts → client''.shows.items ≡ shows_after task.change gave.given client'.shows.items → left' ≡ left_after stops task.change gave.given left1
     → gathered'.entries.items ≡ gathered.entries.items ++ gave.number ∷ [] → gathered'.last ≡ Some (last_given gave.number gave.given) → IsPlaying stops tasks0 client0 client'' left' gathered'
-playing-more stops tasks0 client0 client client' client'' left left1 left' gathered gathered' task entry gave playing first made done few same names shows leaves numbers last =
+playing-more stops tasks0 client0 client client' client'' left left1 left' gathered gathered' task entry gave playing first made done few same names contexts shows leaves numbers last =
     let is = done.given_is in
     let learns : known client'' ≡ learned (known client) task entry =
     learned-is (known client) (known client'') task entry (ap (λ (t : Token). t.account.holds) same ∙ done.holds)
     (names ∙ ap (λ (g : Given). names_after task.change g client'.names) is ∙ ap (names_after task.change (given_of entry)) done.names)
+    (contexts ∙ ap (λ (g : Given). contexts_after task.change g client'.contexts) is ∙ ap (contexts_after task.change (given_of entry)) done.contexts)
     (shows ∙ ap (λ (g : Given). shows_after task.change g client'.shows.items) is ∙ ap (shows_after task.change (given_of entry)) done.shows) in
     let left_is : left' ≡ left_after stops task.change (given_of entry) left1 = leaves ∙ ap (λ (g : Given). left_after stops task.change g left1) is in
     let Fit : List Task → Type 0 = λ ts. AllByRecursion IsFit ts in
@@ -400,8 +446,8 @@ unbegun call client ready = ([], begins-none client.token.account.number (known 
 
 -- one entry more of a client, that it made by a task or to tell a denial
 pub done-by : {B : Type 0} (client client' : Caller B) (entry : Entry) (gave : Added) → IsAdded client.token gave.number entry client'.token → IsPresent client.token → is_leave entry ≡ false
-    → client'.names ≡ client.names → client'.shows.items ≡ client.shows.items → gave.given ≡ given_of entry → HasDone client entry gave client'
-done-by client client' entry gave is present stays names shows given_is = record {
+    → client'.names ≡ client.names → client'.contexts ≡ client.contexts → client'.shows.items ≡ client.shows.items → gave.given ≡ given_of entry → HasDone client entry gave client'
+done-by client client' entry gave is present stays names contexts shows given_is = record {
   added = record { start = is.start; number = is.number; idle = is.account_is.idle; own = is.mine; more = is.more };
   active = record {
     account_is = is.account_is;
@@ -411,6 +457,7 @@ done-by client client' entry gave is present stays names shows given_is = record
   used = is.used;
   holds = is.holds;
   names = names;
+  contexts = contexts;
   shows = shows;
   given_is = given_is;
   numbered = is.numbered;
@@ -485,14 +532,14 @@ denied-told client client' what gathered gathered' gave ready has (reply, done, 
     let entry : Entry = Act client.token.account.number (client.token.account.used + 1) (acts.Denied what) reply in
     let holds : client'.token.account.holds ≡ client.token.account.holds = done.holds in
     let same : known client' ≡ known client =
-    ap (λ (h : Holds). record { holds = h; names = client'.names; shows = client'.shows.items }) holds
-    ∙ ap (λ (ns : NamesState). record { holds = client.token.account.holds; names = ns; shows = client'.shows.items }) done.names
-    ∙ ap (λ (ss : List (Option ℕ)). record { holds = client.token.account.holds; names = client.names; shows = ss }) done.shows in
+    same-known client'.token.account.holds client.token.account.holds client'.names client.names client'.contexts client.contexts client'.shows.items client.shows.items holds done.names done.contexts done.shows in
     let used = done.used in
     let small : IsSmall client'.token.account.used (known client) = record {
       few_displays = ready.small.few_displays;
       current = ready.small.current;
       made = omega (arith, ready.small.made, used);
+      current_contexts = ready.small.current_contexts;
+      made_contexts = omega (arith, ready.small.made_contexts, used);
       scanouts = ready.small.scanouts;
     } in
     let made = ap (λ (ns : NamesState). ns.made) done.names in
@@ -514,6 +561,14 @@ denied-told client client' what gathered gathered' gave ready has (reply, done, 
       refl,
       played-more client.token.seen client.token.seen client'.token.seen [] entry gathered gathered' gave has (prefix_self client.token.seen) done.added.more done.given_is done.numbered done.behind numbers last,
     )
+
+-- so a call that is denied gives its denial
+pub denied-gives : {B : Type 0} (client client' : Caller B) (plan : Result (List Task) What) (what : What) → plan ≡ Err what → (gathered : Played)
+    → (mine : List Entry) × IsDenial client.token.account.number what mine × HasGoneOn client mine client' × (known client' ≡ known client) × (length mine ≡ 1) × HasPlayed client.token.seen mine client'.token.seen gathered
+    → (mine : List Entry) × GivesTasks client.token.account.number (known client) plan mine (known client') × HasGoneOn client mine client' × (length mine ≤ 19) × HasPlayed client.token.seen mine client'.token.seen gathered
+denied-gives client client' plan what is gathered (mine, denial, on, same, one, has) =
+    let P : Result (List Task) What → Type 0 = λ p. GivesTasks client.token.account.number (known client) p mine (known client') in
+    (mine, subst P (sym is) (denial, same), on, omega (arith, one), has)
 
 -- what stands of a denial where memory lacked
 abbrev pub StoodDenial : {B : Type 0} → What → Caller B → Caller B → Type 0
@@ -602,12 +657,13 @@ err-then (Ok x) f p = tt
 err-then (Err e) f p = f p
 
 -- a client that has met a note can make calls as before
-pub ready-met : {B : Type 0} (client client' : Caller B) → IsReady client → IsCurrent display client'.token → Watched display client.token client'.token → client'.names ≡ client.names → client'.shows.items ≡ client.shows.items → IsReady client'
-ready-met client client' ready current watched names shows =
+pub ready-met : {B : Type 0} (client client' : Caller B) → IsReady client → IsCurrent display client'.token → Watched display client.token client'.token → client'.names ≡ client.names → client'.contexts ≡ client.contexts → client'.shows.items ≡ client.shows.items → IsReady client'
+ready-met client client' ready current watched names contexts shows =
     let same = watched.account in
     let used : client'.token.account.used ≡ client.token.account.used = ap (λ (a : Account). a.used) same in
     let displays : client'.token.account.holds.displays ≡ client.token.account.holds.displays = ap (λ (a : Account). a.holds.displays) same in
     let made : client'.names.made ≡ client.names.made = ap (λ (ns : NamesState). ns.made) names in
+    let made_contexts : client'.contexts.made ≡ client.contexts.made = ap (λ (cs : ContextsState). cs.made) contexts in
     let shown : length client'.shows.items ≡ length client.shows.items = ap (λ (ss : List (Option ℕ)). length ss) shows in
     record {
       active = met-active client.token client'.token ready.active current same watched.start watched.more;
@@ -615,6 +671,8 @@ ready-met client client' ready current watched names shows =
         few_displays = omega (arith, displays, ready.small.few_displays);
         current = subst (λ (ns : NamesState). length ns.current ≤ ns.made) (sym names) ready.small.current;
         made = omega (arith, made, used, ready.small.made);
+        current_contexts = subst (λ (cs : ContextsState). length cs.current ≤ cs.made) (sym contexts) ready.small.current_contexts;
+        made_contexts = omega (arith, made_contexts, used, ready.small.made_contexts);
         scanouts = omega (arith, shown, ready.small.scanouts);
       };
     }

@@ -31,13 +31,16 @@ pub record ClientState (B : Type 0) : Type 0 where
 
 -- What a client knows.
 abbrev pub known : {B : Type 0} → Caller B → Known
-known client = record { holds = client.token.account.holds; names = client.names; shows = client.shows.items }
+known client = record { holds = client.token.account.holds; names = client.names; contexts = client.contexts; shows = client.shows.items }
 
--- No more names are current than were made, no more were made than numbers drawn, and there are few scanouts.
+-- No more names are current than were made, of buffers and of contexts, no more were made than numbers drawn, and there are few
+-- scanouts.
 pub record IsSmall (used : ℕ) (known : Known) : Type 0 where
   pub few_displays : known.holds.displays ≤ 16
   pub current : length known.names.current ≤ known.names.made
   pub made : known.names.made ≤ used
+  pub current_contexts : length known.contexts.current ≤ known.contexts.made
+  pub made_contexts : known.contexts.made ≤ used
   pub scanouts : length known.shows ≤ 16
 
 -- A client that can make calls.
@@ -81,6 +84,7 @@ pub record HasDone {B : Type 0} (client : Caller B) (entry : Entry) (done : Adde
   pub used : client'.token.account.used ≡ client.token.account.used + 1
   pub holds : client'.token.account.holds ≡ updated client.token.account.holds entry
   pub names : client'.names ≡ client.names
+  pub contexts : client'.contexts ≡ client.contexts
   pub shows : client'.shows.items ≡ client.shows.items
   pub given_is : done.given ≡ given_of entry
   pub numbered : IsNumbered client'.token.seen done.number entry

@@ -12,10 +12,11 @@ use Rattle.vg_client_holds.specs.declared.holds.Holds.{Holds}
 use Rattle.vg_machine.specs.Order.{updated}
 use Rattle.vg_calls.specs.declared.call.Call.{Call}
 use Rattle.vg_calls.specs.declared.call.NameRef.{NameRef}
+use Rattle.vg_calls.specs.declared.call.ContextRef.{ContextRef}
 use Rattle.vg_client.specs.declared.given.Given.{Given}
 use Rattle.vg_client.specs.declared.given.Given.TheVariants as givens
 use Rattle.vg_tasks.specs.declared.task.Change.{Change}
-use Rattle.vg_tasks.specs.declared.task.Change.TheVariants.{NewBuffer, Imported, EndOfName, Shows}
+use Rattle.vg_tasks.specs.declared.task.Change.TheVariants.{NewBuffer, NewBlob, Imported, EndOfName, Shows, NewContext, EndOfContext}
 use Rattle.vg_tasks.specs.declared.task.Deed.{Deed}
 use Rattle.vg_tasks.specs.declared.task.Deed.TheVariants as deeds
 use Rattle.vg_tasks.specs.declared.task.Task.{Task}
@@ -23,6 +24,7 @@ use Rattle.vg_client.specs.Given.{given_of, is_accepted, left_after}
 use Rattle.vg_tasks.specs.Known.{Known}
 use Rattle.vg_names.specs.declared.names.Held.{Held}
 use Rattle.vg_names.specs.Names.{NamesState, found, with_name, with_none, without_name}
+use Rattle.vg_names.specs.Contexts.{ContextsState, is_current, with_context, with_no_context, without_context}
 use Rattle.vg_driver.specs.Asks.{denied_for, request_for}
 use Rattle.vg_tasks.specs.Tasks.{tasks_of}
 
@@ -40,7 +42,8 @@ IsDone client holds (deeds.Ask ask) entry = IsAsked client (denied_for holds ask
 abbrev pub IsEntryOf : ℕ → Holds → Task → Entry → Type 0
 IsEntryOf client holds task entry = IsDone client holds task.deed entry
 
--- The names after a buffer was to be reserved: where it wasn't, the next name never is current.
+-- The names after a buffer was to be reserved, which has no width and no height where it is a blob: where it wasn't reserved, the next
+-- name never is current.
 abbrev pub names_reserved : ℕ → ℕ → Given → NamesState → NamesState
 names_reserved width height (givens.Act (act_replies.Reserved key pages)) names = with_name key width height names
 names_reserved width height given names = with_none names
@@ -53,9 +56,16 @@ names_imported given names = with_none names
 -- A name is current from the reserve, or the import, of its buffer until the release of it, where these are accepted.
 abbrev pub names_after : Change → Given → NamesState → NamesState
 names_after (NewBuffer width height format) given names = names_reserved width height given names
+names_after (NewBlob size) given names = names_reserved 0 0 given names
 names_after Imported given names = names_imported given names
 names_after (EndOfName number key) given names = if is_accepted given then without_name number names else names
 names_after change given names = names
+
+-- A context is current from its CTX_CREATE, where that is accepted, until its CTX_DESTROY, whatever that is answered.
+abbrev pub contexts_after : Change → Given → ContextsState → ContextsState
+contexts_after NewContext given contexts = if is_accepted given then with_context contexts else with_no_context contexts
+contexts_after (EndOfContext number) given contexts = without_context number contexts
+contexts_after change given contexts = contexts
 
 -- What the scanouts show: a task changes it where it is accepted.
 abbrev pub shows_after : Change → Given → List (Option ℕ) → List (Option ℕ)
@@ -67,6 +77,7 @@ abbrev pub learned : Known → Task → Entry → Known
 learned known task entry = record {
   holds = updated known.holds entry;
   names = names_after task.change (given_of entry) known.names;
+  contexts = contexts_after task.change (given_of entry) known.contexts;
   shows = shows_after task.change (given_of entry) known.shows;
 }
 
@@ -115,3 +126,10 @@ name_behind made names = ref_of (found (made + 1) names)
 -- The name that a call gave: that behind those of before it.
 abbrev pub newest : Known → Known → Option NameRef
 newest before known = name_behind before.names.made known.names
+
+-- The context behind so many others, where it is current, and that which a call gave.
+abbrev pub context_behind : ℕ → ContextsState → Option ContextRef
+context_behind made contexts = if is_current (made + 1) contexts then Some (record { number = made + 1 }) else None
+
+abbrev pub newest_context : Known → Known → Option ContextRef
+newest_context before known = context_behind before.contexts.made known.contexts

@@ -15,9 +15,9 @@ use Rattle.vg_machine.specs.declared.history.Reply.TheVariants.{Fault, Response}
 use Rattle.vg_client.specs.declared.given.Given.{Given}
 use Rattle.vg_client.specs.declared.given.Given.TheVariants as givens
 use Rattle.vg_tasks.specs.declared.task.Change.{Change}
-use Rattle.vg_tasks.specs.declared.task.Change.TheVariants.{NewBuffer, EndOfName, GoesOn}
+use Rattle.vg_tasks.specs.declared.task.Change.TheVariants.{NewBuffer, NewBlob, EndOfName, GoesOn}
 use Rattle.vg_tasks.specs.declared.task.Task.{Task}
-use Rattle.vg_tasks.specs.Table.{attach_task, create_task, free_task, unref_task}
+use Rattle.vg_tasks.specs.Table.{attach_task, create_blob_task, create_task, free_task, unref_task}
 
 abbrev pub tells_denial : Act → Bool
 tells_denial (acts.Denied what) = true
@@ -63,6 +63,11 @@ abbrev pub after_reserve : ℕ → ℕ → ℕ → Given → List Task
 after_reserve width height format (givens.Act (act_replies.Reserved key pages)) = create_task key width height format ∷ attach_task key pages ∷ []
 after_reserve width height format given = []
 
+-- A reserved buffer of bytes gets a blob resource of its pages.
+abbrev pub after_reserve_blob : ℕ → Given → List Task
+after_reserve_blob size (givens.Act (act_replies.Reserved key pages)) = create_blob_task key size pages ∷ []
+after_reserve_blob size given = []
+
 -- Of a buffer that no one holds any more the resource and the pages are given back.
 abbrev pub after_release : ℕ → Given → List Task
 after_release key (givens.Act act_replies.Last) = unref_task key ∷ free_task key ∷ []
@@ -70,6 +75,7 @@ after_release key given = []
 
 abbrev pub follow_ups : Change → Given → List Task
 follow_ups (NewBuffer width height format) given = after_reserve width height format given
+follow_ups (NewBlob size) given = after_reserve_blob size given
 follow_ups (EndOfName number key) given = after_release key given
 follow_ups change given = []
 

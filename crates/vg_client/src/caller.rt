@@ -9,7 +9,7 @@ ghost use Rattle.vg_machine.specs.Entries.{Entry as Entries};
 ghost use Rattle.vg_client.specs.Accounts.{IsAccount, IsActive, IsNew, IsNextOf, IsUnadded, mine_of};
 ghost use Rattle.vg_client.specs.Callers.{BeginsEnd, HasAdded, HasGoneOn, HasEnded, HasEntered, HasLeftBy, HasMade, IsReady, known};
 ghost use Rattle.vg_tasks.specs.Plans.{IsCallFit, IsFitPlan};
-ghost use Rattle.vg_client.specs.Calls.{Begins, BeginsTasks, Gives, GivesTasks, name_behind, newest};
+ghost use Rattle.vg_client.specs.Calls.{Begins, BeginsTasks, Gives, GivesTasks, context_behind, name_behind, newest, newest_context};
 ghost use Rattle.vg_client.specs.Outcomes.{HasPlayed, IsOutcome};
 
 use crate::outcome::{Outcome, Played};
@@ -18,10 +18,10 @@ use crate::tokens::{Token, act};
 use std::alloc::{AllocError, Global};
 use std::sync::Wait;
 use vg_book::{Book, Naming};
-use vg_calls::{Call, NameRef};
+use vg_calls::{Call, ContextRef, NameRef};
 use vg_driver::Driver;
 use vg_machine::{Act, Display, What};
-use vg_names::Names;
+use vg_names::{Contexts, Names};
 use vg_ring::Rings;
 use vg_tasks::{Tasks, end_tasks, tasks_of};
 
@@ -30,6 +30,7 @@ use vg_tasks::{Tasks, end_tasks, tasks_of};
 pub(crate) struct Caller<B: Naming> {
     pub(crate) token: Token<B>,
     pub(crate) names: Names,
+    pub(crate) contexts: Contexts,
     /// For each scanout the key of the buffer that the client shows there.
     pub(crate) shows: Vec<Option<u32>>,
 }
@@ -52,6 +53,7 @@ pub(crate) fn enter<B: Naming, R: Wait>(
         Ok(_) => Ok(Caller {
             token,
             names: Names::new(alloc),
+            contexts: Contexts::new(alloc),
             shows,
         }),
         Err(_) => Err(token),
@@ -84,20 +86,25 @@ pub(crate) fn make_call<B: Naming, N: Rings, R: Wait>(
         × (length mine ≤ 19)
         × IsOutcome client.old.token.seen mine client.new.token.seen outcome) }
     ensures name { IfOk result (λ outcome. outcome.name ≡ newest (known client.old) (known client.new)) }
+    ensures context { IfOk result (λ outcome. outcome.context ≡ newest_context (known client.old) (known client.new)) }
     ensures begun { OnErr result ((mine : List Entries)
         × Begins client.old.token.account.number (known client.old) call mine
         × HasAdded client.old mine client.new) }
 {
     let made = client.names.made();
+    let made_contexts = client.contexts.made();
     let plan = tasks_of(
         alloc,
         client.token.holds(),
         &client.names,
+        &client.contexts,
         client.shows.as_slice(),
         call,
     )?;
     let played = follow(rt, alloc, book, driver, client, plan)?;
-    Ok(played.outcome(name_made(&client.names, made)))
+    let name = name_made(&client.names, made);
+    let context = context_made(&client.contexts, made_contexts);
+    Ok(played.outcome(name, context))
 }
 
 /// Does the tasks of a call, or tells what was denied.
@@ -138,6 +145,19 @@ fn name_made(names: &Names, before: u32) -> Option<NameRef>
     })
 }
 
+/// The context that a call made, where it is current and so many were made before.
+fn context_made(contexts: &Contexts, before: u32) -> Option<ContextRef>
+    requires { before < 2 ^ 31 }
+    ensures { result ≡ context_behind before contexts.now }
+{
+    let number = before + 1;
+    if contexts.is_current(number) {
+        Some(ContextRef { number })
+    } else {
+        None
+    }
+}
+
 /// Ends the client: it gives up all that it has, and leaves. It gives the number of the entry with which it left.
 pub(crate) fn end<B: Naming, N: Rings, R: Wait>(
     rt: &R,
@@ -157,7 +177,7 @@ pub(crate) fn end<B: Naming, N: Rings, R: Wait>(
         × BeginsEnd client.old.token.account.number (known client.old) mine
         × HasMade client.old.token mine client.new.token) }
 {
-    let tasks = end_tasks(alloc, client.token.holds(), &client.names)?;
+    let tasks = end_tasks(alloc, client.token.holds(), &client.names, &client.contexts)?;
     play(rt, alloc, book, driver, client, false, tasks)?;
     leave(rt, alloc, book, &mut client.token)
 }

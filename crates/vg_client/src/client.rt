@@ -7,7 +7,7 @@ ghost use Rattle.vg_machine.specs.Entries.{Entry as Entries};
 ghost use Rattle.vg_client.specs.Accounts.{IsNew, IsUnadded, mine_of};
 ghost use Rattle.vg_client.specs.Callers.{BeginsEnd, HasAdded, HasEnded, HasEntered, HasGoneOn, HasLeftBy, HasMade, known};
 ghost use Rattle.vg_tasks.specs.Plans.{IsCallFit};
-ghost use Rattle.vg_client.specs.Calls.{Begins, Gives, newest};
+ghost use Rattle.vg_client.specs.Calls.{Begins, Gives, newest, newest_context};
 ghost use Rattle.vg_client.specs.Outcomes.{IsOutcome};
 
 use crate::caller::{Caller, end, enter, make_call};
@@ -62,8 +62,8 @@ impl<B: Naming> Client<B> {
     }
 
     /// Makes a call: its entries one after another, until one isn't accepted, or the act that says what was denied. It gives the
-    /// numbers of the entries, what the last one was answered, and the name that the call made, if it made one. For want of memory
-    /// the entries that were made stand, no outcome is given, and the client has stopped.
+    /// numbers of the entries, what the last one was answered, and the name, of a buffer or of a context, that the call made, if it
+    /// made one. For want of memory the entries that were made stand, no outcome is given, and the client has stopped.
     pub fn call<N: Rings, R: Wait>(
         &mut self,
         rt: &R,
@@ -80,6 +80,7 @@ impl<B: Naming> Client<B> {
             × (length mine ≤ 19)
             × IsOutcome self.old.caller.token.seen mine self.new.caller.token.seen outcome) }
         ensures name { IfOk result (λ outcome. outcome.name ≡ newest (known self.old.caller) (known self.new.caller)) }
+        ensures context { IfOk result (λ outcome. outcome.context ≡ newest_context (known self.old.caller) (known self.new.caller)) }
         ensures goes_on { OnOk result ((self.old.stopped ≡ false) × (self.new.stopped ≡ false)) }
         ensures begun { OnErr result ((mine : List Entries)
             × Begins self.old.caller.token.account.number (known self.old.caller) call mine

@@ -1,12 +1,12 @@
 //! What the answer to a task says: whether it was accepted, and what follows.
 
 ghost use Rattle.std.specs.Prelude.{◌≡◌, ◌∷◌, ◌++◌, OnOk};
-ghost use Rattle.vg_tasks.specs.Table.{attach_task, create_task, free_task, unref_task};
+ghost use Rattle.vg_tasks.specs.Table.{attach_task, create_blob_task, create_task, free_task, unref_task};
 ghost use Rattle.vg_client.specs.Given as answers;
 
 use std::alloc::{AllocError, Global};
 use vg_machine::{Act, ActReply, Reply};
-use vg_tasks::{Change, Tasks, act_task, attach_task, create_task, unref_task};
+use vg_tasks::{Change, Tasks, act_task, attach_task, create_blob_task, create_task, unref_task};
 use vg_wire::kinds::{OK_DISPLAY_INFO, OK_EDID, OK_NODATA, OK_RESOURCE_UUID};
 use vg_wire::{Queue, read_header};
 
@@ -105,6 +105,7 @@ pub(crate) fn leave_tasks(
             height,
             format,
         } => follow_reserve(alloc, width, height, format, given, left),
+        Change::NewBlob { size } => follow_reserve_blob(alloc, size, given, left),
         Change::EndOfName { key, .. } => follow_release(key, given, left),
         _ => Ok(()),
     }
@@ -143,6 +144,35 @@ fn attach_pages(
     left.push_front(attach_task(alloc, key, pages)?)?;
     left.push_front(create_task(key, width, height, format))?;
     Ok(())
+}
+
+/// A reserved buffer of bytes gets a blob resource of its pages.
+fn follow_reserve_blob(
+    alloc: Global,
+    size: u32,
+    given: &Given,
+    left: &mut Tasks,
+) -> Result<(), AllocError>
+    ensures { OnOk result (left.new ≡ answers.after_reserve_blob size given.now ++ left.old) }
+{
+    match given {
+        Given::Act {
+            reply: ActReply::Reserved { key, pages },
+        } => create_blob(alloc, *key, size, pages.as_slice(), left),
+        _ => Ok(()),
+    }
+}
+
+fn create_blob(
+    alloc: Global,
+    key: u32,
+    size: u32,
+    pages: &[u32],
+    left: &mut Tasks,
+) -> Result<(), AllocError>
+    ensures { OnOk result (left.new ≡ create_blob_task key size pages.now ∷ left.old) }
+{
+    left.push_front(create_blob_task(alloc, key, size, pages)?)
 }
 
 /// The resource and the pages of a buffer that no one holds are given back.

@@ -1,7 +1,7 @@
 //! What a client learns from what a task was answered.
 
 ghost use Rattle.std.specs.Prelude.{◌≡◌, ◌<◌, ◌^◌, OnOk};
-ghost use Rattle.vg_client.specs.Calls.{names_after, names_imported, names_reserved, shows_after};
+ghost use Rattle.vg_client.specs.Calls.{contexts_after, names_after, names_imported, names_reserved, shows_after};
 ghost use Rattle.vg_tasks.specs.Fits.{IsFitChange};
 ghost use Rattle.vg_tasks.specs.declared.task.Change.TheVariants as changes;
 
@@ -10,7 +10,7 @@ use crate::given::{Given, is_accepted};
 use std::alloc::AllocError;
 use vg_book::Naming;
 use vg_machine::ActReply;
-use vg_names::Names;
+use vg_names::{Contexts, Names};
 use vg_tasks::Change;
 
 /// What the client knows after a task was answered.
@@ -21,14 +21,17 @@ pub(crate) fn learn<B: Naming>(
 ) -> Result<(), AllocError>
     requires fit { IsFitChange change }
     requires room { client.old.names.made < 2 ^ 31 }
+    requires room_for_contexts { client.old.contexts.made < 2 ^ 31 }
     ensures kept { client.new.token ≡ client.old.token }
     ensures names { OnOk result (client.new.names ≡ names_after change given.now client.old.names) }
+    ensures contexts { OnOk result (client.new.contexts ≡ contexts_after change given.now client.old.contexts) }
     ensures shows { OnOk result (client.new.shows.items ≡ shows_after change given.now client.old.shows.items) }
 {
     match change {
         Change::NewBuffer { width, height, .. } => {
             name_reserved(&mut client.names, width, height, given)
         }
+        Change::NewBlob { .. } => name_reserved(&mut client.names, 0, 0, given),
         Change::Imported => name_imported(&mut client.names, given),
         Change::EndOfName { number, .. } => {
             if is_accepted(given) {
@@ -38,6 +41,11 @@ pub(crate) fn learn<B: Naming>(
         }
         Change::Shows { scanout, key } => {
             show(&mut client.shows, scanout, key, given);
+            Ok(())
+        }
+        Change::NewContext => make_context(&mut client.contexts, given),
+        Change::EndOfContext { number } => {
+            client.contexts.end(number);
             Ok(())
         }
         Change::Nothing | Change::GoesOn => Ok(()),
@@ -73,6 +81,18 @@ fn name_imported(names: &mut Names, given: &Given) -> Result<(), AllocError>
         } => names.make(*key, geometry.width, geometry.height),
         _ => names.make_none(),
     }
+}
+
+/// The next context: one that was made, or one that never is current.
+fn make_context(contexts: &mut Contexts, given: &Given) -> Result<(), AllocError>
+    requires { contexts.old.made < 2 ^ 31 }
+    ensures { OnOk result (contexts.new ≡ contexts_after changes.NewContext given.now contexts.old) }
+{
+    if is_accepted(given) {
+        return contexts.make();
+    }
+    contexts.make_none();
+    Ok(())
 }
 
 /// What a scanout shows after a task that is accepted.

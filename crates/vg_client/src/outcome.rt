@@ -7,7 +7,7 @@ use crate::given::{Added, Given};
 use smallvec::SmallVec;
 use std::alloc::{AllocError, Global};
 use std::marker::Model;
-use vg_calls::NameRef;
+use vg_calls::{ContextRef, NameRef};
 use vg_driver::Answer;
 use vg_machine::ActReply;
 
@@ -44,12 +44,13 @@ impl Numbers {
 }
 
 /// What a call made: the numbers of its entries in the history, from 1 and rising, what the last of them was answered, and the
-/// name of the buffer that it made, if it made one.
+/// name of the buffer, and that of the context, that it made, if it made one.
 #[derive(Drop)]
 pub struct Outcome {
     pub entries: Numbers,
     pub last: Last,
     pub name: Option<NameRef>,
+    pub context: Option<ContextRef>,
 }
 
 /// What tasks have given so far: the numbers of their entries, and what the last of them was answered.
@@ -81,18 +82,20 @@ impl Played {
         Ok(())
     }
 
-    /// The outcome of a call that gave at least one entry, and made this name.
-    pub(crate) fn outcome(self, name: Option<NameRef>) -> Outcome
+    /// The outcome of a call that gave at least one entry, and made this name or context.
+    pub(crate) fn outcome(self, name: Option<NameRef>, context: Option<ContextRef>) -> Outcome
         requires { IsSome self.last }
         ensures entries { result.entries ≡ self.entries.items }
         ensures last { self.last ≡ Some result.last }
         ensures name { result.name ≡ name }
+        ensures context { result.context ≡ context }
     {
         let Played { entries, last } = self;
         Outcome {
             entries: Numbers { numbers: entries },
             last: last.unwrap(),
             name,
+            context,
         }
     }
 }

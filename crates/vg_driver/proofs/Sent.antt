@@ -46,31 +46,7 @@ holds_send = search (sendable, crosses, seq_send) depth 20
 
 pub display_send : IsSend display.the_row
 display_send = let T = display_in.the_type in
-    view_send _ _ _ _ _ (recorded_send _ _ _ T.to_one (struct_send (shape T) (
-      search (sendable, crosses) depth 20,
-      (
-        search sendable,
-        (
-          search (sendable, crosses) depth 20,
-          (
-            search (sendable, crosses, BTreeMap-send) depth 40,
-            (
-              search (sendable, crosses, BTreeMap-send) depth 40,
-              (
-                search (sendable, crosses, BTreeMap-send) depth 40,
-                (
-                  search (sendable, crosses) depth 20,
-                  (
-                    search (sendable, crosses) depth 60 fits 100000,
-                    (search (sendable, crosses, BTreeMap-send) depth 40, tt),
-                  ),
-                ),
-              ),
-            ),
-          ),
-        ),
-      ),
-    )))
+    view_send _ _ _ _ _ (recorded_send _ _ _ T.to_one (struct_send (shape T) (search (sendable, crosses) depth 20, (search sendable, (search (sendable, crosses) depth 20, (search (sendable, crosses, BTreeMap-send) depth 40, (search (sendable, crosses, BTreeMap-send) depth 40, (search (sendable, crosses, BTreeMap-send) depth 40, (search (sendable, crosses, BTreeMap-send) depth 40, (search (sendable, crosses, BTreeMap-send) depth 40, (search (sendable, crosses) depth 20, (search (sendable, crosses) depth 60 fits 100000, (search (sendable, crosses, BTreeMap-send) depth 40, tt)))))))))))))
 
 module _ (M S A R Q P H W : RattleType) (m : IsSend M) (a : IsSend A) (r : IsSend R) (q : IsSend Q) (p : IsSend P) (B : RattleType) (gm : Machine.Ghosts M.Denot S.Denot A.Denot R.Denot Q.Denot P.Denot H.Denot W.Denot) (gb : Naming.Ghosts B.Denot) where
   heard_send : IsSend (heard.the_row M B S A R Q P H W gm gb)

@@ -1,6 +1,6 @@
 -- What a display keeps over the acts of its clients.
 use Rattle.std.proofs.Common.{◌≡◌, ◌≤◌, ◌<◌, ℕ, ◌+◌, ◌-◌, ◌*◌, Bool, true, false, not, List, [], ◌∷◌, ◌++◌, Option, Some, None, Result, Ok, Err, ap, sym, subst, refl, ◌∙◌, length, take, set, get_or, arith}
-use Rattle.std.specs.Prelude.{IfOk, IfSome, OnErr, OnOk, nat_lt, is_some, if◌then◌else◌}
+use Rattle.std.specs.Prelude.{IfOk, IfSome, OnErr, OnOk, nat_lt, if◌then◌else◌}
 use Rattle.std.specs.List.{All}
 use Rattle.std.specs.Ordering.{nat_cmp}
 use Rattle.std.specs.BTreeMap.{is_at}
@@ -18,12 +18,13 @@ use Rattle.vg_refusals.specs.Refusals.{refusal_of}
 use Rattle.vg_share.specs.Cells.{pages_of, stored}
 use Rattle.vg_share.specs.Share.{ShareState, SharesPages, buffer_at, ended, entered, freed, given_back, is_holder, leased, pages_at, pages_in, place_refusal, refused_by, released, unleased, with_buffer, drop_refusal, export_refusal, exported, free_refusal, has_holder, import_refusal, imported, release_refusal, reserve_refusal, take_refusal}
 use Rattle.vg_backing.specs.Backing.{AreHeld}
+use Rattle.vg_blob.specs.declared.blobs.Blob.{Blob}
+use Rattle.vg_blob.specs.Blobs.{IsHeld}
 use Rattle.vg_client_holds.specs.declared.act.Act.{Act}
 use Rattle.vg_client_holds.specs.declared.act.Act.TheVariants.{Enter, Reserve, Store, Load, Export, Import, Release, Free, Take, Drop, Denied, Leave}
 use Rattle.vg_client_holds.specs.declared.act.ActReply.{ActReply}
 use Rattle.vg_client_holds.specs.declared.act.ActReply.TheVariants as act_replies
-use Rattle.vg_resource.specs.Resource.{resource_at}
-use Rattle.vg_machine.specs.State.{State}
+use Rattle.vg_machine.specs.State.{State, has_resource}
 use Rattle.vg_machine.specs.ActStep.{KeepsIfRefused, effect_of, is_in_use, replied_by, shown_at}
 
 -- what clients share, beside guest memory, so many scanouts and so many entries
@@ -98,6 +99,9 @@ held-one old new large entries held = λ k d within.
 
 pub held-kept : (old new : Memory) → IsAsLarge old new → (backings : List (ℕ × List MemEntry)) → All (λ entry. AreHeld old entry.1) backings → All (λ entry. AreHeld new entry.1) backings
 held-kept old new large backings held = λ k d within. held-one old new large (get_or backings k d).1 (held k d within)
+
+pub blobs-kept : (old new : Memory) → IsAsLarge old new → (blobs : List (ℕ × Blob)) → All (IsHeld old) blobs → All (IsHeld new) blobs
+blobs-kept old new large blobs held = λ k d within. held-one old new large (get_or blobs k d).1.entries (held k d within)
 
 pub shares-bytes : (memory : Memory) (bytes : List ℕ) (share : ShareState) → SharesPages memory share → SharesPages (record memory { bytes = bytes }) share
 shares-bytes memory bytes share were = record { taken = were.taken; enough = were.enough; apart = were.apart; owned = were.owned; given = were.given }
@@ -249,7 +253,7 @@ kept-effect state client (Export key) = kept-replied (export_refusal client key 
 kept-effect state client (Import token) = kept-replied (import_refusal token state.share) state _ _ tt
 kept-effect state client (Release key) =
     kept-replied (release_refusal client key (shown_at client key state) state.share) state _ _ (kept-held (has_holder key (released client key state.share)) state _)
-kept-effect state client (Free key) = kept-replied (free_refusal client key (is_some (resource_at key state.resources)) state.share) state _ _ tt
+kept-effect state client (Free key) = kept-replied (free_refusal client key (has_resource state key) state.share) state _ _ tt
 kept-effect state client (Take scanout) = kept-replied (take_refusal scanout state.share) state _ _ tt
 kept-effect state client (Drop scanout) = kept-replied (drop_refusal client scanout (is_in_use state scanout) state.share) state _ _ tt
 kept-effect state client (Denied what) = tt

@@ -14,7 +14,8 @@ use Rattle.vg_shown.specs.Shown.{shown_byte, shown_row}
 use Rattle.vg_wire_ext.specs.declared.response.Response.TheVariants as responses
 use Rattle.vg_machine.specs.ChangeWithin.{IsImage, pointed_step}
 use Rattle.vg_machine.specs.State.{State}
-use Rattle.vg_machine.specs.Step.{answered_by, with_cursor}
+use Rattle.vg_machine.specs.Answered.{answered_by}
+use Rattle.vg_machine.specs.Step.{with_cursor}
 
 -- a scanout that there isn't has no cursor that is shown
 pub hidden-past : (cursors : List Cursor) (scanout : ℕ) → length cursors ≤ scanout → (cursor_of cursors scanout).visible ≡ false

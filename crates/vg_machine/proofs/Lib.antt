@@ -2,6 +2,8 @@ pub mod Enabled
 pub mod MapLemmas
 pub mod ShowingLemmas
 pub mod KeepLemmas
+pub mod ContextLemmas
+pub mod BlobLemmas
 pub mod BoundLemmas
 pub mod ActLemmas
 pub mod ShapeLemmas

@@ -79,3 +79,15 @@ pub set_itself : {X : Type 0} (id : ℕ) (v w : X) (es : List (ℕ × X)) → lo
 set_itself id v w [] found = cc
 set_itself id v w (e ∷ es) found =
     set_itself-by id v w e es (set_value (is_at (nat_cmp id)) es w) (is_at (nat_cmp id) e.0) refl found (set_itself id v w es)
+
+-- what isn't there can't be taken away
+remove_none-by : {X : Type 0} (id : ℕ) (e : ℕ × X) (es : List (ℕ × X)) (b : Bool)
+    → cond b (Some e.1) (lookup (is_at (nat_cmp id)) es) ≡ None
+    → (lookup (is_at (nat_cmp id)) es ≡ None → remove_entry (is_at (nat_cmp id)) es ≡ es)
+    → cond b es (e ∷ remove_entry (is_at (nat_cmp id)) es) ≡ e ∷ es
+remove_none-by id e es true none rest = cc
+remove_none-by id e es false none rest = ap (λ more. e ∷ more) (rest none)
+
+pub remove_none : {X : Type 0} (id : ℕ) (es : List (ℕ × X)) → lookup (is_at (nat_cmp id)) es ≡ None → remove_entry (is_at (nat_cmp id)) es ≡ es
+remove_none id [] none = refl
+remove_none id (e ∷ es) none = remove_none-by id e es (is_at (nat_cmp id) e.0) none (remove_none id es)

@@ -1,6 +1,6 @@
 -- What a flush shows and a transfer copies, pixel by pixel.
-use Rattle.std.proofs.Common.{◌≡◌, ◌≢◌, ℕ, ◌+◌, ◌-◌, ◌*◌, ◌%◌, ◌<◌, ◌≤◌, ◌==◌, ◌&&◌, Bool, true, false, not, cond, List, [], ◌∷◌, length, map, min, max, get_or, slice_get, slice_index, take, drop, Option, Some, None, Result, Ok, sym, ap, ◌∙◌, refl, subst, arith}
-use Rattle.std.specs.Prelude.{IfSome, is_none}
+use Rattle.std.proofs.Common.{◌≡◌, ◌≢◌, ℕ, ◌+◌, ◌-◌, ◌*◌, ◌%◌, ◌<◌, ◌≤◌, ◌==◌, ◌&&◌, ◌||◌, Bool, true, false, not, cond, inl, inr, List, [], ◌∷◌, length, map, min, max, get_or, slice_get, slice_index, take, drop, Option, Some, None, Result, Ok, sym, ap, ◌∙◌, refl, subst, arith}
+use Rattle.std.specs.Prelude.{IfSome, is_none, is_some}
 use Rattle.std.specs.List.{All}
 use Rattle.std.specs.Option.{option_map}
 use Rattle.std.specs.Map.{values_of}
@@ -28,13 +28,17 @@ use Rattle.vg_transfer.specs.Backings.{transfer, transfer_refusals, entries_at, 
 use Rattle.vg_backing.specs.Backing.{backing_bytes}
 use Rattle.vg_scanout.specs.Fits.{IsScreen}
 use Rattle.vg_resource.specs.Resource.{IsWhole, height_of, resource_at, width_of}
-use Rattle.vg_machine.specs.Pixels.{CopiesEachPixel, CopiesPixels, ShowsEachPixel, ShowsScreen}
+use Rattle.vg_machine.specs.Pixels.{CopiesEachPixel, CopiesPixels, ShowsEachPixel, ShowsOnEach, ShowsScreen, pixel_in, pixel_in_blob}
 use Rattle.vg_places.specs.Pixels.{pixel_of}
 use Rattle.vg_machine.specs.Receive.{receive_refusal, with_received}
 use Rattle.vg_refusals.specs.Refusals.{refusal_of, unless_refused}
 use Rattle.vg_scanout.specs.Scanout.{after_flush, are_too_many, area_of, flushed_pixels, flushed_screen, is_flushed}
-use Rattle.vg_machine.specs.State.{IsConsistent, IsShowing, ShowsResource, State, counted}
-use Rattle.vg_machine.specs.Step.{answered_by, flush_refusals, flush_step, flushed_by, pixels_of, transfer_step}
+use Rattle.vg_blob.specs.declared.blobs.Blob.{Blob}
+use Rattle.vg_blob.specs.Blobs.{blob_at, blob_bytes}
+use Rattle.vg_scanout.specs.declared.scanout.Binding.{Binding}
+use Rattle.vg_machine.specs.Answered.{answered_by}
+use Rattle.vg_machine.specs.State.{IsConsistent, IsShowing, ShowsEither, ShowsResource, State, counted, has_resource, is_blob}
+use Rattle.vg_machine.specs.Step.{flush_refusals, flush_step, flushed_by, pixels_of, surface_in, surface_of, transfer_2d_step, transfer_step}
 use Rattle.vg_machine.proofs.MapLemmas.{set_itself, set_other}
 use Rattle.vg_machine.proofs.ShowingLemmas.{shown-found}
 
@@ -88,33 +92,45 @@ common-wide : (a w b v : ℕ) → 0 < common a w b v → skipped a b + common a 
 common-wide a w b v some = omega arith
 
 -- where a pixel of the part stands in the surface
-point-at : (offset stride width px py i j x y : ℕ) → offset ≡ 0 → stride ≡ 4 * width → px + i ≡ x → py + j ≡ y
-    → offset + stride * py + 4 * px + stride * j + 4 * i ≡ 4 * (width * y + x)
-point-at offset stride width px py i j x y none rows column row = rw (none, rows, ← column, ← row) (grind arith)
+point-at : (offset stride px py i j x y : ℕ) → px + i ≡ x → py + j ≡ y → offset + stride * py + 4 * px + stride * j + 4 * i ≡ offset + stride * y + 4 * x
+point-at offset stride px py i j x y column row = rw (← column, ← row) (grind arith)
 
-shows-covered : (rect : Rect) (resource : Resource) (screen : Screen) (x y : ℕ) → IsScreen (Some screen) → ShowsResource screen.binding resource
+-- pixel (u, v) of these bytes as a binding shows it
+abbrev shown-in : Binding → List ℕ → ℕ → ℕ → List ℕ
+shown-in binding surface u v = shown_bytes binding.format (take 4 (drop (binding.offset + binding.stride * v + 4 * u) surface))
+
+shows-covered : (rect : Rect) (surface : List ℕ) (screen : Screen) (x y : ℕ) → IsScreen (Some screen)
     → x < screen.binding.rect.width → y < screen.binding.rect.height → Covers rect (screen.binding.rect.x + x) (screen.binding.rect.y + y)
-    → pixel_of (flushed_pixels screen.binding rect resource.pixels screen.pixels) screen.binding.rect.width x y
-    ≡ shown_bytes resource.format (pixel_of resource.pixels resource.width (screen.binding.rect.x + x) (screen.binding.rect.y + y))
-shows-covered rect resource screen x y whole shows across down covers =
+    → pixel_of (flushed_pixels screen.binding rect surface screen.pixels) screen.binding.rect.width x y
+    ≡ shown-in screen.binding surface (screen.binding.rect.x + x) (screen.binding.rect.y + y)
+shows-covered rect surface screen x y whole across down covers =
     let binding = screen.binding in
     let all = binding.rect in
     let part = common_of all rect in
-    let surface = resource.pixels in
     let h : IsCommon all.x all.width rect.x rect.width x = is-common all.x all.width rect.x rect.width x across covers.0 covers.1 in
     let v : IsCommon all.y all.height rect.y rect.height y = is-common all.y all.height rect.y rect.height y down covers.2 covers.3 in
     let i = x - skipped all.x rect.x in
     let j = y - skipped all.y rect.y in
     let from = binding.offset + binding.stride * part.y + 4 * part.x in
     let value : ℕ → ℕ → ℕ = λ i c. shown_byte binding.format (drop (from + binding.stride * i) surface) c in
-    let pixel = pixel_of surface resource.width (all.x + x) (all.y + y) in
-    let place = point-at binding.offset binding.stride resource.width part.x part.y i j (all.x + x) (all.y + y) shows.offset shows.stride h.point v.point in
-    pixel-in (area_of all part) all.width all.height value screen.pixels (shown_bytes resource.format pixel) (skipped all.x rect.x) i j x y
-    whole.0 (length-shown_bytes resource.format pixel) refl (omega (arith, h.wide)) h.reached v.reached across down (omega (arith, h.below)) v.below
+    let place = point-at binding.offset binding.stride part.x part.y i j (all.x + x) (all.y + y) h.point v.point in
+    let pixel = take 4 (drop (binding.offset + binding.stride * (all.y + y) + 4 * (all.x + x)) surface) in
+    pixel-in (area_of all part) all.width all.height value screen.pixels (shown_bytes binding.format pixel) (skipped all.x rect.x) i j x y
+    whole.0 (length-shown_bytes binding.format pixel) refl (omega (arith, h.wide)) h.reached v.reached across down (omega (arith, h.below)) v.below
     (λ c below.
     byte-shown binding.format surface (from + binding.stride * j) i c below
-    ∙ ap (λ n. get_or (shown_bytes binding.format (take 4 (drop n surface))) c 0) place
-    ∙ ap (λ format. get_or (shown_bytes format pixel) c 0) shows.format)
+    ∙ ap (λ n. get_or (shown_bytes binding.format (take 4 (drop n surface))) c 0) place)
+
+-- a pixel of a 2D resource stands where a binding to it has it
+row-of : (width x y : ℕ) → 0 + 4 * width * y + 4 * x ≡ 4 * (width * y + x)
+row-of width x y = grind arith
+
+shown-2d : (binding : Binding) (resource : Resource) (u v : ℕ) → ShowsResource binding resource → shown-in binding resource.pixels u v ≡ pixel_in resource u v
+shown-2d binding resource u v shows =
+    ap (λ format. shown_bytes format (take 4 (drop (binding.offset + binding.stride * v + 4 * u) resource.pixels))) shows.format
+    ∙ ap (λ offset. shown_bytes resource.format (take 4 (drop (offset + binding.stride * v + 4 * u) resource.pixels))) shows.offset
+    ∙ ap (λ stride. shown_bytes resource.format (take 4 (drop (0 + stride * v + 4 * u) resource.pixels))) shows.stride
+    ∙ ap (λ n. shown_bytes resource.format (take 4 (drop n resource.pixels))) (row-of resource.width u v)
 
 shows-else : (rect : Rect) (surface : List ℕ) (screen : Screen) (x y : ℕ) → IsScreen (Some screen)
     → x < screen.binding.rect.width → y < screen.binding.rect.height → ¬ Covers rect (screen.binding.rect.x + x) (screen.binding.rect.y + y)
@@ -154,23 +170,23 @@ apart-by id rect screen x y is same across down covers =
     apart-tests true false one other both = cc
     apart-tests false b one other both = cc
 
-shows-screen : (id : ℕ) (rect : Rect) (resource : Resource) (screen : Screen) (b : Bool) → is_flushed id rect (Some screen) ≡ b → IsScreen (Some screen)
-    → (screen.binding.resource ≡ id → ShowsResource screen.binding resource)
-    → (next : Screen) × (cond b (flushed_screen rect resource.pixels (Some screen)) (Some screen) ≡ Some next) × ShowsScreen id rect resource screen next
-shows-screen id rect resource screen true is whole shows =
+shows-screen : (id : ℕ) (rect : Rect) (surface : List ℕ) (value : ℕ → ℕ → List ℕ) (screen : Screen) (b : Bool) → is_flushed id rect (Some screen) ≡ b → IsScreen (Some screen)
+    → (screen.binding.resource ≡ id → (u v : ℕ) → shown-in screen.binding surface u v ≡ value u v)
+    → (next : Screen) × (cond b (flushed_screen rect surface (Some screen)) (Some screen) ≡ Some next) × ShowsScreen id rect value screen next
+shows-screen id rect surface value screen true is whole shows =
     let bound : screen.binding.resource ≡ id = bound-by id rect screen is in (
-      record screen { pixels = flushed_pixels screen.binding rect resource.pixels screen.pixels },
+      record screen { pixels = flushed_pixels screen.binding rect surface screen.pixels },
       refl,
       record {
         binding = refl;
         shown = λ same x y across down. (
-          shows-covered rect resource screen x y whole (shows same) across down,
-          shows-else rect resource.pixels screen x y whole across down,
+          λ covers. shows-covered rect surface screen x y whole across down covers ∙ shows same (screen.binding.rect.x + x) (screen.binding.rect.y + y),
+          shows-else rect surface screen x y whole across down,
         );
         other = λ other. absurd (other bound);
       },
     )
-shows-screen id rect resource screen false is whole shows = (
+shows-screen id rect surface value screen false is whole shows = (
   screen,
   refl,
   record {
@@ -183,7 +199,7 @@ shows-screen id rect resource screen false is whole shows = (
 -- what a flush is refused for, once there is the resource
 abbrev later-flush : State → Rect → ℕ → List (Bool × ℕ)
 later-flush state rect id =
-    (not (is_inside rect (width_of (resource_at id state.resources)) (height_of (resource_at id state.resources))), 0x1205)
+    (not (is_blob state id) && not (is_inside rect (width_of (resource_at id state.resources)) (height_of (resource_at id state.resources))), 0x1205)
     ∷ (are_too_many (flushed_by state rect id).frames, 0x1201)
     ∷ []
 
@@ -196,27 +212,49 @@ after-at id rect surface screens scanout screen next at after =
 holds-at : {X : Type 0} (P : X → Type 0) (xs : List X) (k : ℕ) (x : X) → All P xs → slice_get xs k ≡ Some x → P x
 holds-at P xs k x all at = subst P (get_or_from_slice_get xs k x x at) (all k x (slice_get_within xs k x at))
 
--- a screen that is bound to the resource shows it
-shows-its : (resources : List (ℕ × Resource)) (id : ℕ) (resource : Resource) (screen : Screen) → resource_at id resources ≡ Some resource → IsShowing resources (Some screen)
-    → screen.binding.resource ≡ id → ShowsResource screen.binding resource
-shows-its resources id resource screen is showing same =
-    let (found, there, shows) = shown-found screen.binding (resource_at screen.binding.resource resources) showing in
-    let one : found ≡ resource = some-same (sym there ∙ ap (λ n. resource_at n resources) same ∙ is) in
-    subst (ShowsResource screen.binding) one shows
+-- a screen that is bound to a 2D resource shows it
+shows-either : (binding : Binding) (blob : Option Blob) (found : Option Resource) (resource : Resource) → blob ≡ None → found ≡ Some resource → ShowsEither binding blob found → ShowsResource binding resource
+shows-either binding None found resource none is shows =
+    let (one, there, shown) = shown-found binding found shows in
+    subst (ShowsResource binding) (some-same (sym there ∙ is)) shown
+shows-either binding (Some blob) found resource none is shows = cc
 
-shows-at : (rect : Rect) (id : ℕ) (state : State) (resource : Resource) → IsConsistent state → All IsScreen state.scanouts.screens → resource_at id state.resources ≡ Some resource
-    → (scanout : ℕ) (screen : Screen) → slice_get state.scanouts.screens scanout ≡ Some (Some screen)
-    → (next : Screen) × (slice_get (flushed_by state rect id).screens scanout ≡ Some (Some next)) × ShowsScreen id rect resource screen next
-shows-at rect id state resource known screens is scanout screen at =
+shows-its : (blobs : List (ℕ × Blob)) (resources : List (ℕ × Resource)) (id : ℕ) (resource : Resource) (screen : Screen) → blob_at id blobs ≡ None → resource_at id resources ≡ Some resource
+    → IsShowing blobs resources (Some screen) → screen.binding.resource ≡ id → ShowsResource screen.binding resource
+shows-its blobs resources id resource screen none is showing same =
+    shows-either screen.binding (blob_at screen.binding.resource blobs) (resource_at screen.binding.resource resources) resource
+    (ap (λ n. blob_at n blobs) same ∙ none) (ap (λ n. resource_at n resources) same ∙ is) showing
+
+-- each screen after a flush of these bytes, of which the pixels are these
+shows-on-each : (rect : Rect) (id : ℕ) (surface : List ℕ) (value : Binding → ℕ → ℕ → List ℕ) (state : State) → All IsScreen state.scanouts.screens → surface_of state id ≡ surface
+    → ((scanout : ℕ) (screen : Screen) → slice_get state.scanouts.screens scanout ≡ Some (Some screen) → screen.binding.resource ≡ id
+    → (u v : ℕ) → shown-in screen.binding surface u v ≡ value screen.binding u v)
+    → ShowsOnEach rect id value state (record state { scanouts = flushed_by state rect id })
+shows-on-each rect id surface value state screens is shows scanout screen at =
     let whole = holds-at IsScreen state.scanouts.screens scanout (Some screen) screens at in
-    let showing = holds-at (IsShowing state.resources) state.scanouts.screens scanout (Some screen) known.showing at in
-    let (next, after, shows) = shows-screen id rect resource screen (is_flushed id rect (Some screen)) refl whole (shows-its state.resources id resource screen is showing) in
-    let surface : resource.pixels ≡ pixels_of (resource_at id state.resources) = sym (ap pixels_of is) in (
+    let (next, after, shown) = shows-screen id rect surface (value screen.binding) screen (is_flushed id rect (Some screen)) refl whole (shows scanout screen at) in (
       next,
-      after-at id rect (pixels_of (resource_at id state.resources)) state.scanouts.screens scanout screen next at
-          (ap (λ pixels. after_flush id rect pixels (Some screen)) (sym surface) ∙ after),
-      shows,
+      after-at id rect (surface_of state id) state.scanouts.screens scanout screen next at (ap (λ bytes. after_flush id rect bytes (Some screen)) is ∙ after),
+      shown,
     )
+
+shows-by : (rect : Rect) (id : ℕ) (state : State) (blob : Option Blob) (found : Option Resource) → blob_at id state.blobs ≡ blob → resource_at id state.resources ≡ found
+    → IsConsistent state → All IsScreen state.scanouts.screens → (is_some blob || is_some found) ≡ true
+    → ShowsEachPixel rect id state (record state { scanouts = flushed_by state rect id })
+shows-by rect id state (Some blob) found is there known screens some =
+    inl (blob, is, shows-on-each rect id (blob_bytes state.memory blob) (pixel_in_blob state.memory blob) state screens (ap (λ b. surface_in state.memory b (resource_at id state.resources)) is) (λ scanout screen at same u v. refl))
+shows-by rect id state None (Some resource) is there known screens some =
+    inr (
+      resource,
+      is,
+      there,
+      shows-on-each rect id resource.pixels (λ binding. pixel_in resource) state screens
+          (ap (λ b. surface_in state.memory b (resource_at id state.resources)) is ∙ ap pixels_of there)
+          (λ scanout screen at same u v.
+          let showing = holds-at (IsShowing state.blobs state.resources) state.scanouts.screens scanout (Some screen) known.showing at in
+          shown-2d screen.binding resource u v (shows-its state.blobs state.resources id resource screen is there showing same)),
+    )
+shows-by rect id state None None is there known screens some = cc
 
 -- a display keeps what it keeps when an entry is counted
 pub consistent-counted : (state : State) → IsConsistent state → IsConsistent (counted state)
@@ -224,6 +262,7 @@ consistent-counted state was = record {
   setup = was.setup;
   pages = was.pages;
   backings = was.backings;
+  blobs = was.blobs;
   screens = was.screens;
   showing = was.showing;
   leases = was.leases;
@@ -237,13 +276,15 @@ consistent-counted state was = record {
 pub shows-each-pixel : (rect : Rect) (id : ℕ) (state : State) → IsConsistent state → All IsScreen state.scanouts.screens
     → (flush_step state rect id).1 ≡ responses.Nodata → ShowsEachPixel rect id state (flush_step state rect id).0
 shows-each-pixel rect id state known screens done =
-    let found = resource_at id state.resources in
     let next : State = record state { scanouts = flushed_by state rect id } in
     let went = accepted (refusal_of (flush_refusals state rect id)) state next done in
-    let some = none-holds (is_none found) 0x1203 (later-flush state rect id) went.0 in
-    let (resource, is) = there-is found some.0 in
+    let some = none-holds (not (has_resource state id)) 0x1203 (later-flush state rect id) went.0 in
     subst (λ (now : State). ShowsEachPixel rect id state now) (sym went.1)
-    (resource, is, shows-at rect id state resource known screens is)
+    (shows-by rect id state (blob_at id state.blobs) (resource_at id state.resources) refl refl known screens (is-not (has_resource state id) some.0))
+  where
+    is-not : (b : Bool) → not b ≡ false → b ≡ true
+    is-not true none = refl
+    is-not false none = cc
 
 -- a transfer that isn't refused copies
 transfer-went : (memory : Memory) (id : ℕ) (rect : Rect) (offset width height : ℕ) (backings : List (ℕ × List MemEntry)) (pixels : List ℕ)
@@ -283,12 +324,22 @@ copies-found rect offset id memory resources backings (Some resource) is went wh
       λ other apart. set_other other id next apart resources,
     )
 
-pub copies-each-pixel : (rect : Rect) (offset id : ℕ) (state : State) → All IsWhole (values_of state.resources) → CopyEach state.memory state.backings
-    → (transfer_step state rect offset id).1 ≡ responses.Nodata → CopiesEachPixel rect offset id state (transfer_step state rect offset id).0
-copies-each-pixel rect offset id state whole copy done =
+copies-2d : (rect : Rect) (offset id : ℕ) (state : State) → All IsWhole (values_of state.resources) → CopyEach state.memory state.backings
+    → (transfer_2d_step state rect offset id).1 ≡ responses.Nodata → CopiesEachPixel rect offset id state (transfer_2d_step state rect offset id).0
+copies-2d rect offset id state whole copy done =
     let found = resource_at id state.resources in
     let next : State = record state { resources = with_received state.memory id rect offset state.backings found state.resources } in
     let went = accepted (receive_refusal id rect offset state.backings found) state next done in
     let one = IfSome-lookup_from_All IsWhole (is_at (nat_cmp id)) state.resources whole in
     subst (λ (now : State). CopiesEachPixel rect offset id state now) (sym went.1)
-    (copies-found rect offset id state.memory state.resources state.backings found refl went.0 one copy)
+    (inr (copies-found rect offset id state.memory state.resources state.backings found refl went.0 one copy))
+
+copies-by : (rect : Rect) (offset id : ℕ) (state : State) (blob : Option Blob) → blob_at id state.blobs ≡ blob → All IsWhole (values_of state.resources) → CopyEach state.memory state.backings
+    → (cond (is_some blob) (state, responses.Nodata) (transfer_2d_step state rect offset id)).1 ≡ responses.Nodata
+    → CopiesEachPixel rect offset id state (cond (is_some blob) (state, responses.Nodata) (transfer_2d_step state rect offset id)).0
+copies-by rect offset id state (Some blob) is whole copy done = inl (blob, is, refl)
+copies-by rect offset id state None is whole copy done = copies-2d rect offset id state whole copy done
+
+pub copies-each-pixel : (rect : Rect) (offset id : ℕ) (state : State) → All IsWhole (values_of state.resources) → CopyEach state.memory state.backings
+    → (transfer_step state rect offset id).1 ≡ responses.Nodata → CopiesEachPixel rect offset id state (transfer_step state rect offset id).0
+copies-each-pixel rect offset id state whole copy done = copies-by rect offset id state (blob_at id state.blobs) refl whole copy done

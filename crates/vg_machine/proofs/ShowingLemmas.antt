@@ -1,5 +1,5 @@
 -- Screens show resources that there are, after each command.
-use Rattle.std.proofs.Common.{◌≡◌, ℕ, ◌+◌, ◌*◌, ◌==◌, Bool, true, false, ◌||◌, List, [], ◌∷◌, Option, Some, None, Result, inl, inr, sym, ap, ◌∙◌, refl, subst, get_or}
+use Rattle.std.proofs.Common.{◌≡◌, ℕ, ◌+◌, ◌*◌, ◌==◌, Bool, true, false, not, ◌||◌, List, [], ◌∷◌, Option, Some, None, Result, inl, inr, sym, ap, ◌∙◌, refl, subst, get_or}
 use Rattle.std.specs.Prelude.{is_none, is_some, nat_lt}
 use Rattle.std.specs.List.{All}
 use Rattle.std.proofs.lemmas.Bool.{cases_eq}
@@ -13,8 +13,14 @@ use Rattle.vg_scanout.specs.Scanout.{Screen}
 use Rattle.vg_pages.specs.Memory.{Memory}
 use Rattle.vg_machine.specs.Receive.{receive, receive_refusal, with_received}
 use Rattle.vg_refusals.specs.Refusals.{refusal_of, unless_refused}
-use Rattle.vg_resource.specs.Resource.{blank, create, create_refusals, pixel_bytes, resource_at, with_blank, with_pixels}
-use Rattle.vg_machine.specs.State.{IsShowing, ShowsResource, ShowsSome}
+use Rattle.vg_resource.specs.Resource as resources
+use Rattle.vg_resource.specs.Resource.{blank, pixel_bytes, resource_at, with_blank, with_pixels}
+use Rattle.vg_blob.specs.declared.blobs.Blob.{Blob}
+use Rattle.vg_blob.specs.Blobs.{BLOB_FLAGS, BLOB_MEM_GUEST, blob_at, create, create_refusals, with_blob}
+use Rattle.vg_backing.specs.Backing.{are_bad, total}
+use Rattle.std.specs.Ordering.{nat_cmp}
+use Rattle.std.specs.BTreeMap.{insert_entry}
+use Rattle.vg_machine.specs.State.{IsShowing, ShowsEither, ShowsResource, ShowsSome}
 use Rattle.vg_machine.proofs.MapLemmas.{insert_other, set_itself, set_other}
 use Rattle.vg_formats.specs.Pixels.{is_inside}
 
@@ -45,15 +51,20 @@ shown-found binding None shows = absurd shows
 pub found-shown : (binding : Binding) (found : Option Resource) (resource : Resource) → found ≡ Some resource → ShowsResource binding resource → ShowsSome binding found
 found-shown binding found resource is shows = subst (ShowsSome binding) (sym is) shows
 
-pub showing-kept : (old now : List (ℕ × Resource)) → Keeping old now → (screen : Option Screen) → IsShowing old screen → IsShowing now screen
-showing-kept old now keeping None showing = tt
-showing-kept old now keeping (Some screen) showing =
-    let (resource, is, shows) = shown-found screen.binding (resource_at screen.binding.resource old) showing in
-    let (next, found, like) = keeping screen.binding.resource resource is in
-    found-shown screen.binding (resource_at screen.binding.resource now) next found (shows-like screen.binding next resource like shows)
+showing-either : (old now : List (ℕ × Resource)) → Keeping old now → (binding : Binding) (blob : Option Blob)
+    → ShowsEither binding blob (resource_at binding.resource old) → ShowsEither binding blob (resource_at binding.resource now)
+showing-either old now keeping binding (Some blob) showing = showing
+showing-either old now keeping binding None showing =
+    let (resource, is, shows) = shown-found binding (resource_at binding.resource old) showing in
+    let (next, found, like) = keeping binding.resource resource is in
+    found-shown binding (resource_at binding.resource now) next found (shows-like binding next resource like shows)
 
-pub all-showing : (old now : List (ℕ × Resource)) (screens : List (Option Screen)) → Keeping old now → All (IsShowing old) screens → All (IsShowing now) screens
-all-showing old now screens keeping showing = λ k d within. showing-kept old now keeping (get_or screens k d) (showing k d within)
+showing-kept : (blobs : List (ℕ × Blob)) (old now : List (ℕ × Resource)) → Keeping old now → (screen : Option Screen) → IsShowing blobs old screen → IsShowing blobs now screen
+showing-kept blobs old now keeping None showing = tt
+showing-kept blobs old now keeping (Some screen) showing = showing-either old now keeping screen.binding (blob_at screen.binding.resource blobs) showing
+
+pub all-showing : (blobs : List (ℕ × Blob)) (old now : List (ℕ × Resource)) (screens : List (Option Screen)) → Keeping old now → All (IsShowing blobs old) screens → All (IsShowing blobs now) screens
+all-showing blobs old now screens keeping showing = λ k d within. showing-kept blobs old now keeping (get_or screens k d) (showing k d within)
 
 like-itself : (resource : Resource) → IsLike resource resource
 like-itself resource = record { width = refl; height = refl; format = refl }
@@ -89,7 +100,7 @@ later-create width height format old =
     ∷ []
 
 create-by : (id width height format : ℕ) (old now : List (ℕ × Resource)) (done : Result (Unit {0}) ℕ) (refusal : Option ℕ)
-    → refusal_of (create_refusals id width height format old) ≡ refusal
+    → refusal_of (resources.create_refusals id width height format old) ≡ refusal
     → ◌≡◌ {A = List (ℕ × Resource) × Result (Unit {0}) ℕ} (now, done) (unless_refused refusal old (with_blank id width height (format_of format) old))
     → Keeping old now
 create-by id width height format old now done (Some code) is step =
@@ -99,10 +110,10 @@ create-by id width height format old now done None is step =
     subst (Keeping old) (sym (ap (λ pair. pair.0) step)) (keeping-blank id width height (format_of format) old free)
 
 pub keeping-create : (id width height format : ℕ) (old now : List (ℕ × Resource)) (done : Result (Unit {0}) ℕ)
-    → ◌≡◌ {A = List (ℕ × Resource) × Result (Unit {0}) ℕ} (now, done) (create id width height format old) → Keeping old now
-unfolding create
+    → ◌≡◌ {A = List (ℕ × Resource) × Result (Unit {0}) ℕ} (now, done) (resources.create id width height format old) → Keeping old now
+unfolding resources.create
 keeping-create id width height format old now done step =
-    create-by id width height format old now done (refusal_of (create_refusals id width height format old)) refl step
+    create-by id width height format old now done (refusal_of (resources.create_refusals id width height format old)) refl step
 
 like-pixels : (resource found : Resource) (pixels : List ℕ) → resource ≡ found → IsLike (record resource { pixels = pixels }) found
 like-pixels resource found pixels same = record { width = ap (λ r. r.width) same; height = ap (λ r. r.height) same; format = ap (λ r. r.format) same }
@@ -132,3 +143,51 @@ pub keeping-receive : (memory : Memory) (id : ℕ) (rect : Rect) (offset : ℕ) 
 unfolding receive
 keeping-receive memory id rect offset backings old now done step =
     received-by memory id rect offset backings old now done (resource_at id old) (receive_refusal id rect offset backings (resource_at id old)) refl step
+
+-- a blob of a new number shows on no screen that showed something
+shown-blob : (binding : Binding) (blob : Option Blob) (found : Option Resource) → blob ≡ None → found ≡ None → ShowsEither binding blob found → ⊥
+shown-blob binding None None none gone shows = shows
+shown-blob binding (Some blob) found none gone shows = cc
+shown-blob binding None (Some resource) none gone shows = cc
+
+showing-new : (id : ℕ) (blob : Blob) (blobs : List (ℕ × Blob)) (resources : List (ℕ × Resource)) → blob_at id blobs ≡ None → resource_at id resources ≡ None
+    → (screen : Option Screen) → IsShowing blobs resources screen → IsShowing (insert_entry nat_cmp blobs id blob) resources screen
+showing-new id blob blobs resources none gone None showing = tt
+showing-new id blob blobs resources none gone (Some screen) showing =
+    let binding = screen.binding in
+    elim (cases_eq binding.resource id) [
+      | inl same ↦ absurd (shown-blob binding (blob_at binding.resource blobs) (resource_at binding.resource resources) (ap (λ n. blob_at n blobs) same ∙ none) (ap (λ n. resource_at n resources) same ∙ gone) showing)
+      | inr apart ↦ subst (λ found. ShowsEither binding found (resource_at binding.resource resources)) (sym (insert_other binding.resource id blob apart blobs)) showing
+    ]
+
+abbrev later-blob : Memory → ℕ → ℕ → ℕ → List MemEntry → List (Bool × ℕ)
+later-blob memory mem flags size entries =
+    (not (mem == BLOB_MEM_GUEST) || (nat_lt BLOB_FLAGS flags || size == 0), 0x1205)
+    ∷ (are_bad memory entries, 0x1205)
+    ∷ (nat_lt (total entries) size, 0x1205)
+    ∷ []
+
+no-blob : (found : Option Blob) → is_some found ≡ false → found ≡ None
+no-blob (Some blob) none = cc
+no-blob None none = refl
+
+blob-made : (memory : Memory) (id mem flags size : ℕ) (entries : List MemEntry) (old now : List (ℕ × Blob)) (done : Result (Unit {0}) ℕ) (refusal : Option ℕ)
+    → refusal_of (create_refusals memory id mem flags size entries old) ≡ refusal
+    → ◌≡◌ {A = List (ℕ × Blob) × Result (Unit {0}) ℕ} (now, done) (unless_refused refusal old (with_blob id size entries old))
+    → (resources : List (ℕ × Resource)) (screens : List (Option Screen)) → resource_at id resources ≡ None
+    → All (IsShowing old resources) screens → All (IsShowing now resources) screens
+blob-made memory id mem flags size entries old now done (Some code) is step resources screens gone showing =
+    subst (λ blobs. All (IsShowing blobs resources) screens) (sym (ap (λ pair. pair.0) step)) showing
+blob-made memory id mem flags size entries old now done None is step resources screens gone showing =
+    let free = or-right (id == 0) (is_some (blob_at id old)) (first-not (id == 0 || is_some (blob_at id old)) 0x1203 (later-blob memory mem flags size entries) is) in
+    subst (λ blobs. All (IsShowing blobs resources) screens) (sym (ap (λ pair. pair.0) step))
+    (λ k d within. showing-new id (record { size = size; entries = entries }) old resources (no-blob (blob_at id old) free) gone (get_or screens k d) (showing k d within))
+
+-- screens stay where a blob is made of whose number there is no 2D resource
+pub showing-blob : (memory : Memory) (id mem flags size : ℕ) (entries : List MemEntry) (old now : List (ℕ × Blob)) (done : Result (Unit {0}) ℕ)
+    → ◌≡◌ {A = List (ℕ × Blob) × Result (Unit {0}) ℕ} (now, done) (create memory id mem flags size entries old)
+    → (resources : List (ℕ × Resource)) (screens : List (Option Screen)) → resource_at id resources ≡ None
+    → All (IsShowing old resources) screens → All (IsShowing now resources) screens
+unfolding create
+showing-blob memory id mem flags size entries old now done step resources screens gone showing =
+    blob-made memory id mem flags size entries old now done (refusal_of (create_refusals memory id mem flags size entries old)) refl step resources screens gone showing

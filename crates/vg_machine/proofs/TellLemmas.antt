@@ -1,17 +1,16 @@
 -- A screen is told by its pixels, so one list alone has what a flush shows.
-use Rattle.std.proofs.Common.{◌≡◌, ◌≢◌, ℕ, ◌+◌, ◌*◌, ◌==◌, Bool, true, false, length, sym, refl, ◌∙◌, arith}
+use Rattle.std.proofs.Common.{◌≡◌, ◌≢◌, ℕ, ◌+◌, ◌*◌, ◌==◌, Bool, true, false, List, length, sym, refl, ◌∙◌, arith}
 use Rattle.std.proofs.lemmas.Bool.Decides.{nat_tests}
 use Rattle.vg_formats.specs.declared.rect.Rect.{Rect}
 use Rattle.vg_places.specs.Pixels.{pixel_of}
-use Rattle.vg_resource.specs.declared.resource.Resource.{Resource}
 use Rattle.vg_scanout.specs.Scanout.{Screen}
 use Rattle.vg_transfer.proofs.WholeLemmas.{by-cover, pixels-tell}
 use Rattle.vg_machine.specs.Pixels.{ShowsScreen}
 
-pub one-screen : (id : ℕ) (rect : Rect) (resource : Resource) (old one other : Screen)
+pub one-screen : (id : ℕ) (rect : Rect) (value : ℕ → ℕ → List ℕ) (old one other : Screen)
     → length one.pixels ≡ 4 * old.binding.rect.width * old.binding.rect.height → length other.pixels ≡ 4 * old.binding.rect.width * old.binding.rect.height
-    → ShowsScreen id rect resource old one → ShowsScreen id rect resource old other → one.pixels ≡ other.pixels
-one-screen id rect resource old one other long as_long first second = by_test (old.binding.resource == id) refl
+    → ShowsScreen id rect value old one → ShowsScreen id rect value old other → one.pixels ≡ other.pixels
+one-screen id rect value old one other long as_long first second = by_test (old.binding.resource == id) refl
   where
     by_test : (b : Bool) → (old.binding.resource == id) ≡ b → one.pixels ≡ other.pixels
     by_test true e =

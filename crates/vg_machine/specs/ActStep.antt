@@ -11,11 +11,10 @@ use Rattle.vg_share.specs.declared.share.ShareRefusal.{ShareRefusal}
 use Rattle.vg_scanout.specs.declared.scanout.Binding.{Binding}
 use Rattle.vg_pages.specs.Memory.{after_taking}
 use Rattle.vg_share.specs.Cells.{loaded, repeated, stored}
-use Rattle.vg_resource.specs.Resource.{resource_at}
 use Rattle.vg_cursor.specs.Cursor.{cursor_of}
 use Rattle.vg_scanout.specs.Scanout.{binding_at}
 use Rattle.vg_share.specs.Share.{drop_refusal, ended, entered, export_refusal, exported, free_refusal, freed, geometry_at, given_back, has_holder, import_refusal, imported, is_leased, leased, new_pages, pages_at, place_refusal, release_refusal, released, reserve_refusal, take_refusal, token_key, unleased, with_buffer}
-use Rattle.vg_machine.specs.State.{State, counted}
+use Rattle.vg_machine.specs.State.{State, counted, has_resource}
 
 -- An act whose refusal is this: the display stays as it was, or becomes `next`.
 abbrev pub replied_by : Option ShareRefusal → State → State → ActReply → State × ActReply
@@ -72,7 +71,7 @@ release_step state client key =
 
 abbrev pub free_step : State → ℕ → ℕ → State × ActReply
 free_step state client key =
-    replied_by (free_refusal client key (is_some (resource_at key state.resources)) state.share) state
+    replied_by (free_refusal client key (has_resource state key) state.share) state
     (record state { memory = given_back (pages_at key state.share) state.memory; share = freed key state.share })
     act_replies.Ok
 

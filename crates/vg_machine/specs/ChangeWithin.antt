@@ -10,7 +10,8 @@ use Rattle.vg_wire_ext.specs.declared.response.Response.{Response}
 use Rattle.vg_machine.specs.declared.cursors.Change.{Change}
 use Rattle.vg_machine.specs.declared.cursors.Change.TheVariants.{Show, Hide, Place}
 use Rattle.vg_machine.specs.State.{State}
-use Rattle.vg_machine.specs.Step.{answered_by, image_of, image_refusals, with_cursor}
+use Rattle.vg_machine.specs.Answered.{answered_by}
+use Rattle.vg_machine.specs.Step.{image_of, image_refusals, with_cursor}
 
 abbrev pub change_of : Change → Cursor → Cursor
 change_of (Show image x y hot_x hot_y) = shown_as image x y hot_x hot_y

@@ -1,15 +1,11 @@
 -- The features that commands need (VIRTIO 1.2, 5.7.3).
-use Rattle.std.specs.Prelude.{◌==◌, ◌&&◌, ◌||◌, ℕ, Bool, true, not, nat_le, if◌then◌else◌, Option, Some, None, bit_and}
-use Rattle.vg_config.specs.Features.{CONTEXT_INIT, EDID, RESOURCE_BLOB, RESOURCE_UUID, VIRGL}
+use Rattle.std.specs.Prelude.{◌==◌, ◌&&◌, ℕ, Bool, true, nat_le, if◌then◌else◌, Option, Some, None, bit_and}
+use Rattle.vg_config.specs.Features.{EDID, RESOURCE_BLOB, RESOURCE_UUID, VIRGL}
 use Rattle.vg_wire.specs.Kinds.{CTX_CREATE, GET_CAPSET, GET_CAPSET_INFO, GET_EDID, RESOURCE_ASSIGN_UUID, RESOURCE_CREATE_BLOB, SET_SCANOUT_BLOB, SUBMIT_3D}
 
--- What the display can't do yet: it goes by these features as if they weren't accepted.
-abbrev pub is_to_come : ℕ → Bool
-is_to_come feature = feature == VIRGL || feature == RESOURCE_BLOB || feature == CONTEXT_INIT
-
--- A feature by which the display goes, where these are accepted.
+-- A feature is among those that are accepted.
 abbrev pub has_feature : ℕ → ℕ → Bool
-has_feature accepted feature = bit_and accepted feature == feature && not (is_to_come feature)
+has_feature accepted feature = bit_and accepted feature == feature
 
 -- The feature that the commands of a kind need: capsets and 3D VIRGL, GET_EDID EDID, RESOURCE_ASSIGN_UUID RESOURCE_UUID, blobs
 -- RESOURCE_BLOB; the other 2D commands and those of cursors need none.

@@ -3,9 +3,11 @@ use Rattle.std.specs.Prelude.{ℕ, Bool, true, false, Result, Ok, Err}
 use Rattle.vg_wire.specs.declared.two_d.Command2d.{Command2d}
 use Rattle.vg_wire.specs.declared.two_d.Command2d.TheVariants.{DisplayInfo, Create2d, Flush, Attach}
 use Rattle.vg_wire_ext.specs.declared.command.Command.{Command}
-use Rattle.vg_wire_ext.specs.declared.command.Command.TheVariants.{TwoD, AssignUuid, UpdateCursor, MoveCursor}
+use Rattle.vg_wire_ext.specs.declared.command.Command.TheVariants.{TwoD, CapsetInfo, Capset, Edid, AssignUuid, CreateBlob, CtxCreate, CtxAttach, Submit, UpdateCursor, MoveCursor}
 use Rattle.vg_wire_ext.specs.declared.response.Response.{Response}
 use Rattle.vg_wire_ext.specs.declared.response.Response.TheVariants as responses
+use Rattle.vg_machine.specs.State.{State}
+use Rattle.vg_machine.specs.Step.{command_step}
 use Rattle.vg_machine.specs.declared.stop.Stop.{Stop}
 use Rattle.vg_machine.specs.declared.stop.Stop.TheVariants.{Memory, Refused}
 
@@ -32,6 +34,9 @@ takes_memory_2d _ = false
 abbrev pub takes_memory : Command → Bool
 takes_memory (TwoD command) = takes_memory_2d command
 takes_memory (AssignUuid resource) = true
+takes_memory (CreateBlob resource mem flags blob_id size entries) = true
+takes_memory (CtxCreate nlen context_init name) = true
+takes_memory (CtxAttach resource) = true
 takes_memory (UpdateCursor scanout x y resource hot_x hot_y) = true
 takes_memory (MoveCursor scanout x y) = true
 takes_memory _ = false
@@ -44,10 +49,11 @@ changes_2d _ = true
 -- The same of all commands.
 abbrev pub changes : Command → Bool
 changes (TwoD command) = changes_2d command
-changes (AssignUuid resource) = true
-changes (UpdateCursor scanout x y resource hot_x hot_y) = true
-changes (MoveCursor scanout x y) = true
-changes _ = false
+changes (CapsetInfo index) = false
+changes (Capset id version) = false
+changes (Edid scanout) = false
+changes (Submit size) = false
+changes _ = true
 
 -- What a part of the display refused with a code, or did.
 abbrev pub nodata : Result Unit ℕ → Result Response Stop
@@ -73,3 +79,8 @@ told_by (Err code) = responses.Error code
 abbrev pub IfRefused : (ℕ → Type 0) → Stop → Type 0
 IfRefused P (Refused code) = P code
 IfRefused P Memory = Unit {0}
+
+-- What is answered to a request that was read, with its context, or refused before.
+abbrev pub by_read : State → Result (ℕ × Command) ℕ → State × Response
+by_read state (Ok (context, command)) = command_step state context command
+by_read state (Err code) = (state, responses.Error code)

@@ -1,11 +1,13 @@
 pub mod Features
 pub mod Lane
 pub mod Receive
-pub mod Uuids
 pub mod FitsWithin
 pub mod State
 pub mod Entries
 pub mod Lines
+pub mod Answered
+pub mod BlobStep
+pub mod ContextStep
 pub mod Step
 pub mod ChangeWithin
 pub mod Pixels

@@ -228,7 +228,7 @@ impl Display {
         ensures step { free_step self.old client key ≡ (self.new, result) }
         ensures holds { holds.new ≡ update holds.old (acts.Free key) result }
     {
-        let live = self.resources.get(key).is_some();
+        let live = self.has_resource(key);
         match self.share.free(&mut self.pages, client, key, live) {
             Ok(()) => {
                 holds.buffers.remove(key);

@@ -1,12 +1,14 @@
-//! What the commands do (VIRTIO 1.2, 5.7.6.8), one function each, in the order of their codes. Those of the cursor queue stand in
-//! `cursors`.
+//! What the commands do (VIRTIO 1.2, 5.7.6.8), one function each, in the order of their codes. Those of blobs, of contexts and
+//! of the cursor queue stand in `blobs`, `contexts` and `cursors`.
 
 ghost use Rattle.std.specs.Prelude.{◌≡◌, ◌≢◌, true, IfOk, map, Some, ◌<◌, ◌-◌, ◌^◌, length};
 ghost use Rattle.vg_wire_ext.specs.Commands.{FitsEntries};
 ghost use Rattle.vg_wire_ext.specs.declared.response.Response.TheVariants as responses;
 ghost use Rattle.vg_machine.specs.FitsWithin.{IfDone, IfWant, response_of, takes_memory, told_by};
+ghost use Rattle.vg_machine.specs.State.{has_resource};
 ghost use Rattle.vg_machine.specs.Step.{assign_step, attach_step, command_step, create_step, detach_step, edid_step, flush_step, set_scanout_step, transfer_step, unref_step};
 
+use crate::blobs::Layout;
 use crate::cursors::Update;
 use crate::display::Display;
 use crate::receive::receive;
@@ -22,12 +24,17 @@ use vg_wire::{Command2d, Modes};
 use vg_wire_ext::{Command, Response};
 
 impl Display {
-    /// Runs a command, and gives its response. Only one that takes memory may want it.
-    pub(crate) fn run(&mut self, alloc: Global, command: &Command) -> Result<Response, Stop>
+    /// Runs a command for the context of its header, and gives its response. Only one that takes memory may want it.
+    pub(crate) fn run(
+        &mut self,
+        alloc: Global,
+        context: u32,
+        command: &Command,
+    ) -> Result<Response, Stop>
         requires fresh { self.old.uuids.given < self.old.entries }
         requires entries { self.old.entries < 2 ^ 31 }
         requires count { FitsEntries command.now }
-        ensures step { IfDone result (λ response. command_step self.old command.now ≡ (self.new, response)) }
+        ensures step { IfDone result (λ response. command_step self.old context command.now ≡ (self.new, response)) }
         ensures err { IfWant result (self.new ≡ self.old) }
         ensures memory { IfWant result (takes_memory command.now ≡ true) }
     {
@@ -68,6 +75,42 @@ impl Display {
             }
             Command::Edid { scanout } => or_refused(self.edid(*scanout)),
             Command::AssignUuid { resource } => self.assign_uuid(*resource),
+            Command::CreateBlob {
+                resource,
+                mem,
+                flags,
+                size,
+                entries,
+                ..
+            } => self.create_blob(alloc, *resource, *mem, *flags, *size, entries.as_slice()),
+            Command::SetScanoutBlob {
+                rect,
+                scanout,
+                resource,
+                width,
+                height,
+                format,
+                stride,
+                offset,
+            } => {
+                let layout = Layout {
+                    width: *width,
+                    height: *height,
+                    format: *format,
+                    stride: *stride,
+                    offset: *offset,
+                };
+                nodata(self.set_scanout_blob(rect, *scanout, *resource, &layout))
+            }
+            Command::CtxCreate {
+                nlen,
+                context_init,
+                ..
+            } => self.ctx_create(alloc, context, *nlen, *context_init),
+            Command::CtxDestroy => nodata(self.ctx_destroy(context)),
+            Command::CtxAttach { resource } => self.ctx_attach(context, *resource),
+            Command::CtxDetach { resource } => nodata(self.ctx_detach(context, *resource)),
+            Command::Submit { size } => nodata(self.submit(context, *size)),
             Command::UpdateCursor {
                 scanout,
                 x,
@@ -87,8 +130,14 @@ impl Display {
                 self.update_cursor(alloc, &update)
             }
             Command::MoveCursor { scanout, x, y } => self.move_cursor(alloc, *scanout, *x, *y),
-            _ => Err(Stop::Refused(ERR_UNSPEC)),
         }
+    }
+
+    /// Whether there is a resource of this id, a 2D one or a blob.
+    pub(crate) fn has_resource(&self, id: u32) -> bool
+        ensures { result ≡ has_resource self.now id }
+    {
+        self.blobs.has(id) || self.resources.get(id).is_some()
     }
 
     /// The modes of the displays.
@@ -112,6 +161,9 @@ impl Display {
         ensures step { IfDone result (λ response. create_step self.old resource format width height ≡ (self.new, response)) }
         ensures err { IfWant result (self.new ≡ self.old) }
     {
+        if self.blobs.has(resource) {
+            return Err(Stop::Refused(ERR_INVALID_RESOURCE_ID));
+        }
         let done = self
             .resources
             .create(alloc, resource, width, height, format)?;
@@ -121,8 +173,13 @@ impl Display {
     fn unref(&mut self, resource: u32) -> Result<(), u32>
         ensures { unref_step self.old resource ≡ (self.new, response_of result) }
     {
-        self.resources.remove(resource)?;
+        if !self.has_resource(resource) {
+            return Err(ERR_INVALID_RESOURCE_ID);
+        }
+        let _ = self.blobs.remove(resource);
+        let _ = self.resources.remove(resource);
         self.backings.remove(resource);
+        self.contexts.forget(resource);
         self.uuids.forget(resource);
         self.scanouts.unbind_resource(resource);
         Ok(())
@@ -147,6 +204,9 @@ impl Display {
         requires resource { resource ≢ 0 }
         ensures { set_scanout_step self.old rect.now scanout resource ≡ (self.new, response_of result) }
     {
+        if self.blobs.has(resource) {
+            return Err(ERR_INVALID_PARAMETER);
+        }
         let Some(surface) = self.resources.get(resource) else {
             return Err(ERR_INVALID_RESOURCE_ID);
         };
@@ -169,6 +229,9 @@ impl Display {
         ensures step { IfDone result (λ response. flush_step self.old rect.now resource ≡ (self.new, response)) }
         ensures err { IfWant result (self.new ≡ self.old) }
     {
+        if self.blobs.has(resource) {
+            return self.flush_blob(alloc, rect, resource);
+        }
         let Some(surface) = self.resources.get(resource) else {
             return Err(Stop::Refused(ERR_INVALID_RESOURCE_ID));
         };
@@ -185,6 +248,9 @@ impl Display {
     fn transfer(&mut self, rect: &Rect, offset: u64, resource: u32) -> Result<(), u32>
         ensures { transfer_step self.old rect.now offset resource ≡ (self.new, response_of result) }
     {
+        if self.blobs.has(resource) {
+            return Ok(());
+        }
         receive(
             &mut self.resources,
             resource,
@@ -205,6 +271,9 @@ impl Display {
         ensures step { IfDone result (λ response. attach_step self.old resource entries.now ≡ (self.new, response)) }
         ensures err { IfWant result (self.new ≡ self.old) }
     {
+        if self.blobs.has(resource) {
+            return Err(Stop::Refused(ERR_UNSPEC));
+        }
         if self.resources.get(resource).is_none() {
             return Err(Stop::Refused(ERR_INVALID_RESOURCE_ID));
         }
@@ -215,6 +284,9 @@ impl Display {
     fn detach(&mut self, resource: u32) -> Result<(), u32>
         ensures { detach_step self.old resource ≡ (self.new, response_of result) }
     {
+        if self.blobs.has(resource) {
+            return Err(ERR_UNSPEC);
+        }
         if self.resources.get(resource).is_none() {
             return Err(ERR_INVALID_RESOURCE_ID);
         }
@@ -239,7 +311,7 @@ impl Display {
         ensures step { IfDone result (λ response. assign_step self.old resource ≡ (self.new, response)) }
         ensures err { IfWant result (self.new ≡ self.old) }
     {
-        if self.resources.get(resource).is_none() {
+        if !self.has_resource(resource) {
             return Err(Stop::Refused(ERR_INVALID_RESOURCE_ID));
         }
         let uuid = self.uuids.assign(resource)?;

@@ -74,6 +74,9 @@ impl Display {
         if resource == 0 {
             return self.point(alloc, scanout, &Change::Hide { x, y });
         }
+        if self.blobs.has(resource) {
+            return Err(Stop::Refused(ERR_INVALID_PARAMETER));
+        }
         let image = self.image(alloc, resource, hot_x, hot_y)?;
         let change = Change::Show {
             image: Seq::from_vec(image),

@@ -1,24 +1,27 @@
 //! The device on one thread.
 
-ghost use Rattle.std.specs.Prelude.{◌≡◌, ◌==◌, ◌<◌, ◌-◌, ◌^◌, if◌then◌else◌, bit_and, IfOk, IfSome, OnOk, OnErr};
+ghost use Rattle.std.specs.Prelude.{◌≡◌, ◌==◌, ◌<◌, ◌-◌, ◌^◌, if◌then◌else◌, bit_and, IfErr, IfOk, None, OnErr, OnOk, Some};
 ghost use Rattle.vg_wire_ext.specs.Commands.{FitsEntries};
 ghost use Rattle.vg_client_holds.specs.Setup.{IsSetup};
 ghost use Rattle.vg_machine.specs.State.{counted, start};
 ghost use Rattle.vg_machine.specs.declared.history.Reply.TheVariants as replies;
 ghost use Rattle.vg_machine.specs.ActStep.{KeepsIfRefused, act_step};
 ghost use Rattle.vg_client_holds.specs.Holds.{update};
-ghost use Rattle.vg_machine.specs.FitsWithin.{changes};
+ghost use Rattle.vg_machine.specs.FitsWithin.{by_read, changes};
+ghost use Rattle.vg_refusals.specs.Refusals.{refusal_of};
 ghost use Rattle.vg_machine.specs.Replay.{request_step};
-ghost use Rattle.vg_machine.specs.Step.{Keeps, acceptance, answer_header, answer_of, answered, command_step, effect_and_bytes, ran, step};
+ghost use Rattle.vg_machine.specs.Step.{Keeps, acceptance, answer_header, answer_of, answered, command_step, effect_and_bytes, step, timeline_refusals};
 
-use crate::features::is_usable;
+use crate::features::{has_feature, is_usable};
 use crate::history::{Reply, Request};
 use crate::stop::Stop;
-use crate::uuids::Uuids;
 use std::alloc::{AllocError, Global};
 use std::marker::Model;
+use vg_blob::{Blobs, Uuids};
 use vg_chain::Shape;
 use vg_client_holds::{Act, ActReply, Holds, Setup};
+use vg_config::features::CONTEXT_INIT;
+use vg_context::Contexts;
 use vg_cursor::Cursors;
 use vg_list::Seq;
 use vg_pages::Pages;
@@ -26,7 +29,7 @@ use vg_resource::Resources;
 use vg_scanout::{Frame, Scanouts};
 use vg_share::Share;
 use vg_transfer::Backings;
-use vg_wire::kinds::ERR_UNSPEC;
+use vg_wire::kinds::{ERR_INVALID_CONTEXT_ID, ERR_INVALID_PARAMETER, ERR_UNSPEC};
 use vg_wire::{Command2d, Header, Queue, read_header};
 use vg_wire_ext::{Command, Response, append_response, read_request, write_response};
 
@@ -38,6 +41,8 @@ pub struct Display {
     pub(crate) pages: Pages,
     pub(crate) resources: Resources,
     pub(crate) backings: Backings,
+    pub(crate) blobs: Blobs,
+    pub(crate) contexts: Contexts,
     pub(crate) uuids: Uuids,
     pub(crate) cursors: Cursors,
     pub(crate) scanouts: Scanouts,
@@ -49,9 +54,9 @@ impl Model for Display {
 
     ghost Value = { State };
 
-    ghost view = { λ d. record { setup = d.setup; entries = d.entries; memory = d.pages; resources = d.resources; backings = d.backings; uuids = d.uuids; cursors = d.cursors; scanouts = d.scanouts; share = d.share } };
+    ghost view = { λ d. record { setup = d.setup; entries = d.entries; memory = d.pages; resources = d.resources; backings = d.backings; blobs = d.blobs; contexts = d.contexts; uuids = d.uuids; cursors = d.cursors; scanouts = d.scanouts; share = d.share } };
 
-    ghost invariant = { λ d. IsConsistent (record { setup = d.setup; entries = d.entries; memory = d.pages; resources = d.resources; backings = d.backings; uuids = d.uuids; cursors = d.cursors; scanouts = d.scanouts; share = d.share }) };
+    ghost invariant = { λ d. IsConsistent (record { setup = d.setup; entries = d.entries; memory = d.pages; resources = d.resources; backings = d.backings; blobs = d.blobs; contexts = d.contexts; uuids = d.uuids; cursors = d.cursors; scanouts = d.scanouts; share = d.share }) };
 }
 
 impl Display {
@@ -70,6 +75,8 @@ impl Display {
             entries: 0,
             resources: Resources::new(alloc),
             backings: Backings::new(alloc),
+            blobs: Blobs::new(alloc),
+            contexts: Contexts::new(alloc),
             uuids: Uuids::new(alloc),
         })
     }
@@ -212,53 +219,80 @@ impl Display {
         ensures same { IfOk result (λ twice. twice.1.items ≡ twice.0.items) }
         ensures err { OnErr result (self.new ≡ self.old) }
     {
-        let Some(command) = self.read(alloc, queue, request)? else {
-            return write_answer(alloc, request, room, &Response::Error { code: ERR_UNSPEC });
+        let (context, command) = match self.read(alloc, queue, request)? {
+            Ok(read) => read,
+            Err(code) => return write_answer(alloc, request, room, &Response::Error { code }),
         };
         if !changes(&command) {
-            let told = self.outcome(alloc, &command)?;
+            let told = self.outcome(alloc, context, &command)?;
             return write_answer(alloc, request, room, &told);
         }
         let accepted = write_answer(alloc, request, room, &self.acceptance(&command))?;
-        match self.outcome(alloc, &command)? {
+        match self.outcome(alloc, context, &command)? {
             Response::Nodata | Response::Uuid { .. } => Ok(accepted),
             other => rewrite_answer(request, room, &other, accepted),
         }
     }
 
-    /// Runs a command, and gives its response, which is an error where it is refused.
-    fn outcome(&mut self, alloc: Global, command: &Command) -> Result<Response, AllocError>
+    /// Runs a command for the context of its header, and gives its response, which is an error where it is refused.
+    fn outcome(
+        &mut self,
+        alloc: Global,
+        context: u32,
+        command: &Command,
+    ) -> Result<Response, AllocError>
         requires fresh { self.old.uuids.given < self.old.entries }
         requires entries { self.old.entries < 2 ^ 31 }
         requires count { FitsEntries command.now }
-        ensures step { IfOk result (λ response. command_step self.old command.now ≡ (self.new, response)) }
+        ensures step { IfOk result (λ response. command_step self.old context command.now ≡ (self.new, response)) }
         ensures err { OnErr result (self.new ≡ self.old) }
     {
-        match self.run(alloc, command) {
+        match self.run(alloc, context, command) {
             Ok(response) => Ok(response),
             Err(Stop::Refused(code)) => Ok(Response::Error { code }),
             Err(Stop::Memory) => Err(AllocError),
         }
     }
 
-    /// The command of a request. None where the request is refused before its command is looked at. Its body isn't read
-    /// where its kind needs a feature that isn't accepted.
+    /// The command of a request, and the context of its header; or the code of its refusal, where it is refused before its command is
+    /// looked at. Its body isn't read where its kind needs a feature that isn't accepted.
     fn read(
         &self,
         alloc: Global,
         queue: Queue,
         request: &[u8],
-    ) -> Result<Option<Command>, AllocError>
-        ensures answer { IfOk result (λ command. answer_of self.now queue request.now ≡ ran self.now command) }
-        ensures entries { IfOk result (λ command. IfSome command FitsEntries) }
+    ) -> Result<Result<(u32, Command), u32>, AllocError>
+        ensures answer { IfOk result (λ read. answer_of self.now queue request.now ≡ by_read self.now read) }
+        ensures entries { IfOk result (λ read. IfOk read (λ found. FitsEntries found.1)) }
     {
-        match read_header(request) {
-            Some(header) if is_usable(self.setup.accepted, header.kind) => {}
-            _ => return Ok(None),
+        let header = match read_header(request) {
+            Some(header) if is_usable(self.setup.accepted, header.kind) => header,
+            _ => return Ok(Err(ERR_UNSPEC)),
+        };
+        let Ok((_, command)) = read_request(alloc, request, queue)? else {
+            return Ok(Err(ERR_UNSPEC));
+        };
+        match self.judge_timeline(&header) {
+            Ok(()) => Ok(Ok((header.ctx_id, command))),
+            Err(code) => Ok(Err(code)),
         }
-        match read_request(alloc, request, queue)? {
-            Ok((_, command)) => Ok(Some(command)),
-            Err(_) => Ok(None),
+    }
+
+    /// Whether there is the timeline that a header names, if it names one, or the code of the refusal.
+    fn judge_timeline(&self, header: &Header) -> Result<(), u32>
+        ensures ok { OnOk result (refusal_of (timeline_refusals self.now header.now) ≡ None) }
+        ensures err { IfErr result (λ code. refusal_of (timeline_refusals self.now header.now) ≡ Some code) }
+    {
+        if !has_feature(self.setup.accepted, CONTEXT_INIT) || header.flags & 2 != 2 {
+            return Ok(());
+        }
+        if header.ring_idx >= 64 {
+            return Err(ERR_INVALID_PARAMETER);
+        }
+        if self.contexts.has(header.ctx_id) {
+            Ok(())
+        } else {
+            Err(ERR_INVALID_CONTEXT_ID)
         }
     }
 
@@ -282,12 +316,12 @@ fn changes(command: &Command) -> bool
     ensures { result ≡ changes command.now }
 {
     match command {
-        Command::TwoD(Command2d::DisplayInfo) => false,
-        Command::TwoD(_)
-        | Command::AssignUuid { .. }
-        | Command::UpdateCursor { .. }
-        | Command::MoveCursor { .. } => true,
-        _ => false,
+        Command::TwoD(Command2d::DisplayInfo)
+        | Command::CapsetInfo { .. }
+        | Command::Capset { .. }
+        | Command::Edid { .. }
+        | Command::Submit { .. } => false,
+        _ => true,
     }
 }
 

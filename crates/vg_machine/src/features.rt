@@ -3,7 +3,7 @@
 ghost use Rattle.std.specs.Prelude.{◌≡◌};
 ghost use Rattle.vg_machine.specs.Features as features;
 
-use vg_config::features::{CONTEXT_INIT, EDID, RESOURCE_BLOB, RESOURCE_UUID, VIRGL};
+use vg_config::features::{EDID, RESOURCE_BLOB, RESOURCE_UUID, VIRGL};
 use vg_wire::kinds::{
     CTX_CREATE, GET_CAPSET, GET_CAPSET_INFO, GET_EDID, RESOURCE_ASSIGN_UUID, RESOURCE_CREATE_BLOB,
     SET_SCANOUT_BLOB, SUBMIT_3D,
@@ -34,16 +34,9 @@ fn feature_of(kind: u32) -> Option<u64>
     }
 }
 
-/// Whether the display goes by a feature, where these are accepted.
-fn has_feature(accepted: u64, feature: u64) -> bool
+/// Whether a feature is among those that are accepted.
+pub(crate) fn has_feature(accepted: u64, feature: u64) -> bool
     ensures { result ≡ features.has_feature accepted feature }
 {
-    accepted & feature == feature && !is_to_come(feature)
-}
-
-/// Whether the display can't do yet what the feature is for.
-fn is_to_come(feature: u64) -> bool
-    ensures { result ≡ features.is_to_come feature }
-{
-    feature == VIRGL || feature == RESOURCE_BLOB || feature == CONTEXT_INIT
+    accepted & feature == feature
 }

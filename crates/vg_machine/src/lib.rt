@@ -3,7 +3,9 @@
 #![tactic(auto)]
 
 mod acts;
+mod blobs;
 mod commands;
+mod contexts;
 mod cursors;
 mod display;
 mod features;
@@ -14,7 +16,6 @@ mod machine;
 mod receive;
 mod spelled;
 mod stop;
-mod uuids;
 
 pub use display::Display;
 pub use history::{Reply, Request};

@@ -140,7 +140,7 @@ freed_from g p kept old new was of gone others unique first (q ∷ rest) =
     ]
 
 -- Names of one number have one place.
-one_place : (g p : ℕ) (kept : Held) (slots : List (Option Held)) (places : List (Option ℕ)) → AreKept slots places → get_or slots p None ≡ Some kept → kept.number ≡ g → (q : Option ℕ) (held : Held) → slot_at slots q ≡ Some held → held.number ≡ g → q ≡ Some p
+pub one_place : (g p : ℕ) (kept : Held) (slots : List (Option Held)) (places : List (Option ℕ)) → AreKept slots places → get_or slots p None ≡ Some kept → kept.number ≡ g → (q : Option ℕ) (held : Held) → slot_at slots q ≡ Some held → held.number ≡ g → q ≡ Some p
 one_place g p kept slots places all is same None held there number = absurd (cc there)
 one_place g p kept slots places all is same (Some q) held there number =
     sym ((all q held there).stands)

@@ -1,5 +1,5 @@
 use Rattle.std.specs.Prelude.{◌≡◌, ◌≤◌, ◌==◌, ◌+◌, ◌-◌, ℕ, Bool, not, if◌then◌else◌, List, [], ◌∷◌, ◌++◌, length, filter, find, slice_get, slice_index_or, Option, None, Some}
-use Rattle.std.specs.List.{cons_option}
+use Rattle.std.specs.List.{cons_option, count_by}
 use Rattle.vg_names.specs.declared.names.Held.{Held}
 
 -- The names of a client's buffers that are current, in the order in which they were defined, and how many names were defined
@@ -14,6 +14,13 @@ is_numbered number held = held.number == number
 -- What the name of this number stands for, if it is current.
 abbrev pub found : ℕ → NamesState → Option Held
 found number names = find (is_numbered number) names.current
+
+abbrev pub is_of_key : ℕ → Held → Bool
+is_of_key key held = held.key == key
+
+-- One current name stands for the buffer of this key, and no other.
+abbrev pub has_one_name : ℕ → List Held → Bool
+has_one_name key current = count_by (is_of_key key) current == 1
 
 -- One name more: its number is its place among all that were defined, from 1.
 abbrev pub with_name : ℕ → ℕ → ℕ → NamesState → NamesState

@@ -1,6 +1,8 @@
-//! The names of a client's buffers, by their numbers.
+//! The names of a client's buffers, and of its contexts, by their numbers.
 #![tactic(auto)]
 
+mod contexts;
 mod names;
 
+pub use contexts::Contexts;
 pub use names::{Held, Names};

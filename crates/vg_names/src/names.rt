@@ -1,8 +1,8 @@
 //! The names of a client's buffers, each kept in a place that is used again once the name ends.
 
-ghost use Rattle.std.specs.Prelude.{◌≡◌, ◌+◌, ◌<◌, ◌^◌, [], IfOk, IsSome, OnErr, OnOk};
-ghost use Rattle.slab.specs.Slab.{get, Updates};
-ghost use Rattle.vg_names.specs.Names.{current_from, found, kept_at, of_number, place_at, with_name, with_none, without_name};
+ghost use Rattle.std.specs.Prelude.{◌≡◌, ◌+◌, ◌<◌, ◌^◌, [], IfOk, IsSome, OnErr, OnOk, map};
+ghost use Rattle.slab.specs.Slab.{entries, get, Updates};
+ghost use Rattle.vg_names.specs.Names.{current_from, found, has_one_name, kept_at, of_number, place_at, with_name, with_none, without_name};
 
 use slab::Slab;
 use std::alloc::{AllocError, Global};
@@ -102,6 +102,13 @@ impl Names {
         current_of(alloc, self.places.as_slice(), &self.held)
     }
 
+    /// Whether one current name stands for the buffer of this key, and no other. Names that have ended aren't gone over.
+    pub fn has_one_name(&self, key: u32) -> bool
+        ensures { result ≡ has_one_name key self.now.current }
+    {
+        has_one(&self.held, key)
+    }
+
     /// How many names were defined.
     pub fn made(&self) -> u32
         requires { self.now.made < 2 ^ 32 }
@@ -119,6 +126,22 @@ fn place_of(places: &[Option<usize>], number: u32) -> Option<usize>
         return None;
     }
     places.get(number as usize - 1).copied()?
+}
+
+/// Whether one buffer that is kept is of this key, and no other.
+fn has_one(held: &Slab<Held>, key: u32) -> bool
+    ensures { result ≡ has_one_name key (map (λ e. e.1) (entries held.now)) }
+{
+    let mut found = false;
+    for (_place, one) in held.iter() {
+        if one.key == key {
+            if found {
+                return false;
+            }
+            found = true;
+        }
+    }
+    found
 }
 
 /// What is kept at a place, if it is of this number.

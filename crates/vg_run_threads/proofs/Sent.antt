@@ -31,7 +31,7 @@ seq_send X x = search (sendable, crosses) depth 20
 
 -- a call, as a line has it
 call_send : IsSend (enum.field call.the_type).row
-call_send = enum_send (enum.shape call.the_type) (tt, (search (sendable, crosses, seq_send) depth 20, (search (sendable, crosses, seq_send) depth 20, (search (sendable, crosses, seq_send) depth 20, (search (sendable, crosses, seq_send) depth 20, (search (sendable, crosses, seq_send) depth 20, (search (sendable, crosses, seq_send) depth 20, (search (sendable, crosses, seq_send) depth 20, (search (sendable, crosses, seq_send) depth 20, (search (sendable, crosses, seq_send) depth 20, (search (sendable, crosses, seq_send) depth 20, (search (sendable, crosses, seq_send) depth 20, (search (sendable, crosses, seq_send) depth 20, (search (sendable, crosses, seq_send) depth 20, (search (sendable, crosses, seq_send) depth 20, (search (sendable, crosses, seq_send) depth 20, (search (sendable, crosses, seq_send) depth 20, (search (sendable, crosses, seq_send) depth 20, (search (sendable, crosses, seq_send) depth 20, tt)))))))))))))))))))
+call_send = enum_send (enum.shape call.the_type) (tt, (search (sendable, crosses, seq_send) depth 20, (search (sendable, crosses, seq_send) depth 20, (search (sendable, crosses, seq_send) depth 20, (search (sendable, crosses, seq_send) depth 20, (search (sendable, crosses, seq_send) depth 20, (search (sendable, crosses, seq_send) depth 20, (search (sendable, crosses, seq_send) depth 20, (search (sendable, crosses, seq_send) depth 20, (search (sendable, crosses, seq_send) depth 20, (search (sendable, crosses, seq_send) depth 20, (search (sendable, crosses, seq_send) depth 20, (search (sendable, crosses, seq_send) depth 20, (search (sendable, crosses, seq_send) depth 20, (search (sendable, crosses, seq_send) depth 20, (search (sendable, crosses, seq_send) depth 20, (tt, (search (sendable, crosses, seq_send) depth 20, (search (sendable, crosses, seq_send) depth 20, (search (sendable, crosses, seq_send) depth 20, (search (sendable, crosses, seq_send) depth 20, (search (sendable, crosses, seq_send) depth 20, (search (sendable, crosses, seq_send) depth 20, (search (sendable, crosses, seq_send) depth 20, (search (sendable, crosses, seq_send) depth 20, (search (sendable, crosses, seq_send) depth 20, tt))))))))))))))))))))))))))
 
 line_send : IsSend line.the_row
 line_send = let T = line.the_type in recorded_send _ _ _ T.to_one (struct_send (shape T) (search sendable, (call_send, tt)))

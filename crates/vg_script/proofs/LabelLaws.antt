@@ -12,14 +12,14 @@ use Rattle.vg_script.specs.declared.types.Feature.{Feature}
 use Rattle.vg_chain.specs.declared.shape.Shape.{Shape}
 use Rattle.vg_wire.specs.declared.request.Queue.{Queue}
 use Rattle.vg_script_words.specs.Words.{words_of}
-use Rattle.vg_call_lines.specs.Args.{no_args, one_arg, two_args, three_args, four_args, five_args, six_args}
-use Rattle.vg_call_lines.proofs.Counts.{no_args_give, one_arg_gives, two_args_give, three_args_give, four_args_give, five_args_give, six_args_give}
+use Rattle.vg_call_lines.specs.Args.{no_args, one_arg, two_args, three_args, four_args, five_args, six_args, eleven_args}
+use Rattle.vg_call_lines.proofs.Counts.{no_args_give, one_arg_gives, two_args_give, three_args_give, four_args_give, five_args_give, six_args_give, eleven_args_give}
 use Rattle.vg_script.specs.Features.{feature_of}
 use Rattle.vg_script.specs.Seen.{Seen, add_line}
 use Rattle.vg_script.specs.Labels.{labels_of, number_from, number_in, start_of}
 use Rattle.vg_script.specs.Waits.{gives, waits, label_list, given_in, given_in_all}
 use Rattle.vg_call_lines.specs.Tables.{NameTable}
-use Rattle.vg_call_lines.specs.Rows.{Row, info_row, edid_row, buffer_row, store_row, load_row, send_row, flush_row, take_row, drop_row, hide_row, show_row, flip_row, cursor_row, move_row, uuid_row, export_row, import_row, close_row, raw_row, request_row, queue_of, shape_of, row_of, row_of_buffers, row_of_scanouts, row_of_others, row_of_shared}
+use Rattle.vg_call_lines.specs.Rows.{Row, info_row, edid_row, buffer_row, blob_row, store_row, load_row, send_row, flush_row, take_row, drop_row, hide_row, show_row, showblob_row, flip_row, cursor_row, move_row, uuid_row, close_row, raw_row, context_row, endcontext_row, attach_row, detach_row, submit_row, export_row, import_row, request_row, queue_of, shape_of, row_of, row_of_buffers, row_of_scanouts, row_of_others, row_of_contexts, row_of_shared}
 use Rattle.vg_script.specs.Grammar.{Form, display_form, memory_form, feature_form, without_form, client_form, row_form, skipped_form, called_form, worded_form, form_of, line_form, one_more}
 use Rattle.vg_script.specs.Faults.{fails, given, form_gives, seen_after, AreFaultless, has_fault}
 use Rattle.vg_script.specs.Limits.{IsBetween}
@@ -110,6 +110,34 @@ close_labelled : (n : ℕ) (table : NameTable) (name : List ℕ) → RowLabels t
 unfolding close_row
 close_labelled n table name = (refl, (0, omega arith, refl), λ h. tt)
 
+blob_labelled : (n : ℕ) (table : NameTable) (name size : List ℕ) → RowLabels table (blob_row table name size)
+unfolding blob_row
+blob_labelled n table name size = (refl, (0, omega arith, refl), λ h. tt)
+
+showblob_labelled : (n : ℕ) (table : NameTable) (scanout name x y width height columns lines format stride offset : List ℕ) → RowLabels table (showblob_row n table scanout name x y width height columns lines format stride offset)
+unfolding showblob_row
+showblob_labelled n table scanout name x y width height columns lines format stride offset = (refl, (0, omega arith, refl), λ h. tt)
+
+context_labelled : (n : ℕ) (table : NameTable) (name : List ℕ) → RowLabels table (context_row table name)
+unfolding context_row
+context_labelled n table name = (refl, (0, omega arith, refl), λ h. tt)
+
+endcontext_labelled : (n : ℕ) (table : NameTable) (name : List ℕ) → RowLabels table (endcontext_row table name)
+unfolding endcontext_row
+endcontext_labelled n table name = (refl, (0, omega arith, refl), λ h. tt)
+
+attach_labelled : (n : ℕ) (table : NameTable) (context name : List ℕ) → RowLabels table (attach_row table context name)
+unfolding attach_row
+attach_labelled n table context name = (refl, (0, omega arith, refl), λ h. tt)
+
+detach_labelled : (n : ℕ) (table : NameTable) (context name : List ℕ) → RowLabels table (detach_row table context name)
+unfolding detach_row
+detach_labelled n table context name = (refl, (0, omega arith, refl), λ h. tt)
+
+submit_labelled : (n : ℕ) (table : NameTable) (context ring : List ℕ) → RowLabels table (submit_row table context ring)
+unfolding submit_row
+submit_labelled n table context ring = (refl, (0, omega arith, refl), λ h. tt)
+
 request_labelled : (n : ℕ) (table : NameTable) (queue : Option Queue) (shape : Option Shape) (room hex : List ℕ) → RowLabels table (request_row table queue shape room hex)
 unfolding request_row
 request_labelled n table None shape room hex = tt
@@ -121,11 +149,12 @@ unfolding raw_row
 raw_labelled n table queue room shape hex = request_labelled n table (queue_of queue) (shape_of shape) room hex
 
 row_labelled : (word : List ℕ) (n : ℕ) (table : NameTable) (args : List (List ℕ)) → RowLabels table (row_of word n table args)
-unfolding row_of row_of_buffers row_of_scanouts row_of_others row_of_shared
+unfolding row_of row_of_buffers row_of_scanouts row_of_others row_of_contexts row_of_shared
 row_labelled word n table args =
     either_labelled table (bytes_eq word (codes "info")) (no_args (info_row table) args) _ (no_args_give (RowLabels table) tt (info_row table) (info_labelled n table) args)
     (either_labelled table (bytes_eq word (codes "edid")) (one_arg (edid_row table) args) _ (one_arg_gives (RowLabels table) tt (edid_row table) (edid_labelled n table) args)
     (either_labelled table (bytes_eq word (codes "buffer")) (four_args (buffer_row table) args) _ (four_args_give (RowLabels table) tt (buffer_row table) (buffer_labelled n table) args)
+    (either_labelled table (bytes_eq word (codes "blob")) (two_args (blob_row table) args) _ (two_args_give (RowLabels table) tt (blob_row table) (blob_labelled n table) args)
     (either_labelled table (bytes_eq word (codes "store")) (four_args (store_row table) args) _ (four_args_give (RowLabels table) tt (store_row table) (store_labelled n table) args)
     (either_labelled table (bytes_eq word (codes "load")) (three_args (load_row table) args) _ (three_args_give (RowLabels table) tt (load_row table) (load_labelled n table) args)
     (either_labelled table (bytes_eq word (codes "send")) (five_args (send_row table) args) _ (five_args_give (RowLabels table) tt (send_row table) (send_labelled n table) args)
@@ -134,14 +163,20 @@ row_labelled word n table args =
     (either_labelled table (bytes_eq word (codes "drop")) (one_arg (drop_row n table) args) _ (one_arg_gives (RowLabels table) tt (drop_row n table) (drop_labelled n table) args)
     (either_labelled table (bytes_eq word (codes "hide")) (one_arg (hide_row n table) args) _ (one_arg_gives (RowLabels table) tt (hide_row n table) (hide_labelled n table) args)
     (either_labelled table (bytes_eq word (codes "show")) (six_args (show_row n table) args) _ (six_args_give (RowLabels table) tt (show_row n table) (show_labelled n table) args)
+    (either_labelled table (bytes_eq word (codes "showblob")) (eleven_args (showblob_row n table) args) _ (eleven_args_give (RowLabels table) tt (showblob_row n table) (showblob_labelled n table) args)
     (either_labelled table (bytes_eq word (codes "flip")) (two_args (flip_row n table) args) _ (two_args_give (RowLabels table) tt (flip_row n table) (flip_labelled n table) args)
     (either_labelled table (bytes_eq word (codes "cursor")) (six_args (cursor_row n table) args) _ (six_args_give (RowLabels table) tt (cursor_row n table) (cursor_labelled n table) args)
     (either_labelled table (bytes_eq word (codes "move")) (three_args (move_row n table) args) _ (three_args_give (RowLabels table) tt (move_row n table) (move_labelled n table) args)
     (either_labelled table (bytes_eq word (codes "uuid")) (one_arg (uuid_row table) args) _ (one_arg_gives (RowLabels table) tt (uuid_row table) (uuid_labelled n table) args)
     (either_labelled table (bytes_eq word (codes "close")) (one_arg (close_row table) args) _ (one_arg_gives (RowLabels table) tt (close_row table) (close_labelled n table) args)
     (either_labelled table (bytes_eq word (codes "raw")) (four_args (raw_row table) args) _ (four_args_give (RowLabels table) tt (raw_row table) (raw_labelled n table) args)
+    (either_labelled table (bytes_eq word (codes "context")) (one_arg (context_row table) args) _ (one_arg_gives (RowLabels table) tt (context_row table) (context_labelled n table) args)
+    (either_labelled table (bytes_eq word (codes "endcontext")) (one_arg (endcontext_row table) args) _ (one_arg_gives (RowLabels table) tt (endcontext_row table) (endcontext_labelled n table) args)
+    (either_labelled table (bytes_eq word (codes "attach")) (two_args (attach_row table) args) _ (two_args_give (RowLabels table) tt (attach_row table) (attach_labelled n table) args)
+    (either_labelled table (bytes_eq word (codes "detach")) (two_args (detach_row table) args) _ (two_args_give (RowLabels table) tt (detach_row table) (detach_labelled n table) args)
+    (either_labelled table (bytes_eq word (codes "submit")) (two_args (submit_row table) args) _ (two_args_give (RowLabels table) tt (submit_row table) (submit_labelled n table) args)
     (either_labelled table (bytes_eq word (codes "export")) (two_args (export_row table) args) _ (two_args_give (RowLabels table) tt (export_row table) (export_labelled n table) args)
-    (either_labelled table (bytes_eq word (codes "import")) (two_args (import_row table) args) _ (two_args_give (RowLabels table) tt (import_row table) (import_labelled n table) args) tt))))))))))))))))))
+    (either_labelled table (bytes_eq word (codes "import")) (two_args (import_row table) args) _ (two_args_give (RowLabels table) tt (import_row table) (import_labelled n table) args) tt)))))))))))))))))))))))))
 
 -- ---- the forms
 abbrev IsOfText : (List ℕ → ℕ) → Line → Type 0

@@ -7,6 +7,7 @@ use Rattle.std.proofs.lemmas.Bool.Decides.{nat_tests}
 use Rattle.std.proofs.lemmas.Int.{ints}
 use Rattle.std.proofs.lemmas.List.Sums.{sum_by-append}
 use Rattle.std.proofs.lemmas.List.Elements.{All-nil, All-push, All-cons, All-head, All-tail}
+use Rattle.vg_calls.specs.declared.call.Call.{Call}
 use Rattle.vg_script_words.specs.declared.kind.Kind.{Kind}
 use Rattle.vg_script_words.specs.declared.kind.Kind.TheVariants.{Word, Limit}
 use Rattle.vg_script.specs.declared.types.Line.{Line}
@@ -17,16 +18,16 @@ use Rattle.vg_chain.specs.declared.shape.Shape.{Shape}
 use Rattle.vg_wire.specs.declared.request.Queue.{Queue}
 use Rattle.vg_script.specs.Lines.{lines_of}
 use Rattle.vg_script_words.specs.Words.{words_of, hex_bytes, value, is_position, signed_value}
-use Rattle.vg_call_lines.specs.Args.{no_args, one_arg, two_args, three_args, four_args, five_args, six_args}
-use Rattle.vg_call_lines.proofs.Counts.{no_args_give, one_arg_gives, two_args_give, three_args_give, four_args_give, five_args_give, six_args_give}
+use Rattle.vg_call_lines.specs.Args.{no_args, one_arg, two_args, three_args, four_args, five_args, six_args, eleven_args}
+use Rattle.vg_call_lines.proofs.Counts.{no_args_give, one_arg_gives, two_args_give, three_args_give, four_args_give, five_args_give, six_args_give, eleven_args_give}
 use Rattle.vg_script.specs.Features.{feature_of, is_same}
 use Rattle.vg_script.specs.Labels.{start_of}
 use Rattle.vg_script.specs.Seen.{Seen, nothing_seen, add_line}
 use Rattle.vg_call_lines.specs.Tables.{NameTable}
-use Rattle.vg_call_lines.specs.Rows.{Row, info_row, edid_row, buffer_row, store_row, load_row, send_row, flush_row, take_row, drop_row, hide_row, show_row, flip_row, cursor_row, move_row, uuid_row, export_row, import_row, close_row, raw_row, request_row, queue_of, shape_of, bad_shape_of, row_of, row_of_buffers, row_of_scanouts, row_of_others, row_of_shared}
+use Rattle.vg_call_lines.specs.Rows.{Row, info_row, edid_row, buffer_row, blob_row, store_row, load_row, send_row, flush_row, take_row, drop_row, hide_row, show_row, showblob_row, flip_row, cursor_row, move_row, uuid_row, close_row, raw_row, context_row, endcontext_row, attach_row, detach_row, submit_row, export_row, import_row, request_row, queue_of, shape_of, bad_shape_of, row_of, row_of_buffers, row_of_scanouts, row_of_others, row_of_contexts, row_of_shared}
 use Rattle.vg_script.specs.Grammar.{Form, display_form, memory_form, feature_form, without_form, client_form, row_form, skipped_form, called_form, worded_form, form_of, line_form, one_more, script_of, read_script}
 use Rattle.vg_script.specs.Faults.{fails, given, form_gives, seen_after, AreFaultless, has_fault}
-use Rattle.vg_script.specs.Limits.{IsBetween, IsPosition, ShapeInLimits, CallInLimits, ClientInLimits, DisplayInLimits, ScriptInLimits}
+use Rattle.vg_script.specs.Limits.{IsBetween, IsPosition, ShapeInLimits, CallInLimits, ClientInLimits, DisplayInLimits, makes_context, contexts_in, ScriptInLimits}
 use Rattle.std.specs.List.{range_with_len}
 use Rattle.vg_script.specs.Waits.{waits, given_in_all}
 use Rattle.vg_script.proofs.LabelLaws.{all_labelled}
@@ -34,13 +35,19 @@ use Rattle.vg_script.proofs.FaultLaws.{good_script}
 use Rattle.vg_script.proofs.ClientLists.{length-add_line, lines-add_line}
 
 -- ---- the rows
-abbrev RowFits : ℕ → Option Row → Type 0
-RowFits displays None = ⊤
-RowFits displays (Some row) = row.limits ≡ true → CallInLimits displays row.call
+-- How many contexts a client's lines have made behind a call.
+abbrev contexts_after : Call → ℕ → ℕ
+contexts_after call count = if makes_context call then count + 1 else count
 
-either_fits : (n : ℕ) (b : Bool) (x y : Option Row) → RowFits n x → RowFits n y → RowFits n (if b then x else y)
-either_fits n true x y p q = p
-either_fits n false x y p q = q
+-- A row's numbers keep their limits, and its client makes no context too many.
+abbrev RowFits : ℕ → NameTable → Option Row → Type 0
+RowFits displays table None = ⊤
+RowFits displays table (Some row) =
+    row.limits ≡ true → CallInLimits displays row.call × (row.after.contexts ≡ contexts_after row.call table.contexts) × (table.contexts ≤ 255 → row.after.contexts ≤ 255)
+
+either_fits : (n : ℕ) (table : NameTable) (b : Bool) (x y : Option Row) → RowFits n table x → RowFits n table y → RowFits n table (if b then x else y)
+either_fits n table true x y p q = p
+either_fits n table false x y p q = q
 
 length-hex_bytes : (hex : List ℕ) → length (hex_bytes hex) ≡ length hex / 2
 unfolding hex_bytes
@@ -48,53 +55,53 @@ length-hex_bytes [] = refl
 length-hex_bytes (digit ∷ []) = refl
 length-hex_bytes (high ∷ low ∷ more) = let e = length-hex_bytes more in omega (arith, e)
 
-info_fits : (n : ℕ) (table : NameTable) → RowFits n (info_row table)
+info_fits : (n : ℕ) (table : NameTable) → RowFits n table (info_row table)
 unfolding info_row
-info_fits n table = λ h. tt
+info_fits n table = λ h. (tt, refl, λ few. few)
 
-edid_fits : (n : ℕ) (table : NameTable) (scanout : List ℕ) → RowFits n (edid_row table scanout)
+edid_fits : (n : ℕ) (table : NameTable) (scanout : List ℕ) → RowFits n table (edid_row table scanout)
 unfolding edid_row
-edid_fits n table scanout = λ h. grind (arith, nat_tests)
+edid_fits n table scanout = λ h. (grind (arith, nat_tests), refl, λ few. few)
 
-buffer_fits : (n : ℕ) (table : NameTable) (name width height format : List ℕ) → RowFits n (buffer_row table name width height format)
+buffer_fits : (n : ℕ) (table : NameTable) (name width height format : List ℕ) → RowFits n table (buffer_row table name width height format)
 unfolding buffer_row
-buffer_fits n table name width height format = λ h. grind (arith, nat_tests)
+buffer_fits n table name width height format = λ h. (grind (arith, nat_tests), refl, λ few. few)
 
-store_fits : (n : ℕ) (table : NameTable) (name offset hex times : List ℕ) → RowFits n (store_row table name offset hex times)
+store_fits : (n : ℕ) (table : NameTable) (name offset hex times : List ℕ) → RowFits n table (store_row table name offset hex times)
 unfolding store_row
-store_fits n table name offset hex times = λ h. let e = length-hex_bytes hex in grind (arith, nat_tests)
+store_fits n table name offset hex times = λ h. let e = length-hex_bytes hex in (grind (arith, nat_tests), refl, λ few. few)
 
-load_fits : (n : ℕ) (table : NameTable) (name offset size : List ℕ) → RowFits n (load_row table name offset size)
+load_fits : (n : ℕ) (table : NameTable) (name offset size : List ℕ) → RowFits n table (load_row table name offset size)
 unfolding load_row
-load_fits n table name offset size = λ h. grind (arith, nat_tests)
+load_fits n table name offset size = λ h. (grind (arith, nat_tests), refl, λ few. few)
 
-send_fits : (n : ℕ) (table : NameTable) (name x y width height : List ℕ) → RowFits n (send_row table name x y width height)
+send_fits : (n : ℕ) (table : NameTable) (name x y width height : List ℕ) → RowFits n table (send_row table name x y width height)
 unfolding send_row
-send_fits n table name x y width height = λ h. tt
+send_fits n table name x y width height = λ h. (tt, refl, λ few. few)
 
-flush_fits : (n : ℕ) (table : NameTable) (name x y width height : List ℕ) → RowFits n (flush_row table name x y width height)
+flush_fits : (n : ℕ) (table : NameTable) (name x y width height : List ℕ) → RowFits n table (flush_row table name x y width height)
 unfolding flush_row
-flush_fits n table name x y width height = λ h. tt
+flush_fits n table name x y width height = λ h. (tt, refl, λ few. few)
 
-take_fits : (n : ℕ) (table : NameTable) (scanout : List ℕ) → RowFits n (take_row n table scanout)
+take_fits : (n : ℕ) (table : NameTable) (scanout : List ℕ) → RowFits n table (take_row n table scanout)
 unfolding take_row
-take_fits n table scanout = λ h. grind (arith, nat_tests)
+take_fits n table scanout = λ h. (grind (arith, nat_tests), refl, λ few. few)
 
-drop_fits : (n : ℕ) (table : NameTable) (scanout : List ℕ) → RowFits n (drop_row n table scanout)
+drop_fits : (n : ℕ) (table : NameTable) (scanout : List ℕ) → RowFits n table (drop_row n table scanout)
 unfolding drop_row
-drop_fits n table scanout = λ h. grind (arith, nat_tests)
+drop_fits n table scanout = λ h. (grind (arith, nat_tests), refl, λ few. few)
 
-hide_fits : (n : ℕ) (table : NameTable) (scanout : List ℕ) → RowFits n (hide_row n table scanout)
+hide_fits : (n : ℕ) (table : NameTable) (scanout : List ℕ) → RowFits n table (hide_row n table scanout)
 unfolding hide_row
-hide_fits n table scanout = λ h. grind (arith, nat_tests)
+hide_fits n table scanout = λ h. (grind (arith, nat_tests), refl, λ few. few)
 
-show_fits : (n : ℕ) (table : NameTable) (scanout name x y width height : List ℕ) → RowFits n (show_row n table scanout name x y width height)
+show_fits : (n : ℕ) (table : NameTable) (scanout name x y width height : List ℕ) → RowFits n table (show_row n table scanout name x y width height)
 unfolding show_row
-show_fits n table scanout name x y width height = λ h. grind (arith, nat_tests)
+show_fits n table scanout name x y width height = λ h. (grind (arith, nat_tests), refl, λ few. few)
 
-flip_fits : (n : ℕ) (table : NameTable) (scanout name : List ℕ) → RowFits n (flip_row n table scanout name)
+flip_fits : (n : ℕ) (table : NameTable) (scanout name : List ℕ) → RowFits n table (flip_row n table scanout name)
 unfolding flip_row
-flip_fits n table scanout name = λ h. grind (arith, nat_tests)
+flip_fits n table scanout name = λ h. (grind (arith, nat_tests), refl, λ few. few)
 
 -- A signed number within its limits, by its sign.
 minus_fits : (n : ℕ) → n ≤ 32768 → IsPosition (pos 0 -ℤ pos n)
@@ -113,7 +120,7 @@ position_fits : (word : List ℕ) → is_position word ≡ true → IsPosition (
 position_fits [] h = absurd (cc (h))
 position_fits (first ∷ digits) h = signed_fits (first == 45) (value digits) (value (first ∷ digits)) h
 
-cursor_fits : (n : ℕ) (table : NameTable) (scanout name x y hot_x hot_y : List ℕ) → RowFits n (cursor_row n table scanout name x y hot_x hot_y)
+cursor_fits : (n : ℕ) (table : NameTable) (scanout name x y hot_x hot_y : List ℕ) → RowFits n table (cursor_row n table scanout name x y hot_x hot_y)
 unfolding cursor_row
 cursor_fits n table scanout name x y hot_x hot_y = λ h.
     let across : is_position x ≡ true = grind arith in
@@ -121,31 +128,67 @@ cursor_fits n table scanout name x y hot_x hot_y = λ h.
     let s : value scanout < n = grind (arith, nat_tests) in
     let i : IsBetween 0 4294967295 (value hot_x) = grind (arith, nat_tests) in
     let j : IsBetween 0 4294967295 (value hot_y) = grind (arith, nat_tests) in
-    (s, position_fits x across, position_fits y down, i, j)
+    ((s, position_fits x across, position_fits y down, i, j), refl, λ few. few)
 
-move_fits : (n : ℕ) (table : NameTable) (scanout x y : List ℕ) → RowFits n (move_row n table scanout x y)
+move_fits : (n : ℕ) (table : NameTable) (scanout x y : List ℕ) → RowFits n table (move_row n table scanout x y)
 unfolding move_row
 move_fits n table scanout x y = λ h.
     let across : is_position x ≡ true = grind arith in
     let down : is_position y ≡ true = grind arith in
     let s : value scanout < n = grind (arith, nat_tests) in
-    (s, position_fits x across, position_fits y down)
+    ((s, position_fits x across, position_fits y down), refl, λ few. few)
 
-uuid_fits : (n : ℕ) (table : NameTable) (name : List ℕ) → RowFits n (uuid_row table name)
+uuid_fits : (n : ℕ) (table : NameTable) (name : List ℕ) → RowFits n table (uuid_row table name)
 unfolding uuid_row
-uuid_fits n table name = λ h. tt
+uuid_fits n table name = λ h. (tt, refl, λ few. few)
 
-export_fits : (n : ℕ) (table : NameTable) (name label : List ℕ) → RowFits n (export_row table name label)
+export_fits : (n : ℕ) (table : NameTable) (name label : List ℕ) → RowFits n table (export_row table name label)
 unfolding export_row
-export_fits n table name label = λ h. tt
+export_fits n table name label = λ h. (tt, refl, λ few. few)
 
-import_fits : (n : ℕ) (table : NameTable) (label name : List ℕ) → RowFits n (import_row table label name)
+import_fits : (n : ℕ) (table : NameTable) (label name : List ℕ) → RowFits n table (import_row table label name)
 unfolding import_row
-import_fits n table label name = λ h. refl
+import_fits n table label name = λ h. (refl, refl, λ few. few)
 
-close_fits : (n : ℕ) (table : NameTable) (name : List ℕ) → RowFits n (close_row table name)
+close_fits : (n : ℕ) (table : NameTable) (name : List ℕ) → RowFits n table (close_row table name)
 unfolding close_row
-close_fits n table name = λ h. tt
+close_fits n table name = λ h. (tt, refl, λ few. few)
+
+blob_fits : (n : ℕ) (table : NameTable) (name size : List ℕ) → RowFits n table (blob_row table name size)
+unfolding blob_row
+blob_fits n table name size = λ h. (grind (arith, nat_tests), refl, λ few. few)
+
+showblob_fits : (n : ℕ) (table : NameTable) (scanout name x y width height columns lines format stride offset : List ℕ)
+    → RowFits n table (showblob_row n table scanout name x y width height columns lines format stride offset)
+unfolding showblob_row
+showblob_fits n table scanout name x y width height columns lines format stride offset = λ h.
+    let s : value scanout < n = grind (arith, nat_tests) in
+    let c : IsBetween 0 4294967295 (value columns) = grind (arith, nat_tests) in
+    let l : IsBetween 0 4294967295 (value lines) = grind (arith, nat_tests) in
+    let f : IsBetween 0 4294967295 (value format) = grind (arith, nat_tests) in
+    let t : IsBetween 0 4294967295 (value stride) = grind (arith, nat_tests) in
+    let o : IsBetween 0 4294967295 (value offset) = grind (arith, nat_tests) in
+    ((s, c, l, f, t, o), refl, λ few. few)
+
+context_fits : (n : ℕ) (table : NameTable) (name : List ℕ) → RowFits n table (context_row table name)
+unfolding context_row
+context_fits n table name = λ h. (tt, refl, λ few. grind (arith, nat_tests))
+
+endcontext_fits : (n : ℕ) (table : NameTable) (name : List ℕ) → RowFits n table (endcontext_row table name)
+unfolding endcontext_row
+endcontext_fits n table name = λ h. (tt, refl, λ few. few)
+
+attach_fits : (n : ℕ) (table : NameTable) (context name : List ℕ) → RowFits n table (attach_row table context name)
+unfolding attach_row
+attach_fits n table context name = λ h. (tt, refl, λ few. few)
+
+detach_fits : (n : ℕ) (table : NameTable) (context name : List ℕ) → RowFits n table (detach_row table context name)
+unfolding detach_row
+detach_fits n table context name = λ h. (tt, refl, λ few. few)
+
+submit_fits : (n : ℕ) (table : NameTable) (context ring : List ℕ) → RowFits n table (submit_row table context ring)
+unfolding submit_row
+submit_fits n table context ring = λ h. (grind (arith, nat_tests), refl, λ few. few)
 
 -- A shape that a word spells has 2 to 8 pieces, if it has pieces.
 abbrev ShapeFits : Option Shape → Type 0
@@ -181,43 +224,59 @@ bytes_few : (hex : List ℕ) (nothing : Bool) → length hex / 2 ≤ 4096 → Is
 bytes_few hex true few = (lit≤ tt, lit≤ tt)
 bytes_few hex false few = let e = length-hex_bytes hex in (omega arith, omega (arith, e))
 
-request_fits : (n : ℕ) (table : NameTable) (queue : Option Queue) (shape : Option Shape) (room hex : List ℕ) → ShapeFits shape → RowFits n (request_row table queue shape room hex)
+request_fits : (n : ℕ) (table : NameTable) (queue : Option Queue) (shape : Option Shape) (room hex : List ℕ) → ShapeFits shape → RowFits n table (request_row table queue shape room hex)
 unfolding request_row
 request_fits n table None shape room hex s = tt
 request_fits n table (Some one) None room hex s = tt
 request_fits n table (Some one) (Some shape) room hex s = λ h.
     let r : IsBetween 0 8192 (value room) = grind (arith, nat_tests) in
     let few : length hex / 2 ≤ 4096 = grind (arith, nat_tests) in
-    (r, s, bytes_few hex (bytes_eq hex (codes "-")) few)
+    ((r, s, bytes_few hex (bytes_eq hex (codes "-")) few), refl, λ few. few)
 
-raw_fits : (n : ℕ) (table : NameTable) (queue room shape hex : List ℕ) → RowFits n (raw_row table queue room shape hex)
+raw_fits : (n : ℕ) (table : NameTable) (queue room shape hex : List ℕ) → RowFits n table (raw_row table queue room shape hex)
 unfolding raw_row
 raw_fits n table queue room shape hex = request_fits n table (queue_of queue) (shape_of shape) room hex (shape_fits shape)
 
-row_fits : (word : List ℕ) (n : ℕ) (table : NameTable) (args : List (List ℕ)) → RowFits n (row_of word n table args)
-unfolding row_of row_of_buffers row_of_scanouts row_of_others row_of_shared
+row_fits : (word : List ℕ) (n : ℕ) (table : NameTable) (args : List (List ℕ)) → RowFits n table (row_of word n table args)
+unfolding row_of row_of_buffers row_of_scanouts row_of_others row_of_contexts row_of_shared
 row_fits word n table args =
-    either_fits n (bytes_eq word (codes "info")) (no_args (info_row table) args) _ (no_args_give (RowFits n) tt (info_row table) (info_fits n table) args)
-    (either_fits n (bytes_eq word (codes "edid")) (one_arg (edid_row table) args) _ (one_arg_gives (RowFits n) tt (edid_row table) (edid_fits n table) args)
-    (either_fits n (bytes_eq word (codes "buffer")) (four_args (buffer_row table) args) _ (four_args_give (RowFits n) tt (buffer_row table) (buffer_fits n table) args)
-    (either_fits n (bytes_eq word (codes "store")) (four_args (store_row table) args) _ (four_args_give (RowFits n) tt (store_row table) (store_fits n table) args)
-    (either_fits n (bytes_eq word (codes "load")) (three_args (load_row table) args) _ (three_args_give (RowFits n) tt (load_row table) (load_fits n table) args)
-    (either_fits n (bytes_eq word (codes "send")) (five_args (send_row table) args) _ (five_args_give (RowFits n) tt (send_row table) (send_fits n table) args)
-    (either_fits n (bytes_eq word (codes "flush")) (five_args (flush_row table) args) _ (five_args_give (RowFits n) tt (flush_row table) (flush_fits n table) args)
-    (either_fits n (bytes_eq word (codes "take")) (one_arg (take_row n table) args) _ (one_arg_gives (RowFits n) tt (take_row n table) (take_fits n table) args)
-    (either_fits n (bytes_eq word (codes "drop")) (one_arg (drop_row n table) args) _ (one_arg_gives (RowFits n) tt (drop_row n table) (drop_fits n table) args)
-    (either_fits n (bytes_eq word (codes "hide")) (one_arg (hide_row n table) args) _ (one_arg_gives (RowFits n) tt (hide_row n table) (hide_fits n table) args)
-    (either_fits n (bytes_eq word (codes "show")) (six_args (show_row n table) args) _ (six_args_give (RowFits n) tt (show_row n table) (show_fits n table) args)
-    (either_fits n (bytes_eq word (codes "flip")) (two_args (flip_row n table) args) _ (two_args_give (RowFits n) tt (flip_row n table) (flip_fits n table) args)
-    (either_fits n (bytes_eq word (codes "cursor")) (six_args (cursor_row n table) args) _ (six_args_give (RowFits n) tt (cursor_row n table) (cursor_fits n table) args)
-    (either_fits n (bytes_eq word (codes "move")) (three_args (move_row n table) args) _ (three_args_give (RowFits n) tt (move_row n table) (move_fits n table) args)
-    (either_fits n (bytes_eq word (codes "uuid")) (one_arg (uuid_row table) args) _ (one_arg_gives (RowFits n) tt (uuid_row table) (uuid_fits n table) args)
-    (either_fits n (bytes_eq word (codes "close")) (one_arg (close_row table) args) _ (one_arg_gives (RowFits n) tt (close_row table) (close_fits n table) args)
-    (either_fits n (bytes_eq word (codes "raw")) (four_args (raw_row table) args) _ (four_args_give (RowFits n) tt (raw_row table) (raw_fits n table) args)
-    (either_fits n (bytes_eq word (codes "export")) (two_args (export_row table) args) _ (two_args_give (RowFits n) tt (export_row table) (export_fits n table) args)
-    (either_fits n (bytes_eq word (codes "import")) (two_args (import_row table) args) _ (two_args_give (RowFits n) tt (import_row table) (import_fits n table) args) tt))))))))))))))))))
+    either_fits n table (bytes_eq word (codes "info")) (no_args (info_row table) args) _ (no_args_give (RowFits n table) tt (info_row table) (info_fits n table) args)
+    (either_fits n table (bytes_eq word (codes "edid")) (one_arg (edid_row table) args) _ (one_arg_gives (RowFits n table) tt (edid_row table) (edid_fits n table) args)
+    (either_fits n table (bytes_eq word (codes "buffer")) (four_args (buffer_row table) args) _ (four_args_give (RowFits n table) tt (buffer_row table) (buffer_fits n table) args)
+    (either_fits n table (bytes_eq word (codes "blob")) (two_args (blob_row table) args) _ (two_args_give (RowFits n table) tt (blob_row table) (blob_fits n table) args)
+    (either_fits n table (bytes_eq word (codes "store")) (four_args (store_row table) args) _ (four_args_give (RowFits n table) tt (store_row table) (store_fits n table) args)
+    (either_fits n table (bytes_eq word (codes "load")) (three_args (load_row table) args) _ (three_args_give (RowFits n table) tt (load_row table) (load_fits n table) args)
+    (either_fits n table (bytes_eq word (codes "send")) (five_args (send_row table) args) _ (five_args_give (RowFits n table) tt (send_row table) (send_fits n table) args)
+    (either_fits n table (bytes_eq word (codes "flush")) (five_args (flush_row table) args) _ (five_args_give (RowFits n table) tt (flush_row table) (flush_fits n table) args)
+    (either_fits n table (bytes_eq word (codes "take")) (one_arg (take_row n table) args) _ (one_arg_gives (RowFits n table) tt (take_row n table) (take_fits n table) args)
+    (either_fits n table (bytes_eq word (codes "drop")) (one_arg (drop_row n table) args) _ (one_arg_gives (RowFits n table) tt (drop_row n table) (drop_fits n table) args)
+    (either_fits n table (bytes_eq word (codes "hide")) (one_arg (hide_row n table) args) _ (one_arg_gives (RowFits n table) tt (hide_row n table) (hide_fits n table) args)
+    (either_fits n table (bytes_eq word (codes "show")) (six_args (show_row n table) args) _ (six_args_give (RowFits n table) tt (show_row n table) (show_fits n table) args)
+    (either_fits n table (bytes_eq word (codes "showblob")) (eleven_args (showblob_row n table) args) _ (eleven_args_give (RowFits n table) tt (showblob_row n table) (showblob_fits n table) args)
+    (either_fits n table (bytes_eq word (codes "flip")) (two_args (flip_row n table) args) _ (two_args_give (RowFits n table) tt (flip_row n table) (flip_fits n table) args)
+    (either_fits n table (bytes_eq word (codes "cursor")) (six_args (cursor_row n table) args) _ (six_args_give (RowFits n table) tt (cursor_row n table) (cursor_fits n table) args)
+    (either_fits n table (bytes_eq word (codes "move")) (three_args (move_row n table) args) _ (three_args_give (RowFits n table) tt (move_row n table) (move_fits n table) args)
+    (either_fits n table (bytes_eq word (codes "uuid")) (one_arg (uuid_row table) args) _ (one_arg_gives (RowFits n table) tt (uuid_row table) (uuid_fits n table) args)
+    (either_fits n table (bytes_eq word (codes "close")) (one_arg (close_row table) args) _ (one_arg_gives (RowFits n table) tt (close_row table) (close_fits n table) args)
+    (either_fits n table (bytes_eq word (codes "raw")) (four_args (raw_row table) args) _ (four_args_give (RowFits n table) tt (raw_row table) (raw_fits n table) args)
+    (either_fits n table (bytes_eq word (codes "context")) (one_arg (context_row table) args) _ (one_arg_gives (RowFits n table) tt (context_row table) (context_fits n table) args)
+    (either_fits n table (bytes_eq word (codes "endcontext")) (one_arg (endcontext_row table) args) _ (one_arg_gives (RowFits n table) tt (endcontext_row table) (endcontext_fits n table) args)
+    (either_fits n table (bytes_eq word (codes "attach")) (two_args (attach_row table) args) _ (two_args_give (RowFits n table) tt (attach_row table) (attach_fits n table) args)
+    (either_fits n table (bytes_eq word (codes "detach")) (two_args (detach_row table) args) _ (two_args_give (RowFits n table) tt (detach_row table) (detach_fits n table) args)
+    (either_fits n table (bytes_eq word (codes "submit")) (two_args (submit_row table) args) _ (two_args_give (RowFits n table) tt (submit_row table) (submit_fits n table) args)
+    (either_fits n table (bytes_eq word (codes "export")) (two_args (export_row table) args) _ (two_args_give (RowFits n table) tt (export_row table) (export_fits n table) args)
+    (either_fits n table (bytes_eq word (codes "import")) (two_args (import_row table) args) _ (two_args_give (RowFits n table) tt (import_row table) (import_fits n table) args) tt)))))))))))))))))))))))))
 
 -- ---- the forms
+
+-- A client makes few contexts. How many the last one makes, if there is one.
+abbrev FewContexts : List Line → Type 0
+FewContexts lines = contexts_in lines ≤ 255
+
+abbrev last_contexts : List (List Line) → ℕ
+last_contexts [] = 0
+last_contexts (client ∷ []) = contexts_in client
+last_contexts (client ∷ next ∷ more) = last_contexts (next ∷ more)
 
 -- What has been seen keeps the limits.
 record Within (seen : Seen) : Type 0 where
@@ -228,6 +287,8 @@ record Within (seen : Seen) : Type 0 where
   clients : length seen.clients ≤ 16
   lines : sum_by length seen.clients ≤ 100000
   calls : All (ClientInLimits (length seen.displays)) seen.clients
+  contexts : All FewContexts seen.clients
+  made : seen.table.contexts ≡ last_contexts seen.clients
 
 abbrev FormFits : Option Form → Type 0
 FormFits None = ⊤
@@ -255,13 +316,15 @@ display_fits seen w a b = λ place limits.
       clients = w.clients;
       lines = w.lines;
       calls = no_calls _ seen.clients none;
+      contexts = w.contexts;
+      made = w.made;
     }
 
 memory_fits : (seen : Seen) → Within seen → (a : List ℕ) → FormFits (memory_form seen a)
 unfolding memory_form
 memory_fits seen w a = λ place limits.
     let size : IsBetween 1 16384 (value a) = grind (arith, nat_tests) in
-    record { few = w.few; sizes = w.sizes; pages = size; features = w.features; clients = w.clients; lines = w.lines; calls = w.calls }
+    record { few = w.few; sizes = w.sizes; pages = size; features = w.features; clients = w.clients; lines = w.lines; calls = w.calls; contexts = w.contexts; made = w.made }
 
 -- A feature that isn't among the others stands once behind them.
 same_feature : (a b : Feature) → is_same a b ≡ true → a ≡ b
@@ -289,7 +352,7 @@ none_of p (x ∷ xs) h =
     let rest : list_any p xs ≡ false = grind arith in
     rw here (none_of p xs rest)
 
-count_more : (p : Feature → Bool) (xs : List Feature) (x : Feature) → count_by p (xs ++ x ∷ []) ≡ count_by p xs + (if p x then 1 else 0)
+count_more : {A : Type 0} (p : A → Bool) (xs : List A) (x : A) → count_by p (xs ++ x ∷ []) ≡ count_by p xs + (if p x then 1 else 0)
 count_more p xs x = let e = sum_by-append (λ y. if p y then 1 else 0) xs (x ∷ []) in omega (arith, e)
 
 once_more : (feature new : Feature) (xs : List Feature) (b : Bool) → is_same new feature ≡ b → count_by (λ other. is_same other feature) xs ≤ 1 → list_any (λ other. is_same other new) xs ≡ false
@@ -308,7 +371,7 @@ unfolding feature_form
 feature_fits seen w None = tt
 feature_fits seen w (Some new) = λ place limits.
     let none : list_any (λ other. is_same other new) seen.without ≡ false = grind arith in
-    record { few = w.few; sizes = w.sizes; pages = w.pages; features = λ feature. once_more feature new seen.without (is_same new feature) refl (w.features feature) none; clients = w.clients; lines = w.lines; calls = w.calls }
+    record { few = w.few; sizes = w.sizes; pages = w.pages; features = λ feature. once_more feature new seen.without (is_same new feature) refl (w.features feature) none; clients = w.clients; lines = w.lines; calls = w.calls; contexts = w.contexts; made = w.made }
 
 without_fits : (seen : Seen) → Within seen → (a : List ℕ) → FormFits (without_form seen a)
 unfolding without_form
@@ -334,20 +397,78 @@ added_within n clients line few room calls fits =
     let left : sum_by length clients < 100000 = grind (arith, nat_tests) in
     (omega (arith, few, length-add_line clients line), omega (arith, left, lines-add_line clients line), All-add_line n clients line fits calls)
 
+-- The contexts of one client more, or of one line more.
+contexts_begun : (clients : List (List Line)) → last_contexts (clients ++ [] ∷ []) ≡ 0
+contexts_begun [] = refl
+contexts_begun (client ∷ []) = refl
+contexts_begun (client ∷ next ∷ more) = contexts_begun (next ∷ more)
+
+one_call : (call : Call) (count : ℕ) → count + (if makes_context call then 1 else 0) ≡ contexts_after call count
+one_call call count = by_test (makes_context call)
+  where
+    by_test : (b : Bool) → count + (if b then 1 else 0) ≡ (if b then count + 1 else count)
+    by_test true = refl
+    by_test false = omega arith
+
+contexts_added : (clients : List (List Line)) (line : Line) → (length clients == 0) ≡ false → last_contexts (add_line clients line) ≡ contexts_after line.call (last_contexts clients)
+contexts_added [] line some = absurd (cc some)
+contexts_added (client ∷ []) line some = count_more (λ l. makes_context l.call) client line ∙ one_call line.call (contexts_in client)
+contexts_added (client ∷ next ∷ []) line some = contexts_added (next ∷ []) line refl
+contexts_added (client ∷ next ∷ after ∷ more) line some =
+    let next_some : (length (next ∷ after ∷ more) == 0) ≡ false = grind (arith, nat_tests) in
+    contexts_added (next ∷ after ∷ more) line next_some
+
+last_few : (clients : List (List Line)) → All FewContexts clients → last_contexts clients ≤ 255
+last_few [] few = lit≤ tt
+last_few (client ∷ []) few = All-head FewContexts client [] few
+last_few (client ∷ next ∷ more) few = last_few (next ∷ more) (All-tail FewContexts client (next ∷ more) few)
+
+all_few : (clients : List (List Line)) (line : Line) → All FewContexts clients → last_contexts (add_line clients line) ≤ 255 → All FewContexts (add_line clients line)
+all_few [] line few last = few
+all_few (client ∷ []) line few last = All-cons FewContexts (client ++ line ∷ []) [] last (All-nil FewContexts)
+all_few (client ∷ next ∷ []) line few last = All-cons FewContexts client (add_line (next ∷ []) line) (All-head FewContexts client (next ∷ []) few) (all_few (next ∷ []) line (All-tail FewContexts client (next ∷ []) few) last)
+all_few (client ∷ next ∷ after ∷ more) line few last =
+    All-cons FewContexts client (add_line (next ∷ after ∷ more) line) (All-head FewContexts client (next ∷ after ∷ more) few) (all_few (next ∷ after ∷ more) line (All-tail FewContexts client (next ∷ after ∷ more) few) last)
+
 client_fits : (seen : Seen) → Within seen → FormFits (client_form seen)
 unfolding client_form
 client_fits seen w = λ place limits.
     let b = begun_within (length seen.displays) seen.clients limits w.lines w.calls in
-    record { few = w.few; sizes = w.sizes; pages = w.pages; features = w.features; clients = b.0; lines = b.1; calls = b.2 }
+    record {
+      few = w.few;
+      sizes = w.sizes;
+      pages = w.pages;
+      features = w.features;
+      clients = b.0;
+      lines = b.1;
+      calls = b.2;
+      contexts = All-push FewContexts seen.clients [] w.contexts (lit≤ tt);
+      made = sym (contexts_begun seen.clients);
+    }
 
-row_form_fits : (seen : Seen) → Within seen → (row : Option Row) → RowFits (length seen.displays) row → FormFits (option_map (row_form seen) row)
+row_form_fits : (seen : Seen) → Within seen → (row : Option Row) → RowFits (length seen.displays) seen.table row → FormFits (option_map (row_form seen) row)
 unfolding row_form
 row_form_fits seen w None fits = tt
 row_form_fits seen w (Some row) fits = λ place limits.
     let room : nat_lt (sum_by length seen.clients) 100000 ≡ true = grind arith in
     let own : row.limits ≡ true = grind arith in
-    let b = added_within (length seen.displays) seen.clients (record { number = seen.lines; call = row.call }) w.clients room w.calls (fits own) in
-    record { few = w.few; sizes = w.sizes; pages = w.pages; features = w.features; clients = b.0; lines = b.1; calls = b.2 }
+    let line : Line = record { number = seen.lines; call = row.call } in
+    let f = fits own in
+    let b = added_within (length seen.displays) seen.clients line w.clients room w.calls f.0 in
+    let begun : (length seen.clients == 0) ≡ false = grind arith in
+    let made : row.after.contexts ≡ last_contexts (add_line seen.clients line) = f.1 ∙ ap (λ (n : ℕ). contexts_after row.call n) w.made ∙ sym (contexts_added seen.clients line begun) in
+    let few : row.after.contexts ≤ 255 = f.2 (subst (λ (n : ℕ). n ≤ 255) (sym w.made) (last_few seen.clients w.contexts)) in
+    record {
+      few = w.few;
+      sizes = w.sizes;
+      pages = w.pages;
+      features = w.features;
+      clients = b.0;
+      lines = b.1;
+      calls = b.2;
+      contexts = all_few seen.clients line w.contexts (subst (λ (n : ℕ). n ≤ 255) made few);
+      made = made;
+    }
 
 called_fits : (seen : Seen) → Within seen → (word : List ℕ) (args : List (List ℕ)) → FormFits (called_form seen word args)
 unfolding called_form
@@ -372,7 +493,7 @@ form_given seen None place limits fits = absurd (cc)
 form_given seen (Some form) place limits fits = fits (grind arith) (grind arith)
 
 one_within : (seen : Seen) → Within seen → Within (one_more seen)
-one_within seen w = record { few = w.few; sizes = w.sizes; pages = w.pages; features = w.features; clients = w.clients; lines = w.lines; calls = w.calls }
+one_within seen w = record { few = w.few; sizes = w.sizes; pages = w.pages; features = w.features; clients = w.clients; lines = w.lines; calls = w.calls; contexts = w.contexts; made = w.made }
 
 line_within : (seen : Seen) (line : List ℕ) → Within seen → ((kind : Kind) → has_fault kind seen line ≡ false) → Within (given seen line)
 unfolding line_form
@@ -383,7 +504,7 @@ lines_within seen [] w none = w
 lines_within seen (line ∷ more) w none = lines_within (given seen line) more (line_within seen line w none.0) none.1
 
 nothing_within : (labels : List ℕ → ℕ) → Within (nothing_seen labels)
-nothing_within labels = record { few = lit≤ tt; sizes = All-nil DisplayInLimits; pages = tt; features = λ feature. lit≤ tt; clients = lit≤ tt; lines = lit≤ tt; calls = All-nil (ClientInLimits 0) }
+nothing_within labels = record { few = lit≤ tt; sizes = All-nil DisplayInLimits; pages = tt; features = λ feature. lit≤ tt; clients = lit≤ tt; lines = lit≤ tt; calls = All-nil (ClientInLimits 0); contexts = All-nil FewContexts; made = refl }
 
 pages_within : (pages : Option ℕ) → IfSome pages (IsBetween 1 16384) → IsBetween 1 16384 (unwrap_or pages 4096)
 pages_within None w = (lit≤ tt, lit≤ tt)
@@ -399,6 +520,7 @@ made_within seen w some labels known = record {
   clients = w.clients;
   lines = w.lines;
   calls = w.calls;
+  contexts = w.contexts;
   labels = labels;
   known = known;
 }

@@ -1,5 +1,5 @@
 -- Which names are defined after lines that have no fault, and their numbers.
-use Rattle.std.proofs.Common.{◌≡◌, ℕ, ◌+◌, ◌==◌, ◌⊎◌, inl, inr, ◌&&◌, ◌||◌, not, Bool, true, false, List, [], ◌∷◌, ◌++◌, length, Option, Some, None, if◌then◌else◌, arith, refl, ap, sym, ◌∙◌, subst, rules}
+use Rattle.std.proofs.Common.{◌≡◌, ℕ, ◌+◌, ◌==◌, ◌⊎◌, inl, inr, ◌||◌, not, Bool, true, false, List, [], ◌∷◌, ◌++◌, length, Option, Some, None, if◌then◌else◌, arith, refl, ap, sym, ◌∙◌, subst, rules}
 use Rattle.std.specs.Prelude.{All, option_map, bytes_eq, codes, slice_index, is_none, is_some}
 use Rattle.vg_script.specs.Labels.{with_found, label_among, label_of, labels_of}
 use Rattle.std.specs.Bool.{⊤}
@@ -10,112 +10,115 @@ use Rattle.vg_wire.specs.declared.request.Queue.{Queue}
 use Rattle.vg_script_words.specs.declared.kind.Kind.{Kind}
 use Rattle.vg_script_words.specs.declared.kind.Kind.TheVariants.{Text, Word, Name}
 use Rattle.vg_script_words.specs.Words.{words_of, is_text}
-use Rattle.vg_call_lines.specs.Args.{no_args, one_arg, two_args, three_args, four_args, five_args, six_args}
-use Rattle.vg_call_lines.proofs.Counts.{no_args_give, one_arg_gives, two_args_give, three_args_give, four_args_give, five_args_give, six_args_give}
+use Rattle.vg_call_lines.specs.Args.{no_args, one_arg, two_args, three_args, four_args, five_args, six_args, eleven_args}
+use Rattle.vg_call_lines.proofs.Counts.{no_args_give, one_arg_gives, two_args_give, three_args_give, four_args_give, five_args_give, six_args_give, eleven_args_give}
 use Rattle.vg_call_lines.specs.declared.names.Named.{Named}
-use Rattle.vg_call_lines.specs.declared.names.NameKind.TheVariants as kinds
+use Rattle.vg_call_lines.specs.declared.names.NameKind.{NameKind}
+use Rattle.vg_call_lines.specs.declared.names.NameKind.TheVariants.{Buffer, Context}
 use Rattle.vg_script.specs.declared.types.Feature.{Feature}
 use Rattle.vg_script.specs.Features.{feature_of}
 use Rattle.vg_script.specs.Seen.{Seen, nothing_seen}
-use Rattle.vg_call_lines.specs.Tables.{NameTable, number_of, with_name, without_name, without_names, with_label}
-use Rattle.vg_call_lines.specs.Rows.{Row, info_row, edid_row, buffer_row, store_row, load_row, send_row, flush_row, take_row, drop_row, hide_row, show_row, flip_row, cursor_row, move_row, uuid_row, export_row, import_row, close_row, raw_row, request_row, queue_of, shape_of, row_of, row_of_buffers, row_of_scanouts, row_of_others, row_of_shared}
+use Rattle.vg_call_lines.specs.Tables.{NameTable, no_names, with_name, with_context, without_name, without_names, with_label}
+use Rattle.vg_call_lines.specs.Rows.{Row, info_row, edid_row, buffer_row, blob_row, store_row, load_row, send_row, flush_row, take_row, drop_row, hide_row, show_row, showblob_row, flip_row, cursor_row, move_row, uuid_row, close_row, raw_row, context_row, endcontext_row, attach_row, detach_row, submit_row, export_row, import_row, request_row, queue_of, shape_of, row_of, row_of_buffers, row_of_scanouts, row_of_others, row_of_contexts, row_of_shared}
 use Rattle.vg_script.specs.Grammar.{Form, display_form, memory_form, feature_form, without_form, client_form, row_form, skipped_form, called_form, worded_form, form_of, line_form, one_more}
 use Rattle.vg_script.specs.Faults.{fails, given, form_gives, seen_after, AreFaultless, has_fault}
-use Rattle.vg_script.specs.Names.{define_this, end_name, counted, names_in, buffer_of, IsDefinedBy}
+use Rattle.vg_script.specs.Names.{begin_client, defined_by, ended_by, is_this, end_name, is_of, counted, names_in, IsDefinedBy}
 
--- A table after words that begin with one that is `client`, `close`, `buffer`, `import` or `export`, or none of these, with those behind it.
-abbrev chosen_two : (client close : Bool) → List ℕ → NameTable → NameTable
-chosen_two client close second table = if client then without_names table else if close then without_name second table else table
+-- A table with one name more of a kind, and how many names of the kind were defined.
+abbrev with_kind : NameKind → List ℕ → NameTable → NameTable
+with_kind Buffer name table = with_name name table
+with_kind Context name table = with_context name table
 
-abbrev chosen : (client buffer close import export : Bool) → (second third : List ℕ) → NameTable → NameTable
-chosen client buffer close import export second third table =
-    if client then without_names table
-    else if buffer then with_name second kinds.Buffer table
-    else if close then without_name second table
-    else if import then with_name third kinds.Buffer table
-    else if export then with_label table
-    else table
+abbrev count_of : NameKind → NameTable → ℕ
+count_of Buffer table = table.count
+count_of Context table = table.contexts
 
--- A table after these words.
+-- A table after words that begin a client, or define a name, or end one, or define a label, or do none of these.
+abbrev after_words : (client : Bool) (defined : Option (NameKind × List ℕ)) (ended : Option (List ℕ)) (label : Bool) → NameTable → NameTable
+after_words true defined ended label table = without_names table
+after_words false (Some defined) ended label table = with_kind defined.0 defined.1 table
+after_words false None (Some name) label table = without_name name table
+after_words false None None true table = with_label table
+after_words false None None false table = table
+
 abbrev changed : List (List ℕ) → NameTable → NameTable
-changed [] table = table
-changed (first ∷ []) table = if bytes_eq first (codes "client") then without_names table else table
-changed (first ∷ second ∷ []) table = chosen_two (bytes_eq first (codes "client")) (bytes_eq first (codes "close")) second table
-changed (first ∷ second ∷ third ∷ more) table =
-    chosen (bytes_eq first (codes "client")) (bytes_eq first (codes "buffer")) (bytes_eq first (codes "close")) (bytes_eq first (codes "import")) (is_some (label_among (first ∷ second ∷ third ∷ more))) second third table
+changed words table = after_words (begin_client words) (defined_by words) (ended_by words) (is_some (label_among words)) table
 
 same_bytes : (a b : List ℕ) → bytes_eq a b ≡ true → a ≡ b
 same_bytes a b h = search (rules, bytes_eq-Decides)
+
+own_bytes : (a : List ℕ) → bytes_eq a a ≡ true
+own_bytes a = search (rules, bytes_eq-Decides)
 
 -- A word that is one is no other.
 apart : (word one other : List ℕ) → bytes_eq word one ≡ true → bytes_eq one other ≡ false → bytes_eq word other ≡ false
 apart word one other h d = rw (same_bytes word one h) d
 
 -- A word that changes no name.
-abbrev Plain : List ℕ → Type 0
-Plain word =
-    (bytes_eq word (codes "client") ≡ false) × (bytes_eq word (codes "buffer") ≡ false) × (bytes_eq word (codes "close") ≡ false)
-    × (bytes_eq word (codes "import") ≡ false) × (bytes_eq word (codes "export") ≡ false)
+abbrev is_plain : List ℕ → Bool
+is_plain word =
+    not (bytes_eq word (codes "client") || bytes_eq word (codes "buffer") || bytes_eq word (codes "blob") || bytes_eq word (codes "import") || bytes_eq word (codes "context")
+    || bytes_eq word (codes "close") || bytes_eq word (codes "endcontext") || bytes_eq word (codes "export"))
 
-plain : (word one : List ℕ) → bytes_eq word one ≡ true → Plain one → Plain word
-plain word one h p = (apart word one (codes "client") h p.0, apart word one (codes "buffer") h p.1, apart word one (codes "close") h p.2, apart word one (codes "import") h p.3, apart word one (codes "export") h p.4)
+-- The words begin with one that is this.
+as_one : (word one : List ℕ) (args : List (List ℕ)) (table after : NameTable) → bytes_eq word one ≡ true → after ≡ changed (one ∷ args) table → after ≡ changed (word ∷ args) table
+as_one word one args table after h e = subst (λ w. after ≡ changed (w ∷ args) table) (sym (same_bytes word one h)) e
+
+plain_as : (word one : List ℕ) → bytes_eq word one ≡ true → is_plain one ≡ true → is_plain word ≡ true
+plain_as word one h p = subst (λ w. is_plain w ≡ true) (sym (same_bytes word one h)) p
 
 -- Words that begin with such a word.
-unchanged : (word : List ℕ) (args : List (List ℕ)) (table : NameTable) → Plain word → table ≡ changed (word ∷ args) table
-unchanged word [] table p = rw p.0 refl
-unchanged word (second ∷ []) table p = rw (p.0, p.2) refl
-unchanged word (second ∷ third ∷ []) table p = rw (p.0, p.1, p.2, p.3, p.4) refl
-unchanged word (second ∷ third ∷ fourth ∷ more) table p = rw (p.0, p.1, p.2, p.3) refl
-
-buffer_changes : (word second third : List ℕ) (more : List (List ℕ)) (table : NameTable) → bytes_eq word (codes "buffer") ≡ true
-    → with_name second kinds.Buffer table ≡ changed (word ∷ second ∷ third ∷ more) table
-buffer_changes word second third more table b = let d = apart word (codes "buffer") (codes "client") b refl in rw (b, d) refl
-
-import_changes : (word second third : List ℕ) (table : NameTable) → bytes_eq word (codes "import") ≡ true
-    → with_name third kinds.Buffer table ≡ changed (word ∷ second ∷ third ∷ []) table
-import_changes word second third table i =
-    let b = apart word (codes "import") (codes "buffer") i refl in
-    let c = apart word (codes "import") (codes "close") i refl in
-    let d = apart word (codes "import") (codes "client") i refl in
-    rw (i, b, c, d) refl
-
-export_changes : (word second third : List ℕ) (table : NameTable) → bytes_eq word (codes "export") ≡ true
-    → with_label table ≡ changed (word ∷ second ∷ third ∷ []) table
-export_changes word second third table x =
-    let b = apart word (codes "export") (codes "buffer") x refl in
-    let c = apart word (codes "export") (codes "close") x refl in
-    let d = apart word (codes "export") (codes "client") x refl in
-    let i = apart word (codes "export") (codes "import") x refl in
-    rw (x, b, c, d, i) refl
-
-close_changes : (word second : List ℕ) (table : NameTable) → bytes_eq word (codes "close") ≡ true
-    → without_name second table ≡ changed (word ∷ second ∷ []) table
-close_changes word second table c = let d = apart word (codes "close") (codes "client") c refl in rw (c, d) refl
+unchanged : (word : List ℕ) (args : List (List ℕ)) (table : NameTable) → is_plain word ≡ true → table ≡ changed (word ∷ args) table
+unchanged word args table p =
+    let client : bytes_eq word (codes "client") ≡ false = grind arith in
+    let buffer : bytes_eq word (codes "buffer") ≡ false = grind arith in
+    let blob : bytes_eq word (codes "blob") ≡ false = grind arith in
+    let import : bytes_eq word (codes "import") ≡ false = grind arith in
+    let context : bytes_eq word (codes "context") ≡ false = grind arith in
+    let close : bytes_eq word (codes "close") ≡ false = grind arith in
+    let endcontext : bytes_eq word (codes "endcontext") ≡ false = grind arith in
+    let export : bytes_eq word (codes "export") ≡ false = grind arith in
+    by_args args client buffer blob import context close endcontext export
+  where
+    by_args : (args : List (List ℕ)) → bytes_eq word (codes "client") ≡ false → bytes_eq word (codes "buffer") ≡ false → bytes_eq word (codes "blob") ≡ false → bytes_eq word (codes "import") ≡ false
+        → bytes_eq word (codes "context") ≡ false → bytes_eq word (codes "close") ≡ false → bytes_eq word (codes "endcontext") ≡ false → bytes_eq word (codes "export") ≡ false → table ≡ changed (word ∷ args) table
+    by_args [] client buffer blob import context close endcontext export = rw client refl
+    by_args (second ∷ []) client buffer blob import context close endcontext export = rw (client, context, close, endcontext) refl
+    by_args (second ∷ third ∷ []) client buffer blob import context close endcontext export = rw (client, buffer, blob, import, close, endcontext, export) refl
+    by_args (second ∷ third ∷ fourth ∷ more) client buffer blob import context close endcontext export = rw (client, buffer, blob, import, close, endcontext) refl
 
 -- Words that define a name find it undefined.
-abbrev Fresh : List (List ℕ) → NameTable → Type 0
-Fresh words table = (name : List ℕ) → define_this name words ≡ true → table.names name ≡ None
+abbrev IsFresh : Option (NameKind × List ℕ) → NameTable → Type 0
+IsFresh None table = ⊤
+IsFresh (Some defined) table = table.names defined.1 ≡ None
 
--- Words that begin with another word define none.
-fresh : (word : List ℕ) (args : List (List ℕ)) (table : NameTable) → bytes_eq word (codes "buffer") ≡ false → bytes_eq word (codes "import") ≡ false → Fresh (word ∷ args) table
-fresh word [] table b i name h = absurd (cc h)
-fresh word (second ∷ []) table b i name h = absurd (cc h)
-fresh word (second ∷ third ∷ more) table b i name h = absurd (grind (arith, b, i, h))
+abbrev Fresh : List (List ℕ) → NameTable → Type 0
+Fresh words table = IsFresh (defined_by words) table
+
+fresh_as : (word one : List ℕ) (args : List (List ℕ)) (table : NameTable) → bytes_eq word one ≡ true → Fresh (one ∷ args) table → Fresh (word ∷ args) table
+fresh_as word one args table h f = subst (λ w. Fresh (w ∷ args) table) (sym (same_bytes word one h)) f
+
+-- Words that begin with a word that changes no name define none.
+none_defined : (word : List ℕ) (args : List (List ℕ)) → bytes_eq word (codes "buffer") ≡ false → bytes_eq word (codes "blob") ≡ false → bytes_eq word (codes "import") ≡ false
+    → bytes_eq word (codes "context") ≡ false → defined_by (word ∷ args) ≡ None
+none_defined word [] buffer blob import context = refl
+none_defined word (second ∷ []) buffer blob import context = rw context refl
+none_defined word (second ∷ third ∷ more) buffer blob import context = rw (buffer, blob, import) refl
+
+defines_none : (word : List ℕ) (args : List (List ℕ)) → is_plain word ≡ true → defined_by (word ∷ args) ≡ None
+defines_none word args p =
+    let buffer : bytes_eq word (codes "buffer") ≡ false = grind arith in
+    let blob : bytes_eq word (codes "blob") ≡ false = grind arith in
+    let import : bytes_eq word (codes "import") ≡ false = grind arith in
+    let context : bytes_eq word (codes "context") ≡ false = grind arith in
+    none_defined word args buffer blob import context
+
+fresh : (word : List ℕ) (args : List (List ℕ)) (table : NameTable) → is_plain word ≡ true → Fresh (word ∷ args) table
+fresh word args table p = subst (λ o. IsFresh o table) (sym (defines_none word args p)) tt
 
 is_none_is : (o : Option Named) → is_none o ≡ true → o ≡ None
 is_none_is None h = refl
 is_none_is (Some named) h = absurd (cc h)
-
-same_fresh : (defined name : List ℕ) (table : NameTable) → is_none (table.names defined) ≡ true → bytes_eq defined name ≡ true → table.names name ≡ None
-same_fresh defined name table none h = ap table.names (sym (same_bytes defined name h)) ∙ is_none_is (table.names defined) none
-
-buffer_fresh : (word second third : List ℕ) (more : List (List ℕ)) (table : NameTable) → bytes_eq word (codes "buffer") ≡ true → is_none (table.names second) ≡ true → Fresh (word ∷ second ∷ third ∷ more) table
-buffer_fresh word second third more table b none name h = same_fresh second name table none (grind (arith, b, h))
-
-import_fresh : (word second third : List ℕ) (table : NameTable) → bytes_eq word (codes "import") ≡ true → is_none (table.names third) ≡ true → Fresh (word ∷ second ∷ third ∷ []) table
-import_fresh word second third table i none name h =
-    let b = apart word (codes "import") (codes "buffer") i refl in
-    same_fresh third name table none (grind (arith, b, i, h))
 
 -- ---- the rows
 abbrev RowNames : List (List ℕ) → NameTable → Option Row → Type 0
@@ -133,10 +136,10 @@ abbrev KeepsNames : NameTable → Option Row → Type 0
 KeepsNames table None = ⊤
 KeepsNames table (Some row) = row.after ≡ table
 
-kept_row : (word one : List ℕ) (args : List (List ℕ)) (table : NameTable) (row : Option Row) → KeepsNames table row → Plain one → bytes_eq word one ≡ true
+kept_row : (word one : List ℕ) (args : List (List ℕ)) (table : NameTable) (row : Option Row) → KeepsNames table row → is_plain one ≡ true → bytes_eq word one ≡ true
     → RowNames (word ∷ args) table row
 kept_row word one args table None k p h = tt
-kept_row word one args table (Some row) k p h = let q = plain word one h p in (k ∙ unchanged word args table q, λ names. fresh word args table q.1 q.3)
+kept_row word one args table (Some row) k p h = let q = plain_as word one h p in (k ∙ unchanged word args table q, λ names. fresh word args table q)
 
 info_keeps : (n : ℕ) (table : NameTable) → KeepsNames table (info_row table)
 unfolding info_row
@@ -204,59 +207,108 @@ raw_keeps : (n : ℕ) (table : NameTable) (queue room shape hex : List ℕ) → 
 unfolding raw_row
 raw_keeps n table queue room shape hex = request_keeps table (queue_of queue) (shape_of shape) room hex
 
+showblob_keeps : (n : ℕ) (table : NameTable) (scanout name x y width height columns lines format stride offset : List ℕ)
+    → KeepsNames table (showblob_row n table scanout name x y width height columns lines format stride offset)
+unfolding showblob_row
+showblob_keeps n table scanout name x y width height columns lines format stride offset = refl
+
+attach_keeps : (n : ℕ) (table : NameTable) (context name : List ℕ) → KeepsNames table (attach_row table context name)
+unfolding attach_row
+attach_keeps n table context name = refl
+
+detach_keeps : (n : ℕ) (table : NameTable) (context name : List ℕ) → KeepsNames table (detach_row table context name)
+unfolding detach_row
+detach_keeps n table context name = refl
+
+submit_keeps : (n : ℕ) (table : NameTable) (context ring : List ℕ) → KeepsNames table (submit_row table context ring)
+unfolding submit_row
+submit_keeps n table context ring = refl
+
 buffer_names : (word : List ℕ) (table : NameTable) (args : List (List ℕ)) → bytes_eq word (codes "buffer") ≡ true → RowNames (word ∷ args) table (four_args (buffer_row table) args)
 unfolding buffer_row
 buffer_names word table [] h = tt
 buffer_names word table (a ∷ []) h = tt
 buffer_names word table (a ∷ b ∷ []) h = tt
 buffer_names word table (a ∷ b ∷ c ∷ []) h = tt
-buffer_names word table (a ∷ b ∷ c ∷ d ∷ []) h = (buffer_changes word a b (c ∷ d ∷ []) table h, λ names. buffer_fresh word a b (c ∷ d ∷ []) table h (grind arith))
-buffer_names word table (a ∷ b ∷ c ∷ d ∷ e ∷ more) h = tt
+buffer_names word table (a ∷ b ∷ c ∷ d ∷ []) h =
+    (as_one word (codes "buffer") (a ∷ b ∷ c ∷ d ∷ []) table (with_name a table) h refl, λ names. fresh_as word (codes "buffer") (a ∷ b ∷ c ∷ d ∷ []) table h (is_none_is (table.names a) (grind arith)))
+buffer_names word table (a ∷ b ∷ c ∷ d ∷ next ∷ more) h = tt
+
+blob_names : (word : List ℕ) (table : NameTable) (args : List (List ℕ)) → bytes_eq word (codes "blob") ≡ true → RowNames (word ∷ args) table (two_args (blob_row table) args)
+unfolding blob_row
+blob_names word table [] h = tt
+blob_names word table (a ∷ []) h = tt
+blob_names word table (a ∷ b ∷ []) h =
+    (as_one word (codes "blob") (a ∷ b ∷ []) table (with_name a table) h refl, λ names. fresh_as word (codes "blob") (a ∷ b ∷ []) table h (is_none_is (table.names a) (grind arith)))
+blob_names word table (a ∷ b ∷ next ∷ more) h = tt
 
 close_names : (word : List ℕ) (table : NameTable) (args : List (List ℕ)) → bytes_eq word (codes "close") ≡ true → RowNames (word ∷ args) table (one_arg (close_row table) args)
 unfolding close_row
 close_names word table [] h = tt
-close_names word table (a ∷ []) h = (close_changes word a table h, λ names. fresh word (a ∷ []) table (apart word (codes "close") (codes "buffer") h refl) (apart word (codes "close") (codes "import") h refl))
-close_names word table (a ∷ b ∷ more) h = tt
+close_names word table (a ∷ []) h =
+    (as_one word (codes "close") (a ∷ []) table (without_name a table) h refl, λ names. fresh_as word (codes "close") (a ∷ []) table h tt)
+close_names word table (a ∷ next ∷ more) h = tt
+
+context_names : (word : List ℕ) (table : NameTable) (args : List (List ℕ)) → bytes_eq word (codes "context") ≡ true → RowNames (word ∷ args) table (one_arg (context_row table) args)
+unfolding context_row
+context_names word table [] h = tt
+context_names word table (a ∷ []) h =
+    (as_one word (codes "context") (a ∷ []) table (with_context a table) h refl, λ names. fresh_as word (codes "context") (a ∷ []) table h (is_none_is (table.names a) (grind arith)))
+context_names word table (a ∷ next ∷ more) h = tt
+
+endcontext_names : (word : List ℕ) (table : NameTable) (args : List (List ℕ)) → bytes_eq word (codes "endcontext") ≡ true → RowNames (word ∷ args) table (one_arg (endcontext_row table) args)
+unfolding endcontext_row
+endcontext_names word table [] h = tt
+endcontext_names word table (a ∷ []) h =
+    (as_one word (codes "endcontext") (a ∷ []) table (without_name a table) h refl, λ names. fresh_as word (codes "endcontext") (a ∷ []) table h tt)
+endcontext_names word table (a ∷ next ∷ more) h = tt
 
 export_names : (word : List ℕ) (table : NameTable) (args : List (List ℕ)) → bytes_eq word (codes "export") ≡ true → RowNames (word ∷ args) table (two_args (export_row table) args)
 unfolding export_row
 export_names word table [] h = tt
 export_names word table (a ∷ []) h = tt
 export_names word table (a ∷ b ∷ []) h =
-    (export_changes word a b table h, λ names. fresh word (a ∷ b ∷ []) table (apart word (codes "export") (codes "buffer") h refl) (apart word (codes "export") (codes "import") h refl))
-export_names word table (a ∷ b ∷ c ∷ more) h = tt
+    (as_one word (codes "export") (a ∷ b ∷ []) table (with_label table) h refl, λ names. fresh_as word (codes "export") (a ∷ b ∷ []) table h tt)
+export_names word table (a ∷ b ∷ next ∷ more) h = tt
 
 import_names : (word : List ℕ) (table : NameTable) (args : List (List ℕ)) → bytes_eq word (codes "import") ≡ true → RowNames (word ∷ args) table (two_args (import_row table) args)
 unfolding import_row
 import_names word table [] h = tt
 import_names word table (a ∷ []) h = tt
-import_names word table (a ∷ b ∷ []) h = (import_changes word a b table h, λ names. import_fresh word a b table h (grind arith))
-import_names word table (a ∷ b ∷ c ∷ more) h = tt
+import_names word table (a ∷ b ∷ []) h =
+    (as_one word (codes "import") (a ∷ b ∷ []) table (with_name b table) h refl, λ names. fresh_as word (codes "import") (a ∷ b ∷ []) table h (is_none_is (table.names b) (grind arith)))
+import_names word table (a ∷ b ∷ next ∷ more) h = tt
 
 row_names : (word : List ℕ) (n : ℕ) (table : NameTable) (args : List (List ℕ)) → RowNames (word ∷ args) table (row_of word n table args)
-unfolding row_of row_of_buffers row_of_scanouts row_of_others row_of_shared
+unfolding row_of row_of_buffers row_of_scanouts row_of_others row_of_contexts row_of_shared
 row_names word n table args =
     let words = word ∷ args in
-    either_row words table (bytes_eq word (codes "info")) (no_args (info_row table) args) _ (kept_row word (codes "info") args table (no_args (info_row table) args) (no_args_give (KeepsNames table) tt (info_row table) (info_keeps n table) args) (refl, refl, refl, refl, refl))
-    (either_row words table (bytes_eq word (codes "edid")) (one_arg (edid_row table) args) _ (kept_row word (codes "edid") args table (one_arg (edid_row table) args) (one_arg_gives (KeepsNames table) tt (edid_row table) (edid_keeps n table) args) (refl, refl, refl, refl, refl))
+    either_row words table (bytes_eq word (codes "info")) (no_args (info_row table) args) _ (kept_row word (codes "info") args table (no_args (info_row table) args) (no_args_give (KeepsNames table) tt (info_row table) (info_keeps n table) args) refl)
+    (either_row words table (bytes_eq word (codes "edid")) (one_arg (edid_row table) args) _ (kept_row word (codes "edid") args table (one_arg (edid_row table) args) (one_arg_gives (KeepsNames table) tt (edid_row table) (edid_keeps n table) args) refl)
     (either_row words table (bytes_eq word (codes "buffer")) (four_args (buffer_row table) args) _ (buffer_names word table args)
-    (either_row words table (bytes_eq word (codes "store")) (four_args (store_row table) args) _ (kept_row word (codes "store") args table (four_args (store_row table) args) (four_args_give (KeepsNames table) tt (store_row table) (store_keeps n table) args) (refl, refl, refl, refl, refl))
-    (either_row words table (bytes_eq word (codes "load")) (three_args (load_row table) args) _ (kept_row word (codes "load") args table (three_args (load_row table) args) (three_args_give (KeepsNames table) tt (load_row table) (load_keeps n table) args) (refl, refl, refl, refl, refl))
-    (either_row words table (bytes_eq word (codes "send")) (five_args (send_row table) args) _ (kept_row word (codes "send") args table (five_args (send_row table) args) (five_args_give (KeepsNames table) tt (send_row table) (send_keeps n table) args) (refl, refl, refl, refl, refl))
-    (either_row words table (bytes_eq word (codes "flush")) (five_args (flush_row table) args) _ (kept_row word (codes "flush") args table (five_args (flush_row table) args) (five_args_give (KeepsNames table) tt (flush_row table) (flush_keeps n table) args) (refl, refl, refl, refl, refl))
-    (either_row words table (bytes_eq word (codes "take")) (one_arg (take_row n table) args) _ (kept_row word (codes "take") args table (one_arg (take_row n table) args) (one_arg_gives (KeepsNames table) tt (take_row n table) (take_keeps n table) args) (refl, refl, refl, refl, refl))
-    (either_row words table (bytes_eq word (codes "drop")) (one_arg (drop_row n table) args) _ (kept_row word (codes "drop") args table (one_arg (drop_row n table) args) (one_arg_gives (KeepsNames table) tt (drop_row n table) (drop_keeps n table) args) (refl, refl, refl, refl, refl))
-    (either_row words table (bytes_eq word (codes "hide")) (one_arg (hide_row n table) args) _ (kept_row word (codes "hide") args table (one_arg (hide_row n table) args) (one_arg_gives (KeepsNames table) tt (hide_row n table) (hide_keeps n table) args) (refl, refl, refl, refl, refl))
-    (either_row words table (bytes_eq word (codes "show")) (six_args (show_row n table) args) _ (kept_row word (codes "show") args table (six_args (show_row n table) args) (six_args_give (KeepsNames table) tt (show_row n table) (show_keeps n table) args) (refl, refl, refl, refl, refl))
-    (either_row words table (bytes_eq word (codes "flip")) (two_args (flip_row n table) args) _ (kept_row word (codes "flip") args table (two_args (flip_row n table) args) (two_args_give (KeepsNames table) tt (flip_row n table) (flip_keeps n table) args) (refl, refl, refl, refl, refl))
-    (either_row words table (bytes_eq word (codes "cursor")) (six_args (cursor_row n table) args) _ (kept_row word (codes "cursor") args table (six_args (cursor_row n table) args) (six_args_give (KeepsNames table) tt (cursor_row n table) (cursor_keeps n table) args) (refl, refl, refl, refl, refl))
-    (either_row words table (bytes_eq word (codes "move")) (three_args (move_row n table) args) _ (kept_row word (codes "move") args table (three_args (move_row n table) args) (three_args_give (KeepsNames table) tt (move_row n table) (move_keeps n table) args) (refl, refl, refl, refl, refl))
-    (either_row words table (bytes_eq word (codes "uuid")) (one_arg (uuid_row table) args) _ (kept_row word (codes "uuid") args table (one_arg (uuid_row table) args) (one_arg_gives (KeepsNames table) tt (uuid_row table) (uuid_keeps n table) args) (refl, refl, refl, refl, refl))
+    (either_row words table (bytes_eq word (codes "blob")) (two_args (blob_row table) args) _ (blob_names word table args)
+    (either_row words table (bytes_eq word (codes "store")) (four_args (store_row table) args) _ (kept_row word (codes "store") args table (four_args (store_row table) args) (four_args_give (KeepsNames table) tt (store_row table) (store_keeps n table) args) refl)
+    (either_row words table (bytes_eq word (codes "load")) (three_args (load_row table) args) _ (kept_row word (codes "load") args table (three_args (load_row table) args) (three_args_give (KeepsNames table) tt (load_row table) (load_keeps n table) args) refl)
+    (either_row words table (bytes_eq word (codes "send")) (five_args (send_row table) args) _ (kept_row word (codes "send") args table (five_args (send_row table) args) (five_args_give (KeepsNames table) tt (send_row table) (send_keeps n table) args) refl)
+    (either_row words table (bytes_eq word (codes "flush")) (five_args (flush_row table) args) _ (kept_row word (codes "flush") args table (five_args (flush_row table) args) (five_args_give (KeepsNames table) tt (flush_row table) (flush_keeps n table) args) refl)
+    (either_row words table (bytes_eq word (codes "take")) (one_arg (take_row n table) args) _ (kept_row word (codes "take") args table (one_arg (take_row n table) args) (one_arg_gives (KeepsNames table) tt (take_row n table) (take_keeps n table) args) refl)
+    (either_row words table (bytes_eq word (codes "drop")) (one_arg (drop_row n table) args) _ (kept_row word (codes "drop") args table (one_arg (drop_row n table) args) (one_arg_gives (KeepsNames table) tt (drop_row n table) (drop_keeps n table) args) refl)
+    (either_row words table (bytes_eq word (codes "hide")) (one_arg (hide_row n table) args) _ (kept_row word (codes "hide") args table (one_arg (hide_row n table) args) (one_arg_gives (KeepsNames table) tt (hide_row n table) (hide_keeps n table) args) refl)
+    (either_row words table (bytes_eq word (codes "show")) (six_args (show_row n table) args) _ (kept_row word (codes "show") args table (six_args (show_row n table) args) (six_args_give (KeepsNames table) tt (show_row n table) (show_keeps n table) args) refl)
+    (either_row words table (bytes_eq word (codes "showblob")) (eleven_args (showblob_row n table) args) _ (kept_row word (codes "showblob") args table (eleven_args (showblob_row n table) args) (eleven_args_give (KeepsNames table) tt (showblob_row n table) (showblob_keeps n table) args) refl)
+    (either_row words table (bytes_eq word (codes "flip")) (two_args (flip_row n table) args) _ (kept_row word (codes "flip") args table (two_args (flip_row n table) args) (two_args_give (KeepsNames table) tt (flip_row n table) (flip_keeps n table) args) refl)
+    (either_row words table (bytes_eq word (codes "cursor")) (six_args (cursor_row n table) args) _ (kept_row word (codes "cursor") args table (six_args (cursor_row n table) args) (six_args_give (KeepsNames table) tt (cursor_row n table) (cursor_keeps n table) args) refl)
+    (either_row words table (bytes_eq word (codes "move")) (three_args (move_row n table) args) _ (kept_row word (codes "move") args table (three_args (move_row n table) args) (three_args_give (KeepsNames table) tt (move_row n table) (move_keeps n table) args) refl)
+    (either_row words table (bytes_eq word (codes "uuid")) (one_arg (uuid_row table) args) _ (kept_row word (codes "uuid") args table (one_arg (uuid_row table) args) (one_arg_gives (KeepsNames table) tt (uuid_row table) (uuid_keeps n table) args) refl)
     (either_row words table (bytes_eq word (codes "close")) (one_arg (close_row table) args) _ (close_names word table args)
-    (either_row words table (bytes_eq word (codes "raw")) (four_args (raw_row table) args) _ (kept_row word (codes "raw") args table (four_args (raw_row table) args) (four_args_give (KeepsNames table) tt (raw_row table) (raw_keeps n table) args) (refl, refl, refl, refl, refl))
+    (either_row words table (bytes_eq word (codes "raw")) (four_args (raw_row table) args) _ (kept_row word (codes "raw") args table (four_args (raw_row table) args) (four_args_give (KeepsNames table) tt (raw_row table) (raw_keeps n table) args) refl)
+    (either_row words table (bytes_eq word (codes "context")) (one_arg (context_row table) args) _ (context_names word table args)
+    (either_row words table (bytes_eq word (codes "endcontext")) (one_arg (endcontext_row table) args) _ (endcontext_names word table args)
+    (either_row words table (bytes_eq word (codes "attach")) (two_args (attach_row table) args) _ (kept_row word (codes "attach") args table (two_args (attach_row table) args) (two_args_give (KeepsNames table) tt (attach_row table) (attach_keeps n table) args) refl)
+    (either_row words table (bytes_eq word (codes "detach")) (two_args (detach_row table) args) _ (kept_row word (codes "detach") args table (two_args (detach_row table) args) (two_args_give (KeepsNames table) tt (detach_row table) (detach_keeps n table) args) refl)
+    (either_row words table (bytes_eq word (codes "submit")) (two_args (submit_row table) args) _ (kept_row word (codes "submit") args table (two_args (submit_row table) args) (two_args_give (KeepsNames table) tt (submit_row table) (submit_keeps n table) args) refl)
     (either_row words table (bytes_eq word (codes "export")) (two_args (export_row table) args) _ (export_names word table args)
-    (either_row words table (bytes_eq word (codes "import")) (two_args (import_row table) args) _ (import_names word table args) tt))))))))))))))))))
+    (either_row words table (bytes_eq word (codes "import")) (two_args (import_row table) args) _ (import_names word table args) tt)))))))))))))))))))))))))
 
 -- ---- the forms
 
@@ -265,9 +317,9 @@ FormNames words seen None = ⊤
 FormNames words seen (Some form) = (form.gives.table ≡ changed words seen.table) × (form.names ≡ true → Fresh words seen.table)
 
 -- Words of the head but for `client`.
-head_names : (word one : List ℕ) (args : List (List ℕ)) (table : NameTable) (names : Bool) → Plain one → bytes_eq word one ≡ true
+head_names : (word one : List ℕ) (args : List (List ℕ)) (table : NameTable) (names : Bool) → is_plain one ≡ true → bytes_eq word one ≡ true
     → (table ≡ changed (word ∷ args) table) × (names ≡ true → Fresh (word ∷ args) table)
-head_names word one args table names p h = let q = plain word one h p in (unchanged word args table q, λ is. fresh word args table q.1 q.3)
+head_names word one args table names p h = let q = plain_as word one h p in (unchanged word args table q, λ is. fresh word args table q)
 
 either_form : (words : List (List ℕ)) (seen : Seen) (b : Bool) (x y : Option Form)
     → (b ≡ true → FormNames words seen x) → FormNames words seen y → FormNames words seen (if b then x else y)
@@ -276,17 +328,17 @@ either_form words seen false x y p q = q
 
 display_names : (seen : Seen) (word a b : List ℕ) → bytes_eq word (codes "display") ≡ true → FormNames (word ∷ a ∷ b ∷ []) seen (display_form seen a b)
 unfolding display_form
-display_names seen word a b h = head_names word (codes "display") (a ∷ b ∷ []) seen.table true (refl, refl, refl, refl, refl) h
+display_names seen word a b h = head_names word (codes "display") (a ∷ b ∷ []) seen.table true refl h
 
 memory_names : (seen : Seen) (word a : List ℕ) → bytes_eq word (codes "memory") ≡ true → FormNames (word ∷ a ∷ []) seen (memory_form seen a)
 unfolding memory_form
-memory_names seen word a h = head_names word (codes "memory") (a ∷ []) seen.table true (refl, refl, refl, refl, refl) h
+memory_names seen word a h = head_names word (codes "memory") (a ∷ []) seen.table true refl h
 
 feature_names : (seen : Seen) (word a : List ℕ) (feature : Option Feature) → bytes_eq word (codes "without") ≡ true
     → FormNames (word ∷ a ∷ []) seen (option_map (feature_form seen) feature)
 unfolding feature_form
 feature_names seen word a None h = tt
-feature_names seen word a (Some feature) h = head_names word (codes "without") (a ∷ []) seen.table true (refl, refl, refl, refl, refl) h
+feature_names seen word a (Some feature) h = head_names word (codes "without") (a ∷ []) seen.table true refl h
 
 without_word : (seen : Seen) (word a : List ℕ) → bytes_eq word (codes "without") ≡ true → FormNames (word ∷ a ∷ []) seen (without_form seen a)
 unfolding without_form
@@ -294,7 +346,7 @@ without_word seen word a h = feature_names seen word a (feature_of a) h
 
 client_names : (seen : Seen) (word : List ℕ) → bytes_eq word (codes "client") ≡ true → FormNames (word ∷ []) seen (client_form seen)
 unfolding client_form
-client_names seen word h = (rw h refl, λ names. fresh word [] seen.table (apart word (codes "client") (codes "buffer") h refl) (apart word (codes "client") (codes "import") h refl))
+client_names seen word h = (as_one word (codes "client") [] seen.table (without_names seen.table) h refl, λ names. tt)
 
 -- The same of any arguments.
 display_line : (seen : Seen) (word : List ℕ) (args : List (List ℕ)) → bytes_eq word (codes "display") ≡ true → FormNames (word ∷ args) seen (two_args (display_form seen) args)
@@ -340,21 +392,24 @@ no_comment : (word one : List ℕ) → (slice_index word 0 == 35) ≡ true → (
 no_comment word one h d true e = absurd (let same = ap (λ w. slice_index w 0 == 35) (same_bytes word one e) in cc)
 no_comment word one h d false e = e
 
-comment_plain : (word : List ℕ) → (slice_index word 0 == 35) ≡ true → Plain word
-comment_plain word h = (
-  no_comment word (codes "client") h refl (bytes_eq word (codes "client")) refl,
-  no_comment word (codes "buffer") h refl (bytes_eq word (codes "buffer")) refl,
-  no_comment word (codes "close") h refl (bytes_eq word (codes "close")) refl,
-  no_comment word (codes "import") h refl (bytes_eq word (codes "import")) refl,
-  no_comment word (codes "export") h refl (bytes_eq word (codes "export")) refl,
-)
+comment_plain : (word : List ℕ) → (slice_index word 0 == 35) ≡ true → is_plain word ≡ true
+comment_plain word h =
+    let client = no_comment word (codes "client") h refl (bytes_eq word (codes "client")) refl in
+    let buffer = no_comment word (codes "buffer") h refl (bytes_eq word (codes "buffer")) refl in
+    let blob = no_comment word (codes "blob") h refl (bytes_eq word (codes "blob")) refl in
+    let import = no_comment word (codes "import") h refl (bytes_eq word (codes "import")) refl in
+    let context = no_comment word (codes "context") h refl (bytes_eq word (codes "context")) refl in
+    let close = no_comment word (codes "close") h refl (bytes_eq word (codes "close")) refl in
+    let endcontext = no_comment word (codes "endcontext") h refl (bytes_eq word (codes "endcontext")) refl in
+    let export = no_comment word (codes "export") h refl (bytes_eq word (codes "export")) refl in
+    rw (client, buffer, blob, import, context, close, endcontext, export) refl
 
 form_names : (words : List (List ℕ)) (seen : Seen) → FormNames words seen (form_of seen words)
 unfolding form_of skipped_form
-form_names [] seen = (refl, λ is name h. absurd (cc h))
+form_names [] seen = (refl, λ is. tt)
 form_names (word ∷ more) seen =
     either_form (word ∷ more) seen (slice_index word 0 == 35) (Some (skipped_form seen)) _
-    (λ h. let q = comment_plain word h in (unchanged word more seen.table q, λ is. fresh word more seen.table q.1 q.3)) (worded_names seen word more)
+    (λ h. let q = comment_plain word h in (unchanged word more seen.table q, λ is. fresh word more seen.table q)) (worded_names seen word more)
 
 -- ---- the lines
 form_given : (words : List (List ℕ)) (start seen : Seen) (form : Option Form) → fails true (λ f. f.place) form ≡ false → FormNames words seen form
@@ -374,96 +429,53 @@ line_fresh : (seen : Seen) (line : List ℕ) → ((kind : Kind) → has_fault ki
 unfolding line_form
 line_fresh seen line none = form_fresh (words_of line) (one_more seen) (form_of (one_more seen) (words_of line)) (none Word) (none Name) (form_names (words_of line) (one_more seen))
 
--- How many names were defined after these words.
-counts_one : (client : Bool) (table : NameTable) → (if client then without_names table else table).count ≡ (if client then 0 else table.count)
-counts_one true table = refl
-counts_one false table = refl
+-- How many names of a kind were defined after these words.
+counts_after : (kind : NameKind) (client : Bool) (defined : Option (NameKind × List ℕ)) (ended : Option (List ℕ)) (label : Bool) (table : NameTable)
+    → count_of kind (after_words client defined ended label table) ≡ (if client then 0 else if is_of kind defined then count_of kind table + 1 else count_of kind table)
+counts_after Buffer true defined ended label table = refl
+counts_after Context true defined ended label table = refl
+counts_after Buffer false (Some (Buffer, name)) ended label table = refl
+counts_after Buffer false (Some (Context, name)) ended label table = refl
+counts_after Context false (Some (Buffer, name)) ended label table = refl
+counts_after Context false (Some (Context, name)) ended label table = refl
+counts_after Buffer false None (Some name) label table = refl
+counts_after Context false None (Some name) label table = refl
+counts_after Buffer false None None true table = refl
+counts_after Context false None None true table = refl
+counts_after Buffer false None None false table = refl
+counts_after Context false None None false table = refl
 
-counts_two : (client close : Bool) (second : List ℕ) (table : NameTable) → (chosen_two client close second table).count ≡ (if client then 0 else table.count)
-counts_two true close second table = refl
-counts_two false true second table = refl
-counts_two false false second table = refl
-
-counts_more : (client buffer close import export : Bool) (second third : List ℕ) (table : NameTable) → close && import ≡ false
-    → (chosen client buffer close import export second third table).count ≡ (if client then 0 else if buffer || import then table.count + 1 else table.count)
-counts_more true buffer close import export second third table h = refl
-counts_more false true close import export second third table h = refl
-counts_more false false true false export second third table h = refl
-counts_more false false true true export second third table h = absurd (cc h)
-counts_more false false false true export second third table h = refl
-counts_more false false false false true second third table h = refl
-counts_more false false false false false second third table h = refl
-
--- A word isn't two.
-not_both : (word one other : List ℕ) → bytes_eq one other ≡ false → (b : Bool) → bytes_eq word one ≡ b → bytes_eq word one && bytes_eq word other ≡ false
-not_both word one other d true e = let f = apart word one other e d in grind (arith, e, f)
-not_both word one other d false e = grind (arith, e)
-
-counts : (words : List (List ℕ)) (table : NameTable) → (changed words table).count ≡ counted words table.count
-counts [] table = refl
-counts (first ∷ []) table = counts_one (bytes_eq first (codes "client")) table
-counts (first ∷ second ∷ []) table = counts_two (bytes_eq first (codes "client")) (bytes_eq first (codes "close")) second table
-counts (first ∷ second ∷ third ∷ more) table =
-    counts_more (bytes_eq first (codes "client")) (bytes_eq first (codes "buffer")) (bytes_eq first (codes "close")) (bytes_eq first (codes "import")) (is_some (label_among (first ∷ second ∷ third ∷ more))) second third table
-    (not_both first (codes "close") (codes "import") refl (bytes_eq first (codes "close")) refl)
+counts : (kind : NameKind) (words : List (List ℕ)) (table : NameTable) → count_of kind (changed words table) ≡ counted kind words (count_of kind table)
+counts kind words table = counts_after kind (begin_client words) (defined_by words) (ended_by words) (is_some (label_among words)) table
 
 -- How many labels were defined after these words.
-exports_first : (first second third : List ℕ) (more : List (List ℕ)) → is_some (label_among (first ∷ second ∷ third ∷ more)) ≡ true → bytes_eq first (codes "export") ≡ true
-exports_first first second third [] h = by_test (bytes_eq first (codes "export")) refl h
-  where
-    by_test : (b : Bool) → bytes_eq first (codes "export") ≡ b → is_some (if b then Some third else None) ≡ true → bytes_eq first (codes "export") ≡ true
-    by_test true e t = e
-    by_test false e t = absurd (cc t)
-exports_first first second third (fourth ∷ more) h = absurd (cc h)
+exports_none : (client : Bool) (defined : Option (NameKind × List ℕ)) (ended : Option (List ℕ)) (table : NameTable) → (after_words client defined ended false table).exported ≡ table.exported
+exports_none true defined ended table = refl
+exports_none false (Some (Buffer, name)) ended table = refl
+exports_none false (Some (Context, name)) ended table = refl
+exports_none false None (Some name) table = refl
+exports_none false None None table = refl
 
-other_exports : (first second third : List ℕ) (more : List (List ℕ)) (other : List ℕ) → bytes_eq (codes "export") other ≡ false → (b : Bool) → is_some (label_among (first ∷ second ∷ third ∷ more)) ≡ b → bytes_eq first other && b ≡ false
-other_exports first second third more other d true e = let f = apart first (codes "export") other (exports_first first second third more e) d in grind (arith, f)
-other_exports first second third more other d false e = by_test (bytes_eq first other)
-  where
-    by_test : (c : Bool) → c && false ≡ false
-    by_test true = refl
-    by_test false = refl
+abbrev HasExported : List (List ℕ) → NameTable → Type 0
+HasExported words table = (changed words table).exported ≡ table.exported + length (with_found (label_among words) [])
 
-found_length : (o : Option (List ℕ)) → length (with_found o []) ≡ (if is_some o then 1 else 0)
-found_length None = refl
-found_length (Some label) = refl
-
-exports_more : (client buffer close import export : Bool) (second third : List ℕ) (table : NameTable) → client && export ≡ false → buffer && export ≡ false → close && export ≡ false → import && export ≡ false
-    → (chosen client buffer close import export second third table).exported ≡ table.exported + (if export then 1 else 0)
-exports_more client buffer close import false second third table a b c d = none client buffer close import
-  where
-    none : (client buffer close import : Bool) → (chosen client buffer close import false second third table).exported ≡ table.exported + 0
-    none true buffer close import = omega arith
-    none false true close import = omega arith
-    none false false true import = omega arith
-    none false false false true = omega arith
-    none false false false false = omega arith
-exports_more true buffer close import true second third table a b c d = absurd (cc a)
-exports_more false true close import true second third table a b c d = absurd (cc b)
-exports_more false false true import true second third table a b c d = absurd (cc c)
-exports_more false false false true true second third table a b c d = absurd (cc d)
-exports_more false false false false true second third table a b c d = refl
-
-one_exports : (client : Bool) (table : NameTable) → (if client then without_names table else table).exported ≡ table.exported
-one_exports true table = refl
-one_exports false table = refl
-
-two_export : (client close : Bool) (second : List ℕ) (table : NameTable) → (chosen_two client close second table).exported ≡ table.exported
-two_export true close second table = refl
-two_export false true second table = refl
-two_export false false second table = refl
-
-exports : (words : List (List ℕ)) (table : NameTable) → (changed words table).exported ≡ table.exported + length (with_found (label_among words) [])
+exports : (words : List (List ℕ)) (table : NameTable) → HasExported words table
 exports [] table = omega arith
-exports (first ∷ []) table = let e = one_exports (bytes_eq first (codes "client")) table in omega (arith, e)
-exports (first ∷ second ∷ []) table = let e = two_export (bytes_eq first (codes "client")) (bytes_eq first (codes "close")) second table in omega (arith, e)
-exports (first ∷ second ∷ third ∷ more) table =
-    exports_more (bytes_eq first (codes "client")) (bytes_eq first (codes "buffer")) (bytes_eq first (codes "close")) (bytes_eq first (codes "import")) (is_some (label_among (first ∷ second ∷ third ∷ more))) second third table
-    (other_exports first second third more (codes "client") refl (is_some (label_among (first ∷ second ∷ third ∷ more))) refl)
-    (other_exports first second third more (codes "buffer") refl (is_some (label_among (first ∷ second ∷ third ∷ more))) refl)
-    (other_exports first second third more (codes "close") refl (is_some (label_among (first ∷ second ∷ third ∷ more))) refl)
-    (other_exports first second third more (codes "import") refl (is_some (label_among (first ∷ second ∷ third ∷ more))) refl)
-    ∙ ap (λ (n : ℕ). table.exported + n) (sym (found_length (label_among (first ∷ second ∷ third ∷ more))))
+exports (first ∷ []) table = let e = exports_none (begin_client (first ∷ [])) None None table in omega (arith, e)
+exports (first ∷ second ∷ []) table =
+    let words = first ∷ second ∷ [] in
+    let e = exports_none (begin_client words) (defined_by words) (ended_by words) table in omega (arith, e)
+exports (first ∷ second ∷ third ∷ []) table = by_test (bytes_eq first (codes "export")) refl
+  where
+    words : List (List ℕ)
+    words = first ∷ second ∷ third ∷ []
+
+    by_test : (b : Bool) → bytes_eq first (codes "export") ≡ b → HasExported words table
+    by_test true e = subst (λ w. HasExported (w ∷ second ∷ third ∷ []) table) (sym (same_bytes first (codes "export") e)) refl
+    by_test false e = rw e (let f = exports_none (begin_client words) (defined_by words) (ended_by words) table in omega (arith, f))
+exports (first ∷ second ∷ third ∷ fourth ∷ more) table =
+    let words = first ∷ second ∷ third ∷ fourth ∷ more in
+    let e = exports_none (begin_client words) (defined_by words) (ended_by words) table in omega (arith, e)
 
 text_label : (line : List ℕ) → is_text line ≡ true → label_of line ≡ label_among (words_of line)
 text_label line h = rw h refl
@@ -489,135 +501,155 @@ all_exported start (line ∷ more) faultless =
     omega (arith, e, f, g, h, i)
 
 -- Words that define a name, that end it, and that do neither.
-defined_more : (client buffer close import export : Bool) (second third name : List ℕ) (table : NameTable) → client ≡ false → close && import ≡ false
-    → (if buffer then bytes_eq second name else import && bytes_eq third name) ≡ true
-    → (chosen client buffer close import export second third table).names name ≡ Some (buffer_of (table.count + 1))
-defined_more true buffer close import export second third name table c d h = absurd (cc c)
-defined_more false true close import export second third name table c d h = rw h refl
-defined_more false false close false export second third name table c d h = absurd (cc h)
-defined_more false false true true export second third name table c d h = absurd (cc d)
-defined_more false false false true export second third name table c d h = rw h refl
+defines_no_client : (words : List (List ℕ)) (defined : NameKind × List ℕ) → defined_by words ≡ Some defined → begin_client words ≡ false
+defines_no_client [] defined h = refl
+defines_no_client (first ∷ []) defined h = absurd (cc h)
+defines_no_client (first ∷ second ∷ []) defined h = by_test (bytes_eq first (codes "context")) refl h
+  where
+    by_test : (b : Bool) → bytes_eq first (codes "context") ≡ b → ◌≡◌ {A = Option (NameKind × List ℕ)} (if b then Some (Context, second) else None) (Some defined) → bytes_eq first (codes "client") ≡ false
+    by_test true e t = apart first (codes "context") (codes "client") e refl
+    by_test false e t = absurd (cc t)
+defines_no_client (first ∷ second ∷ third ∷ more) defined h =
+    by_test (bytes_eq first (codes "buffer")) (bytes_eq first (codes "blob")) (bytes_eq first (codes "import")) refl refl refl h
+  where
+    by_test : (b c i : Bool) → bytes_eq first (codes "buffer") ≡ b → bytes_eq first (codes "blob") ≡ c → bytes_eq first (codes "import") ≡ i
+        → ◌≡◌ {A = Option (NameKind × List ℕ)} (if b || c then Some (Buffer, second) else if i then Some (Buffer, third) else None) (Some defined) → bytes_eq first (codes "client") ≡ false
+    by_test true c i e f g t = apart first (codes "buffer") (codes "client") e refl
+    by_test false true i e f g t = apart first (codes "blob") (codes "client") f refl
+    by_test false false true e f g t = apart first (codes "import") (codes "client") g refl
+    by_test false false false e f g t = absurd (cc t)
 
--- A word that is one of two isn't a third.
-neither : (word one two other : List ℕ) → bytes_eq one other ≡ false → bytes_eq two other ≡ false → (b c : Bool) → bytes_eq word one ≡ b → bytes_eq word two ≡ c → b || c ≡ true → bytes_eq word other ≡ false
-neither word one two other p q true c e f h = apart word one other e p
-neither word one two other p q false true e f h = apart word two other f q
-neither word one two other p q false false e f h = absurd (cc h)
+made : (kind : NameKind) (name : List ℕ) (table : NameTable) → (with_kind kind name table).names name ≡ Some (record { kind = kind; number = count_of kind table + 1 })
+made Buffer name table = rw (own_bytes name) refl
+made Context name table = rw (own_bytes name) refl
 
-either_defines : (buffer import : Bool) (x y : Bool) → (if buffer then x else import && y) ≡ true → buffer || import ≡ true
-either_defines true import x y h = refl
-either_defines false true x y h = refl
-either_defines false false x y h = absurd (cc h)
+defining : (name : List ℕ) (kind : NameKind) (words : List (List ℕ)) (table : NameTable) → defined_by words ≡ Some (kind, name)
+    → (changed words table).names name ≡ Some (record { kind = kind; number = count_of kind table + 1 })
+defining name kind words table h =
+    let c = defines_no_client words (kind, name) h in
+    ap (λ b. (after_words b (defined_by words) (ended_by words) (is_some (label_among words)) table).names name) c
+    ∙ ap (λ o. (after_words false o (ended_by words) (is_some (label_among words)) table).names name) h ∙ made kind name table
 
-defining : (name : List ℕ) (words : List (List ℕ)) (table : NameTable) → define_this name words ≡ true → (changed words table).names name ≡ Some (buffer_of (table.count + 1))
-defining name [] table h = absurd (cc h)
-defining name (first ∷ []) table h = absurd (cc h)
-defining name (first ∷ second ∷ []) table h = absurd (cc h)
-defining name (first ∷ second ∷ third ∷ more) table h =
-    defined_more (bytes_eq first (codes "client")) (bytes_eq first (codes "buffer")) (bytes_eq first (codes "close")) (bytes_eq first (codes "import")) (is_some (label_among (first ∷ second ∷ third ∷ more))) second third name table
-    (neither first (codes "buffer") (codes "import") (codes "client") refl refl (bytes_eq first (codes "buffer")) (bytes_eq first (codes "import")) refl refl (either_defines (bytes_eq first (codes "buffer")) (bytes_eq first (codes "import")) (bytes_eq second name) (bytes_eq third name) h))
-    (not_both first (codes "close") (codes "import") refl (bytes_eq first (codes "close")) refl) h
+-- Words that end a name define none.
+ends_alone : (words : List (List ℕ)) → is_some (ended_by words) ≡ true → defined_by words ≡ None
+ends_alone [] h = refl
+ends_alone (first ∷ []) h = refl
+ends_alone (first ∷ second ∷ []) h = by_test (bytes_eq first (codes "close")) (bytes_eq first (codes "endcontext")) refl refl h
+  where
+    by_test : (b c : Bool) → bytes_eq first (codes "close") ≡ b → bytes_eq first (codes "endcontext") ≡ c → is_some (if b || c then Some second else None) ≡ true → defined_by (first ∷ second ∷ []) ≡ None
+    by_test true c e f t = rw (apart first (codes "close") (codes "context") e refl) refl
+    by_test false true e f t = rw (apart first (codes "endcontext") (codes "context") f refl) refl
+    by_test false false e f t = absurd (cc t)
+ends_alone (first ∷ second ∷ third ∷ more) h = by_test (bytes_eq first (codes "close")) (bytes_eq first (codes "endcontext")) refl refl h
+  where
+    by_test : (b c : Bool) → bytes_eq first (codes "close") ≡ b → bytes_eq first (codes "endcontext") ≡ c → is_some (if b || c then Some second else None) ≡ true
+        → defined_by (first ∷ second ∷ third ∷ more) ≡ None
+    by_test true c e f t = rw (apart first (codes "close") (codes "buffer") e refl, apart first (codes "close") (codes "blob") e refl, apart first (codes "close") (codes "import") e refl) refl
+    by_test false true e f t =
+        rw (apart first (codes "endcontext") (codes "buffer") f refl, apart first (codes "endcontext") (codes "blob") f refl, apart first (codes "endcontext") (codes "import") f refl) refl
+    by_test false false e f t = absurd (cc t)
 
-ended_two : (client close : Bool) (second name : List ℕ) (table : NameTable) → (client || (close && bytes_eq second name)) ≡ true → (chosen_two client close second table).names name ≡ None
-ended_two true close second name table c = refl
-ended_two false true second name table c = rw c refl
-ended_two false false second name table c = absurd (cc c)
-
-ended_more : (client buffer close import export : Bool) (second third name : List ℕ) (table : NameTable) → buffer && close ≡ false → (client || (close && bytes_eq second name)) ≡ true
-    → (chosen client buffer close import export second third table).names name ≡ None
-ended_more true buffer close import export second third name table d c = refl
-ended_more false true true import export second third name table d c = absurd (cc d)
-ended_more false true false import export second third name table d c = absurd (cc c)
-ended_more false false true import export second third name table d c = rw c refl
-ended_more false false false import export second third name table d c = absurd (cc c)
+ended_more : (client : Bool) (defined : Option (NameKind × List ℕ)) (ended : Option (List ℕ)) (label : Bool) (name : List ℕ) (table : NameTable) → (is_some ended ≡ true → defined ≡ None)
+    → (client || is_this name ended) ≡ true → (after_words client defined ended label table).names name ≡ None
+ended_more true defined ended label name table alone c = refl
+ended_more false defined None label name table alone c = absurd (cc c)
+ended_more false (Some defined) (Some other) label name table alone c = absurd (let d = alone refl in cc d)
+ended_more false None (Some other) label name table alone c = rw c refl
 
 ended : (name : List ℕ) (words : List (List ℕ)) (table : NameTable) → end_name name words ≡ true → (changed words table).names name ≡ None
-ended name [] table c = absurd (cc c)
-ended name (first ∷ []) table c = let d : bytes_eq first (codes "client") ≡ true = grind arith in rw d refl
-ended name (first ∷ second ∷ []) table c = ended_two (bytes_eq first (codes "client")) (bytes_eq first (codes "close")) second name table c
-ended name (first ∷ second ∷ third ∷ more) table c =
-    ended_more (bytes_eq first (codes "client")) (bytes_eq first (codes "buffer")) (bytes_eq first (codes "close")) (bytes_eq first (codes "import")) (is_some (label_among (first ∷ second ∷ third ∷ more))) second third name table
-    (not_both first (codes "buffer") (codes "close") refl (bytes_eq first (codes "buffer")) refl) c
+ended name words table c = ended_more (begin_client words) (defined_by words) (ended_by words) (is_some (label_among words)) name table (ends_alone words) c
 
-left_two : (client close : Bool) (second name : List ℕ) (table : NameTable) → (client || (close && bytes_eq second name)) ≡ false → (chosen_two client close second table).names name ≡ table.names name
-left_two true close second name table c = absurd (cc c)
-left_two false true second name table c = rw c refl
-left_two false false second name table c = refl
+-- Words define this name.
+abbrev is_named : List ℕ → Option (NameKind × List ℕ) → Bool
+is_named name (Some defined) = bytes_eq defined.1 name
+is_named name None = false
 
-left_more : (client buffer close import export : Bool) (second third name : List ℕ) (table : NameTable) → (if buffer then bytes_eq second name else import && bytes_eq third name) ≡ false
-    → (client || (close && bytes_eq second name)) ≡ false → (chosen client buffer close import export second third table).names name ≡ table.names name
-left_more true buffer close import export second third name table b c = absurd (cc c)
-left_more false true close import export second third name table b c = rw b refl
-left_more false false true import export second third name table b c = rw c refl
-left_more false false false true export second third name table b c = rw b refl
-left_more false false false false true second third name table b c = refl
-left_more false false false false false second third name table b c = refl
+left_more : (client : Bool) (defined : Option (NameKind × List ℕ)) (ended : Option (List ℕ)) (label : Bool) (name : List ℕ) (table : NameTable) → is_named name defined ≡ false
+    → (client || is_this name ended) ≡ false → (after_words client defined ended label table).names name ≡ table.names name
+left_more true defined ended label name table b c = absurd (cc c)
+left_more false (Some (Buffer, other)) ended label name table b c = rw b refl
+left_more false (Some (Context, other)) ended label name table b c = rw b refl
+left_more false None (Some other) label name table b c = rw c refl
+left_more false None None true name table b c = refl
+left_more false None None false name table b c = refl
 
-left : (name : List ℕ) (words : List (List ℕ)) (table : NameTable) → define_this name words ≡ false → end_name name words ≡ false → (changed words table).names name ≡ table.names name
-left name [] table b c = refl
-left name (first ∷ []) table b c = let d : bytes_eq first (codes "client") ≡ false = grind arith in rw d refl
-left name (first ∷ second ∷ []) table b c = left_two (bytes_eq first (codes "client")) (bytes_eq first (codes "close")) second name table c
-left name (first ∷ second ∷ third ∷ more) table b c =
-    left_more (bytes_eq first (codes "client")) (bytes_eq first (codes "buffer")) (bytes_eq first (codes "close")) (bytes_eq first (codes "import")) (is_some (label_among (first ∷ second ∷ third ∷ more))) second third name table b c
+left : (name : List ℕ) (words : List (List ℕ)) (table : NameTable) → is_named name (defined_by words) ≡ false → end_name name words ≡ false → (changed words table).names name ≡ table.names name
+left name words table b c = left_more (begin_client words) (defined_by words) (ended_by words) (is_some (label_among words)) name table b c
 
 abbrev Keeps : List ℕ → List ℕ → Type 0
 Keeps name line = end_name name (words_of line) ≡ false
 
--- What is a buffer stays the same where no line ends it.
-stays_at : (name : List ℕ) (words : List (List ℕ)) (table : NameTable) (number : ℕ) → Fresh words table → table.names name ≡ Some (buffer_of number) → end_name name words ≡ false
-    → (b : Bool) → define_this name words ≡ b → (changed words table).names name ≡ Some (buffer_of number)
-stays_at name words table number new is kept true b = let none = new name b in absurd (cc (is, none))
-stays_at name words table number new is kept false b = left name words table b kept ∙ is
+-- What a name is stays the same where no line ends it.
+named_fresh : (name : List ℕ) (table : NameTable) (defined : Option (NameKind × List ℕ)) → IsFresh defined table → is_named name defined ≡ true → table.names name ≡ None
+named_fresh name table None f b = absurd (cc b)
+named_fresh name table (Some (kind, other)) f b = ap table.names (sym (same_bytes other name b)) ∙ f
 
-stays : (name : List ℕ) (number : ℕ) (start : Seen) (lines : List (List ℕ)) → AreFaultless start lines → start.table.names name ≡ Some (buffer_of number) → All (Keeps name) lines
-    → (seen_after start lines).table.names name ≡ Some (buffer_of number)
-stays name number start [] faultless is kept = is
-stays name number start (line ∷ more) faultless is kept =
+stays_at : (name : List ℕ) (words : List (List ℕ)) (table : NameTable) (named : Named) → Fresh words table → table.names name ≡ Some named → end_name name words ≡ false
+    → (b : Bool) → is_named name (defined_by words) ≡ b → (changed words table).names name ≡ Some named
+stays_at name words table named new is kept true b = let gone = named_fresh name table (defined_by words) new b in absurd (cc (is, gone))
+stays_at name words table named new is kept false b = left name words table b kept ∙ is
+
+stays : (name : List ℕ) (named : Named) (start : Seen) (lines : List (List ℕ)) → AreFaultless start lines → start.table.names name ≡ Some named → All (Keeps name) lines
+    → (seen_after start lines).table.names name ≡ Some named
+stays name named start [] faultless is kept = is
+stays name named start (line ∷ more) faultless is kept =
     let words = words_of line in
-    let here = stays_at name words start.table number (line_fresh start line faultless.0) is (All-head (Keeps name) line more kept) (define_this name words) refl in
-    let on : (given start line).table.names name ≡ Some (buffer_of number) = ap (λ (t : NameTable). t.names name) (line_changes start line faultless.0) ∙ here in
-    stays name number (given start line) more faultless.1 on (All-tail (Keeps name) line more kept)
+    let here = stays_at name words start.table named (line_fresh start line faultless.0) is (All-head (Keeps name) line more kept) (is_named name (defined_by words)) refl in
+    let on : (given start line).table.names name ≡ Some named = ap (λ (t : NameTable). t.names name) (line_changes start line faultless.0) ∙ here in
+    stays name named (given start line) more faultless.1 on (All-tail (Keeps name) line more kept)
 
--- How many names were defined after a line.
-count_after : (seen : Seen) (line : List ℕ) → ((kind : Kind) → has_fault kind seen line ≡ false) → (given seen line).table.count ≡ counted (words_of line) seen.table.count
-count_after seen line none = ap (λ (t : NameTable). t.count) (line_changes seen line none) ∙ counts (words_of line) seen.table
+-- How many names of a kind were defined after a line.
+count_after : (kind : NameKind) (seen : Seen) (line : List ℕ) → ((why : Kind) → has_fault why seen line ≡ false) → count_of kind (given seen line).table ≡ counted kind (words_of line) (count_of kind seen.table)
+count_after kind seen line none = ap (λ (t : NameTable). count_of kind t) (line_changes seen line none) ∙ counts kind (words_of line) seen.table
 
-from_front : (name : List ℕ) (number : ℕ) (start : Seen) (front : List (List ℕ)) (line : List ℕ) (behind : List (List ℕ)) → AreFaultless start (front ++ line ∷ behind)
-    → define_this name (words_of line) ≡ true → All (Keeps name) behind → number ≡ names_in start.table.count front + 1
-    → (seen_after start (front ++ line ∷ behind)).table.names name ≡ Some (buffer_of number)
-from_front name number start [] line behind faultless h kept place =
-    let here : (given start line).table.names name ≡ Some (buffer_of number) =
-    ap (λ (t : NameTable). t.names name) (line_changes start line faultless.0) ∙ defining name (words_of line) start.table h ∙ ap (λ (n : ℕ). Some (buffer_of n)) (sym place) in
-    stays name number (given start line) behind faultless.1 here kept
-from_front name number start (first ∷ front) line behind faultless h kept place =
-    from_front name number (given start first) front line behind faultless.1 h kept (place ∙ ap (λ (n : ℕ). names_in n front + 1) (sym (count_after start first faultless.0)))
+from_front : (name : List ℕ) (named : Named) (start : Seen) (front : List (List ℕ)) (line : List ℕ) (behind : List (List ℕ)) → AreFaultless start (front ++ line ∷ behind)
+    → defined_by (words_of line) ≡ Some (named.kind, name) → All (Keeps name) behind → named.number ≡ names_in named.kind (count_of named.kind start.table) front + 1
+    → (seen_after start (front ++ line ∷ behind)).table.names name ≡ Some named
+from_front name named start [] line behind faultless h kept place =
+    let here : (given start line).table.names name ≡ Some named =
+    ap (λ (t : NameTable). t.names name) (line_changes start line faultless.0) ∙ defining name named.kind (words_of line) start.table h
+    ∙ ap (λ (n : ℕ). Some (record { kind = named.kind; number = n })) (sym place) in
+    stays name named (given start line) behind faultless.1 here kept
+from_front name named start (first ∷ front) line behind faultless h kept place =
+    from_front name named (given start first) front line behind faultless.1 h kept (place ∙ ap (λ (n : ℕ). names_in named.kind n front + 1) (sym (count_after named.kind start first faultless.0)))
 
--- `IsDefinedBy`, where so many names were defined before.
-record Defines (count : ℕ) (lines : List (List ℕ)) (name : List ℕ) (number : ℕ) : Type 0 where
+-- `IsDefinedBy`, where so many names of the kind were defined before.
+record Defines (count : ℕ) (lines : List (List ℕ)) (name : List ℕ) (named : Named) : Type 0 where
   front : List (List ℕ)
   defining : List ℕ
   behind : List (List ℕ)
   parts : lines ≡ front ++ defining ∷ behind
-  defines : define_this name (words_of defining) ≡ true
+  defines : defined_by (words_of defining) ≡ Some (named.kind, name)
   kept : All (Keeps name) behind
-  place : number ≡ names_in count front + 1
+  place : named.number ≡ names_in named.kind count front + 1
 
-same_number : (m n : ℕ) → ◌≡◌ {A = Option Named} (Some (buffer_of m)) (Some (buffer_of n)) → n ≡ m
-same_number m n h = sym (ap number_of h)
+abbrev named_in : Option Named → Named
+named_in (Some named) = named
+named_in None = record { kind = Buffer; number = 0 }
 
-at_line : (name : List ℕ) (number : ℕ) (line : List ℕ) (more : List (List ℕ)) (table : NameTable) → (changed (words_of line) table).names name ≡ Some (buffer_of number) → All (Keeps name) more
-    → (b c : Bool) → define_this name (words_of line) ≡ b → end_name name (words_of line) ≡ c → Defines table.count (line ∷ more) name number ⊎ ((table.names name ≡ Some (buffer_of number)) × All (Keeps name) (line ∷ more))
-at_line name number line more table h kept true c p q =
-    let place : number ≡ table.count + 1 = same_number (table.count + 1) number (sym (defining name (words_of line) table p) ∙ h) in
-    inl (record { front = []; defining = line; behind = more; parts = refl; defines = p; kept = kept; place = place })
-at_line name number line more table h kept false true p q = let e = ended name (words_of line) table q in absurd (cc (e, h))
-at_line name number line more table h kept false false p q = inr (sym (left name (words_of line) table p q) ∙ h, All-cons (Keeps name) line more q kept)
+defines_as : (name : List ℕ) (named : Named) (words : List (List ℕ)) (table : NameTable) (defined : Option (NameKind × List ℕ)) → defined_by words ≡ defined → is_named name defined ≡ true
+    → (changed words table).names name ≡ Some named → (defined_by words ≡ Some (named.kind, name)) × (named.number ≡ count_of named.kind table + 1)
+defines_as name named words table None e b h = absurd (cc b)
+defines_as name named words table (Some (kind, other)) e b h =
+    let is : defined_by words ≡ Some (kind, name) = e ∙ ap (λ (n : List ℕ). Some (kind, n)) (same_bytes other name b) in
+    let one : ◌≡◌ {A = Named} (record { kind = kind; number = count_of kind table + 1 }) named = ap named_in (sym (defining name kind words table is) ∙ h) in
+    let same : kind ≡ named.kind = ap (λ (n : Named). n.kind) one in
+    (is ∙ ap (λ (k : NameKind). Some (k, name)) same, sym (ap (λ (n : Named). n.number) one) ∙ ap (λ (k : NameKind). count_of k table + 1) same)
 
-defined_to : (name : List ℕ) (number : ℕ) (start : Seen) (lines : List (List ℕ)) → AreFaultless start lines → (seen_after start lines).table.names name ≡ Some (buffer_of number)
-    → Defines start.table.count lines name number ⊎ ((start.table.names name ≡ Some (buffer_of number)) × All (Keeps name) lines)
-defined_to name number start [] faultless h = inr (h, All-nil (Keeps name))
-defined_to name number start (line ∷ more) faultless h =
-    elim (defined_to name number (given start line) more faultless.1 h) [
+at_line : (name : List ℕ) (named : Named) (line : List ℕ) (more : List (List ℕ)) (table : NameTable) → (changed (words_of line) table).names name ≡ Some named → All (Keeps name) more
+    → (b c : Bool) → is_named name (defined_by (words_of line)) ≡ b → end_name name (words_of line) ≡ c
+    → Defines (count_of named.kind table) (line ∷ more) name named ⊎ ((table.names name ≡ Some named) × All (Keeps name) (line ∷ more))
+at_line name named line more table h kept true c p q =
+    let d = defines_as name named (words_of line) table (defined_by (words_of line)) refl p h in
+    inl (record { front = []; defining = line; behind = more; parts = refl; defines = d.0; kept = kept; place = d.1 })
+at_line name named line more table h kept false true p q = let e = ended name (words_of line) table q in absurd (cc (e, h))
+at_line name named line more table h kept false false p q = inr (sym (left name (words_of line) table p q) ∙ h, All-cons (Keeps name) line more q kept)
+
+defined_to : (name : List ℕ) (named : Named) (start : Seen) (lines : List (List ℕ)) → AreFaultless start lines → (seen_after start lines).table.names name ≡ Some named
+    → Defines (count_of named.kind start.table) lines name named ⊎ ((start.table.names name ≡ Some named) × All (Keeps name) lines)
+defined_to name named start [] faultless h = inr (h, All-nil (Keeps name))
+defined_to name named start (line ∷ more) faultless h =
+    elim (defined_to name named (given start line) more faultless.1 h) [
       | inl f ↦ inl (record {
         front = line ∷ f.front;
         defining = f.defining;
@@ -625,19 +657,37 @@ defined_to name number start (line ∷ more) faultless h =
         parts = ap (λ ls. line ∷ ls) f.parts;
         defines = f.defines;
         kept = f.kept;
-        place = f.place ∙ ap (λ (n : ℕ). names_in n f.front + 1) (count_after start line faultless.0);
+        place = f.place ∙ ap (λ (n : ℕ). names_in named.kind n f.front + 1) (count_after named.kind start line faultless.0);
       })
-      | inr k ↦ at_line name number line more start.table (sym (ap (λ (t : NameTable). t.names name) (line_changes start line faultless.0)) ∙ k.0) k.1 (define_this name (words_of line)) (end_name name (words_of line)) refl refl
+      | inr k ↦
+          at_line name named line more start.table (sym (ap (λ (t : NameTable). t.names name) (line_changes start line faultless.0)) ∙ k.0) k.1 (is_named name (defined_by (words_of line))) (end_name name (words_of line)) refl refl
     ]
 
-pub names_to : (labels : List ℕ → ℕ) (lines : List (List ℕ)) (name : List ℕ) (number : ℕ) → AreFaultless (nothing_seen labels) lines → (seen_after (nothing_seen labels) lines).table.names name ≡ Some (buffer_of number) → IsDefinedBy lines name number
-names_to labels lines name number faultless h =
-    elim (defined_to name number (nothing_seen labels) lines faultless h) [
-      | inl f ↦ record { front = f.front; defining = f.defining; behind = f.behind; parts = f.parts; defines = f.defines; kept = f.kept; place = f.place }
+-- No name was defined before the first line.
+none_yet : (labels : List ℕ → ℕ) (kind : NameKind) → count_of kind (no_names labels) ≡ 0
+none_yet labels Buffer = refl
+none_yet labels Context = refl
+
+pub names_to : (labels : List ℕ → ℕ) (lines : List (List ℕ)) (name : List ℕ) (named : Named) → AreFaultless (nothing_seen labels) lines → (seen_after (nothing_seen labels) lines).table.names name ≡ Some named
+    → IsDefinedBy lines name named
+names_to labels lines name named faultless h =
+    elim (defined_to name named (nothing_seen labels) lines faultless h) [
+      | inl f ↦ record {
+        front = f.front;
+        defining = f.defining;
+        behind = f.behind;
+        parts = f.parts;
+        defines = f.defines;
+        kept = f.kept;
+        place = f.place ∙ ap (λ (n : ℕ). names_in named.kind n f.front + 1) (none_yet labels named.kind);
+      }
       | inr k ↦ absurd (let n = k.0 in cc)
     ]
 
-pub names_from : (labels : List ℕ → ℕ) (lines : List (List ℕ)) (name : List ℕ) (number : ℕ) → AreFaultless (nothing_seen labels) lines → IsDefinedBy lines name number → (seen_after (nothing_seen labels) lines).table.names name ≡ Some (buffer_of number)
-names_from labels lines name number faultless f =
+pub names_from : (labels : List ℕ → ℕ) (lines : List (List ℕ)) (name : List ℕ) (named : Named) → AreFaultless (nothing_seen labels) lines → IsDefinedBy lines name named
+    → (seen_after (nothing_seen labels) lines).table.names name ≡ Some named
+names_from labels lines name named faultless f =
     let P : List (List ℕ) → Type 0 = λ ls. AreFaultless (nothing_seen labels) ls in
-    ap (λ ls. (seen_after (nothing_seen labels) ls).table.names name) f.parts ∙ from_front name number (nothing_seen labels) f.front f.defining f.behind (subst P f.parts faultless) f.defines f.kept f.place
+    ap (λ ls. (seen_after (nothing_seen labels) ls).table.names name) f.parts
+    ∙ from_front name named (nothing_seen labels) f.front f.defining f.behind (subst P f.parts faultless) f.defines f.kept
+    (f.place ∙ ap (λ (n : ℕ). names_in named.kind n f.front + 1) (sym (none_yet labels named.kind)))

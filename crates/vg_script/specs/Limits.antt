@@ -1,5 +1,5 @@
 -- The limits that each script keeps.
-use Rattle.std.specs.Prelude.{◌≡◌, ℕ, ℤ, pos, negsuc, ◌*◌, ◌<◌, ◌≤◌, is_some, None, List, length, sum_by, count_by, All, IsTrue, IfSome}
+use Rattle.std.specs.Prelude.{◌≡◌, ℕ, ℤ, pos, negsuc, ◌*◌, ◌<◌, ◌≤◌, Bool, true, false, is_some, None, List, length, sum_by, count_by, All, IsTrue, IfSome}
 use Rattle.std.specs.List.{range_with_len}
 use Rattle.vg_script.specs.Waits.{waits, given_in_all}
 use Rattle.std.specs.Bool.{⊤}
@@ -12,7 +12,7 @@ use Rattle.vg_script.specs.declared.types.Feature.{Feature}
 use Rattle.vg_script.specs.declared.types.Line.{Line}
 use Rattle.vg_script.specs.declared.types.Script.{Script}
 use Rattle.vg_script.specs.Features.{is_same}
-use Rattle.vg_calls.specs.declared.call.Call.TheVariants.{Info, Edid, Buffer, Store, Load, Send, Flush, Take, Drop, Hide, Show, Flip, Cursor, Move, Uuid, Export, Import, Close, Raw}
+use Rattle.vg_calls.specs.declared.call.Call.TheVariants.{Info, Edid, Buffer, Blob, Store, Load, Send, Flush, Take, Drop, Hide, Show, ShowBlob, Flip, Cursor, Move, Context, EndContext, Attach, Detach, Submit, Uuid, Export, Import, Close, Raw}
 
 abbrev pub IsBetween : ℕ → ℕ → ℕ → Type 0
 IsBetween low high n = (low ≤ n) × (n ≤ high)
@@ -36,6 +36,7 @@ abbrev pub CallInLimits : ℕ → Call → Type 0
 CallInLimits displays Info = ⊤
 CallInLimits displays (Edid scanout) = IsBetween 0 4294967295 scanout
 CallInLimits displays (Buffer width height format) = IsBetween 1 640 width × IsBetween 1 480 height × IsFormatCode format
+CallInLimits displays (Blob size) = IsBetween 1 1228800 size
 CallInLimits displays (Store name offset bytes times) =
     IsBetween 0 1228799 offset × IsBetween 1 4096 (length bytes) × IsBetween 1 307200 times × (length bytes * times ≤ 1228800)
 CallInLimits displays (Load name offset size) = IsBetween 0 1228799 offset × IsBetween 1 1024 size
@@ -45,10 +46,18 @@ CallInLimits displays (Take scanout) = scanout < displays
 CallInLimits displays (Drop scanout) = scanout < displays
 CallInLimits displays (Hide scanout) = scanout < displays
 CallInLimits displays (Show scanout name rect) = scanout < displays
+CallInLimits displays (ShowBlob scanout name rect width height format stride offset) =
+    (scanout < displays) × IsBetween 0 4294967295 width × IsBetween 0 4294967295 height × IsBetween 0 4294967295 format × IsBetween 0 4294967295 stride
+    × IsBetween 0 4294967295 offset
 CallInLimits displays (Flip scanout name) = scanout < displays
 CallInLimits displays (Cursor scanout name x y hot_x hot_y) =
     (scanout < displays) × IsPosition x × IsPosition y × IsBetween 0 4294967295 hot_x × IsBetween 0 4294967295 hot_y
 CallInLimits displays (Move scanout x y) = (scanout < displays) × IsPosition x × IsPosition y
+CallInLimits displays Context = ⊤
+CallInLimits displays (EndContext context) = ⊤
+CallInLimits displays (Attach context name) = ⊤
+CallInLimits displays (Detach context name) = ⊤
+CallInLimits displays (Submit context ring) = IsBetween 0 63 ring
 CallInLimits displays (Uuid name) = ⊤
 CallInLimits displays (Export name label) = ⊤
 CallInLimits displays (Import label token) = token ≡ None
@@ -57,6 +66,14 @@ CallInLimits displays (Raw queue room shape bytes) = IsBetween 0 most_room room 
 
 abbrev pub ClientInLimits : ℕ → List Line → Type 0
 ClientInLimits displays lines = All (λ line. CallInLimits displays line.call) lines
+
+-- How many contexts lines make.
+abbrev pub makes_context : Call → Bool
+makes_context Context = true
+makes_context call = false
+
+abbrev pub contexts_in : List Line → ℕ
+contexts_in lines = count_by (λ line. makes_context line.call) lines
 
 abbrev pub DisplayInLimits : ℕ × ℕ → Type 0
 DisplayInLimits size = IsBetween 1 640 size.0 × IsBetween 1 480 size.1
@@ -69,6 +86,7 @@ pub record ScriptInLimits (script : Script) : Type 0 where
   pub clients : length script.clients ≤ 16
   pub lines : sum_by length script.clients ≤ 100000
   pub calls : All (ClientInLimits (length script.displays)) script.clients
+  pub contexts : All (λ lines. contexts_in lines ≤ 255) script.clients
   -- the labels that lines give are 1, 2, 3, in the order of the text, and each that a line waits for is one of them
   pub labels : given_in_all script.clients ≡ range_with_len 1 script.labels
   pub known : All (λ lines. All (λ line. IfSome (waits line.call) (IsBetween 1 script.labels)) lines) script.clients

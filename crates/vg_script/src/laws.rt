@@ -5,7 +5,8 @@ ghost use Rattle.vg_script.specs.declared.types.Script.{Script};
 ghost use Rattle.vg_script.specs.Lines.{lines_of};
 ghost use Rattle.vg_script.specs.Grammar.{Parses, Faulty};
 ghost use Rattle.vg_script.specs.Faults.{HasFirstFault, IsScriptOf, AreFaultless, seen_after};
-ghost use Rattle.vg_script.specs.Names.{IsDefinedBy, buffer_of};
+ghost use Rattle.vg_script.specs.Names.{IsDefinedBy};
+ghost use Rattle.vg_call_lines.specs.declared.names.Named.{Named};
 ghost use Rattle.vg_script.specs.Waits.{AreKnown};
 ghost use Rattle.vg_script.specs.Seen.{nothing_seen};
 ghost use Rattle.vg_script.specs.Limits.{ScriptInLimits};
@@ -40,10 +41,11 @@ pub fn labels_are_known()
     ensures { (bytes : List ℕ) (script : Script) → Parses bytes script → length script.clients ≤ 1 → All (AreKnown []) script.clients }
 {}
 
-/// After lines without a fault a name is that of a buffer of the last client, with this number, exactly where some line is
-/// `buffer` and this name, or `import`, a label and this name, no line behind it is `close` and this name or begins another client, and the client's lines have
-/// defined so many names with it.
+/// After lines without a fault a name is one of this kind of the last client, with this number, exactly where some line defines it
+/// as one (`buffer` or `blob` and the name, `import`, a label and the name, or `context` and the name), no line behind it ends it
+/// (`close` or `endcontext` and the name) or begins another client, and the client's lines have defined so many names of the kind
+/// with it.
 pub fn defined_names()
-    ensures { (labels : List ℕ → ℕ) (lines : List (List ℕ)) (name : List ℕ) (number : ℕ) → AreFaultless (nothing_seen labels) lines
-        → (((seen_after (nothing_seen labels) lines).table.names name ≡ Some (buffer_of number)) ↔ IsDefinedBy lines name number) }
+    ensures { (labels : List ℕ → ℕ) (lines : List (List ℕ)) (name : List ℕ) (named : Named) → AreFaultless (nothing_seen labels) lines
+        → (((seen_after (nothing_seen labels) lines).table.names name ≡ Some named) ↔ IsDefinedBy lines name named) }
 {}

@@ -14,5 +14,5 @@ pub use laws::{defined_names, first_fault, labels_are_known, script_limits, scri
 pub use text::parse;
 pub use types::{Feature, Line, Script, ScriptFault};
 pub use vg_call_lines::{NameKind, Named};
-pub use vg_calls::{Call, NameRef};
+pub use vg_calls::{Call, ContextRef, NameRef};
 pub use vg_script_words::Kind;

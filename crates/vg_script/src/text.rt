@@ -13,6 +13,9 @@ use crate::types::{Script, ScriptFault};
 use std::alloc::{AllocError, Global};
 use vg_script_words::{Stop, cut};
 
+/// The kind of the fault of a line that waits for itself. Those of a line by itself are `Kind`'s.
+const WAIT_CYCLE: u8 = 6;
+
 /// The script that these bytes are, or the first fault of bytes that are none. It fails only for want of memory.
 ///
 /// Lines end with the byte 10, which the last may lack. They are counted from 1, skipped lines too.
@@ -41,7 +44,10 @@ fn unless(cycle: Option<u32>, read: Result<Script, ScriptFault>) -> Result<Scrip
 {
     let script = read?;
     match cycle {
-        Some(line) => Err(ScriptFault { line, kind: 6 }),
+        Some(line) => Err(ScriptFault {
+            line,
+            kind: WAIT_CYCLE,
+        }),
         None => Ok(script),
     }
 }

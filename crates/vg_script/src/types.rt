@@ -36,7 +36,8 @@ pub enum Feature {
 pub struct Line {
     /// The line's number in the text, from 1 on.
     pub number: u32,
-    /// The call that it makes. A name in it is told by its number among those that the client's lines define.
+    /// The call that it makes. A name in it is told by its number among those of its kind, buffers' or contexts', that the client's
+    /// lines define.
     pub call: Call,
 }
 

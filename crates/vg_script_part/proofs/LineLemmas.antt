@@ -28,7 +28,7 @@ use Rattle.vg_driver.specs.Tickets.{Token}
 use Rattle.vg_client.specs.Accounts.{IsAccount, IsNew, mine_of}
 use Rattle.vg_client.specs.Callers.{ClientState, HasAdded, HasEnded, HasEntered, known}
 use Rattle.vg_client.specs.Own.{OwnStand}
-use Rattle.vg_client.proofs.OwnLemmas.{own-sorted}
+use Rattle.vg_client.proofs.AccountLemmas.{sorted-mine}
 use Rattle.vg_tasks.specs.Known.{Known, first_known}
 use Rattle.vg_tasks.specs.Plans.{IsCallFit}
 use Rattle.vg_labels.specs.declared.table.Told.{Told}
@@ -89,7 +89,9 @@ shape-fits (shapes.Bad fault) within = tt
 
 pub call-fits : (displays : ℕ) (call : Call) → CallInLimits displays call → IsCallFit displays call
 call-fits displays (calls.Buffer width height format) within = (within.0.1, within.1.1)
+call-fits displays (calls.Blob size) within = within.1
 call-fits displays (calls.Drop scanout) within = within
+call-fits displays (calls.Submit context ring) within = let few = within.1 in omega (arith, few)
 call-fits displays (calls.Raw queue room shape bytes) within = let few = within.2.1 in (omega (arith, few), within.0.1, shape-fits shape within.1)
 call-fits displays call within = tt
 
@@ -177,14 +179,6 @@ by_call-length : (es : List Entry) → length (by_call es) ≡ length es
 by_call-length [] = refl
 by_call-length (e ∷ es) = placed-length e (by_call es) ∙ ap suc (by_call-length es)
 
--- a client's entries in what it has seen are those that it knows, by their numbers
-mine-sorted : (token : Token) → IsAccount token → by_call (of_client token.account.number token.seen) ≡ mine_of token
-mine-sorted token is =
-    let current = is.standing.current in
-    own-sorted token.account.number token.account.used token.seen (mine_of token) current.history.once is.in_order
-    (λ e at owner. ⊎_elim (λ there. there) (λ out. absurd (subst (λ os. Has os out.0) is.idle out.1)) (current.known.known e at owner))
-    current.known.mine
-
 -- once no line is left, and the client has ended, it has kept to its lines
 pub performed : {B : Type 0} (setup : Setup) (told : List Told) (lines : List Line) (i : ℕ) (client : ClientState B) (token : Token)
     → IsFollowing setup told lines i client → length lines ≤ i → token.account.number ≡ client.caller.token.account.number → token.start ≡ client.caller.token.start → HasEnded client.caller token → HasPerformed setup told lines token
@@ -194,7 +188,7 @@ performed setup told lines i client token following done number start_is ended =
     let S : List Entry = token.seen in
     let is : IsAccount token = ended.account_is in
     let same : is.setup ≡ setup = ap (λ (first : Option State). setup_in first setup) (sym is.standing.begun ∙ start_is ∙ following.begun) in
-    let sorted : by_call (of_client token.account.number S) ≡ mine_of token = mine-sorted token is in
+    let sorted : by_call (of_client token.account.number S) ≡ mine_of token = sorted-mine token is.standing.current is.idle is.in_order in
     let long : length (map call_of (mine_of token)) ≡ length (mine_of token) = simp length-map in
     let counted : token.account.used ≡ length (of_client token.account.number S) =
     sym (length-range_with_len 1 token.account.used) ∙ ap (λ (ns : List ℕ). length ns) (sym is.in_order) ∙ long ∙ ap (λ (es : List Entry). length es) (sym sorted) ∙ by_call-length (of_client token.account.number S) in

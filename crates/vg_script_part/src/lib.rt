@@ -7,6 +7,6 @@ mod performing;
 mod setup;
 mod telling;
 
-pub use laws::lines_number_names;
+pub use laws::{lines_number_contexts, lines_number_names};
 pub use performing::{Performed, perform};
 pub use setup::setup_of;

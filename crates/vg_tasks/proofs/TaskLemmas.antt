@@ -6,7 +6,7 @@ use Rattle.vg_names.specs.declared.names.Held.{Held}
 use Rattle.vg_tasks.specs.declared.task.Task.{Task}
 use Rattle.vg_tasks.specs.Plans.{weight_of, weights}
 use Rattle.vg_tasks.specs.Fits.{IsFit}
-use Rattle.vg_tasks.specs.Table.{clear_task, release_task}
+use Rattle.vg_tasks.specs.Table.{clear_task, end_context_task, release_task}
 use Rattle.vg_tasks.specs.Tasks.{clear_tasks, give_back, is_shown, leases_back}
 
 pub clear-more : (key i : ℕ) (shows : List (Option ℕ)) (items more whole : List Task) (shown : Option ℕ) → drop i shows ≡ shown ∷ drop (i + 1) shows
@@ -72,15 +72,30 @@ releases-few : (current : List Held) → weights (map release_task current) ≤ 
 releases-few [] = omega arith
 releases-few (held ∷ more) = let few = releases-few more in omega arith
 
-pub end-fit : (leased : List ℕ) (count : ℕ) (current : List Held) → AllByRecursion IsFit (leases_back leased 0 count ++ map release_task current)
-end-fit leased count current = fit-append (leases_back leased 0 count) (map release_task current) (leases-fit leased 0 count) (releases-fit current)
+contexts-fit : (client : ℕ) (current : List ℕ) → AllByRecursion IsFit (map (end_context_task client) current)
+contexts-fit client [] = tt
+contexts-fit client (number ∷ more) = ((((tt, tt, refl), tt), tt), contexts-fit client more)
 
-pub end-few : (leased : List ℕ) (count : ℕ) (current : List Held) → weights (leases_back leased 0 count ++ map release_task current) ≤ 3 * count + 3 * length current
-end-few leased count current =
-    let one = leases-few leased 0 count in
-    let other = releases-few current in
-    let both = weights-append (leases_back leased 0 count) (map release_task current) in
-    omega (arith, one, other, both)
+contexts-few : (client : ℕ) (current : List ℕ) → weights (map (end_context_task client) current) ≤ length current
+contexts-few client [] = omega arith
+contexts-few client (number ∷ more) = let few = contexts-few client more in omega arith
+
+pub end-fit : (leased : List ℕ) (count client : ℕ) (contexts : List ℕ) (current : List Held)
+    → AllByRecursion IsFit (leases_back leased 0 count ++ map (end_context_task client) contexts ++ map release_task current)
+end-fit leased count client contexts current =
+    fit-append (leases_back leased 0 count ++ map (end_context_task client) contexts) (map release_task current)
+    (fit-append (leases_back leased 0 count) (map (end_context_task client) contexts) (leases-fit leased 0 count) (contexts-fit client contexts))
+    (releases-fit current)
+
+pub end-few : (leased : List ℕ) (count client : ℕ) (contexts : List ℕ) (current : List Held)
+    → weights (leases_back leased 0 count ++ map (end_context_task client) contexts ++ map release_task current) ≤ 3 * count + length contexts + 3 * length current
+end-few leased count client contexts current =
+    let leases = leases-few leased 0 count in
+    let ends = contexts-few client contexts in
+    let releases = releases-few current in
+    let first = weights-append (leases_back leased 0 count) (map (end_context_task client) contexts) in
+    let both = weights-append (leases_back leased 0 count ++ map (end_context_task client) contexts) (map release_task current) in
+    omega (arith, leases, ends, releases, first, both)
 
 pub close-few : (only : Bool) (key : ℕ) (shows : List (Option ℕ)) (held : Held) → length shows ≤ 16 → weights (cond only (clear_tasks key 0 shows) [] ++ release_task held ∷ []) ≤ 19
 close-few true key shows held small =

@@ -9,13 +9,14 @@ use Rattle.vg_client_holds.specs.Holds.{Deniable}
 use Rattle.vg_calls.specs.declared.call.Call.{Call}
 use Rattle.vg_calls.specs.declared.call.Call.TheVariants as calls
 use Rattle.vg_tasks.specs.declared.task.Change.{Change}
-use Rattle.vg_tasks.specs.declared.task.Change.TheVariants.{NewBuffer, EndOfName}
+use Rattle.vg_tasks.specs.declared.task.Change.TheVariants.{NewBuffer, NewBlob, EndOfName}
 use Rattle.vg_tasks.specs.declared.task.Task.{Task}
 use Rattle.vg_tasks.specs.Fits.{IsFit}
 
 -- How many entries a task can give, with those that follow from it.
 abbrev pub weight_of : Change → ℕ
 weight_of (NewBuffer width height format) = 3
+weight_of (NewBlob size) = 2
 weight_of (EndOfName number key) = 3
 weight_of change = 1
 
@@ -26,7 +27,9 @@ weights (task ∷ more) = weight_of task.change + weights more
 -- A call whose numbers are within its limits, with so many displays.
 abbrev pub IsCallFit : ℕ → Call → Type 0
 IsCallFit displays (calls.Buffer width height format) = (width ≤ 640) × (height ≤ 480)
+IsCallFit displays (calls.Blob size) = size ≤ 1228800
 IsCallFit displays (calls.Drop scanout) = scanout < displays
+IsCallFit displays (calls.Submit context ring) = ring < 64
 IsCallFit displays (calls.Raw queue room shape bytes) = (length bytes ≤ most_request) × (room ≤ most_room) × IsCount shape
 IsCallFit displays call = Unit {0}
 

@@ -1,5 +1,5 @@
 -- The tasks that calls are made of: for each what is done, and what the answer changes.
-use Rattle.std.specs.Prelude.{ℕ, ℤ, pos, ◌+◌, ◌-◌, ◌*◌, ◌^◌, min, List, map, Some, None}
+use Rattle.std.specs.Prelude.{ℕ, ℤ, pos, ◌+◌, ◌-◌, ◌*◌, ◌^◌, min, List, map, replicate, Some, None}
 use Rattle.vg_formats.specs.declared.rect.Rect.{Rect}
 use Rattle.vg_formats.specs.declared.entry.MemEntry.{MemEntry}
 use Rattle.vg_pages.specs.Memory.{page_address}
@@ -7,19 +7,19 @@ use Rattle.vg_wire.specs.declared.two_d.Command2d.{Command2d}
 use Rattle.vg_wire.specs.declared.two_d.Command2d.TheVariants as commands
 use Rattle.vg_wire.specs.declared.request.Queue.{Queue}
 use Rattle.vg_wire_ext.specs.declared.command.Command as the_command
-use Rattle.vg_wire_ext.specs.declared.command.Command.TheVariants.{TwoD, Edid, AssignUuid, UpdateCursor, MoveCursor}
+use Rattle.vg_wire_ext.specs.declared.command.Command.TheVariants.{TwoD, Edid, AssignUuid, CreateBlob, SetScanoutBlob, CtxCreate, CtxDestroy, CtxAttach, CtxDetach, Submit, UpdateCursor, MoveCursor}
 use Rattle.vg_chain.specs.declared.shape.Shape.{Shape}
 use Rattle.vg_client_holds.specs.declared.act.Act as the_act
 use Rattle.vg_client_holds.specs.declared.act.Act.TheVariants as acts
 use Rattle.vg_client_holds.specs.declared.act.What.TheVariants.{Name}
 use Rattle.vg_names.specs.declared.names.Held.{Held}
 use Rattle.vg_tasks.specs.declared.task.Change.{Change}
-use Rattle.vg_tasks.specs.declared.task.Change.TheVariants.{Nothing, NewBuffer, Imported, EndOfName, Shows, GoesOn}
+use Rattle.vg_tasks.specs.declared.task.Change.TheVariants.{Nothing, NewBuffer, NewBlob, Imported, EndOfName, Shows, NewContext, EndOfContext, GoesOn}
 use Rattle.vg_tasks.specs.declared.task.Deed.TheVariants.{Act, Ask}
 use Rattle.vg_tasks.specs.declared.task.Task.{Task}
 use Rattle.vg_driver.specs.declared.ask.Ask.TheVariants.{Command, Raw}
 use Rattle.vg_driver.specs.declared.request.Way.{Way}
-use Rattle.vg_driver.specs.declared.request.Way.TheVariants.{Control, Cursor}
+use Rattle.vg_driver.specs.declared.request.Way.TheVariants.{Control, Timeline, Cursor}
 
 -- A task that changes nothing but by its act; a command that goes a way; a command for no context, and a 2D one.
 abbrev pub act_task : the_act.Act → Task
@@ -65,20 +65,28 @@ create_task key width height format = two_d_task (commands.Create2d key format w
 abbrev pub attach_task : ℕ → List ℕ → Task
 attach_task key pages = two_d_task (commands.Attach key (map page_entry pages)) Nothing
 
+-- A blob is a buffer of bytes: it has no width and no height, and no format.
+abbrev pub reserve_blob_task : ℕ → Task
+reserve_blob_task size = record { deed = Act (acts.Reserve 0 0 0 size); change = NewBlob size }
+
+-- Its memory is the guest's, and it may be shared (VIRTIO 1.2, 5.7.6.8, BLOB_MEM_GUEST 1 and BLOB_FLAG_USE_SHAREABLE 2).
+abbrev pub create_blob_task : ℕ → ℕ → List ℕ → Task
+create_blob_task key size pages = control_task (CreateBlob key 1 2 0 size (map page_entry pages)) Nothing
+
 abbrev pub store_task : ℕ → ℕ → List ℕ → ℕ → Task
 store_task key offset bytes times = act_task (acts.Store key offset bytes times)
 
 abbrev pub load_task : ℕ → ℕ → ℕ → Task
 load_task key offset n = act_task (acts.Load key offset n)
 
--- The place of a rectangle's first pixel in a buffer; one that no offset can tell is told as the greatest there is, past the end of
--- each buffer too.
-abbrev pub offset_of : Held → Rect → ℕ
-offset_of held rect = min (4 * (held.width * rect.y + rect.x)) (2 ^ 64 - 1)
+-- The place of a pixel in a buffer of this width; one that no offset can tell is told as the greatest there is, past the end of each
+-- buffer too.
+abbrev pub offset_of : ℕ → ℕ → ℕ → ℕ
+offset_of width x y = min (4 * (width * y + x)) (2 ^ 64 - 1)
 
 -- A transfer takes each pixel from its own place in the buffer.
 abbrev pub send_task : Held → Rect → Task
-send_task held rect = two_d_task (commands.Transfer rect (offset_of held rect) held.key) Nothing
+send_task held rect = two_d_task (commands.Transfer rect (offset_of held.width rect.x rect.y) held.key) Nothing
 
 abbrev pub export_task : ℕ → Task
 export_task key = act_task (acts.Export key)
@@ -96,9 +104,14 @@ flush_task key rect = two_d_task (commands.Flush rect key) Nothing
 abbrev pub take_task : ℕ → Task
 take_task scanout = act_task (acts.Take scanout)
 
--- A client shows a buffer on a scanout from a SET_SCANOUT of a show or a flip until a hide or the end of the lease.
+-- A client shows a buffer on a scanout from a SET_SCANOUT of a show or a flip, or a SET_SCANOUT_BLOB, until a hide or the end of the
+-- lease.
 abbrev pub show_task : ℕ → ℕ → Rect → Task
 show_task scanout key rect = two_d_task (commands.SetScanout rect scanout key) (Shows scanout (Some key))
+
+abbrev pub show_blob_task : ℕ → ℕ → Rect → ℕ → ℕ → ℕ → ℕ → ℕ → Task
+show_blob_task scanout key rect width height format stride offset =
+    control_task (SetScanoutBlob rect scanout key width height format stride offset) (Shows scanout (Some key))
 
 abbrev pub disable : ℕ → Change → Task
 disable scanout change = two_d_task (commands.SetScanout no_rect scanout 0) change
@@ -133,3 +146,29 @@ unref_task key = two_d_task (commands.Unref key) GoesOn
 
 abbrev pub free_task : ℕ → Task
 free_task key = act_task (acts.Free key)
+
+-- The device's number of a client's context: that of a client's first 255 contexts is one of its own. One that no number can tell is
+-- told as the greatest there is.
+abbrev pub context_id : ℕ → ℕ → ℕ
+context_id client number = min (256 * client + number) (2 ^ 32 - 1)
+
+-- A command for a context of the client.
+abbrev pub context_task : ℕ → ℕ → the_command.Command → Change → Task
+context_task client number command change = command_task (Control (context_id client number)) command change
+
+-- A context has no name that the device is told: 64 bytes, of which none counts.
+abbrev pub make_context_task : ℕ → ℕ → Task
+make_context_task client number = context_task client number (CtxCreate 0 0 (replicate 64 0)) NewContext
+
+abbrev pub end_context_task : ℕ → ℕ → Task
+end_context_task client number = context_task client number CtxDestroy (EndOfContext number)
+
+abbrev pub attach_context_task : ℕ → ℕ → ℕ → Task
+attach_context_task client number key = context_task client number (CtxAttach key) Nothing
+
+abbrev pub detach_context_task : ℕ → ℕ → ℕ → Task
+detach_context_task client number key = context_task client number (CtxDetach key) Nothing
+
+-- Commands of no bytes on a timeline of a context.
+abbrev pub submit_task : ℕ → ℕ → ℕ → Task
+submit_task client number ring = command_task (Timeline (context_id client number) ring) (Submit 0) Nothing

@@ -1,6 +1,5 @@
 -- The tasks of each call of a client, one after another. A task gives one entry.
-use Rattle.std.specs.Prelude.{ℕ, ℤ, zero, suc, ◌+◌, ◌==◌, Bool, false, if◌then◌else◌, List, [], ◌∷◌, ◌++◌, map, Option, Some, None, Result, Ok, Err}
-use Rattle.std.specs.List.{count_by}
+use Rattle.std.specs.Prelude.{ℕ, ℤ, zero, suc, ◌+◌, ◌==◌, ◌&&◌, Bool, false, if◌then◌else◌, List, [], ◌∷◌, ◌++◌, map, Option, Some, None, Result, Ok, Err}
 use Rattle.vg_formats.specs.declared.rect.Rect.{Rect}
 use Rattle.vg_client_holds.specs.declared.act.What.{What}
 use Rattle.vg_client_holds.specs.declared.act.What.TheVariants.{Name, Scanout}
@@ -10,10 +9,12 @@ use Rattle.vg_calls.specs.declared.call.Call.{Call}
 use Rattle.vg_calls.specs.declared.call.Call.TheVariants as calls
 use Rattle.vg_names.specs.declared.names.Held.{Held}
 use Rattle.vg_calls.specs.declared.call.NameRef.{NameRef}
+use Rattle.vg_calls.specs.declared.call.ContextRef.{ContextRef}
 use Rattle.vg_tasks.specs.declared.task.Task.{Task}
 use Rattle.vg_tasks.specs.Known.{Known}
-use Rattle.vg_names.specs.Names.{NamesState, found}
-use Rattle.vg_tasks.specs.Table.{clear_task, cursor_task, drop_task, edid_task, export_task, flush_task, hide_cursor_task, hide_task, import_task, info_task, load_task, move_task, no_import_task, raw_task, release_task, reserve_task, send_task, show_task, store_task, take_task, uuid_task}
+use Rattle.vg_names.specs.Names.{NamesState, found, has_one_name}
+use Rattle.vg_names.specs.Contexts.{ContextsState, is_current}
+use Rattle.vg_tasks.specs.Table.{attach_context_task, clear_task, cursor_task, detach_context_task, drop_task, edid_task, end_context_task, export_task, flush_task, hide_cursor_task, hide_task, import_task, info_task, load_task, make_context_task, move_task, no_import_task, no_rect, raw_task, release_task, reserve_blob_task, reserve_task, send_task, show_blob_task, show_task, store_task, submit_task, take_task, uuid_task}
 
 -- The tasks of a call on a name: where the name isn't current the call is denied for it.
 abbrev pub if_current : Option Held → (Held → List Task) → Result (List Task) What
@@ -22,6 +23,18 @@ if_current (Some held) tasks = Ok (tasks held)
 
 abbrev pub with_held : NamesState → NameRef → (Held → List Task) → Result (List Task) What
 with_held names name tasks = if_current (found name.number names) tasks
+
+-- The tasks of a call on a context of the client: where its name isn't current the call is denied for it.
+abbrev pub with_context : ContextsState → ContextRef → Result (List Task) What → Result (List Task) What
+with_context contexts context tasks = if is_current context.number contexts then tasks else Err Name
+
+-- A blob has no pixels: its name has no width and no height.
+abbrev pub is_blob : Held → Bool
+is_blob held = held.width == 0 && held.height == 0
+
+-- The rectangle that is sent of a buffer: of a blob one without pixels.
+abbrev pub sent_of : Held → Rect → Rect
+sent_of held rect = if is_blob held then no_rect else rect
 
 -- The whole of a buffer.
 abbrev pub whole_of : Held → Rect
@@ -51,40 +64,43 @@ abbrev pub clear_tasks : ℕ → ℕ → List (Option ℕ) → List Task
 clear_tasks key n [] = []
 clear_tasks key n (shown ∷ more) = (if is_shown key shown then clear_task n ∷ [] else []) ++ clear_tasks key (n + 1) more
 
-abbrev pub is_of_key : ℕ → Held → Bool
-is_of_key key held = held.key == key
-
--- No other current name of the client stands for the same buffer.
-abbrev pub is_only_name : List Held → Held → Bool
-is_only_name current held = count_by (is_of_key held.key) current == 1
-
 -- Where this is the client's only name for the buffer, each scanout on which the client shows it is disabled before the hold is
 -- given up.
 abbrev pub close_tasks : List Held → List (Option ℕ) → Held → List Task
-close_tasks current shows held = (if is_only_name current held then clear_tasks held.key 0 shows else []) ++ release_task held ∷ []
+close_tasks current shows held = (if has_one_name held.key current then clear_tasks held.key 0 shows else []) ++ release_task held ∷ []
 
 -- The import of a token, if there is one.
 abbrev pub import_tasks : Option ℕ → List Task
 import_tasks (Some token) = import_task token ∷ []
 import_tasks None = no_import_task ∷ []
 
--- The tasks of a call, by what its client knows; or what is denied before there is any: a name that isn't current, and the end
--- of a lease that there isn't. An import without a token is denied by its task, since its name takes a number.
+-- The tasks of a call, by what its client knows; or what is denied before there is any: a name that isn't current, of a buffer or
+-- of a context, and the end of a lease that there isn't. An import without a token is denied by its task, since its name takes a number.
 abbrev pub tasks_of : Known → Call → Result (List Task) What
 tasks_of known calls.Info = Ok (info_task ∷ [])
 tasks_of known (calls.Edid scanout) = Ok (edid_task scanout ∷ [])
 tasks_of known (calls.Buffer width height format) = Ok (reserve_task width height format ∷ [])
+tasks_of known (calls.Blob size) = Ok (reserve_blob_task size ∷ [])
 tasks_of known (calls.Store name offset bytes times) = with_held known.names name (λ held. store_task held.key offset bytes times ∷ [])
 tasks_of known (calls.Load name offset n) = with_held known.names name (λ held. load_task held.key offset n ∷ [])
-tasks_of known (calls.Send name rect) = with_held known.names name (λ held. send_task held rect ∷ [])
+tasks_of known (calls.Send name rect) = with_held known.names name (λ held. send_task held (sent_of held rect) ∷ [])
 tasks_of known (calls.Flush name rect) = with_held known.names name (λ held. flush_task held.key rect ∷ [])
 tasks_of known (calls.Take scanout) = Ok (take_task scanout ∷ [])
 tasks_of known (calls.Drop scanout) = drop_tasks known.holds scanout
 tasks_of known (calls.Hide scanout) = Ok (hide_task scanout ∷ [])
 tasks_of known (calls.Show scanout name rect) = with_held known.names name (λ held. show_task scanout held.key rect ∷ [])
+tasks_of known (calls.ShowBlob scanout name rect width height format stride offset) =
+    with_held known.names name (λ held. show_blob_task scanout held.key rect width height format stride offset ∷ [])
 tasks_of known (calls.Flip scanout name) = with_held known.names name (flip_tasks scanout)
 tasks_of known (calls.Cursor scanout name x y hot_x hot_y) = cursor_tasks known.names scanout name x y hot_x hot_y
 tasks_of known (calls.Move scanout x y) = Ok (move_task scanout x y ∷ [])
+tasks_of known calls.Context = Ok (make_context_task known.holds.client (known.contexts.made + 1) ∷ [])
+tasks_of known (calls.EndContext context) = with_context known.contexts context (Ok (end_context_task known.holds.client context.number ∷ []))
+tasks_of known (calls.Attach context name) =
+    with_context known.contexts context (with_held known.names name (λ held. attach_context_task known.holds.client context.number held.key ∷ []))
+tasks_of known (calls.Detach context name) =
+    with_context known.contexts context (with_held known.names name (λ held. detach_context_task known.holds.client context.number held.key ∷ []))
+tasks_of known (calls.Submit context ring) = with_context known.contexts context (Ok (submit_task known.holds.client context.number ring ∷ []))
 tasks_of known (calls.Uuid name) = with_held known.names name (λ held. uuid_task held.key ∷ [])
 tasks_of known (calls.Export name label) = with_held known.names name (λ held. export_task held.key ∷ [])
 tasks_of known (calls.Import label token) = Ok (import_tasks token)
@@ -96,6 +112,10 @@ abbrev pub leases_back : List ℕ → ℕ → ℕ → List Task
 leases_back leased scanout zero = []
 leases_back leased scanout (suc more) = (if has_number scanout leased then give_back scanout else []) ++ leases_back leased (scanout + 1) more
 
--- What a client gives up at its end: its leases, and then its buffers in the order in which they were made.
+-- What a client gives up at its end: its leases, its contexts, and then its buffers; contexts and buffers in the order in which they
+-- were made.
 abbrev pub end_tasks : Known → List Task
-end_tasks known = leases_back known.holds.scanouts 0 known.holds.displays ++ map release_task known.names.current
+end_tasks known =
+    leases_back known.holds.scanouts 0 known.holds.displays
+    ++ map (end_context_task known.holds.client) known.contexts.current
+    ++ map release_task known.names.current

@@ -42,6 +42,11 @@ pub enum Change {
         height: u32,
         format: u32,
     },
+    /// The next name is that of a buffer of bytes that was reserved, which then gets a blob resource of its pages; or it never is
+    /// current.
+    NewBlob {
+        size: u32,
+    },
     /// The next name is that of the buffer that was imported; or it never is current.
     Imported,
     /// The name of a buffer that was released ends. What no one holds any more is taken down.
@@ -53,6 +58,12 @@ pub enum Change {
     Shows {
         scanout: u32,
         key: Option<u32>,
+    },
+    /// The next context is current, or never is.
+    NewContext,
+    /// The name of a context ends, whatever the answer is.
+    EndOfContext {
+        number: u32,
     },
     /// Nothing, and whatever the response is, the call goes on.
     GoesOn,
@@ -196,6 +207,44 @@ fn page_entry(page: u32) -> MemEntry
     }
 }
 
+/// Takes guest pages for a buffer of bytes.
+pub(crate) fn reserve_blob_task(size: u32) -> Task
+    ensures { result ≡ table.reserve_blob_task size }
+{
+    Task {
+        deed: Deed::Act {
+            act: Act::Reserve {
+                width: 0,
+                height: 0,
+                format: 0,
+                bytes: size,
+            },
+        },
+        change: Change::NewBlob { size },
+    }
+}
+
+/// RESOURCE_CREATE_BLOB with an entry for each page.
+pub fn create_blob_task(
+    alloc: Global,
+    key: u32,
+    size: u32,
+    pages: &[u32],
+) -> Result<Task, AllocError>
+    ensures { IfOk result (λ task. task ≡ table.create_blob_task key size pages.now) }
+{
+    let entries = entries_of(alloc, pages)?;
+    let command = Command::CreateBlob {
+        resource: key,
+        mem: 1,
+        flags: 2,
+        blob_id: 0,
+        size: u64::from(size),
+        entries: Seq::from_vec(entries),
+    };
+    Ok(control_task(command, Change::Nothing))
+}
+
 /// Writes bytes into a buffer, so many times one after another.
 pub(crate) fn store_task(key: u32, offset: u32, bytes: Seq<u8>, times: u32) -> Task
     ensures { result ≡ table.store_task key offset bytes times }
@@ -205,6 +254,17 @@ pub(crate) fn store_task(key: u32, offset: u32, bytes: Seq<u8>, times: u32) -> T
         offset,
         bytes,
         times,
+    })
+}
+
+/// Reads bytes of a buffer.
+pub(crate) fn load_task(key: u32, offset: u32, length: u32) -> Task
+    ensures { result ≡ table.load_task key offset length }
+{
+    act_task(Act::Load {
+        key,
+        offset,
+        length,
     })
 }
 
@@ -222,7 +282,7 @@ pub(crate) fn send_task(held: Held, rect: Rect) -> Task
 
 /// The place of a pixel in a buffer of this width; one that no offset can tell is told as the greatest there is.
 fn offset_of(width: u32, x: u32, y: u32) -> u64
-    ensures { result ≡ min (4 * (width * y + x)) (2 ^ 64 - 1) }
+    ensures { result ≡ table.offset_of width x y }
 {
     let pixel = u64::from(width) * u64::from(y) + u64::from(x);
     pixel.saturating_mul(4)
@@ -281,6 +341,33 @@ pub(crate) fn show_task(scanout: u32, key: u32, rect: Rect) -> Task
     };
     let key = Some(key);
     two_d_task(command, Change::Shows { scanout, key })
+}
+
+/// SET_SCANOUT_BLOB of a part of a blob.
+pub(crate) fn show_blob_task(
+    scanout: u32,
+    key: u32,
+    rect: Rect,
+    width: u32,
+    height: u32,
+    format: u32,
+    stride: u32,
+    offset: u32,
+) -> Task
+    ensures { result ≡ table.show_blob_task scanout key rect width height format stride offset }
+{
+    let command = Command::SetScanoutBlob {
+        rect,
+        scanout,
+        resource: key,
+        width,
+        height,
+        format,
+        stride,
+        offset,
+    };
+    let key = Some(key);
+    control_task(command, Change::Shows { scanout, key })
 }
 
 /// SET_SCANOUT that disables a scanout, with what it changes.
@@ -377,4 +464,79 @@ pub fn unref_task(key: u32) -> Task
     ensures { result ≡ table.unref_task key }
 {
     two_d_task(Command2d::Unref { resource: key }, Change::GoesOn)
+}
+
+/// The device's number of a client's context.
+fn context_id(client: u32, number: u32) -> u32
+    ensures { result ≡ table.context_id client number }
+{
+    client.saturating_mul(256).saturating_add(number)
+}
+
+/// A command for a context of the client, with what its response changes.
+fn context_task(client: u32, number: u32, command: Command, change: Change) -> Task
+    ensures { result ≡ table.context_task client number command change }
+{
+    let context = context_id(client, number);
+    command_task(Way::Control { context }, command, change)
+}
+
+/// CTX_CREATE
+pub(crate) fn make_context_task(client: u32, number: u32) -> Task
+    ensures { result ≡ table.make_context_task client number }
+{
+    let command = Command::CtxCreate {
+        nlen: 0,
+        context_init: 0,
+        name: [0; 64],
+    };
+    context_task(client, number, command, Change::NewContext)
+}
+
+/// CTX_DESTROY
+pub(crate) fn end_context_task(client: u32, number: u32) -> Task
+    ensures { result ≡ table.end_context_task client number }
+{
+    context_task(
+        client,
+        number,
+        Command::CtxDestroy,
+        Change::EndOfContext { number },
+    )
+}
+
+/// CTX_ATTACH_RESOURCE
+pub(crate) fn attach_context_task(client: u32, number: u32, key: u32) -> Task
+    ensures { result ≡ table.attach_context_task client number key }
+{
+    context_task(
+        client,
+        number,
+        Command::CtxAttach { resource: key },
+        Change::Nothing,
+    )
+}
+
+/// CTX_DETACH_RESOURCE
+pub(crate) fn detach_context_task(client: u32, number: u32, key: u32) -> Task
+    ensures { result ≡ table.detach_context_task client number key }
+{
+    context_task(
+        client,
+        number,
+        Command::CtxDetach { resource: key },
+        Change::Nothing,
+    )
+}
+
+/// SUBMIT_3D of no bytes on a timeline of a context.
+pub(crate) fn submit_task(client: u32, number: u32, ring: u8) -> Task
+    ensures { result ≡ table.submit_task client number ring }
+{
+    let context = context_id(client, number);
+    command_task(
+        Way::Timeline { context, ring },
+        Command::Submit { size: 0 },
+        Change::Nothing,
+    )
 }

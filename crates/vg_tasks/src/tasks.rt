@@ -1,6 +1,6 @@
 //! The tasks of each call.
 
-ghost use Rattle.std.specs.Prelude.{◌≡◌, ◌<◌, ◌≤◌, ◌+◌, ◌*◌, ◌++◌, ◌∷◌, [], if◌then◌else◌, map, length, Ok, OnOk, OnErr, IfOk, IfErr};
+ghost use Rattle.std.specs.Prelude.{◌≡◌, ◌<◌, ◌≤◌, ◌+◌, ◌*◌, ◌^◌, ◌++◌, ◌∷◌, [], if◌then◌else◌, map, length, Ok, OnOk, OnErr, IfOk, IfErr};
 ghost use Rattle.std.specs.List.{AllByRecursion};
 ghost use Rattle.vg_tasks.specs.Plans.{IsCallFit, Plans, weights};
 ghost use Rattle.vg_tasks.specs.Fits.{IsFit};
@@ -8,32 +8,58 @@ ghost use Rattle.vg_client_holds.specs.Holds.{Deniable as MayDeny, has_number};
 ghost use Rattle.vg_client_holds.specs.declared.act.What.TheVariants as whats;
 ghost use Rattle.vg_tasks.specs.Table as table;
 ghost use Rattle.vg_tasks.specs.Tasks as plan;
-ghost use Rattle.vg_tasks.specs.Tasks.{clear_tasks, is_only_name, leases_back, with_held};
+ghost use Rattle.vg_tasks.specs.Tasks.{clear_tasks, leases_back, with_held};
+ghost use Rattle.vg_names.specs.Names.{has_one_name};
 
 use crate::queue::Tasks;
 use crate::task::{
-    Task, act_task, clear_task, cursor_task, drop_task, edid_task, export_task, flush_task,
-    hide_cursor_task, hide_task, import_task, info_task, move_task, no_import_task, raw_task,
-    release_task, reserve_task, send_task, show_task, store_task, uuid_task,
+    Task, act_task, attach_context_task, clear_task, cursor_task, detach_context_task, drop_task,
+    edid_task, end_context_task, export_task, flush_task, hide_cursor_task, hide_task, import_task,
+    info_task, load_task, make_context_task, move_task, no_import_task, raw_task, release_task,
+    reserve_blob_task, reserve_task, send_task, show_blob_task, show_task, store_task, submit_task,
+    uuid_task,
 };
 use std::alloc::{AllocError, Global};
 use vg_calls::{Call, NameRef};
 use vg_client_holds::{Act, Holds, What};
 use vg_formats::Rect;
 use vg_list::Seq;
-use vg_names::{Held, Names};
+use vg_names::{Contexts, Held, Names};
+
+/// What is to be done by what a name stands for. Where the name isn't current the call is denied for it.
+macro_rules! with_held {
+    ($names:expr, $name:expr, $held:ident => $tasks:expr) => {
+        match $names.find($name.number) {
+            Some($held) => $tasks,
+            None => Ok(Err(What::Name)),
+        }
+    };
+}
+
+/// What is to be done by a context of the client. Where its name isn't current the call is denied for it.
+macro_rules! with_context {
+    ($contexts:expr, $context:expr, $tasks:expr) => {
+        if $contexts.is_current($context.number) {
+            $tasks
+        } else {
+            Ok(Err(What::Name))
+        }
+    };
+}
 
 /// The tasks of a call, or what is denied before there is any.
 pub fn tasks_of(
     alloc: Global,
     holds: &Holds,
     names: &Names,
+    contexts: &Contexts,
     shows: &[Option<u32>],
     call: Call,
 ) -> Result<Result<Tasks, What>, AllocError>
     requires call { IsCallFit holds.now.displays call }
     requires shows { length shows.now ≤ 16 }
-    ensures plans { Plans (plan.tasks_of (record { holds = holds.now; names = names.now; shows = shows.now }) call) result }
+    requires contexts { contexts.now.made < 2 ^ 31 }
+    ensures plans { Plans (plan.tasks_of (record { holds = holds.now; names = names.now; contexts = contexts.now; shows = shows.now }) call) result }
     ensures denied { IfOk result (λ done. IfErr done (MayDeny holds.now)) }
 {
     match call {
@@ -44,19 +70,25 @@ pub fn tasks_of(
             height,
             format,
         } => one(alloc, reserve_task(width, height, format)),
+        Call::Blob { size } => one(alloc, reserve_blob_task(size)),
         Call::Store {
             name,
             offset,
             bytes,
             times,
-        } => store_tasks(alloc, names, name, offset, bytes, times),
+        } =>
+            with_held!(names, name, held => one(alloc, store_task(held.key, offset, bytes, times))),
         Call::Load {
             name,
             offset,
             length,
-        } => load_tasks(alloc, names, name, offset, length),
-        Call::Send { name, rect } => send_tasks(alloc, names, name, rect),
-        Call::Flush { name, rect } => flush_tasks(alloc, names, name, rect),
+        } => with_held!(names, name, held => one(alloc, load_task(held.key, offset, length))),
+        Call::Send { name, rect } => {
+            with_held!(names, name, held => one(alloc, send_task(held, sent_of(held, rect))))
+        }
+        Call::Flush { name, rect } => {
+            with_held!(names, name, held => one(alloc, flush_task(held.key, rect)))
+        }
         Call::Take { scanout } => one(alloc, act_task(Act::Take { scanout })),
         Call::Drop { scanout } => drop_tasks(alloc, holds, scanout),
         Call::Hide { scanout } => one(alloc, hide_task(scanout)),
@@ -64,8 +96,23 @@ pub fn tasks_of(
             scanout,
             name,
             rect,
-        } => show_tasks(alloc, names, scanout, name, rect),
-        Call::Flip { scanout, name } => flip_tasks(alloc, names, scanout, name),
+        } => with_held!(names, name, held => one(alloc, show_task(scanout, held.key, rect))),
+        Call::ShowBlob {
+            scanout,
+            name,
+            rect,
+            width,
+            height,
+            format,
+            stride,
+            offset,
+        } => with_held!(names, name, held => one(
+            alloc,
+            show_blob_task(scanout, held.key, rect, width, height, format, stride, offset),
+        )),
+        Call::Flip { scanout, name } => {
+            with_held!(names, name, held => flip_held(alloc, scanout, held))
+        }
         Call::Cursor {
             scanout,
             name,
@@ -75,8 +122,37 @@ pub fn tasks_of(
             hot_y,
         } => cursor_tasks(alloc, names, scanout, name, x, y, hot_x, hot_y),
         Call::Move { scanout, x, y } => one(alloc, move_task(scanout, x, y)),
-        Call::Uuid { name } => uuid_tasks(alloc, names, name),
-        Call::Export { name, .. } => export_tasks(alloc, names, name),
+        Call::Context => one(alloc, make_context_task(holds.client, contexts.made() + 1)),
+        Call::EndContext { context } => with_context!(
+            contexts,
+            context,
+            one(alloc, end_context_task(holds.client, context.number))
+        ),
+        Call::Attach { context, name } => with_context!(
+            contexts,
+            context,
+            with_held!(names, name, held => one(
+                alloc,
+                attach_context_task(holds.client, context.number, held.key),
+            ))
+        ),
+        Call::Detach { context, name } => with_context!(
+            contexts,
+            context,
+            with_held!(names, name, held => one(
+                alloc,
+                detach_context_task(holds.client, context.number, held.key),
+            ))
+        ),
+        Call::Submit { context, ring } => with_context!(
+            contexts,
+            context,
+            one(alloc, submit_task(holds.client, context.number, ring))
+        ),
+        Call::Uuid { name } => with_held!(names, name, held => one(alloc, uuid_task(held.key))),
+        Call::Export { name, .. } => {
+            with_held!(names, name, held => one(alloc, export_task(held.key)))
+        }
         Call::Import { token, .. } => import_tasks(alloc, token),
         Call::Raw {
             queue,
@@ -84,7 +160,9 @@ pub fn tasks_of(
             shape,
             bytes,
         } => one(alloc, raw_task(queue, room, shape, bytes)),
-        Call::Close { name } => close_tasks(alloc, names, shows, name),
+        Call::Close { name } => {
+            with_held!(names, name, held => close_held(alloc, names, shows, held))
+        }
     }
 }
 
@@ -114,61 +192,19 @@ fn three(
     Ok(Ok(tasks))
 }
 
-fn store_tasks(
-    alloc: Global,
-    names: &Names,
-    name: NameRef,
-    offset: u32,
-    bytes: Seq<u8>,
-    times: u32,
-) -> Result<Result<Tasks, What>, AllocError>
-    ensures plans { Plans (with_held names.now name (λ held. table.store_task held.key offset bytes times ∷ [])) result }
-    ensures denied { IfOk result (λ done. IfErr done (λ what. what ≡ whats.Name)) }
+/// The rectangle that is sent of a buffer: of a blob one without pixels.
+fn sent_of(held: Held, rect: Rect) -> Rect
+    ensures { result ≡ plan.sent_of held rect }
 {
-    match names.find(name.number) {
-        Some(held) => one(alloc, store_task(held.key, offset, bytes, times)),
-        None => Ok(Err(What::Name)),
-    }
-}
-
-fn load_tasks(
-    alloc: Global,
-    names: &Names,
-    name: NameRef,
-    offset: u32,
-    length: u32,
-) -> Result<Result<Tasks, What>, AllocError>
-    ensures plans { Plans (with_held names.now name (λ held. table.load_task held.key offset length ∷ [])) result }
-    ensures denied { IfOk result (λ done. IfErr done (λ what. what ≡ whats.Name)) }
-{
-    match names.find(name.number) {
-        Some(held) => {
-            let key = held.key;
-            one(
-                alloc,
-                act_task(Act::Load {
-                    key,
-                    offset,
-                    length,
-                }),
-            )
+    if held.width == 0 && held.height == 0 {
+        Rect {
+            x: 0,
+            y: 0,
+            width: 0,
+            height: 0,
         }
-        None => Ok(Err(What::Name)),
-    }
-}
-
-fn send_tasks(
-    alloc: Global,
-    names: &Names,
-    name: NameRef,
-    rect: Rect,
-) -> Result<Result<Tasks, What>, AllocError>
-    ensures plans { Plans (with_held names.now name (λ held. table.send_task held rect ∷ [])) result }
-    ensures denied { IfOk result (λ done. IfErr done (λ what. what ≡ whats.Name)) }
-{
-    match names.find(name.number) {
-        Some(held) => one(alloc, send_task(held, rect)),
-        None => Ok(Err(What::Name)),
+    } else {
+        rect
     }
 }
 
@@ -181,52 +217,6 @@ fn whole_of(held: Held) -> Rect
         y: 0,
         width: held.width,
         height: held.height,
-    }
-}
-
-fn flush_tasks(
-    alloc: Global,
-    names: &Names,
-    name: NameRef,
-    rect: Rect,
-) -> Result<Result<Tasks, What>, AllocError>
-    ensures plans { Plans (with_held names.now name (λ held. table.flush_task held.key rect ∷ [])) result }
-    ensures denied { IfOk result (λ done. IfErr done (λ what. what ≡ whats.Name)) }
-{
-    match names.find(name.number) {
-        Some(held) => one(alloc, flush_task(held.key, rect)),
-        None => Ok(Err(What::Name)),
-    }
-}
-
-fn show_tasks(
-    alloc: Global,
-    names: &Names,
-    scanout: u32,
-    name: NameRef,
-    rect: Rect,
-) -> Result<Result<Tasks, What>, AllocError>
-    ensures plans { Plans (with_held names.now name (λ held. table.show_task scanout held.key rect ∷ [])) result }
-    ensures denied { IfOk result (λ done. IfErr done (λ what. what ≡ whats.Name)) }
-{
-    match names.find(name.number) {
-        Some(held) => one(alloc, show_task(scanout, held.key, rect)),
-        None => Ok(Err(What::Name)),
-    }
-}
-
-fn flip_tasks(
-    alloc: Global,
-    names: &Names,
-    scanout: u32,
-    name: NameRef,
-) -> Result<Result<Tasks, What>, AllocError>
-    ensures plans { Plans (with_held names.now name (plan.flip_tasks scanout)) result }
-    ensures denied { IfOk result (λ done. IfErr done (λ what. what ≡ whats.Name)) }
-{
-    match names.find(name.number) {
-        Some(held) => flip_held(alloc, scanout, held),
-        None => Ok(Err(What::Name)),
     }
 }
 
@@ -257,10 +247,7 @@ fn cursor_tasks(
     let Some(name) = name else {
         return one(alloc, cursor_task(scanout, 0, x, y, hot_x, hot_y));
     };
-    match names.find(name.number) {
-        Some(held) => one(alloc, cursor_task(scanout, held.key, x, y, hot_x, hot_y)),
-        None => Ok(Err(What::Name)),
-    }
+    with_held!(names, name, held => one(alloc, cursor_task(scanout, held.key, x, y, hot_x, hot_y)))
 }
 
 fn drop_tasks(alloc: Global, holds: &Holds, scanout: u32) -> Result<Result<Tasks, What>, AllocError>
@@ -283,34 +270,6 @@ fn is_leased(holds: &Holds, scanout: u32) -> bool
     holds.scanouts.as_slice().contains(&scanout)
 }
 
-fn uuid_tasks(
-    alloc: Global,
-    names: &Names,
-    name: NameRef,
-) -> Result<Result<Tasks, What>, AllocError>
-    ensures plans { Plans (with_held names.now name (λ held. table.uuid_task held.key ∷ [])) result }
-    ensures denied { IfOk result (λ done. IfErr done (λ what. what ≡ whats.Name)) }
-{
-    match names.find(name.number) {
-        Some(held) => one(alloc, uuid_task(held.key)),
-        None => Ok(Err(What::Name)),
-    }
-}
-
-fn export_tasks(
-    alloc: Global,
-    names: &Names,
-    name: NameRef,
-) -> Result<Result<Tasks, What>, AllocError>
-    ensures plans { Plans (with_held names.now name (λ held. table.export_task held.key ∷ [])) result }
-    ensures denied { IfOk result (λ done. IfErr done (λ what. what ≡ whats.Name)) }
-{
-    match names.find(name.number) {
-        Some(held) => one(alloc, export_task(held.key)),
-        None => Ok(Err(What::Name)),
-    }
-}
-
 fn import_tasks(alloc: Global, token: Option<u32>) -> Result<Result<Tasks, What>, AllocError>
     ensures plans { Plans (Ok (plan.import_tasks token)) result }
     ensures denied { IfOk result (λ done. OnErr done ⊥) }
@@ -318,22 +277,6 @@ fn import_tasks(alloc: Global, token: Option<u32>) -> Result<Result<Tasks, What>
     match token {
         Some(token) => one(alloc, import_task(token)),
         None => one(alloc, no_import_task()),
-    }
-}
-
-fn close_tasks(
-    alloc: Global,
-    names: &Names,
-    shows: &[Option<u32>],
-    name: NameRef,
-) -> Result<Result<Tasks, What>, AllocError>
-    requires { length shows.now ≤ 16 }
-    ensures plans { Plans (with_held names.now name (plan.close_tasks names.now.current shows.now)) result }
-    ensures denied { IfOk result (λ done. IfErr done (λ what. what ≡ whats.Name)) }
-{
-    match names.find(name.number) {
-        Some(held) => close_held(alloc, names, shows, held),
-        None => Ok(Err(What::Name)),
     }
 }
 
@@ -360,27 +303,18 @@ fn clear_only(
     held: Held,
 ) -> Result<Tasks, AllocError>
     requires { length shows.now ≤ 16 }
-    ensures { IfOk result (λ tasks. tasks ≡ (if is_only_name names.now.current held then clear_tasks held.key 0 shows.now else [])) }
+    ensures { IfOk result (λ tasks. tasks ≡ (if has_one_name held.key names.now.current then clear_tasks held.key 0 shows.now else [])) }
 {
     let tasks = clear_each(alloc, held.key, shows)?;
     if tasks.len() == 0 {
-        // Nothing is shown, so there is no need to look at all names.
+        // Nothing is shown, so there is no need to look at the names.
         return Ok(tasks);
     }
-    let current = names.current(alloc)?;
-    if is_only_name(current.as_slice(), held) {
+    if names.has_one_name(held.key) {
         Ok(tasks)
     } else {
         Ok(Tasks::new(alloc))
     }
-}
-
-/// Whether these have one name for the buffer.
-fn is_only_name(current: &[Held], held: Held) -> bool
-    ensures { result ≡ plan.is_only_name current.now held }
-{
-    let of_key = current.iter().filter(|one| one.key == held.key);
-    of_key.count() == 1
 }
 
 /// Disables each scanout on which the client shows the key.
@@ -419,14 +353,21 @@ fn is_shown(key: u32, shown: Option<u32>) -> bool
     }
 }
 
-/// What the client gives up at its end: its leases, rising, and then its buffers in the order in which they were made.
-pub fn end_tasks(alloc: Global, holds: &Holds, names: &Names) -> Result<Tasks, AllocError>
+/// What the client gives up at its end: its leases, rising, its contexts, and then its buffers, in the order in which they were made.
+pub fn end_tasks(
+    alloc: Global,
+    holds: &Holds,
+    names: &Names,
+    contexts: &Contexts,
+) -> Result<Tasks, AllocError>
     ensures tasks { IfOk result (λ tasks. tasks
-        ≡ leases_back holds.now.scanouts 0 holds.now.displays ++ map table.release_task names.now.current) }
+        ≡ leases_back holds.now.scanouts 0 holds.now.displays ++ map (table.end_context_task holds.now.client) contexts.now.current
+        ++ map table.release_task names.now.current) }
     ensures fit { IfOk result (λ tasks. AllByRecursion IsFit tasks) }
-    ensures few { IfOk result (λ tasks. weights tasks ≤ 3 * holds.now.displays + 3 * length names.now.current) }
+    ensures few { IfOk result (λ tasks. weights tasks ≤ 3 * holds.now.displays + length contexts.now.current + 3 * length names.now.current) }
 {
     let mut tasks = give_back_each(alloc, holds)?;
+    end_each(&mut tasks, holds.client, contexts.current())?;
     let current = names.current(alloc)?;
     release_each(&mut tasks, current.as_slice())?;
     Ok(tasks)
@@ -452,6 +393,16 @@ fn give_back_leased(tasks: &mut Tasks, holds: &Holds, scanout: u32) -> Result<()
         tasks.push(clear_task(scanout))?;
         tasks.push(hide_cursor_task(scanout))?;
         tasks.push(drop_task(scanout))?;
+    }
+    Ok(())
+}
+
+/// Ends each of these contexts.
+fn end_each(tasks: &mut Tasks, client: u32, current: &[u32]) -> Result<(), AllocError>
+    ensures { OnOk result (tasks.new ≡ tasks.old ++ map (table.end_context_task client) current.now) }
+{
+    for number in current {
+        tasks.push(end_context_task(client, *number))?;
     }
     Ok(())
 }

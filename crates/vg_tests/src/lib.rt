@@ -3,9 +3,13 @@
 #![tactic(auto)]
 
 #[cfg(test)]
+mod blobs;
+#[cfg(test)]
 mod chain;
 #[cfg(test)]
 mod config;
+#[cfg(test)]
+mod contexts;
 #[cfg(test)]
 mod edid;
 #[cfg(test)]
@@ -22,5 +26,7 @@ mod places;
 mod requests;
 #[cfg(test)]
 mod responses;
+#[cfg(test)]
+mod share;
 #[cfg(test)]
 mod transfers;

@@ -14,7 +14,7 @@ use vg_transfer::{Backings, Region};
 const START: u64 = 1_048_576;
 
 /// Guest memory of 300 pages, each of which begins and ends with the two bytes of its number.
-fn numbered(rt: &impl Abort, alloc: Global) -> Result<Pages, Fail> {
+pub(crate) fn numbered(rt: &impl Abort, alloc: Global) -> Result<Pages, Fail> {
     let mut pages = Pages::new(alloc, 300)?;
     for page in 0..300u16 {
         let first = START + 4_096 * u64::from(page);
@@ -30,7 +30,7 @@ fn put(rt: &impl Abort, pages: &mut Pages, addr: u64, number: u16) {
 }
 
 /// So many entries of so many bytes each, from the end of guest memory down.
-fn falling(alloc: Global, count: u32, length: u32) -> Result<Vec<MemEntry>, Fail> {
+pub(crate) fn falling(alloc: Global, count: u32, length: u32) -> Result<Vec<MemEntry>, Fail> {
     let mut entries = Vec::new(alloc);
     let mut addr = START + 1_228_800;
     for _entry in 0..count {

@@ -1,7 +1,6 @@
-use Rattle.std.proofs.Common.{◌∙◌, ◌++◌, ap, arith, map}
+use Rattle.std.proofs.Common.{◌∙◌, ap, arith}
 use Rattle.vg_client_holds.specs.declared.holds.Holds.{Holds}
-use Rattle.vg_tasks.specs.Table.{release_task}
-use Rattle.vg_tasks.specs.Tasks.{leases_back}
+use Rattle.vg_tasks.specs.Tasks.{end_tasks}
 use Rattle.vg_client.proofs.PlayLemmas.{end-stood, end-unbegun, end-unleft, ended-by, err-then, on_err, three-ok, used-length}
 use Rattle.vg_client.proofs.caller.end.Goals as goal
 
@@ -13,24 +12,24 @@ play-requires-clause-room g c =
     let ready = c.requires.ready in
     let used = used-length c.args.client.now.token ready.active in
     let displays = ap (λ (h : Holds). h.displays) c.holds.ensures in
-    omega (arith, used, displays, c.in_ok-tasks.ensures.few, ready.small.few_displays, ready.small.current, ready.small.made, c.requires.room)
+    omega (arith, used, displays, c.in_ok-tasks.ensures.few, ready.small.few_displays, ready.small.current, ready.small.made, ready.small.current_contexts, ready.small.made_contexts, c.requires.room)
 
 pub returns-in_err-play-clause-begun : goal.returns-in_err-play-clause-begun
 returns-in_err-play-clause-begun g c =
     let client = c.args.client.now in
-    let tasks = c.in_ok-tasks.ensures.tasks ∙ ap (λ (h : Holds). leases_back h.scanouts 0 h.displays ++ map release_task client.names.current) c.holds.ensures in
+    let tasks = c.in_ok-tasks.ensures.tasks ∙ ap (λ (h : Holds). end_tasks (record { holds = h; names = client.names; contexts = client.contexts; shows = client.shows.items })) c.holds.ensures in
     on_err _ (end-stood client c.play.new.client _ tasks c.in_err-play.ensures.begun)
 
 pub returns-clause-ended : goal.returns-clause-ended
 returns-clause-ended g c =
     let client = c.args.client.now in
     let done = c.in_ok-play.ensures.done in
-    let tasks = c.in_ok-tasks.ensures.tasks ∙ ap (λ (h : Holds). leases_back h.scanouts 0 h.displays ++ map release_task client.names.current) c.holds.ensures in
+    let tasks = c.in_ok-tasks.ensures.tasks ∙ ap (λ (h : Holds). end_tasks (record { holds = h; names = client.names; contexts = client.contexts; shows = client.shows.items })) c.holds.ensures in
     three-ok _ (λ account entry next. ended-by client c.play.new.client _ done.0 c.leave.new.token tasks done.1 c.requires.ready done.2 account entry next) c.leave.ensures.account c.leave.ensures.entry c.leave.ensures.next
 
 pub returns-clause-begun : goal.returns-clause-begun
 returns-clause-begun g c =
     let client = c.args.client.now in
     let done = c.in_ok-play.ensures.done in
-    let tasks = c.in_ok-tasks.ensures.tasks ∙ ap (λ (h : Holds). leases_back h.scanouts 0 h.displays ++ map release_task client.names.current) c.holds.ensures in
+    let tasks = c.in_ok-tasks.ensures.tasks ∙ ap (λ (h : Holds). end_tasks (record { holds = h; names = client.names; contexts = client.contexts; shows = client.shows.items })) c.holds.ensures in
     err-then _ (end-unleft client c.play.new.client _ done.0 c.leave.new.token tasks done.1 done.2.added) c.leave.ensures.err

@@ -1,5 +1,6 @@
 use Rattle.std.proofs.Common.{◌≡◌, ap, arith, []}
 use Rattle.vg_names.specs.Names.{NamesState}
+use Rattle.vg_names.specs.Contexts.{ContextsState}
 use Rattle.vg_client.proofs.OutcomeLemmas.{played-none}
 use Rattle.vg_client.proofs.PlayLemmas.{added-length, left-smaller, on_err, played-all, playing-first, playing-more, stood-done, stood-make, stood-none, used-length}
 use Rattle.vg_client.proofs.play.play.Goals as goal
@@ -21,6 +22,13 @@ learn-requires-clause-room g c =
     let used = used-length c.loop-task.client.token is.on.ready.active in
     let names = ap (λ (n : NamesState). n.made) c.in_ok-added.ensures.done.2.names in
     omega (arith, names, is.on.ready.small.made, used, added-length is.on.added, is.room, c.requires.room)
+
+pub learn-requires-clause-room_for_contexts : goal.learn-requires-clause-room_for_contexts
+learn-requires-clause-room_for_contexts g c =
+    let is = c.loop-task.invariant in
+    let used = used-length c.loop-task.client.token is.on.ready.active in
+    let contexts = ap (λ (cs : ContextsState). cs.made) c.in_ok-added.ensures.done.2.contexts in
+    omega (arith, contexts, is.on.ready.small.made_contexts, used, added-length is.on.added, is.room, c.requires.room)
 
 pub returns-in_err-learn-clause-begun : goal.returns-in_err-learn-clause-begun
 returns-in_err-learn-clause-begun g c =
@@ -47,7 +55,7 @@ pub loop-task-preserved : goal.loop-task-preserved
 loop-task-preserved g c =
     let done = c.in_ok-added.ensures.done in
     playing-more c.args.stops c.args.tasks c.args.client.now c.loop-task.client c.make.new.client c.learn.new.client c.loop-task.left c.pop_front.new.self c.leave_tasks.new.left c.loop-task.played c.add.new.self c.in-Some.task done.0 c.in_ok-added.added
-    c.loop-task.invariant c.in-Some.ensures done.1 done.2 done.3 c.learn.ensures.kept c.in_ok-learn.ensures.names c.in_ok-learn.ensures.shows c.in_ok-leave_tasks.ensures c.in_ok-add.ensures.entries c.in_ok-add.ensures.last
+    c.loop-task.invariant c.in-Some.ensures done.1 done.2 done.3 c.learn.ensures.kept c.in_ok-learn.ensures.names c.in_ok-learn.ensures.contexts c.in_ok-learn.ensures.shows c.in_ok-leave_tasks.ensures c.in_ok-add.ensures.entries c.in_ok-add.ensures.last
 
 pub returns-clause-done : goal.returns-clause-done
 returns-clause-done g c =

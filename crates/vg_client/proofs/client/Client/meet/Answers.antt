@@ -9,5 +9,5 @@ invariant_of-self g c =
     let watched = c.meet.ensures.watched in
     let law = c.calls_stand_behind.ensures in (
       ap (λ (a : Account). a.out) watched.account ∙ c.self.invariant.0,
-      λ on. let ready = c.self.invariant.1 on in ready-met caller _ ready (law.watched caller.token c.meet.new.self ready.active.account_is.standing.current watched) watched refl refl,
+      λ on. let ready = c.self.invariant.1 on in ready-met caller _ ready (law.watched caller.token c.meet.new.self ready.active.account_is.standing.current watched) watched refl refl refl,
     )

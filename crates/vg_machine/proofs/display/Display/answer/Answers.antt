@@ -1,5 +1,6 @@
 use Rattle.std.proofs.Common.{◌∙◌, ap, Result, Ok, Err, OnErr}
-use Rattle.vg_machine.specs.Step.{answered, ran}
+use Rattle.vg_machine.specs.Step.{answered}
+use Rattle.vg_machine.specs.FitsWithin.{by_read}
 use Rattle.vg_machine.proofs.KeepLemmas.{accepted-is, answered-given, answered-ok, kept-given}
 use Rattle.vg_machine.proofs.display.Display.answer.Goals as goal
 
@@ -10,16 +11,21 @@ on_err (Err error) p = p
 
 pub returns-in-Nodata-clause-step : goal.returns-in-Nodata-clause-step
 returns-in-Nodata-clause-step c =
-    let expected = accepted-is c.args.self.now c.outcome-2.new.self c.in-Some.command c.in_ok-other.other c.in_ok-other.ensures.step c.in-Nodata.is in
+    let context = c.in-Ok.read.0 in
+    let command = c.in-Ok.read.1 in
+    let expected = accepted-is c.args.self.now c.outcome-2.new.self context command c.in_ok-other.other c.in_ok-other.ensures.step c.in-Nodata.is in
     answered-given c.args.self.now c.outcome-2.new.self c.args.queue c.args.request.now c.args.room _ c.in_ok-other.other c.in_ok-accepted.accepted.0.items
-    (c.in_ok-command.ensures.answer ∙ ap (ran c.args.self.now) c.in-Some.is) c.in_ok-other.ensures.step
+    (c.in_ok-read.ensures.answer ∙ ap (by_read c.args.self.now) c.in-Ok.is) c.in_ok-other.ensures.step
     (c.in_ok-accepted.ensures.bytes ∙ ap (answered c.args.request.now c.args.room) (c.acceptance.ensures ∙ expected))
 
 pub returns : goal.returns
-returns c = record {
-  step =
-      answered-ok c.rewrite_answer.result (λ twice. twice.0.items) c.args.self.now c.outcome-2.new.self c.args.queue c.args.request.now c.args.room _ c.in_ok-other.other
-      (c.in_ok-command.ensures.answer ∙ ap (ran c.args.self.now) c.in-Some.is) c.in_ok-other.ensures.step c.rewrite_answer.ensures.bytes;
-  same = c.rewrite_answer.ensures.same;
-  err = on_err c.rewrite_answer.result (kept-given c.args.self.now c.outcome-2.new.self c.in-Some.command c.in_ok-other.other c.in_ok-other.ensures.step c.in_default-2.not-Nodata c.in_default-2.not-Uuid);
-}
+returns c =
+    let context = c.in-Ok.read.0 in
+    let command = c.in-Ok.read.1 in
+    record {
+      step =
+          answered-ok c.rewrite_answer.result (λ twice. twice.0.items) c.args.self.now c.outcome-2.new.self c.args.queue c.args.request.now c.args.room _ c.in_ok-other.other
+          (c.in_ok-read.ensures.answer ∙ ap (by_read c.args.self.now) c.in-Ok.is) c.in_ok-other.ensures.step c.rewrite_answer.ensures.bytes;
+      same = c.rewrite_answer.ensures.same;
+      err = on_err c.rewrite_answer.result (kept-given c.args.self.now c.outcome-2.new.self context command c.in_ok-other.other c.in_ok-other.ensures.step c.in_default.not-Nodata c.in_default.not-Uuid);
+    }

@@ -1,4 +1,6 @@
-use Rattle.std.proofs.Common.{}
+use Rattle.std.proofs.Common.{◌≡◌, false, rules}
+use Rattle.std.specs.Prelude.{is_some}
+use Rattle.vg_blob.specs.Blobs.{blob_at}
 use Rattle.vg_machine.proofs.KeepLemmas.{if-nodata, lifted-create}
 use Rattle.vg_machine.proofs.ShowingLemmas.{all-showing, keeping-create}
 use Rattle.vg_machine.proofs.display.Display.create.Goals as goal
@@ -11,8 +13,9 @@ invariant_of-self-2 c =
       setup = was.setup;
       pages = was.pages;
       backings = was.backings;
+      blobs = was.blobs;
       screens = was.screens;
-      showing = all-showing c.self.inside.resources c.create.new.self c.self.inside.scanouts.screens keeping was.showing;
+      showing = all-showing c.self.inside.blobs c.self.inside.resources c.create.new.self c.self.inside.scanouts.screens keeping was.showing;
       leases = was.leases;
       share = was.share;
       reserved = was.reserved;
@@ -24,7 +27,8 @@ invariant_of-self-2 c =
 pub returns-clause-step : goal.returns-clause-step
 returns-clause-step c =
     let s = c.self.inside in
-    rw (c.nodata.ensures, ← c.self.view_is)
+    let apart : is_some (blob_at c.args.resource s.blobs) ≡ false = search rules in
+    rw (c.nodata.ensures, ← c.self.view_is, apart)
     (if-nodata c.in_ok-done.done _
-    (lifted-create (λ resources. record { setup = s.setup; entries = s.entries; memory = s.pages; resources = resources; backings = s.backings; uuids = s.uuids; cursors = s.cursors; scanouts = s.scanouts; share = s.share })
+    (lifted-create (λ resources. record { setup = s.setup; entries = s.entries; memory = s.pages; resources = resources; backings = s.backings; blobs = s.blobs; contexts = s.contexts; uuids = s.uuids; cursors = s.cursors; scanouts = s.scanouts; share = s.share })
     c.args.resource c.args.width c.args.height c.args.format s.resources c.create.new.self c.in_ok-done.done c.in_ok-done.ensures.done))

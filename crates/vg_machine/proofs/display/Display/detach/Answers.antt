@@ -1,4 +1,5 @@
-use Rattle.std.proofs.Common.{◌≡◌, true, rules}
+use Rattle.std.proofs.Common.{◌≡◌, false, true, rules}
+use Rattle.vg_blob.specs.Blobs.{blob_at}
 use Rattle.std.specs.Prelude.{is_some}
 use Rattle.vg_resource.specs.Resource.{resource_at}
 use Rattle.std.proofs.Common.{}
@@ -12,6 +13,7 @@ invariant_of-self c =
       setup = was.setup;
       pages = was.pages;
       backings = c.detach.ensures.held c.self.inside.pages was.backings;
+      blobs = was.blobs;
       screens = was.screens;
       showing = was.showing;
       leases = was.leases;
@@ -26,6 +28,7 @@ pub returns : goal.returns
 returns c =
     let s = c.self.inside in
     let known : is_some (resource_at c.args.resource s.resources) ≡ true = search rules in
-    rw (← c.self.view_is)
-    (lifted-detach (λ backings. record { setup = s.setup; entries = s.entries; memory = s.pages; resources = s.resources; backings = backings; uuids = s.uuids; cursors = s.cursors; scanouts = s.scanouts; share = s.share })
+    let apart : is_some (blob_at c.args.resource s.blobs) ≡ false = search rules in
+    rw (← c.self.view_is, apart)
+    (lifted-detach (λ backings. record { setup = s.setup; entries = s.entries; memory = s.pages; resources = s.resources; backings = backings; blobs = s.blobs; contexts = s.contexts; uuids = s.uuids; cursors = s.cursors; scanouts = s.scanouts; share = s.share })
     (is_some (resource_at c.args.resource s.resources)) c.args.resource s.backings c.detach.new.self c.detach.result known c.detach.ensures.done)

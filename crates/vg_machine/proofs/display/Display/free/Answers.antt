@@ -1,5 +1,5 @@
 use Rattle.std.proofs.Common.{◌∙◌}
-use Rattle.vg_machine.proofs.ActLemmas.{fits-freed, held-kept, large-freed}
+use Rattle.vg_machine.proofs.ActLemmas.{blobs-kept, fits-freed, held-kept, large-freed}
 use Rattle.vg_machine.proofs.display.Display.free.Goals as goal
 
 pub invariant_of-self : goal.invariant_of-self
@@ -12,6 +12,7 @@ invariant_of-self c =
       setup = was.setup;
       pages = large.taken ∙ was.pages;
       backings = held-kept s.pages c.free.new.pages large s.backings was.backings;
+      blobs = blobs-kept s.pages c.free.new.pages large s.blobs was.blobs;
       screens = was.screens;
       showing = was.showing;
       leases = now.leases;

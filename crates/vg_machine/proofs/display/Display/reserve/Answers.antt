@@ -1,5 +1,5 @@
 use Rattle.std.proofs.Common.{rules, ◌∙◌}
-use Rattle.vg_machine.proofs.ActLemmas.{fits-reserved, held-kept}
+use Rattle.vg_machine.proofs.ActLemmas.{blobs-kept, fits-reserved, held-kept}
 use Rattle.vg_machine.proofs.display.Display.reserve.Goals as goal
 
 pub invariant_of-self : goal.invariant_of-self
@@ -10,6 +10,7 @@ invariant_of-self c =
       setup = was.setup;
       pages = rw same.1 was.pages;
       backings = rw same.1 was.backings;
+      blobs = rw same.1 was.blobs;
       screens = was.screens;
       showing = was.showing;
       leases = rw same.0 was.leases;
@@ -29,6 +30,7 @@ invariant_of-self-2 c =
       setup = was.setup;
       pages = now.large.taken ∙ was.pages;
       backings = held-kept s.pages c.reserve_held.new.pages now.large s.backings was.backings;
+      blobs = blobs-kept s.pages c.reserve_held.new.pages now.large s.blobs was.blobs;
       screens = was.screens;
       showing = was.showing;
       leases = now.leases;

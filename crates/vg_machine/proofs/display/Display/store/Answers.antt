@@ -1,6 +1,6 @@
 use Rattle.std.proofs.Common.{◌≡◌, ◌*◌, ap, arith, length}
 use Rattle.vg_share.specs.Cells.{repeated}
-use Rattle.vg_machine.proofs.ActLemmas.{held-kept, large-stored, placed, shares-bytes}
+use Rattle.vg_machine.proofs.ActLemmas.{blobs-kept, held-kept, large-stored, placed, shares-bytes}
 use Rattle.vg_machine.proofs.display.Display.store.Goals as goal
 
 pub store_times-requires-clause-pages : goal.store_times-requires-clause-pages
@@ -29,6 +29,7 @@ invariant_of-self-in-Ok c =
       setup = was.setup;
       pages = rw now was.pages;
       backings = rw now (held-kept s.pages _ large s.backings was.backings);
+      blobs = rw now (blobs-kept s.pages _ large s.blobs was.blobs);
       screens = was.screens;
       showing = was.showing;
       leases = was.leases;

@@ -15,6 +15,7 @@ invariant_of-self c =
       setup = was.setup;
       pages = was.pages;
       backings = was.backings;
+      blobs = was.blobs;
       screens = was.screens;
       showing = was.showing;
       leases = now.leases;

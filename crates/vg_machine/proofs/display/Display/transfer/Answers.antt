@@ -1,4 +1,6 @@
-use Rattle.std.proofs.Common.{}
+use Rattle.std.proofs.Common.{◌≡◌, false, rules}
+use Rattle.std.specs.Prelude.{is_some}
+use Rattle.vg_blob.specs.Blobs.{blob_at}
 use Rattle.vg_machine.proofs.KeepLemmas.{lifted-receive}
 use Rattle.vg_machine.proofs.ShowingLemmas.{all-showing, keeping-receive}
 use Rattle.vg_machine.proofs.display.Display.transfer.Goals as goal
@@ -12,8 +14,9 @@ invariant_of-self c =
       setup = was.setup;
       pages = was.pages;
       backings = was.backings;
+      blobs = was.blobs;
       screens = was.screens;
-      showing = all-showing s.resources c.receive.new.resources s.scanouts.screens keeping was.showing;
+      showing = all-showing s.blobs s.resources c.receive.new.resources s.scanouts.screens keeping was.showing;
       leases = was.leases;
       share = was.share;
       reserved = was.reserved;
@@ -25,6 +28,7 @@ invariant_of-self c =
 pub returns : goal.returns
 returns c =
     let s = c.self.inside in
-    rw (← c.self.view_is)
-    (lifted-receive (λ resources. record { setup = s.setup; entries = s.entries; memory = s.pages; resources = resources; backings = s.backings; uuids = s.uuids; cursors = s.cursors; scanouts = s.scanouts; share = s.share })
+    let apart : is_some (blob_at c.args.resource s.blobs) ≡ false = search rules in
+    rw (← c.self.view_is, apart)
+    (lifted-receive (λ resources. record { setup = s.setup; entries = s.entries; memory = s.pages; resources = resources; backings = s.backings; blobs = s.blobs; contexts = s.contexts; uuids = s.uuids; cursors = s.cursors; scanouts = s.scanouts; share = s.share })
     s.pages c.args.resource c.args.rect.now c.args.offset s.backings s.resources c.receive.new.resources c.receive.result c.receive.ensures)

@@ -1,6 +1,7 @@
 -- The new entries are held, and the others stay.
 use Rattle.std.proofs.Common.{sym, subst}
-use Rattle.vg_transfer.proofs.HeldLemmas.{AllHeld, held-with}
+use Rattle.vg_backing.proofs.HeldLemmas.{held-with}
+use Rattle.vg_transfer.proofs.HeldLemmas.{AllHeld}
 use Rattle.vg_transfer.proofs.backings.Backings.attach.Goals as goal
 use Rattle.vg_backing.specs.Backing.{AreHeld}
 

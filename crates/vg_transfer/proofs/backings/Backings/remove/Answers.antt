@@ -2,7 +2,8 @@
 use Rattle.std.proofs.Common.{sym, subst}
 use Rattle.std.specs.Ordering.{nat_cmp}
 use Rattle.std.specs.BTreeMap.{is_at}
-use Rattle.vg_transfer.proofs.HeldLemmas.{AllHeld, held-without}
+use Rattle.vg_backing.proofs.HeldLemmas.{held-without}
+use Rattle.vg_transfer.proofs.HeldLemmas.{AllHeld}
 use Rattle.vg_transfer.proofs.backings.Backings.remove.Goals as goal
 use Rattle.vg_backing.specs.Backing.{AreHeld}
 

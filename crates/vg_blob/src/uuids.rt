@@ -1,7 +1,7 @@
 //! The UUIDs of resources (VIRTIO 1.2, 5.7.6.8).
 
 ghost use Rattle.std.specs.Prelude.{◌≡◌, ◌<◌, ◌-◌, ◌^◌, [], IfOk, OnOk, OnErr};
-ghost use Rattle.vg_machine.specs.Uuids.{assigned, forgotten, number_for, uuid_bytes};
+ghost use Rattle.vg_blob.specs.Uuids.{assigned, forgotten, number_for, uuid_bytes};
 
 use std::alloc::{AllocError, Global};
 use std::collections::BTreeMap;
@@ -13,13 +13,13 @@ const FIRST: u128 = 0x7667_7055_0000_8000_8000_0000_0000_0000;
 
 /// The UUIDs that resources have: each has a number, from 1, among all that were given.
 #[derive(Drop)]
-pub(crate) struct Uuids {
+pub struct Uuids {
     numbers: BTreeMap<u32, u64>,
     given: u64,
 }
 
 impl Model for Uuids {
-    ghost use Rattle.vg_machine.specs.Uuids.{UuidState};
+    ghost use Rattle.vg_blob.specs.Uuids.{UuidState};
 
     ghost Value = { UuidState };
 
@@ -28,7 +28,7 @@ impl Model for Uuids {
 
 impl Uuids {
     /// No resource has a UUID.
-    pub(crate) fn new(alloc: Global) -> Uuids
+    pub fn new(alloc: Global) -> Uuids
         ensures { result ≡ record { numbers = []; given = 0 } }
     {
         Uuids {
@@ -49,7 +49,7 @@ impl Uuids {
     }
 
     /// The UUID that the resource has, and else the one that it gets where it is given one.
-    pub(crate) fn of(&self, resource: u32) -> Uuid
+    pub fn of(&self, resource: u32) -> Uuid
         requires { self.now.given < 2 ^ 64 - 1 }
         ensures { result ≡ uuid_bytes (number_for resource self.now) }
     {
@@ -57,7 +57,7 @@ impl Uuids {
     }
 
     /// Gives the resource a UUID, unless it has one. It has the one that is answered then.
-    pub(crate) fn assign(&mut self, resource: u32) -> Result<Uuid, AllocError>
+    pub fn assign(&mut self, resource: u32) -> Result<Uuid, AllocError>
         requires { self.old.given < 2 ^ 64 - 1 }
         ensures value { IfOk result (λ uuid. uuid ≡ uuid_bytes (number_for resource self.old)) }
         ensures state { OnOk result (self.new ≡ assigned resource self.old) }
@@ -73,7 +73,7 @@ impl Uuids {
     }
 
     /// Ends the resource's UUID, if it has one. Its number isn't given again.
-    pub(crate) fn forget(&mut self, resource: u32)
+    pub fn forget(&mut self, resource: u32)
         ensures { self.new ≡ forgotten resource self.old }
     {
         self.numbers.remove(&resource);

@@ -1,0 +1,6 @@
+//! Contexts, and the resources that are attached to them (VIRTIO 1.2, 5.7.6.8).
+#![tactic(auto)]
+
+mod contexts;
+
+pub use contexts::Contexts;
