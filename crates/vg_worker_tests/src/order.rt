@@ -17,14 +17,21 @@ use vg_machine::Display;
 use vg_ring::{Made, Ring, Rings};
 use vg_wire::Queue;
 
-/// GET_DISPLAY_INFO with FENCE, on lane 0; and with FENCE and INFO_RING_IDX, of ring index 0, which is lane 1 (VIRTIO 1.2,
-/// 5.7.6.7).
+/// CTX_CREATE of context 257 (VIRTIO 1.2, 5.7.6.8), one of the first client's.
+static CONTEXT: [u8; 96] = [
+    0, 2, 0, 0, 0, 0, 0, 0, 0, 0, 0, 0, 0, 0, 0, 0, 1, 1, 0, 0, 0, 0, 0, 0, 0, 0, 0, 0, 0, 0, 0, 0,
+    0, 0, 0, 0, 0, 0, 0, 0, 0, 0, 0, 0, 0, 0, 0, 0, 0, 0, 0, 0, 0, 0, 0, 0, 0, 0, 0, 0, 0, 0, 0, 0,
+    0, 0, 0, 0, 0, 0, 0, 0, 0, 0, 0, 0, 0, 0, 0, 0, 0, 0, 0, 0, 0, 0, 0, 0, 0, 0, 0, 0, 0, 0, 0, 0,
+];
+
+/// GET_DISPLAY_INFO with FENCE and INFO_RING_IDX, of ring index 0 of context 257, which is lane 1; and of ring index 1, which is
+/// lane 2 (VIRTIO 1.2, 5.7.6.7).
 static LANES: [[u8; 24]; 2] = [
     [
-        0, 1, 0, 0, 1, 0, 0, 0, 1, 0, 0, 0, 0, 0, 0, 0, 0, 0, 0, 0, 0, 0, 0, 0,
+        0, 1, 0, 0, 3, 0, 0, 0, 1, 0, 0, 0, 0, 0, 0, 0, 1, 1, 0, 0, 0, 0, 0, 0,
     ],
     [
-        0, 1, 0, 0, 3, 0, 0, 0, 1, 0, 0, 0, 0, 0, 0, 0, 0, 0, 0, 0, 0, 0, 0, 0,
+        0, 1, 0, 0, 3, 0, 0, 0, 1, 0, 0, 0, 0, 0, 0, 0, 1, 1, 0, 0, 1, 0, 0, 0,
     ],
 ];
 
@@ -33,6 +40,19 @@ const WAY: Way = Way {
     room: 408,
     fault: None,
 };
+
+/// The context is made, by a worker on this thread.
+fn made<B: Naming, N: Rings, R: Wait + Abort>(
+    rt: &R,
+    alloc: Global,
+    rig: &mut Rig<B, N>,
+) -> Result<Back, Fail> {
+    assert!(rt; rig.ask(alloc, WAY, &CONTEXT)?);
+    rig.serve(rt, alloc);
+    let back = rig.back(Queue::Control).ok_or("it came back")?;
+    assert!(rt; back.response.as_slice().starts_with(&[0, 0x11, 0, 0]));
+    Ok(back)
+}
 
 /// A command of each lane is run by a worker of its own.
 fn two<B: Naming + Send + Sync, N: Rings + Send, R: Threads + Wait + Abort + Sync>(
@@ -66,10 +86,11 @@ fn run<B: Naming + Send + Sync, N: Rings + Send, R: Threads + Wait + Abort + Syn
     requires queues { (control.queue ≡ Control) × (cursor.queue ≡ Cursor) }
 {
     let mut rig = Rig::<B, N>::new(alloc, opened, control, cursor)?;
+    let context = made(rt, alloc, &mut rig)?;
     let gate = Hold::new(held, other);
     let (first, second) = two(rt, alloc, &mut rig, &gate)?;
     assert_eq!(rt; (first.lane, second.lane), (other, held));
-    let backs = vec![in alloc; first, second]?;
+    let backs = vec![in alloc; context, first, second]?;
     let history = rig.end().ok_or("it ended")?;
     assert!(rt; agrees(alloc, &history, backs.as_slice())?);
     Ok(())
@@ -102,11 +123,11 @@ fn on_rings<B: Naming + Send + Sync, R: Threads + Wait + Abort + Sync>(
 }
 
 #[test]
-fn lane_1_comes_back_before_lane_0(rt: HostRuntime) -> Result<(), Fail> {
-    run_held(&rt, rt.alloc(), 0, 1)
+fn lane_2_comes_back_before_lane_1(rt: HostRuntime) -> Result<(), Fail> {
+    run_held(&rt, rt.alloc(), 1, 2)
 }
 
 #[test]
-fn lane_0_comes_back_before_lane_1(rt: HostRuntime) -> Result<(), Fail> {
-    run_held(&rt, rt.alloc(), 1, 0)
+fn lane_1_comes_back_before_lane_2(rt: HostRuntime) -> Result<(), Fail> {
+    run_held(&rt, rt.alloc(), 2, 1)
 }
