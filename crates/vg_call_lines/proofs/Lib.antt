@@ -1,3 +1,4 @@
 pub mod Counts
 pub mod NameSets
 pub mod ArgLemmas
+pub mod BegunLemmas

@@ -7,6 +7,7 @@ use Rattle.std.specs.Cmp.Lexicographic.{slice_cmp}
 use Rattle.std.specs.Ordering.{nat_cmp}
 use Rattle.vg_call_lines.specs.declared.names.NameKind.TheVariants.{Buffer, Context}
 use Rattle.vg_call_lines.specs.declared.names.Named.{Named}
+use Rattle.vg_call_lines.specs.declared.names.Label.{Label}
 use Rattle.vg_call_lines.specs.Tables.{NameTable, names_of, with_name, with_context, without_name}
 
 cond-if : (b : Bool) (x y : Option Named) → cond b x y ≡ (if b then x else y)
@@ -20,13 +21,13 @@ more_names : (old new : BTreeMap (Bor (List ℕ)) Named) (name : List ℕ) (one 
 more_names old new name one updates =
     fun_ext (λ q. updates.0 (record { ref_ptr = (0, 0); now = q }) ∙ ap (λ b. cond b one (names_of old q)) (is_eq-slice_cmp name q) ∙ cond-if (bytes_eq name q) one (names_of old q))
 
-module _ (labels : List ℕ → ℕ) (exported : ℕ) (old new : BTreeMap (Bor (List ℕ)) Named) (name : List ℕ) (count contexts : ℕ) where
+module _ (labels : List ℕ → Option Label) (given : ℕ) (old new : BTreeMap (Bor (List ℕ)) Named) (name : List ℕ) (count contexts : ℕ) where
   -- The table of a map and two counts.
   abbrev pub table_with : BTreeMap (Bor (List ℕ)) Named → (count contexts : ℕ) → NameTable
-  table_with map count contexts = record { names = names_of map; count = count; contexts = contexts; labels = labels; exported = exported }
+  table_with map count contexts = record { names = names_of map; count = count; contexts = contexts; labels = labels; given = given }
 
   abbrev counted : (count contexts : ℕ) → (List ℕ → Option Named) → NameTable
-  counted count contexts names = record { names = names; count = count; contexts = contexts; labels = labels; exported = exported }
+  counted count contexts names = record { names = names; count = count; contexts = contexts; labels = labels; given = given }
 
   pub named : UpdatesBy (λ x y. slice_cmp nat_cmp x.now y.now) (λ k. slice_cmp nat_cmp name k.now) old new (Some (record { kind = Buffer; number = count + 1 }))
       → table_with new (count + 1) contexts ≡ with_name name (table_with old count contexts)

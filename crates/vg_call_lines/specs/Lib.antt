@@ -1,4 +1,6 @@
 pub mod Args
 pub mod Tables
+pub mod Bodies
 pub mod Rows
+pub mod BegunWithin
 pub mod Code

@@ -1,11 +1,10 @@
 -- The lines of a client, one row for each word: what has to hold of how its numbers are spelled, of the limits
 -- and of the names, and which call it is. `displays` is how many displays there are, and `table` has the names
 -- that are defined before the line. A word or a count of arguments that the grammar doesn't know has no row.
-use Rattle.std.specs.Prelude.{ℕ, ◌*◌, ◌/◌, ◌+◌, ◌==◌, ◌&&◌, ◌||◌, not, nat_lt, nat_le, Bool, true, is_none, is_some, List, length, Option, Some, None, Result, Ok, Err, if◌then◌else◌, codes, bytes_eq}
+use Rattle.std.specs.Prelude.{ℕ, ◌*◌, ◌/◌, ◌+◌, ◌&&◌, ◌||◌, not, nat_lt, nat_le, Bool, true, is_none, is_some, List, [], ◌∷◌, length, Option, Some, None, option_map, Result, Ok, Err, if◌then◌else◌, codes, bytes_eq}
 use Rattle.std.specs.Int.{is_in_range}
 use Rattle.vg_script_words.specs.declared.kind.Kind.{Kind}
 use Rattle.vg_script_words.specs.declared.kind.Kind.TheVariants.{Word, Number, Limit, Name}
-use Rattle.vg_formats.specs.declared.rect.Rect.{Rect}
 use Rattle.vg_formats.specs.Formats.{format_of}
 use Rattle.vg_wire.specs.declared.request.Queue.{Queue}
 use Rattle.vg_wire.specs.declared.request.Queue.TheVariants as queues
@@ -14,12 +13,17 @@ use Rattle.vg_chain.specs.declared.shape.Shape.TheVariants.{Plain, Pieces, Indir
 use Rattle.vg_chain.specs.declared.chain.ChainFault.TheVariants.{Index, Loop, Nested, NextWithIndirect, TableLength, Order, Range}
 use Rattle.vg_chain.specs.Space.{most_room}
 use Rattle.vg_calls.specs.declared.call.Call.{Call}
-use Rattle.vg_calls.specs.declared.call.Call.TheVariants.{Info, Edid, Buffer, Blob, Store, Load, Send, Flush, Take, Drop, Hide, Show, ShowBlob, Flip, Cursor, Move, Context, EndContext, Attach, Detach, Submit, Uuid, Export, Import, Close, Raw}
+use Rattle.vg_calls.specs.declared.call.Call.TheVariants.{Info, Edid, Buffer, Blob, Store, Load, Send, Flush, Take, Drop, Hide, Show, ShowBlob, Flip, Cursor, Move, Context, EndContext, Attach, Detach, Submit, Uuid, Export, Import, Begin, Await, Close, Raw}
+use Rattle.vg_calls.specs.declared.call.Body.{Body}
+use Rattle.vg_calls.specs.declared.call.Body.TheVariants as bodies
+use Rattle.vg_calls.specs.declared.call.ContextRef.{ContextRef}
 use Rattle.vg_calls.specs.declared.call.NameRef.{NameRef}
 use Rattle.vg_call_lines.specs.declared.names.NameKind.TheVariants as kinds
+use Rattle.vg_call_lines.specs.declared.names.LabelKind.TheVariants as labels
 use Rattle.vg_script_words.specs.Words.{is_number, value, is_within, is_hex, hex_bytes, is_hex_or_none, bytes_or_none, is_name, is_no_name, is_signed, signed_value, is_position}
 use Rattle.vg_call_lines.specs.Args.{no_args, one_arg, two_args, three_args, four_args, five_args, six_args, eleven_args}
-use Rattle.vg_call_lines.specs.Tables.{NameTable, with_name, with_context, without_name, with_label, is_kind, ref_to, context_ref_to}
+use Rattle.vg_call_lines.specs.Tables.{NameTable, with_name, with_context, without_name, with_label, is_kind, ref_to, context_ref_to, is_label, label_number, is_next}
+use Rattle.vg_call_lines.specs.Bodies.{Part, is_any, are_numbers, are_any, rect_of, info_body, send_body, flush_body, submit_body, begun_parts}
 
 pub record Row : Type 0 where
   -- each number and HEX is well spelled
@@ -33,10 +37,6 @@ pub record Row : Type 0 where
   -- which names are defined after it
   pub after : NameTable
 
--- Any `u32`.
-abbrev pub is_any : List ℕ → Bool
-is_any word = is_within 0 4294967295 word
-
 -- The code of a format.
 abbrev pub is_format : List ℕ → Bool
 is_format word = is_some (format_of (value word))
@@ -49,29 +49,23 @@ are_times count times = is_in_range 1 4096 count && is_within 1 307200 times && 
 abbrev pub is_scanout : ℕ → List ℕ → Bool
 is_scanout displays word = nat_lt (value word) displays
 
--- X Y W H
-abbrev pub are_numbers : (x y width height : List ℕ) → Bool
-are_numbers x y width height = is_number x && is_number y && is_number width && is_number height
-
-abbrev pub are_any : (x y width height : List ℕ) → Bool
-are_any x y width height = is_any x && is_any y && is_any width && is_any height
-
-abbrev pub rect_of : (x y width height : List ℕ) → Rect
-rect_of x y width height = record { x = value x; y = value y; width = value width; height = value height }
-
 -- The name that a word is, or none where it is `-`.
 abbrev pub ref_or_none : NameTable → List ℕ → Option NameRef
 ref_or_none table name = if is_no_name name then None else Some (ref_to table name)
 
+-- What could be begun too, as a line of its own.
+abbrev pub call_of_body : Body → Call
+call_of_body bodies.Info = Info
+call_of_body (bodies.Send name rect) = Send name rect
+call_of_body (bodies.Flush name rect) = Flush name rect
+call_of_body (bodies.Submit context ring) = Submit context ring
+
+abbrev pub alone : NameTable → Part Body → Row
+alone table part = record { numbers = part.numbers; limits = part.limits; names = part.names; call = call_of_body part.says; after = table }
+
 -- info
 unfoldable pub info_row : NameTable → Option Row
-info_row table = Some (record {
-  numbers = true;
-  limits = true;
-  names = true;
-  call = Info;
-  after = table;
-})
+info_row table = option_map (alone table) info_body
 
 -- edid S
 unfoldable pub edid_row : NameTable → (scanout : List ℕ) → Option Row
@@ -125,23 +119,11 @@ load_row table name offset size = Some (record {
 
 -- send A X Y W H
 unfoldable pub send_row : NameTable → (name x y width height : List ℕ) → Option Row
-send_row table name x y width height = Some (record {
-  numbers = are_numbers x y width height;
-  limits = are_any x y width height;
-  names = is_kind kinds.Buffer (table.names name);
-  call = Send (ref_to table name) (rect_of x y width height);
-  after = table;
-})
+send_row table name x y width height = option_map (alone table) (send_body table name x y width height)
 
 -- flush A X Y W H
 unfoldable pub flush_row : NameTable → (name x y width height : List ℕ) → Option Row
-flush_row table name x y width height = Some (record {
-  numbers = are_numbers x y width height;
-  limits = are_any x y width height;
-  names = is_kind kinds.Buffer (table.names name);
-  call = Flush (ref_to table name) (rect_of x y width height);
-  after = table;
-})
+flush_row table name x y width height = option_map (alone table) (flush_body table name x y width height)
 
 -- take S
 unfoldable pub take_row : ℕ → NameTable → (scanout : List ℕ) → Option Row
@@ -265,13 +247,7 @@ detach_row table context name = Some (record {
 
 -- submit K R
 unfoldable pub submit_row : NameTable → (context ring : List ℕ) → Option Row
-submit_row table context ring = Some (record {
-  numbers = is_number ring;
-  limits = is_within 0 63 ring;
-  names = is_kind kinds.Context (table.names context);
-  call = Submit (context_ref_to table context) (value ring);
-  after = table;
-})
+submit_row table context ring = option_map (alone table) (submit_body table context ring)
 
 -- uuid A
 unfoldable pub uuid_row : NameTable → (name : List ℕ) → Option Row
@@ -288,19 +264,45 @@ unfoldable pub export_row : NameTable → (name label : List ℕ) → Option Row
 export_row table name label = Some (record {
   numbers = true;
   limits = true;
-  names = is_kind kinds.Buffer (table.names name) && is_name label && table.labels label == table.exported + 1;
-  call = Export (ref_to table name) (table.exported + 1);
+  names = is_kind kinds.Buffer (table.names name) && is_name label && is_next table label;
+  call = Export (ref_to table name) (table.given + 1);
   after = with_label table;
 })
 
--- import X A, where X is a label that some line defines; its token isn't known before the run
+-- import X A, where X is a label of a token that some line defines; the token isn't known before the run
 unfoldable pub import_row : NameTable → (label name : List ℕ) → Option Row
 import_row table label name = Some (record {
   numbers = true;
   limits = true;
-  names = is_name label && not (table.labels label == 0) && is_name name && is_none (table.names name);
-  call = Import (table.labels label) None;
+  names = is_name label && is_label labels.Token (table.labels label) && is_name name && is_none (table.names name);
+  call = Import (label_number (table.labels label)) None;
   after = with_name name table;
+})
+
+-- begin L T BODY, where L is a label that no line before has defined, and T and BODY have these tests
+abbrev pub begun_row : NameTable → List ℕ → Part (Option (ContextRef × ℕ) × Body) → Row
+begun_row table label parts = record {
+  numbers = parts.numbers;
+  limits = parts.limits;
+  names = parts.names && (is_name label && is_next table label);
+  call = Begin (table.given + 1) parts.says.0 parts.says.1;
+  after = with_label table;
+}
+
+unfoldable pub begin_row : NameTable → List (List ℕ) → Option Row
+begin_row table [] = None
+begin_row table (label ∷ []) = None
+begin_row table (label ∷ on ∷ []) = None
+begin_row table (label ∷ on ∷ word ∷ args) = option_map (begun_row table label) (begun_parts table on word args)
+
+-- await L, where L is a label of a fence that some line defines; the fence isn't known before the run
+unfoldable pub await_row : NameTable → (label : List ℕ) → Option Row
+await_row table label = Some (record {
+  numbers = true;
+  limits = true;
+  names = is_name label && is_label labels.Fence (table.labels label);
+  call = Await (label_number (table.labels label)) None;
+  after = table;
 })
 
 -- close A
@@ -362,13 +364,20 @@ request_row table queue shape room hex = None
 unfoldable pub raw_row : NameTable → (queue room shape hex : List ℕ) → Option Row
 raw_row table queue room shape hex = request_row table (queue_of queue) (shape_of shape) room hex
 
--- The row of a line, by its first word and the arguments behind it, in six parts. Each part but the last goes on
--- to the one that stands above it here, where the word is none of its own. The last part: what clients share.
+-- The row of a line, by its first word and the arguments behind it, in seven parts. Each part but the last goes on
+-- to the one that stands above it here, where the word is none of its own. The last part: what is begun, and what waits for it.
+unfoldable pub row_of_begun : List ℕ → NameTable → List (List ℕ) → Option Row
+row_of_begun word table args =
+    if bytes_eq word (codes "begin") then begin_row table args
+    else if bytes_eq word (codes "await") then one_arg (await_row table) args
+    else None
+
+-- The sixth: what clients share.
 unfoldable pub row_of_shared : List ℕ → NameTable → List (List ℕ) → Option Row
 row_of_shared word table args =
     if bytes_eq word (codes "export") then two_args (export_row table) args
     else if bytes_eq word (codes "import") then two_args (import_row table) args
-    else None
+    else row_of_begun word table args
 
 -- The fifth: contexts.
 unfoldable pub row_of_contexts : List ℕ → NameTable → List (List ℕ) → Option Row

@@ -1,5 +1,5 @@
 -- The names that are defined.
-use Rattle.std.specs.Prelude.{ℕ, ◌+◌, Bool, true, false, List, Option, Some, None, if◌then◌else◌, bytes_eq}
+use Rattle.std.specs.Prelude.{ℕ, ◌+◌, ◌==◌, Bool, true, false, List, Option, Some, None, if◌then◌else◌, bytes_eq}
 use Rattle.std.specs.BTreeMap.{BTreeMap, get_by}
 use Rattle.std.specs.Cmp.Lexicographic.{slice_cmp}
 use Rattle.std.specs.Ordering.{nat_cmp}
@@ -9,6 +9,9 @@ use Rattle.vg_calls.specs.declared.call.ContextRef.{ContextRef}
 use Rattle.vg_call_lines.specs.declared.names.NameKind.{NameKind}
 use Rattle.vg_call_lines.specs.declared.names.NameKind.TheVariants.{Buffer, Context}
 use Rattle.vg_call_lines.specs.declared.names.Named.{Named}
+use Rattle.vg_call_lines.specs.declared.names.LabelKind.{LabelKind}
+use Rattle.vg_call_lines.specs.declared.names.LabelKind.TheVariants.{Fence, Token}
+use Rattle.vg_call_lines.specs.declared.names.Label.{Label}
 
 -- Which names of a client are defined, and how many of each kind its lines have defined so far, those that have ended among them;
 -- and the labels of the whole text.
@@ -18,26 +21,22 @@ pub record NameTable : Type 0 where
   pub count : ℕ
   -- how many names of contexts
   pub contexts : ℕ
-  -- the number of each label that the text defines, its place from 1 on among them, and 0 of any other word
-  pub labels : List ℕ → ℕ
+  -- the labels that the text defines
+  pub labels : List ℕ → Option Label
   -- how many labels the lines so far have defined
-  pub exported : ℕ
+  pub given : ℕ
 
 -- The names of a map by parts of a text.
 abbrev pub names_of : BTreeMap (Bor (List ℕ)) Named → List ℕ → Option Named
 names_of map q = get_by (λ k. slice_cmp nat_cmp q k.now) map
 
--- The numbers of a map by parts of a text, 0 where there is none.
-abbrev pub number_or_none : Option ℕ → ℕ
-number_or_none (Some number) = number
-number_or_none None = 0
-
-abbrev pub numbers_of : BTreeMap (Bor (List ℕ)) ℕ → List ℕ → ℕ
-numbers_of map q = number_or_none (get_by (λ k. slice_cmp nat_cmp q k.now) map)
+-- The labels of a map by parts of a text.
+abbrev pub labels_in : BTreeMap (Bor (List ℕ)) Label → List ℕ → Option Label
+labels_in map q = get_by (λ k. slice_cmp nat_cmp q k.now) map
 
 -- No names, before the first line of a text with these labels.
-abbrev pub no_names : (List ℕ → ℕ) → NameTable
-no_names labels = record { names = λ q. None; count = 0; contexts = 0; labels = labels; exported = 0 }
+abbrev pub no_names : (List ℕ → Option Label) → NameTable
+no_names labels = record { names = λ q. None; count = 0; contexts = 0; labels = labels; given = 0 }
 
 -- No names, where the labels stay: so a client begins.
 abbrev pub without_names : NameTable → NameTable
@@ -45,7 +44,7 @@ without_names table = record table { names = λ q. None; count = 0; contexts = 0
 
 -- One label more was defined.
 abbrev pub with_label : NameTable → NameTable
-with_label table = record table { exported = table.exported + 1 }
+with_label table = record table { given = table.given + 1 }
 
 -- A table with one name more, and without one. A buffer's name has the next number of buffers, a context's that of contexts.
 abbrev pub with_name : List ℕ → NameTable → NameTable
@@ -83,3 +82,22 @@ ref_to table name = record { number = number_of (table.names name) }
 
 abbrev pub context_ref_to : NameTable → List ℕ → ContextRef
 context_ref_to table name = record { number = number_of (table.names name) }
+
+-- A label by its number; 0 where it isn't defined.
+abbrev pub label_number : Option Label → ℕ
+label_number (Some label) = label.number
+label_number None = 0
+
+-- Whether this is a label of that kind.
+abbrev pub are_same_labels : LabelKind → LabelKind → Bool
+are_same_labels Fence Fence = true
+are_same_labels Token Token = true
+are_same_labels one other = false
+
+abbrev pub is_label : LabelKind → Option Label → Bool
+is_label kind (Some label) = are_same_labels label.kind kind
+is_label kind None = false
+
+-- The next line to define a label is the first that defines this one.
+abbrev pub is_next : NameTable → List ℕ → Bool
+is_next table label = label_number (table.labels label) == table.given + 1

@@ -1,13 +1,13 @@
 //! Which line of a client some words are.
 
 ghost use Rattle.std.specs.Prelude.{◌≡◌, ◌+◌, ◌-◌, ◌<◌, ◌≤◌, ◌^◌, map};
-ghost use Rattle.vg_call_lines.specs.Rows.{judged_row, row_of, row_of_buffers, row_of_scanouts, row_of_others, row_of_contexts, row_of_shared, buffer_row, blob_row, store_row, load_row, send_row, flush_row, show_row, showblob_row, flip_row, cursor_row, move_row, raw_row, context_row, attach_row, detach_row, submit_row, import_row};
+ghost use Rattle.vg_call_lines.specs.Rows.{judged_row, row_of, row_of_buffers, row_of_scanouts, row_of_others, row_of_contexts, row_of_shared, row_of_begun, buffer_row, blob_row, store_row, load_row, send_row, flush_row, show_row, showblob_row, flip_row, cursor_row, move_row, raw_row, context_row, attach_row, detach_row, submit_row, import_row};
 ghost use Rattle.vg_call_lines.specs.Args.{one_arg, two_args, three_args, four_args, five_args, six_args, eleven_args};
 ghost use Rattle.vg_call_lines.specs.Code.{table_of, Judges};
 
 use crate::args::with_args;
 use crate::names::Names;
-use crate::rows;
+use crate::{begun, buffers, contexts, rows, scanouts};
 use std::alloc::Global;
 use vg_calls::Call;
 use vg_script_words::{Kind, Stop, is};
@@ -90,13 +90,13 @@ fn call_of_scanouts<'a>(
     ensures count { (table_of names.new).count ≤ (table_of names.old).count + 1 }
 {
     if is(word, b"take") {
-        return with_args!(args, [scanout] => rows::take(names, displays, scanout));
+        return with_args!(args, [scanout] => scanouts::take(names, displays, scanout));
     }
     if is(word, b"drop") {
-        return with_args!(args, [scanout] => rows::drop_scanout(names, displays, scanout));
+        return with_args!(args, [scanout] => scanouts::drop_scanout(names, displays, scanout));
     }
     if is(word, b"hide") {
-        return with_args!(args, [scanout] => rows::hide(names, displays, scanout));
+        return with_args!(args, [scanout] => scanouts::hide(names, displays, scanout));
     }
     if is(word, b"show") {
         return show(names, displays, args);
@@ -155,7 +155,7 @@ fn call_of_contexts<'a>(names: &mut Names<'a>, word: &[u8], args: &[&'a [u8]]) -
         return context(names, args);
     }
     if is(word, b"endcontext") {
-        return with_args!(args, [name] => rows::end_context(names, name));
+        return with_args!(args, [name] => contexts::end_context(names, name));
     }
     if is(word, b"attach") {
         return attach(names, args);
@@ -169,7 +169,7 @@ fn call_of_contexts<'a>(names: &mut Names<'a>, word: &[u8], args: &[&'a [u8]]) -
     call_of_shared(names, word, args)
 }
 
-/// The call of a line about what clients share.
+/// The call of a line about what clients share, or else of one of those below.
 #[tactic(auto, unfolding(crate::specs::Rows::row_of_shared))]
 fn call_of_shared<'a>(names: &mut Names<'a>, word: &[u8], args: &[&'a [u8]]) -> Result<Call, Stop>
     requires count { (table_of names.old).count < 2 ^ 32 - 1 }
@@ -183,6 +183,22 @@ fn call_of_shared<'a>(names: &mut Names<'a>, word: &[u8], args: &[&'a [u8]]) -> 
     if is(word, b"import") {
         return import(names, args);
     }
+    call_of_begun(names, word, args)
+}
+
+/// The call of a line about what is begun and not waited for, or waits for it.
+#[tactic(auto, unfolding(crate::specs::Rows::row_of_begun))]
+fn call_of_begun(names: &mut Names, word: &[u8], args: &[&[u8]]) -> Result<Call, Stop>
+    ensures call { Judges (table_of names.new) result
+        (judged_row (row_of_begun word.now (table_of names.old) (map (λ arg. arg.now) args.now))) }
+    ensures count { (table_of names.new).count ≡ (table_of names.old).count }
+{
+    if is(word, b"begin") {
+        return begun::begin(names, args);
+    }
+    if is(word, b"await") {
+        return with_args!(args, [label] => begun::wait(names, label));
+    }
     Err(Stop::Fault(Kind::Word))
 }
 
@@ -192,7 +208,7 @@ fn buffer<'a>(names: &mut Names<'a>, args: &[&'a [u8]]) -> Result<Call, Stop>
         (judged_row (four_args (buffer_row (table_of names.old)) (map (λ arg. arg.now) args.now))) }
     ensures count { (table_of names.new).count ≤ (table_of names.old).count + 1 }
 {
-    with_args!(args, [name, width, height, format] => rows::buffer(names, name, width, height, format))
+    with_args!(args, [name, width, height, format] => buffers::buffer(names, name, width, height, format))
 }
 
 fn blob<'a>(names: &mut Names<'a>, args: &[&'a [u8]]) -> Result<Call, Stop>
@@ -201,35 +217,35 @@ fn blob<'a>(names: &mut Names<'a>, args: &[&'a [u8]]) -> Result<Call, Stop>
         (judged_row (two_args (blob_row (table_of names.old)) (map (λ arg. arg.now) args.now))) }
     ensures count { (table_of names.new).count ≤ (table_of names.old).count + 1 }
 {
-    with_args!(args, [name, size] => rows::blob(names, name, size))
+    with_args!(args, [name, size] => buffers::blob(names, name, size))
 }
 
 fn store(alloc: Global, names: &Names, args: &[&[u8]]) -> Result<Call, Stop>
     ensures { Judges (table_of names.now) result
         (judged_row (four_args (store_row (table_of names.now)) (map (λ arg. arg.now) args.now))) }
 {
-    with_args!(args, [name, offset, hex, times] => rows::store(alloc, names, name, offset, hex, times))
+    with_args!(args, [name, offset, hex, times] => buffers::store(alloc, names, name, offset, hex, times))
 }
 
 fn load(names: &Names, args: &[&[u8]]) -> Result<Call, Stop>
     ensures { Judges (table_of names.now) result
         (judged_row (three_args (load_row (table_of names.now)) (map (λ arg. arg.now) args.now))) }
 {
-    with_args!(args, [name, offset, size] => rows::load(names, name, offset, size))
+    with_args!(args, [name, offset, size] => buffers::load(names, name, offset, size))
 }
 
 fn send(names: &Names, args: &[&[u8]]) -> Result<Call, Stop>
     ensures { Judges (table_of names.now) result
         (judged_row (five_args (send_row (table_of names.now)) (map (λ arg. arg.now) args.now))) }
 {
-    with_args!(args, [name, x, y, width, height] => rows::send(names, name, x, y, width, height))
+    with_args!(args, [name, x, y, width, height] => buffers::send(names, name, x, y, width, height))
 }
 
 fn flush(names: &Names, args: &[&[u8]]) -> Result<Call, Stop>
     ensures { Judges (table_of names.now) result
         (judged_row (five_args (flush_row (table_of names.now)) (map (λ arg. arg.now) args.now))) }
 {
-    with_args!(args, [name, x, y, width, height] => rows::flush(names, name, x, y, width, height))
+    with_args!(args, [name, x, y, width, height] => buffers::flush(names, name, x, y, width, height))
 }
 
 fn show(names: &Names, displays: usize, args: &[&[u8]]) -> Result<Call, Stop>
@@ -237,7 +253,7 @@ fn show(names: &Names, displays: usize, args: &[&[u8]]) -> Result<Call, Stop>
     ensures { Judges (table_of names.now) result
         (judged_row (six_args (show_row displays (table_of names.now)) (map (λ arg. arg.now) args.now))) }
 {
-    with_args!(args, [scanout, name, x, y, width, height] => rows::show(names, displays, scanout, name, x, y, width, height))
+    with_args!(args, [scanout, name, x, y, width, height] => scanouts::show(names, displays, scanout, name, x, y, width, height))
 }
 
 fn show_blob(names: &Names, displays: usize, args: &[&[u8]]) -> Result<Call, Stop>
@@ -245,7 +261,7 @@ fn show_blob(names: &Names, displays: usize, args: &[&[u8]]) -> Result<Call, Sto
     ensures { Judges (table_of names.now) result
         (judged_row (eleven_args (showblob_row displays (table_of names.now)) (map (λ arg. arg.now) args.now))) }
 {
-    with_args!(args, [scanout, name, x, y, width, height, columns, lines, format, stride, offset] => rows::show_blob(names, displays, scanout, name, x, y, width, height, columns, lines, format, stride, offset))
+    with_args!(args, [scanout, name, x, y, width, height, columns, lines, format, stride, offset] => scanouts::show_blob(names, displays, scanout, name, x, y, width, height, columns, lines, format, stride, offset))
 }
 
 fn flip(names: &Names, displays: usize, args: &[&[u8]]) -> Result<Call, Stop>
@@ -253,7 +269,7 @@ fn flip(names: &Names, displays: usize, args: &[&[u8]]) -> Result<Call, Stop>
     ensures { Judges (table_of names.now) result
         (judged_row (two_args (flip_row displays (table_of names.now)) (map (λ arg. arg.now) args.now))) }
 {
-    with_args!(args, [scanout, name] => rows::flip(names, displays, scanout, name))
+    with_args!(args, [scanout, name] => scanouts::flip(names, displays, scanout, name))
 }
 
 fn cursor(names: &Names, displays: usize, args: &[&[u8]]) -> Result<Call, Stop>
@@ -261,7 +277,7 @@ fn cursor(names: &Names, displays: usize, args: &[&[u8]]) -> Result<Call, Stop>
     ensures { Judges (table_of names.now) result
         (judged_row (six_args (cursor_row displays (table_of names.now)) (map (λ arg. arg.now) args.now))) }
 {
-    with_args!(args, [scanout, name, x, y, hot_x, hot_y] => rows::cursor(names, displays, scanout, name, x, y, hot_x, hot_y))
+    with_args!(args, [scanout, name, x, y, hot_x, hot_y] => scanouts::cursor(names, displays, scanout, name, x, y, hot_x, hot_y))
 }
 
 fn move_cursor(names: &Names, displays: usize, args: &[&[u8]]) -> Result<Call, Stop>
@@ -269,7 +285,7 @@ fn move_cursor(names: &Names, displays: usize, args: &[&[u8]]) -> Result<Call, S
     ensures { Judges (table_of names.now) result
         (judged_row (three_args (move_row displays (table_of names.now)) (map (λ arg. arg.now) args.now))) }
 {
-    with_args!(args, [scanout, x, y] => rows::move_cursor(names, displays, scanout, x, y))
+    with_args!(args, [scanout, x, y] => scanouts::move_cursor(names, displays, scanout, x, y))
 }
 
 fn raw(alloc: Global, names: &Names, args: &[&[u8]]) -> Result<Call, Stop>
@@ -284,28 +300,28 @@ fn context<'a>(names: &mut Names<'a>, args: &[&'a [u8]]) -> Result<Call, Stop>
         (judged_row (one_arg (context_row (table_of names.old)) (map (λ arg. arg.now) args.now))) }
     ensures count { (table_of names.new).count ≡ (table_of names.old).count }
 {
-    with_args!(args, [name] => rows::context(names, name))
+    with_args!(args, [name] => contexts::context(names, name))
 }
 
 fn attach(names: &Names, args: &[&[u8]]) -> Result<Call, Stop>
     ensures { Judges (table_of names.now) result
         (judged_row (two_args (attach_row (table_of names.now)) (map (λ arg. arg.now) args.now))) }
 {
-    with_args!(args, [context, name] => rows::attach(names, context, name))
+    with_args!(args, [context, name] => contexts::attach(names, context, name))
 }
 
 fn detach(names: &Names, args: &[&[u8]]) -> Result<Call, Stop>
     ensures { Judges (table_of names.now) result
         (judged_row (two_args (detach_row (table_of names.now)) (map (λ arg. arg.now) args.now))) }
 {
-    with_args!(args, [context, name] => rows::detach(names, context, name))
+    with_args!(args, [context, name] => contexts::detach(names, context, name))
 }
 
 fn submit(names: &Names, args: &[&[u8]]) -> Result<Call, Stop>
     ensures { Judges (table_of names.now) result
         (judged_row (two_args (submit_row (table_of names.now)) (map (λ arg. arg.now) args.now))) }
 {
-    with_args!(args, [context, ring] => rows::submit(names, context, ring))
+    with_args!(args, [context, ring] => contexts::submit(names, context, ring))
 }
 
 fn import<'a>(names: &mut Names<'a>, args: &[&'a [u8]]) -> Result<Call, Stop>

@@ -2,9 +2,14 @@
 #![tactic(auto)]
 
 mod args;
+mod begun;
+mod buffers;
 mod calls;
+mod contexts;
 mod names;
 mod rows;
+mod scanouts;
 
+pub use begun::begun_label;
 pub use calls::call_of;
-pub use names::{NameKind, Named, Names};
+pub use names::{Label, LabelKind, NameKind, Named, Names};

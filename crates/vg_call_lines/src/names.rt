@@ -21,6 +21,23 @@ pub struct Named {
     pub number: u32,
 }
 
+/// What a label is the label of.
+#[derive(Clone, Copy, PartialEq, Eq)]
+pub enum LabelKind {
+    /// A begun command's fence.
+    Fence,
+    /// A token by which other clients can hold a buffer.
+    Token,
+}
+
+/// What a text is that is a label: of what it is the label, as the first line says that defines it, and its number: that line's
+/// place among all that define labels, from 1.
+#[derive(Clone, Copy)]
+pub struct Label {
+    pub kind: LabelKind,
+    pub number: u32,
+}
+
 /// The names of a client that are defined, as parts of the text, and how many of each kind its lines have defined so far, those
 /// that have ended among them; and the labels of the whole text.
 #[derive(Drop)]
@@ -30,28 +47,28 @@ pub struct Names<'a> {
     pub count: u32,
     /// How many names of contexts.
     pub contexts: u32,
-    /// The number of each label that the text defines.
-    pub labels: BTreeMap<&'a [u8], u32>,
+    /// The labels that the text defines.
+    pub labels: BTreeMap<&'a [u8], Label>,
     /// How many labels the lines so far have defined.
-    pub exported: u32,
+    pub given: u32,
 }
 
 impl<'a> Names<'a> {
-    ghost use Rattle.std.specs.Prelude.{◌≡◌, ◌+◌, ◌-◌, ◌<◌, ◌≤◌, ◌^◌, ◌==◌, ◌&&◌, not, OnOk, is_some};
-    ghost use Rattle.vg_call_lines.specs.Tables.{with_name, with_context, without_name, without_names, no_names, numbers_of};
+    ghost use Rattle.std.specs.Prelude.{◌≡◌, ◌+◌, ◌-◌, ◌<◌, ◌≤◌, ◌^◌, ◌&&◌, OnOk, is_some};
+    ghost use Rattle.vg_call_lines.specs.Tables.{with_name, with_context, without_name, without_names, no_names, labels_in, is_label, label_number, is_next};
     ghost use Rattle.vg_script_words.specs.Words.{is_name};
     ghost use Rattle.vg_call_lines.specs.Code.{table_of, IsNumbered, IsGiven};
 
     /// No names, of a text with these labels.
-    pub fn new(alloc: Global, labels: BTreeMap<&'a [u8], u32>) -> Names<'a>
-        ensures { table_of result ≡ no_names (numbers_of labels.entry) }
+    pub fn new(alloc: Global, labels: BTreeMap<&'a [u8], Label>) -> Names<'a>
+        ensures { table_of result ≡ no_names (labels_in labels.entry) }
     {
         Names {
             named: BTreeMap::new(alloc),
             count: 0,
             contexts: 0,
             labels,
-            exported: 0,
+            given: 0,
         }
     }
 
@@ -102,29 +119,42 @@ impl<'a> Names<'a> {
         self.named.remove(name);
     }
 
-    /// The number of a label, where it is well spelled and the text defines it.
-    pub(crate) fn label(&self, label: &[u8]) -> Option<u32>
-        ensures { IsNumbered (is_name label.now && not ((table_of self.now).labels label.now == 0)) ((table_of self.now).labels label.now) result }
+    /// The number of a label, where it is well spelled and the text defines it as one of this kind.
+    pub(crate) fn label(&self, label: &[u8], kind: LabelKind) -> Option<u32>
+        ensures { IsNumbered (is_name label.now && is_label kind ((table_of self.now).labels label.now)) (label_number ((table_of self.now).labels label.now)) result }
     {
         if !is_name(label) {
             return None;
         }
         match self.labels.get(label).copied() {
-            Some(number) if number > 0 => Some(number),
+            Some(found) if found.kind == kind => Some(found.number),
             _ => None,
         }
     }
 
     /// Takes a label as defined by this line, where no line before has defined it, and gives its number.
     pub(crate) fn give(&mut self, label: &[u8]) -> Option<u32>
-        ensures { IsGiven (is_name label.now && (table_of self.old).labels label.now == (table_of self.old).exported + 1) (table_of self.old) (table_of self.new) result }
+        ensures { IsGiven (is_name label.now && is_next (table_of self.old) label.now) (table_of self.old) (table_of self.new) result }
     {
-        let number = self.label(label)?;
-        if number - 1 != self.exported {
+        if !is_name(label) {
             return None;
         }
-        self.exported = number;
+        let number = self.number_of(label);
+        if number == 0 || number - 1 != self.given {
+            return None;
+        }
+        self.given = number;
         Some(number)
+    }
+
+    /// The number of a label, 0 where the text doesn't define it.
+    fn number_of(&self, label: &[u8]) -> u32
+        ensures { result ≡ label_number ((table_of self.now).labels label.now) }
+    {
+        match self.labels.get(label) {
+            Some(found) => found.number,
+            None => 0,
+        }
     }
 
     /// Ends all names, and their numbers begin again. The labels stay.

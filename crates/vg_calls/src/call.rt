@@ -1,6 +1,7 @@
 //! A call of a client, and the names that calls speak of.
 
 use vg_chain::Shape;
+use vg_fence::Fence;
 use vg_formats::Rect;
 use vg_list::Seq;
 use vg_wire::Queue;
@@ -15,6 +16,19 @@ pub struct NameRef {
 #[derive(Clone, Copy)]
 pub struct ContextRef {
     pub number: u32,
+}
+
+/// What a client begins: a command on a timeline, which it doesn't wait for.
+#[derive(Clone, Copy)]
+pub enum Body {
+    /// Asks for the display information.
+    Info,
+    /// Transfers a rectangle of a buffer to the device.
+    Send { name: NameRef, rect: Rect },
+    /// Flushes a rectangle of a buffer to the scanouts that show it.
+    Flush { name: NameRef, rect: Rect },
+    /// Submits commands of no bytes on a timeline of a context, ring index 0 to 63, which is that on which it is begun.
+    Submit { context: ContextRef, ring: u8 },
 }
 
 /// A call of a client. Offsets and lengths are in bytes, rectangles in pixels. A `scanout` counts the displays from 0 on.
@@ -147,6 +161,19 @@ pub enum Call {
     Import {
         label: u32,
         token: Option<u32>,
+    },
+    /// Begins a command on a timeline of a context, ring index 0 to 63, or on none, and goes on without its reply. The label is what a
+    /// script calls its fence; whoever makes the call gives the fence on.
+    Begin {
+        label: u32,
+        timeline: Option<(ContextRef, u8)>,
+        body: Body,
+    },
+    /// Waits for a fence: until all commands on its lane up to it have come back; with no fence that is denied. The label is what a
+    /// script calls the fence, which isn't known before the run.
+    Await {
+        label: u32,
+        fence: Option<Fence>,
     },
     /// Asks these bytes of the device, as they are.
     Raw {

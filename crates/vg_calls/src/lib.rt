@@ -3,4 +3,4 @@
 
 mod call;
 
-pub use call::{Call, ContextRef, NameRef};
+pub use call::{Body, Call, ContextRef, NameRef};

@@ -8,14 +8,18 @@ use Rattle.vg_client_holds.specs.Holds.{has_number}
 use Rattle.vg_calls.specs.declared.call.Call.{Call}
 use Rattle.vg_calls.specs.declared.call.Call.TheVariants as calls
 use Rattle.vg_calls.specs.declared.call.NameRef.{NameRef}
+use Rattle.vg_calls.specs.declared.call.Body.{Body}
+use Rattle.vg_calls.specs.declared.call.Body.TheVariants as bodies
+use Rattle.vg_driver.specs.declared.request.Way.{Way}
+use Rattle.vg_fence.specs.Fences.{FenceData}
 use Rattle.vg_client.specs.Calls.{Gives, GivesTasks}
 use Rattle.vg_tasks.specs.Known.{Known}
 use Rattle.vg_names.specs.Names.{NamesState, found, has_one_name}
 use Rattle.vg_names.specs.Contexts.{is_current}
 use Rattle.vg_names.specs.declared.names.Held.{Held}
 use Rattle.vg_tasks.specs.declared.task.Task.{Task}
-use Rattle.vg_tasks.specs.Table.{release_task}
-use Rattle.vg_tasks.specs.Tasks.{clear_tasks, close_tasks, cursor_tasks, drop_tasks, give_back, if_current, tasks_of}
+use Rattle.vg_tasks.specs.Table.{begun_way, release_task}
+use Rattle.vg_tasks.specs.Tasks.{await_tasks, body_tasks, clear_tasks, close_tasks, cursor_tasks, drop_tasks, give_back, if_current, is_timeline, tasks_of}
 
 -- a call that isn't denied before there is any task has one
 abbrev HasTasks : Result (List Task) What → Type 0
@@ -41,6 +45,16 @@ has-drop_tasks holds scanout = by_test (has_number scanout holds.scanouts)
 context-tasks : (current : Bool) (plan : Result (List Task) What) → HasTasks plan → HasTasks (cond current plan (Err Name))
 context-tasks true plan has = has
 context-tasks false plan has = tt
+
+has-body : (known : Known) (way : Way) (body : Body) → HasTasks (body_tasks known way body)
+has-body known way bodies.Info = omega arith
+has-body known way (bodies.Send name rect) = held-tasks (found name.number known.names) _ (λ one. omega arith)
+has-body known way (bodies.Flush name rect) = held-tasks (found name.number known.names) _ (λ one. omega arith)
+has-body known way (bodies.Submit context ring) = context-tasks (is_current context.number known.contexts) _ (omega arith)
+
+has-await : (fence : Option FenceData) → HasTasks (await_tasks fence)
+has-await (Some fence) = omega arith
+has-await None = tt
 
 has-tasks : (known : Known) (call : Call) → HasTasks (tasks_of known call)
 has-tasks known calls.Info = omega arith
@@ -68,6 +82,8 @@ has-tasks known (calls.Uuid name) = held-tasks (found name.number known.names) _
 has-tasks known (calls.Export name label) = held-tasks (found name.number known.names) _ (λ one. omega arith)
 has-tasks known (calls.Import label (Some token)) = omega arith
 has-tasks known (calls.Import label None) = omega arith
+has-tasks known (calls.Begin label timeline body) = context-tasks (is_timeline known.contexts timeline) _ (has-body known (begun_way known.holds.client timeline) body)
+has-tasks known (calls.Await label fence) = has-await fence
 has-tasks known (calls.Raw queue room shape bytes) = omega arith
 has-tasks known (calls.Close name) =
     held-tasks (found name.number known.names) (close_tasks known.names.current known.shows)

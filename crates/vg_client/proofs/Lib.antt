@@ -3,7 +3,10 @@ pub mod HoldsLemmas
 pub mod OwnLemmas
 pub mod GivesLemmas
 pub mod OutcomeLemmas
+pub mod RunningLemmas
 pub mod AccountLemmas
 pub mod ReplyLemmas
 pub mod PlayLemmas
 pub mod NumberLemmas
+pub mod MeetLemmas
+pub mod StepLemmas

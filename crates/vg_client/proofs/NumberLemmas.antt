@@ -9,6 +9,10 @@ use Rattle.vg_machine.specs.Entries.{Entry}
 use Rattle.vg_calls.specs.declared.call.Call.{Call}
 use Rattle.vg_calls.specs.declared.call.Call.TheVariants as calls
 use Rattle.vg_calls.specs.declared.call.NameRef.{NameRef}
+use Rattle.vg_calls.specs.declared.call.Body.{Body}
+use Rattle.vg_calls.specs.declared.call.Body.TheVariants as bodies
+use Rattle.vg_driver.specs.declared.request.Way.{Way}
+use Rattle.vg_fence.specs.Fences.{FenceData}
 use Rattle.vg_names.specs.declared.names.Held.{Held}
 use Rattle.vg_names.specs.Names.{NamesState, found, has_one_name, without_name}
 use Rattle.vg_names.specs.Contexts.{ContextsState, is_current, with_context, with_no_context}
@@ -16,8 +20,8 @@ use Rattle.vg_tasks.specs.declared.task.Change.{Change}
 use Rattle.vg_tasks.specs.declared.task.Change.TheVariants.{Nothing, NewBuffer, NewBlob, Imported, EndOfName, Shows, NewContext, EndOfContext, GoesOn}
 use Rattle.vg_tasks.specs.declared.task.Task.{Task}
 use Rattle.vg_tasks.specs.Known.{Known}
-use Rattle.vg_tasks.specs.Table.{clear_task, release_task}
-use Rattle.vg_tasks.specs.Tasks.{clear_tasks, cursor_tasks, drop_tasks, give_back, if_current, is_shown, tasks_of}
+use Rattle.vg_tasks.specs.Table.{begun_way, clear_task, release_task}
+use Rattle.vg_tasks.specs.Tasks.{await_tasks, body_tasks, clear_tasks, cursor_tasks, drop_tasks, give_back, if_current, is_shown, is_timeline, tasks_of}
 use Rattle.vg_client.specs.declared.given.Given.{Given}
 use Rattle.vg_client.specs.declared.given.Given.TheVariants as givens
 use Rattle.vg_client.specs.Given.{follow_ups, given_of, goes_on, is_accepted, left_after}
@@ -170,6 +174,16 @@ module _ (count : Known → ℕ) (news : Change → ℕ) (counts : Counts count 
       by_test true = (counts.nothing, (counts.nothing, (counts.shows scanout None, tt)))
       by_test false = tt
 
+  body-none : (known : Known) (way : Way) (body : Body) → PlansNone (body_tasks known way body)
+  body-none known way bodies.Info = (counts.nothing, tt)
+  body-none known way (bodies.Send name rect) = held-none (found name.number known.names) _ (λ one. (counts.nothing, tt))
+  body-none known way (bodies.Flush name rect) = held-none (found name.number known.names) _ (λ one. (counts.nothing, tt))
+  body-none known way (bodies.Submit context ring) = context-none (is_current context.number known.contexts) _ (counts.nothing, tt)
+
+  await-none : (fence : Option FenceData) → PlansNone (await_tasks fence)
+  await-none (Some fence) = (counts.nothing, tt)
+  await-none None = tt
+
   plans-none : (known : Known) (call : Call) → defines call ≡ false → makes_context call ≡ false → PlansNone (tasks_of known call)
   plans-none known calls.Info other same = (counts.nothing, tt)
   plans-none known (calls.Edid scanout) other same = (counts.nothing, tt)
@@ -198,6 +212,9 @@ module _ (count : Known → ℕ) (news : Change → ℕ) (counts : Counts count 
   plans-none known (calls.Uuid name) other same = held-none (found name.number known.names) _ (λ one. (counts.nothing, tt))
   plans-none known (calls.Export name label) other same = held-none (found name.number known.names) _ (λ one. (counts.nothing, tt))
   plans-none known (calls.Import label token) other same = absurd (cc other)
+  plans-none known (calls.Begin label timeline body) other same =
+      context-none (is_timeline known.contexts timeline) _ (body-none known (begun_way known.holds.client timeline) body)
+  plans-none known (calls.Await label fence) other same = await-none fence
   plans-none known (calls.Raw queue room shape bytes) other same = (counts.nothing, tt)
   plans-none known (calls.Close name) other same =
       held-none (found name.number known.names) _ (λ one. close-none (has_one_name one.key known.names.current) one known.shows)

@@ -1,5 +1,5 @@
 -- What the tasks of a call give, one entry after another.
-use Rattle.std.proofs.Common.{◌≡◌, ◌⊎◌, ◌+◌, ◌<◌, ◌≤◌, ◌∙◌, sym, ap, refl, subst, arith, inl, inr, ℕ, Bool, true, false, cond, not, ◌||◌, suc, List, [], ◌∷◌, ◌++◌, length, map, filter, slice_set, take, drop, append_assoc, append-nil, length-append, Option, Some, None, Result, Ok, Err}
+use Rattle.std.proofs.Common.{◌≡◌, ◌⊎◌, ◌+◌, ◌<◌, ◌≤◌, ◌∙◌, sym, ap, refl, subst, arith, inl, inr, ⊎_elim, ℕ, Bool, true, false, cond, not, ◌||◌, suc, List, [], ◌∷◌, ◌++◌, length, map, filter, slice_set, take, drop, append_assoc, append-nil, length-append, Option, Some, None, Result, Ok, Err}
 use Rattle.std.specs.Prelude.{IfErr, IfOk, OnErr, OnOk}
 use Rattle.std.specs.List.{AllByRecursion, position, range_with_len, remove}
 use mathlib.Core.List.{IsPrefix}
@@ -12,11 +12,11 @@ use Rattle.vg_history.specs.declared.entry.Entry.TheVariants.{Act, Command}
 use Rattle.vg_machine.specs.declared.history.Reply.{Reply}
 use Rattle.vg_machine.specs.declared.history.Request.{Request}
 use Rattle.vg_client_holds.specs.declared.act.What.{What}
+use Rattle.vg_client_holds.specs.declared.act.What.TheVariants.{Name}
 use Rattle.vg_machine.specs.Entries.{Entry}
 use Rattle.vg_client_holds.specs.declared.holds.Holds.{Holds}
-use Rattle.vg_client_holds.specs.Holds.{Deniable}
+use Rattle.vg_client_holds.specs.Holds.{Deniable, gives_up}
 use Rattle.vg_machine.specs.Order.{call_of, is_leave, updated}
-use Rattle.vg_machine.specs.Replay.{display}
 use Rattle.vg_calls.specs.declared.call.Call.{Call}
 use Rattle.vg_client.specs.declared.caller.Caller.{Caller}
 use Rattle.vg_client.specs.declared.given.Added.{Added}
@@ -30,29 +30,31 @@ use Rattle.vg_tasks.specs.declared.task.Deed.{Deed}
 use Rattle.vg_tasks.specs.declared.task.Deed.TheVariants as deeds
 use Rattle.vg_tasks.specs.declared.task.Task.{Task}
 use Rattle.vg_driver.specs.declared.ask.Ask.{Ask}
+use Rattle.vg_fence.specs.Fences.{FenceData}
 use Rattle.vg_driver.specs.Asks.{denied_for, request_for}
 use Rattle.vg_client.specs.Calls.{Begins, BeginsTasks, Gives, GivesTasks, IsAsked, IsDenial, IsDone, IsEntryOf, IsFrontOf, Plays, contexts_after, learned, names_after, names_imported, names_reserved, shows_after}
 use Rattle.vg_tasks.specs.Tasks.{end_tasks, tasks_of}
-use Rattle.vg_client.specs.Callers.{BeginsEnd, HasAdded, HasDone, HasEnded, HasGoneOn, HasLeftBy, HasMade, IsFewPages, IsReady, IsSmall, known}
+use Rattle.vg_client.specs.Callers.{BeginsEnd, HasAdded, HasDone, HasGoneOn, HasLeftBy, IsFewPages, IsReady, IsSmall, known}
 use Rattle.vg_tasks.specs.Plans.{IsFitPlan, IsPlanOf, weight_of, weights}
 use Rattle.vg_client.specs.Given.{follow_ups, given_of, goes_on, is_accepted, left_after, tells_denial}
 use Rattle.vg_tasks.specs.Known.{Known}
 use Rattle.vg_names.specs.Names.{NamesState, is_numbered, without_name}
 use Rattle.vg_names.specs.Contexts.{ContextsState, is_context, with_context, with_no_context, without, without_at}
-use Rattle.vg_tasks.specs.Fits.{IsFit}
+use Rattle.vg_tasks.specs.Fits.{IsFit, IsFitDeed}
+use Rattle.vg_tasks.specs.Keeps.{KeepsByChange, KeepsByDeed, KeepsHolds}
 use Rattle.vg_client.specs.Outcomes.{HasPlayed, IsNumbered, last_given}
 use Rattle.vg_tasks.specs.Table.{page_entry}
-use Rattle.vg_driver.specs.Tickets.{Account, Token}
-use Rattle.vg_client.specs.Accounts.{IsAccount, IsActive, IsNextOf, IsAdded, IsAddedAct, IsPresent, IsUnadded, leaves, mine_of}
-use Rattle.vg_client.proofs.AccountLemmas.{met-active}
+use Rattle.vg_driver.specs.Tickets.{Order, Token}
+use Rattle.vg_client.specs.Accounts.{AreOut, IsAccount, IsActive, IsNextOf, IsAdded, IsAddedAct, IsPresent, IsKnown, IsUnadded, MayAct, MayBeDenied, leaves, mine_of}
 use Rattle.vg_client.proofs.HoldsLemmas.{updated-displays}
 use Rattle.vg_client.proofs.OutcomeLemmas.{played-more}
-use Rattle.vg_client.proofs.OwnLemmas.{all-map, all-more, numbered-length, numbers-more}
+use Rattle.vg_client.proofs.OwnLemmas.{all-map, all-more, numbers-more}
 use Rattle.vg_tasks.proofs.TaskLemmas.{fit-append, weights-append}
-use Rattle.vg_book.specs.Places.{HasCall, IsCurrent, IsPlaced, begun_of}
-use Rattle.vg_book.specs.Tokens.{Watched}
+use Rattle.vg_book.specs.Places.{HasCall, IsPlaced, begun_of}
 use Rattle.vg_book.specs.Views.{order_call}
 use Rattle.vg_client.specs.Own.{ArePlaced}
+use Rattle.vg_client.specs.Steps.{HasDenied, HasLeft, HasLeftOffBy, HasTickets}
+use Rattle.vg_driver.specs.declared.ticket.Ticket.{Ticket}
 use Rattle.vg_history.specs.Lists.{Has}
 use Rattle.vg_history.proofs.ListLemmas.{has_prefix, prefix_self, prefix_trans}
 
@@ -115,6 +117,27 @@ left-fit : (stops : Bool) (change : Change) (given : Given) (left : List Task) �
 left-fit stops change given left few fit = by_test (not stops || goes_on change given || is_accepted given) (fit-append (follow_ups change given) left (follow-fit change given few) fit)
   where
     by_test : (b : Bool) → AllByRecursion IsFit (follow_ups change given ++ left) → AllByRecursion IsFit (cond b (follow_ups change given ++ left) [])
+    by_test true both = both
+    by_test false both = tt
+
+-- what follows from a task that gives up no hold gives up none
+follow-keeps : (change : Change) (given : Given) → KeepsByChange change → AllByRecursion KeepsHolds (follow_ups change given)
+follow-keeps (NewBuffer width height format) (givens.Act (act_replies.Reserved key pages)) keeps = ((tt, tt), ((tt, tt), tt))
+follow-keeps (NewBuffer width height format) given keeps = tt
+follow-keeps (NewBlob size) (givens.Act (act_replies.Reserved key pages)) keeps = ((tt, tt), tt)
+follow-keeps (NewBlob size) given keeps = tt
+follow-keeps (EndOfName number key) given keeps = absurd keeps
+follow-keeps change given keeps = tt
+
+keeps-append : (xs ys : List Task) → AllByRecursion KeepsHolds xs → AllByRecursion KeepsHolds ys → AllByRecursion KeepsHolds (xs ++ ys)
+keeps-append [] ys one other = other
+keeps-append (x ∷ xs) ys one other = (one.0, keeps-append xs ys one.1 other)
+
+left-keeps : (stops : Bool) (task : Task) (given : Given) (left : List Task) → AllByRecursion KeepsHolds (task ∷ left) → AllByRecursion KeepsHolds (left_after stops task.change given left)
+left-keeps stops task given left keeps =
+    by_test (not stops || goes_on task.change given || is_accepted given) (keeps-append (follow_ups task.change given) left (follow-keeps task.change given keeps.0.1) keeps.1)
+  where
+    by_test : (b : Bool) → AllByRecursion KeepsHolds (follow_ups task.change given ++ left) → AllByRecursion KeepsHolds (cond b (follow_ups task.change given ++ left) [])
     by_test true both = both
     by_test false both = tt
 
@@ -209,10 +232,6 @@ placed-later es es' client begun front more placed =
     (λ e is i low below ready. let at = is i low below ready in record { front = at.front; begins = prefix_trans at.front es es' at.begins more; has = at.has; apart = at.apart })
     placed
 
--- and where nothing is begun it stands behind those that aren't of any list
-placed-of : (es : List Entry) (client call : ℕ) (begun begun' : List ℕ) → begun ≡ [] → IsPlaced es client begun call → IsPlaced es client begun' call
-placed-of es client call begun begun' none is i low below ready = is i low below (λ h. absurd (subst (λ (ns : List ℕ). Has ns i) none h))
-
 begun-none : (token : Token) → token.account.out ≡ [] → begun_of token.account ≡ []
 begun-none token idle = ap (map order_call) idle
 
@@ -226,16 +245,16 @@ pub record AreNext (token : Token) (mine : List Entry) (token' : Token) : Type 0
 pub next-none : (token : Token) → AreNext token [] token
 next-none token = record { used = omega arith; numbers = refl; placed = tt; apart = tt }
 
-pub next-more : (token0 token token' : Token) (mine : List Entry) (entry : Entry) → AreNext token0 mine token → token.account.out ≡ [] → token.account.number ≡ token0.account.number → IsPrefix token0.seen token.seen → IsPrefix token.seen token'.seen → token'.account.used ≡ token.account.used + 1 → call_of entry ≡ token.account.used + 1
+pub next-more : (token0 token token' : Token) (mine : List Entry) (entry : Entry) → AreNext token0 mine token → token.account.out ≡ token0.account.out → token.account.number ≡ token0.account.number → IsPrefix token0.seen token.seen → IsPrefix token.seen token'.seen → token'.account.used ≡ token.account.used + 1 → call_of entry ≡ token.account.used + 1
     → IsPlaced token'.seen token.account.number (begun_of token.account) (token.account.used + 1) → (HasCall token.seen token.account.number (token.account.used + 1) → ⊥) → AreNext token0 (mine ++ entry ∷ []) token'
-next-more token0 token token' mine entry on idle number more more' used call placed apart =
+next-more token0 token token' mine entry on same number more more' used call placed apart =
     let n : ℕ = token0.account.number in
     let begun : List ℕ = begun_of token0.account in
     let longer : length (mine ++ entry ∷ []) ≡ length mine + 1 = length-append mine (entry ∷ []) in
     let before = on.used in
     let here : IsPlaced token'.seen n begun (call_of entry) =
     subst (λ (c : ℕ). IsPlaced token'.seen n begun c) (sym call)
-    (subst (λ (k : ℕ). IsPlaced token'.seen k begun (token.account.used + 1)) number (placed-of token'.seen token.account.number (token.account.used + 1) (begun_of token.account) begun (begun-none token idle) placed)) in
+    (subst (λ (k : ℕ). IsPlaced token'.seen k begun (token.account.used + 1)) number (subst (λ (os : List Order). IsPlaced token'.seen token.account.number (map order_call os) (token.account.used + 1)) same placed)) in
     let new : HasCall token0.seen n (call_of entry) → ⊥ = λ at. apart (at.0, has_prefix token0.seen token.seen at.0 more at.1, at.2 ∙ sym number, at.3 ∙ call) in
     record {
       used = omega (arith, used, before, longer);
@@ -252,39 +271,36 @@ pub record IsPlaying {B : Type 0} (stops : Bool) (tasks0 : List Task) (client0 :
   pub mine : List Entry
   pub on : HasGoneOn client0 mine client
   pub fit : AllByRecursion IsFit left
+  pub idle : (client0.token.account.out ≡ []) ⊎ AllByRecursion KeepsHolds left
   pub room : length mine + weights left ≤ weights tasks0
   pub played : Plays client0.token.account.number stops (known client0) tasks0 mine (known client) left
   pub has : HasPlayed client0.token.seen mine client.token.seen gathered
 
 -- nothing is added
-pub added-none : {B : Type 0} (client : Caller B) → client.token.account.out ≡ [] → HasAdded client [] client
-added-none client idle = record { start = refl; number = refl; idle = idle; own = sym (append-nil _); more = prefix_self client.token.seen }
+pub added-none : {B : Type 0} (client : Caller B) → HasAdded client [] client
+added-none client = record { start = refl; number = refl; out = refl; begun = refl; own = sym (append-nil _); more = prefix_self client.token.seen }
 
--- the same of its token alone
-pub made-by : {B : Type 0} {client client' : Caller B} {mine : List Entry} → HasAdded client mine client' → HasMade client.token mine client'.token
-made-by added = record { start = added.start; number = added.number; idle = added.idle; own = added.own; more = added.more }
-
-pub made-none : (token : Token) → token.account.out ≡ [] → HasMade token [] token
-made-none token idle = record { start = refl; number = refl; idle = idle; own = sym (append-nil _); more = prefix_self token.seen }
-
-pub added-length : {B : Type 0} {client client' : Caller B} {mine : List Entry} → HasAdded client mine client' → length (mine_of client'.token) ≡ length (mine_of client.token) + length mine
-added-length {client = client} {mine = mine} added = ap (λ (xs : List Entry). length xs) added.own ∙ length-append (mine_of client.token) mine
+-- what is out is as before, and its tickets are at hand
+pub tickets-kept : {B : Type 0} {client client' : Caller B} {mine : List Entry} → HasAdded client mine client' → HasTickets client → HasTickets client'
+tickets-kept {client = client} {client' = client'} added has =
+    subst (λ (os : List Order). AreOut os client'.begun.items) (sym added.out) (subst (λ (ts : List Ticket). AreOut client.token.account.out ts) (sym added.begun) has)
 
 -- what is added, and then more
 pub added-then : {B : Type 0} (client0 client client' : Caller B) (mine more : List Entry) → HasAdded client0 mine client → HasAdded client more client' → HasAdded client0 (mine ++ more) client'
 added-then client0 client client' mine more one other = record {
   start = other.start ∙ one.start;
   number = other.number ∙ one.number;
-  idle = other.idle;
+  out = other.out ∙ one.out;
+  begun = other.begun ∙ one.begun;
   own = other.own ∙ ap (λ (xs : List Entry). xs ++ more) one.own ∙ append_assoc _ mine more;
   more = prefix_trans client0.token.seen client.token.seen client'.token.seen one.more other.more;
 }
 
-pub playing-first : {B : Type 0} (stops : Bool) (tasks : List Task) (client : Caller B) (gathered : Played) → IsReady client → AllByRecursion IsFit tasks → HasPlayed client.token.seen [] client.token.seen gathered → IsPlaying stops tasks client client tasks gathered
-playing-first stops tasks client gathered ready fit has = record {
+pub playing-first : {B : Type 0} (stops : Bool) (tasks : List Task) (client : Caller B) (gathered : Played) → IsReady client → AllByRecursion IsFit tasks → (client.token.account.out ≡ []) ⊎ AllByRecursion KeepsHolds tasks → HasPlayed client.token.seen [] client.token.seen gathered → IsPlaying stops tasks client client tasks gathered
+playing-first stops tasks client gathered ready fit idle has = record {
   mine = [];
   on = let next = next-none client.token in record {
-    added = added-none client ready.active.account_is.idle;
+    added = added-none client;
     used = next.used;
     numbers = next.numbers;
     placed = next.placed;
@@ -294,6 +310,7 @@ playing-first stops tasks client gathered ready fit has = record {
     ready = ready;
   };
   fit = fit;
+  idle = idle;
   room = omega arith;
   played = (refl, refl);
   has = has;
@@ -313,11 +330,12 @@ learned-is known0 known task entry holds names contexts shows =
     known.shows (shows_after task.change (given_of entry) known0.shows) holds names contexts shows
 
 -- the client after it learned from a task that was done; it has the token that it had
-pub added-same : {B : Type 0} (client client' client'' : Caller B) (mine : List Entry) → HasAdded client mine client' → client''.token ≡ client'.token → HasAdded client mine client''
-added-same client client' client'' mine added same = record {
+pub added-same : {B : Type 0} (client client' client'' : Caller B) (mine : List Entry) → HasAdded client mine client' → client''.token ≡ client'.token → client''.begun.items ≡ client'.begun.items → HasAdded client mine client''
+added-same client client' client'' mine added same begun = record {
   start = ap (λ (t : Token). t.start) same ∙ added.start;
   number = ap (λ (t : Token). t.account.number) same ∙ added.number;
-  idle = ap (λ (t : Token). t.account.out) same ∙ added.idle;
+  out = ap (λ (t : Token). t.account.out) same ∙ added.out;
+  begun = begun ∙ added.begun;
   own = ap mine_of same ∙ added.own;
   more = subst (λ (t : Token). IsPrefix client.token.seen t.seen) (sym same) added.more;
 }
@@ -333,9 +351,9 @@ next-plays stops tasks0 client0 client left left1 gathered task entry playing fi
 
 pub playing-more : {B : Type 0} (stops : Bool) (tasks0 : List Task) (client0 client client' client'' : Caller B) (left left1 left' : List Task) (gathered gathered' : Played) (task : Task) (entry : Entry) (gave : Added)
     → IsPlaying stops tasks0 client0 client left gathered → left ≡ task ∷ left1 → IsDone client.token.account.number client.token.account.holds task.deed entry → HasDone client entry gave client' → IsFewPages gave.given
-    → client''.token ≡ client'.token → client''.names ≡ names_after task.change gave.given client'.names → client''.contexts ≡ contexts_after task.change gave.given client'.contexts → client''.shows.items ≡ shows_after task.change gave.given client'.shows.items → left' ≡ left_after stops task.change gave.given left1
+    → client''.token ≡ client'.token → client''.begun.items ≡ client'.begun.items → client''.names ≡ names_after task.change gave.given client'.names → client''.contexts ≡ contexts_after task.change gave.given client'.contexts → client''.shows.items ≡ shows_after task.change gave.given client'.shows.items → left' ≡ left_after stops task.change gave.given left1
     → gathered'.entries.items ≡ gathered.entries.items ++ gave.number ∷ [] → gathered'.last ≡ Some (last_given gave.number gave.given) → IsPlaying stops tasks0 client0 client'' left' gathered'
-playing-more stops tasks0 client0 client client' client'' left left1 left' gathered gathered' task entry gave playing first made done few same names contexts shows leaves numbers last =
+playing-more stops tasks0 client0 client client' client'' left left1 left' gathered gathered' task entry gave playing first made done few same begun names contexts shows leaves numbers last =
     let is = done.given_is in
     let learns : known client'' ≡ learned (known client) task entry =
     learned-is (known client) (known client'') task entry (ap (λ (t : Token). t.account.holds) same ∙ done.holds)
@@ -344,6 +362,7 @@ playing-more stops tasks0 client0 client client' client'' left left1 left' gathe
     (shows ∙ ap (λ (g : Given). shows_after task.change g client'.shows.items) is ∙ ap (shows_after task.change (given_of entry)) done.shows) in
     let left_is : left' ≡ left_after stops task.change (given_of entry) left1 = leaves ∙ ap (λ (g : Given). left_after stops task.change g left1) is in
     let Fit : List Task → Type 0 = λ ts. AllByRecursion IsFit ts in
+    let Keep : List Task → Type 0 = λ ts. AllByRecursion KeepsHolds ts in
     let fits : AllByRecursion IsFit (task ∷ left1) = subst Fit first playing.fit in
     let Few : Given → Type 0 = λ g. IsFewPages g in
     let step = left-few stops task (given_of entry) left1 in
@@ -353,12 +372,12 @@ playing-more stops tasks0 client0 client client' client'' left left1 left' gathe
     omega (arith, one, other, step) in
     let longer = length-append playing.mine (entry ∷ []) in
     let used : client''.token.account.used ≡ client.token.account.used + 1 = ap (λ (t : Token). t.account.used) same ∙ done.used in
-    let added = added-then client0 client client'' playing.mine (entry ∷ []) playing.on.added (added-same client client' client'' (entry ∷ []) done.added same) in
+    let added = added-then client0 client client'' playing.mine (entry ∷ []) playing.on.added (added-same client client' client'' (entry ∷ []) done.added same begun) in
     let little = names-little task.change (given_of entry) client.names playing.on.ready.small.current in
     let made_is : client''.names.made ≡ (names_after task.change (given_of entry) client.names).made = ap (λ (k : Known). k.names.made) learns in
     let next : AreNext client0.token (playing.mine ++ entry ∷ []) client''.token =
     subst (λ (t : Token). AreNext client0.token (playing.mine ++ entry ∷ []) t) (sym same)
-    (next-more client0.token client.token client'.token playing.mine entry (next-of playing.on) playing.on.ready.active.account_is.idle playing.on.added.number playing.on.added.more done.added.more done.used done.call done.placed done.apart) in
+    (next-more client0.token client.token client'.token playing.mine entry (next-of playing.on) playing.on.added.out playing.on.added.number playing.on.added.more done.added.more done.used done.call done.placed done.apart) in
     let Plays_to : Known → List Task → Type 0 = λ k ts. Plays client0.token.account.number stops (known client0) tasks0 (playing.mine ++ entry ∷ []) k ts in
     record {
       mine = playing.mine ++ entry ∷ [];
@@ -375,6 +394,10 @@ playing-more stops tasks0 client0 client client' client'' left left1 left' gathe
           small = small-more client.token.account.used client''.token.account.used (known client) (known client'') task entry playing.on.ready.small used learns;
         };
       };
+      idle = ⊎_elim inl
+          (λ (keeps : AllByRecursion KeepsHolds left).
+          inr (subst Keep (sym left_is) (left-keeps stops task (given_of entry) left1 (subst Keep first keeps))))
+          playing.idle;
       fit = subst Fit (sym left_is) (left-fit stops task.change (given_of entry) left1 (subst Few is few) fits.1);
       room = omega (arith, longer, fewer, playing.room);
       played = subst (λ (ts : List Task). Plays_to (known client'') ts) (sym left_is) (subst (λ (k : Known). Plays_to k (left_after stops task.change (given_of entry) left1)) (sym learns)
@@ -387,8 +410,8 @@ playing-more stops tasks0 client0 client client' client'' left left1 left' gathe
 abbrev pub Stood : {B : Type 0} → Bool → List Task → Caller B → Caller B → Type 0
 Stood stops tasks0 client0 client' = (mine : List Entry) × IsFrontOf client0.token.account.number stops (known client0) tasks0 mine × HasAdded client0 mine client'
 
-pub stood-none : {B : Type 0} (stops : Bool) (tasks : List Task) (client : Caller B) → IsReady client → Stood stops tasks client client
-stood-none stops tasks client ready = ([], (known client, tasks, (refl, refl)), added-none client ready.active.account_is.idle)
+pub stood-none : {B : Type 0} (stops : Bool) (tasks : List Task) (client : Caller B) → Stood stops tasks client client
+stood-none stops tasks client = ([], (known client, tasks, (refl, refl)), added-none client)
 
 pub stood-make : {B : Type 0} (stops : Bool) (tasks0 : List Task) (client0 client client' : Caller B) (left : List Task) (gathered : Played)
     → IsPlaying stops tasks0 client0 client left gathered → HasAdded client [] client' → Stood stops tasks0 client0 client'
@@ -398,12 +421,12 @@ stood-make stops tasks0 client0 client client' left gathered playing added =
     (playing.mine ++ [], (known client, left, subst All (sym same) playing.played), added-then client0 client client' playing.mine [] playing.on.added added)
 
 pub stood-done : {B : Type 0} (stops : Bool) (tasks0 : List Task) (client0 client client' client'' : Caller B) (left left1 : List Task) (gathered : Played) (task : Task) (entry : Entry) (gave : Added)
-    → IsPlaying stops tasks0 client0 client left gathered → left ≡ task ∷ left1 → IsDone client.token.account.number client.token.account.holds task.deed entry → HasDone client entry gave client' → client''.token ≡ client'.token
+    → IsPlaying stops tasks0 client0 client left gathered → left ≡ task ∷ left1 → IsDone client.token.account.number client.token.account.holds task.deed entry → HasDone client entry gave client' → client''.token ≡ client'.token → client''.begun.items ≡ client'.begun.items
     → Stood stops tasks0 client0 client''
-stood-done stops tasks0 client0 client client' client'' left left1 gathered task entry gave playing first made done same = (
+stood-done stops tasks0 client0 client client' client'' left left1 gathered task entry gave playing first made done same begun = (
   playing.mine ++ entry ∷ [],
   (learned (known client) task entry, left_after stops task.change (given_of entry) left1, next-plays stops tasks0 client0 client left left1 gathered task entry playing first made),
-  added-then client0 client client'' playing.mine (entry ∷ []) playing.on.added (added-same client client' client'' (entry ∷ []) done.added same),
+  added-then client0 client client'' playing.mine (entry ∷ []) playing.on.added (added-same client client' client'' (entry ∷ []) done.added same begun),
 )
 
 -- all tasks are done
@@ -438,17 +461,11 @@ pub begins-none : (client : ℕ) (known : Known) (plan : Result (List Task) What
 begins-none client known (Ok tasks) = (known, tasks, (refl, refl))
 begins-none client known (Err what) = inl refl
 
-abbrev pub StoodCall : {B : Type 0} → Call → Caller B → Caller B → Type 0
-StoodCall call client client' = (mine : List Entry) × Begins client.token.account.number (known client) call mine × HasAdded client mine client'
-
-pub unbegun : {B : Type 0} (call : Call) (client : Caller B) → IsReady client → StoodCall call client client
-unbegun call client ready = ([], begins-none client.token.account.number (known client) (tasks_of (known client) call), added-none client ready.active.account_is.idle)
-
 -- one entry more of a client, that it made by a task or to tell a denial
 pub done-by : {B : Type 0} (client client' : Caller B) (entry : Entry) (gave : Added) → IsAdded client.token gave.number entry client'.token → IsPresent client.token → is_leave entry ≡ false
-    → client'.names ≡ client.names → client'.contexts ≡ client.contexts → client'.shows.items ≡ client.shows.items → gave.given ≡ given_of entry → HasDone client entry gave client'
-done-by client client' entry gave is present stays names contexts shows given_is = record {
-  added = record { start = is.start; number = is.number; idle = is.account_is.idle; own = is.mine; more = is.more };
+    → client'.begun.items ≡ client.begun.items → client'.names ≡ client.names → client'.contexts ≡ client.contexts → client'.shows.items ≡ client.shows.items → gave.given ≡ given_of entry → HasDone client entry gave client'
+done-by client client' entry gave is present stays begun names contexts shows given_is = record {
+  added = record { start = is.start; number = is.number; out = is.out; begun = begun; own = is.mine; more = is.more };
   active = record {
     account_is = is.account_is;
     begun = let used = is.used in omega (arith, used);
@@ -477,16 +494,12 @@ pub given-is : (client call : ℕ) (act : the_act.Act) (reply : ActReply) (told 
 given-is client call act reply told given is made = made ∙ ap (λ (b : Bool). cond b (givens.Denied reply) (givens.Act reply)) is
 
 -- what stands where memory lacked: nothing more
-pub unadded : {B : Type 0} (client client' : Caller B) → IsUnadded client.token client'.token → HasAdded client [] client'
-unadded client client' kept = record { start = kept.start; number = kept.number; idle = kept.idle; own = kept.mine ∙ sym (append-nil _); more = kept.more }
+pub unadded : {B : Type 0} (client client' : Caller B) → IsUnadded client.token client'.token → client'.begun.items ≡ client.begun.items → HasAdded client [] client'
+unadded client client' kept begun = record { start = kept.start; number = kept.number; out = kept.out; begun = begun; own = kept.mine ∙ sym (append-nil _); more = kept.more }
 
 pub map_ok : {T E : Type 0} {P Q : T → Type 0} (r : Result T E) → ((x : T) → P x → Q x) → IfOk r P → IfOk r Q
 map_ok (Ok x) f p = f x p
 map_ok (Err e) f p = tt
-
-pub map_err : {T E : Type 0} {A B : Type 0} (r : Result T E) → (A → B) → OnErr r A → OnErr r B
-map_err (Ok x) f a = tt
-map_err (Err e) f a = f a
 
 -- what was asked, or denied, by what the client was denied
 pub asked-done : {B : Type 0} (client client' : Caller B) (denied : Option What) (requests : ℕ → Request) → denied ≡ None → (gave : Added)
@@ -519,15 +532,18 @@ pub ask-made : {B : Type 0} (client client' : Caller B) (deed : Deed) (ask : Ask
 ask-made client client' deed ask is gave (entry, asked, done, few) =
     (entry, subst (λ (d : Deed). IsDone client.token.account.number client.token.account.holds d entry) (sym is) asked, done, few)
 
--- as many numbers are drawn as there are entries
-pub used-length : (token : Token) → IsActive token → length (mine_of token) ≡ token.account.used
-used-length token active = numbered-length (mine_of token) 1 token.account.used active.account_is.in_order
+pub wait-made : {B : Type 0} (client client' : Caller B) (deed : Deed) (fence : FenceData) → deed ≡ deeds.Wait fence → (gave : Added)
+    → HasDone client (Act client.token.account.number (client.token.account.used + 1) (acts.Await fence.lane fence.ordinal) act_replies.Ok) gave client' × IsFewPages gave.given
+    → (entry : Entry) × IsDone client.token.account.number client.token.account.holds deed entry × HasDone client entry gave client' × IsFewPages gave.given
+wait-made client client' deed fence is gave (done, few) =
+    let entry : Entry = Act client.token.account.number (client.token.account.used + 1) (acts.Await fence.lane fence.ordinal) act_replies.Ok in
+    (entry, subst (λ (d : Deed). IsDone client.token.account.number client.token.account.holds d entry) (sym is) (client.token.account.used + 1, act_replies.Ok, refl), done, few)
 
 -- a denial that was told, and what it was answered
 pub denied-told : {B : Type 0} (client client' : Caller B) (what : What) (gathered gathered' : Played) (gave : Added) → IsReady client → HasPlayed client.token.seen [] client.token.seen gathered
     → (reply : ActReply) × HasDone client (Act client.token.account.number (client.token.account.used + 1) (acts.Denied what) reply) gave client' × IsFewPages gave.given
     → gathered'.entries.items ≡ gathered.entries.items ++ gave.number ∷ [] → gathered'.last ≡ Some (last_given gave.number gave.given)
-    → (mine : List Entry) × IsDenial client.token.account.number what mine × HasGoneOn client mine client' × (known client' ≡ known client) × (length mine ≡ 1) × HasPlayed client.token.seen mine client'.token.seen gathered'
+    → HasDenied what client gathered' client'
 denied-told client client' what gathered gathered' gave ready has (reply, done, few) numbers last =
     let entry : Entry = Act client.token.account.number (client.token.account.used + 1) (acts.Denied what) reply in
     let holds : client'.token.account.holds ≡ client.token.account.holds = done.holds in
@@ -544,10 +560,11 @@ denied-told client client' what gathered gathered' gave ready has (reply, done, 
     } in
     let made = ap (λ (ns : NamesState). ns.made) done.names in
     let next : AreNext client.token (entry ∷ []) client'.token =
-    next-more client.token client.token client'.token [] entry (next-none client.token) ready.active.account_is.idle refl (prefix_self client.token.seen) done.added.more done.used done.call done.placed done.apart in (
-      entry ∷ [],
-      (client.token.account.used + 1, reply, refl),
-      record {
+    next-more client.token client.token client'.token [] entry (next-none client.token) refl refl (prefix_self client.token.seen) done.added.more done.used done.call done.placed done.apart in
+    record {
+      mine = entry ∷ [];
+      denial = (client.token.account.used + 1, reply, refl);
+      gone_on = record {
         added = done.added;
         used = next.used;
         numbers = next.numbers;
@@ -556,19 +573,11 @@ denied-told client client' what gathered gathered' gave ready has (reply, done, 
         displays = ap (λ (h : Holds). h.displays) holds;
         made = omega (arith, made);
         ready = record { active = done.active; small = subst (λ (k : Known). IsSmall client'.token.account.used k) (sym same) small };
-      },
-      same,
-      refl,
-      played-more client.token.seen client.token.seen client'.token.seen [] entry gathered gathered' gave has (prefix_self client.token.seen) done.added.more done.given_is done.numbered done.behind numbers last,
-    )
-
--- so a call that is denied gives its denial
-pub denied-gives : {B : Type 0} (client client' : Caller B) (plan : Result (List Task) What) (what : What) → plan ≡ Err what → (gathered : Played)
-    → (mine : List Entry) × IsDenial client.token.account.number what mine × HasGoneOn client mine client' × (known client' ≡ known client) × (length mine ≡ 1) × HasPlayed client.token.seen mine client'.token.seen gathered
-    → (mine : List Entry) × GivesTasks client.token.account.number (known client) plan mine (known client') × HasGoneOn client mine client' × (length mine ≤ 19) × HasPlayed client.token.seen mine client'.token.seen gathered
-denied-gives client client' plan what is gathered (mine, denial, on, same, one, has) =
-    let P : Result (List Task) What → Type 0 = λ p. GivesTasks client.token.account.number (known client) p mine (known client') in
-    (mine, subst P (sym is) (denial, same), on, omega (arith, one), has)
+      };
+      known_is = same;
+      one = refl;
+      played_is = played-more client.token.seen client.token.seen client'.token.seen [] entry gathered gathered' gave has (prefix_self client.token.seen) done.added.more done.given_is done.numbered done.behind numbers last;
+    }
 
 -- what stands of a denial where memory lacked
 abbrev pub StoodDenial : {B : Type 0} → What → Caller B → Caller B → Type 0
@@ -596,14 +605,14 @@ left-by token token' n reply (added, (state, is)) =
 
 -- the end of a client: what it gives up, and its leave
 pub ended-by : {B : Type 0} (client client' : Caller B) (tasks : List Task) (ending : List Entry) (token : Token) → tasks ≡ end_tasks (known client) → Plays client.token.account.number false (known client) tasks ending (known client') []
-    → IsReady client → HasGoneOn client ending client' → IsAccount token → mine_of token ≡ mine_of client'.token ++ Act client'.token.account.number (client'.token.account.used + 1) acts.Leave act_replies.Ok ∷ [] → IsNextOf client'.token token → HasEnded client token
-ended-by client client' tasks ending token are plays ready on is left behind =
+    → client.token.account.out ≡ [] → HasGoneOn client ending client' → IsAccount token → mine_of token ≡ mine_of client'.token ++ Act client'.token.account.number (client'.token.account.used + 1) acts.Leave act_replies.Ok ∷ [] → IsNextOf client'.token token → HasLeft client token
+ended-by client client' tasks ending token are plays idle on is left behind =
     let P : List Task → Type 0 = λ ts. Plays client.token.account.number false (known client) ts ending (known client') [] in
     let added = on.added in
     let last : ℕ = client'.token.account.used + 1 in
     let leave : Entry = Act client.token.account.number last acts.Leave act_replies.Ok in
     let next : AreNext client.token (ending ++ leave ∷ []) token =
-    next-more client.token client'.token token ending leave (next-of on) on.ready.active.account_is.idle added.number added.more behind.more behind.used refl behind.placed behind.apart in
+    next-more client.token client'.token token ending leave (next-of on) added.out added.number added.more behind.more behind.used refl behind.placed behind.apart in
     record {
       account_is = is;
       ending = ending;
@@ -616,7 +625,7 @@ ended-by client client' tasks ending token are plays ready on is left behind =
           ∙ append_assoc (mine_of client.token) ending _;
       used = next.used;
       numbers = next.numbers;
-      placed = subst (λ (ns : List ℕ). ArePlaced token.seen client.token.account.number ns (ending ++ leave ∷ [])) (begun-none client.token ready.active.account_is.idle) next.placed;
+      placed = subst (λ (ns : List ℕ). ArePlaced token.seen client.token.account.number ns (ending ++ leave ∷ [])) (begun-none client.token idle) next.placed;
       more = prefix_trans client.token.seen client'.token.seen token.seen added.more behind.more;
     }
 
@@ -624,55 +633,48 @@ pub three-ok : {T E : Type 0} {P Q R S : Type 0} (r : Result T E) → (P → Q �
 three-ok (Ok x) f p q r = f p q r
 three-ok (Err e) f p q r = tt
 
--- a client that was to end, and whose token is this
-abbrev pub StoodEnd : {B : Type 0} → Caller B → Token → Type 0
-StoodEnd client token = (mine : List Entry) × BeginsEnd client.token.account.number (known client) mine × HasMade client.token mine token
+pub end-unbegun : {B : Type 0} (client : Caller B) → HasLeftOffBy client client.token
+end-unbegun client = ([], (known client, end_tasks (known client), (refl, refl)), sym (append-nil _), prefix_self client.token.seen)
 
-pub end-unbegun : {B : Type 0} (client : Caller B) → IsReady client → StoodEnd client client.token
-end-unbegun client ready = ([], (known client, end_tasks (known client), (refl, refl)), made-none client.token ready.active.account_is.idle)
-
-pub end-stood : {B : Type 0} (client client' : Caller B) (tasks : List Task) → tasks ≡ end_tasks (known client) → Stood false tasks client client' → StoodEnd client client'.token
+pub end-stood : {B : Type 0} (client client' : Caller B) (tasks : List Task) → tasks ≡ end_tasks (known client) → Stood false tasks client client' → HasLeftOffBy client client'.token
 end-stood client client' tasks are (mine, (known', left, plays), added) =
     let P : List Task → Type 0 = λ ts. Plays client.token.account.number false (known client) ts mine known' left in
-    (mine, (known', left, subst P are plays), made-by added)
+    (mine, (known', left, subst P are plays), added.own, added.more)
 
 -- all is given up, and it couldn't leave
 pub end-unleft : {B : Type 0} (client client' : Caller B) (tasks : List Task) (mine : List Entry) (token : Token) → tasks ≡ end_tasks (known client) → Plays client.token.account.number false (known client) tasks mine (known client') []
-    → HasAdded client mine client' → IsUnadded client'.token token → StoodEnd client token
+    → HasAdded client mine client' → IsUnadded client'.token token → HasLeftOffBy client token
 end-unleft client client' tasks mine token are plays added un =
-    let P : List Task → Type 0 = λ ts. Plays client.token.account.number false (known client) ts mine (known client') [] in (
-      mine,
-      (known client', [], subst P are plays),
-      record {
-        start = un.start ∙ added.start;
-        number = un.number ∙ added.number;
-        idle = un.idle;
-        own = un.mine ∙ added.own;
-        more = prefix_trans client.token.seen client'.token.seen token.seen added.more un.more;
-      },
-    )
+    let P : List Task → Type 0 = λ ts. Plays client.token.account.number false (known client) ts mine (known client') [] in
+    (mine, (known client', [], subst P are plays), un.mine ∙ added.own, prefix_trans client.token.seen client'.token.seen token.seen added.more un.more)
 
 pub err-then : {T E : Type 0} {P Q : Type 0} (r : Result T E) → (P → Q) → OnErr r P → OnErr r Q
 err-then (Ok x) f p = tt
 err-then (Err e) f p = f p
 
--- a client that has met a note can make calls as before
-pub ready-met : {B : Type 0} (client client' : Caller B) → IsReady client → IsCurrent display client'.token → Watched display client.token client'.token → client'.names ≡ client.names → client'.contexts ≡ client.contexts → client'.shows.items ≡ client.shows.items → IsReady client'
-ready-met client client' ready current watched names contexts shows =
-    let same = watched.account in
-    let used : client'.token.account.used ≡ client.token.account.used = ap (λ (a : Account). a.used) same in
-    let displays : client'.token.account.holds.displays ≡ client.token.account.holds.displays = ap (λ (a : Account). a.holds.displays) same in
-    let made : client'.names.made ≡ client.names.made = ap (λ (ns : NamesState). ns.made) names in
-    let made_contexts : client'.contexts.made ≡ client.contexts.made = ap (λ (cs : ContextsState). cs.made) contexts in
-    let shown : length client'.shows.items ≡ length client.shows.items = ap (λ (ss : List (Option ℕ)). length ss) shows in
-    record {
-      active = met-active client.token client'.token ready.active current same watched.start watched.more;
-      small = record {
-        few_displays = omega (arith, displays, ready.small.few_displays);
-        current = subst (λ (ns : NamesState). length ns.current ≤ ns.made) (sym names) ready.small.current;
-        made = omega (arith, made, used, ready.small.made);
-        current_contexts = subst (λ (cs : ContextsState). length cs.current ≤ cs.made) (sym contexts) ready.small.current_contexts;
-        made_contexts = omega (arith, made_contexts, used, ready.small.made_contexts);
-        scanouts = omega (arith, shown, ready.small.scanouts);
-      };
-    }
+-- an act of a task may be the next
+pub may-deed : (token : Token) (act : the_act.Act) → IsActive token → IsFitDeed (deeds.Act act) → (token.account.out ≡ []) ⊎ KeepsByDeed (deeds.Act act) → MayAct token act
+may-deed token act active fit idle = record {
+  account_is = active.account_is;
+  first = λ none. absurd (omega (arith, active.begun, none));
+  present = active.present;
+  denied = deniable act fit;
+  idle = λ gives. ⊎_elim (λ none. none) (λ (keeps : gives_up act ≡ false). absurd (cc (sym keeps ∙ gives))) idle;
+  known = knows act fit;
+}
+  where
+    deniable : (act : the_act.Act) → IsFitDeed (deeds.Act act) → MayBeDenied token.account.holds act
+    deniable (acts.Denied Name) fit = tt
+    deniable (acts.Denied what) fit = absurd fit
+    deniable act fit = tt
+
+    knows : (act : the_act.Act) → IsFitDeed (deeds.Act act) → IsKnown token.seen act
+    knows (acts.Await lane ordinal) fit = absurd fit
+    knows act fit = tt
+
+-- what a task does gives up a hold with nothing out alone
+pub make-idle : {B : Type 0} (client0 client : Caller B) (left left1 : List Task) (task : Task) → left ≡ task ∷ left1 → client.token.account.out ≡ client0.token.account.out
+    → (client0.token.account.out ≡ []) ⊎ AllByRecursion KeepsHolds left → (client.token.account.out ≡ []) ⊎ KeepsByDeed task.deed
+make-idle client0 client left left1 task first same idle =
+    ⊎_elim (λ (none : client0.token.account.out ≡ []). inl (same ∙ none))
+    (λ (keeps : AllByRecursion KeepsHolds left). inr (let all : AllByRecursion KeepsHolds (task ∷ left1) = subst (λ (ts : List Task). AllByRecursion KeepsHolds ts) first keeps in all.0.0)) idle

@@ -1,12 +1,14 @@
 -- What a client's token says of its own calls.
-use Rattle.std.specs.Prelude.{◌≡◌, ◌≤◌, ◌<◌, ◌+◌, ℕ, Bool, true, false, List, [], ◌∷◌, ◌++◌, length, map, Some}
-use Rattle.std.specs.List.{AllByRecursion, range_with_len}
+use Rattle.std.specs.Prelude.{◌≡◌, ◌≤◌, ◌<◌, ◌+◌, ◌==◌, ℕ, Bool, true, false, nat_lt, if◌then◌else◌, List, [], ◌∷◌, ◌++◌, length, Some}
+use Rattle.std.specs.List.{AllByRecursion}
 use mathlib.Core.List.{IsPrefix}
 use Rattle.vg_history.specs.Lists.{Has}
+use Rattle.vg_history.specs.History.{HasFence}
 use Rattle.vg_book.specs.Places.{HasCall, IsCurrent, IsPlaced, begun_of}
+use Rattle.vg_book.specs.Views.{IsEntryOf}
 use Rattle.vg_client_holds.specs.declared.setup.Setup.{Setup}
 use Rattle.vg_client_holds.specs.declared.act.Act as the_act
-use Rattle.vg_client_holds.specs.declared.act.Act.TheVariants.{Enter, Leave, Denied}
+use Rattle.vg_client_holds.specs.declared.act.Act.TheVariants.{Enter, Await, Leave, Denied}
 use Rattle.vg_client_holds.specs.declared.act.ActReply.{ActReply}
 use Rattle.vg_machine.specs.Entries.{Entry}
 use Rattle.vg_machine.specs.declared.history.Request.{Request}
@@ -14,12 +16,14 @@ use Rattle.vg_machine.specs.declared.history.Reply.{Reply}
 use Rattle.vg_history.specs.declared.entry.Entry.TheVariants.{Act, Command}
 use Rattle.vg_client_holds.specs.declared.holds.Holds.{Holds}
 use Rattle.vg_machine.specs.ActStep.{act_step}
-use Rattle.vg_client_holds.specs.Holds.{Deniable, first_holds}
+use Rattle.vg_client_holds.specs.Holds.{Deniable, first_holds, gives_up}
 use Rattle.vg_machine.specs.Lane.{lane_of}
 use Rattle.vg_machine.specs.Replay.{display}
 use Rattle.vg_machine.specs.State.{State, start}
 use Rattle.vg_machine.specs.Order.{call_of, client_of, is_leave, updated}
-use Rattle.vg_driver.specs.Tickets.{Order, Token}
+use Rattle.vg_driver.specs.declared.ticket.Answer.{Answer}
+use Rattle.vg_driver.specs.declared.ticket.Ticket.{Ticket}
+use Rattle.vg_driver.specs.Tickets.{Finished, IsOf, Order, Spent, Submitted, Token}
 use Rattle.vg_client.specs.Own.{OwnStand}
 use Rattle.vg_client.specs.Outcomes.{IsNumbered}
 
@@ -42,13 +46,10 @@ pub record IsStanding (setup : Setup) (token : Token) : Type 0 where
   pub rising_mine : (o : Order) (client call : ℕ) (request : Request) (reply : Reply) → Has token.account.out o → Has (mine_of token) (Command client call request reply)
       → request.lane ≡ o.request.lane → o.call < call → o.request.ordinal < request.ordinal
 
--- The same of a client that has nothing out: its entries have come back in the order of their numbers, which are 1 to as many as it
--- has drawn.
+-- The same for a display of some setup.
 pub record IsAccount (token : Token) : Type 0 where
   pub setup : Setup
   pub standing : IsStanding setup token
-  pub idle : token.account.out ≡ []
-  pub in_order : map call_of (mine_of token) ≡ range_with_len 1 token.account.used
 
 -- A client that was made for a display with this setup, and has done nothing.
 pub record IsNew (setup : Setup) (token : Token) : Type 0 where
@@ -79,21 +80,30 @@ abbrev pub MayBeDenied : Holds → the_act.Act → Type 0
 MayBeDenied holds (Denied what) = Deniable holds what
 MayBeDenied holds act = Unit {0}
 
--- The act may be the client's next: the first is enter, and none follows when it has left.
+-- A fence of which the act tells is known: all commands of its lane up to it have been seen.
+abbrev pub IsKnown : List Entry → the_act.Act → Type 0
+IsKnown seen (Await lane ordinal) = HasFence display lane ordinal seen
+IsKnown seen act = Unit {0}
+
+-- The act may be the client's next: the first is enter, and none follows when it has left. One that gives up a hold comes with nothing
+-- out, and one that tells of a fence when that is known.
 pub record MayAct (token : Token) (act : the_act.Act) : Type 0 where
   pub account_is : IsAccount token
   pub first : token.account.used ≡ 0 → act ≡ Enter
   pub present : IsPresent token
   pub denied : MayBeDenied token.account.holds act
+  pub idle : gives_up act ≡ true → token.account.out ≡ []
+  pub known : IsKnown token.seen act
 
 -- One entry more of the client, of which its token tells, with its number n in the history: its next call, which stands behind
--- all of its calls before.
+-- all of its calls before but those that are out, and those are out still.
 pub record IsAdded (token : Token) (n : ℕ) (entry : Entry) (token' : Token) : Type 0 where
   pub start : token'.start ≡ token.start
   pub number : token'.account.number ≡ token.account.number
   pub used : token'.account.used ≡ token.account.used + 1
   pub holds : token'.account.holds ≡ updated token.account.holds entry
   pub mine : mine_of token' ≡ mine_of token ++ entry ∷ []
+  pub out : token'.account.out ≡ token.account.out
   pub account_is : IsAccount token'
   pub more : IsPrefix token.seen token'.seen
   pub numbered : IsNumbered token'.seen n entry
@@ -102,7 +112,7 @@ pub record IsAdded (token : Token) (n : ℕ) (entry : Entry) (token' : Token) : 
   pub placed : IsPlaced token'.seen token.account.number (begun_of token.account) (token.account.used + 1)
   pub apart : HasCall token.seen token.account.number (token.account.used + 1) → ⊥
 
--- One call more of the client, with its next number, which stands behind all of its calls before.
+-- One call more of the client, with its next number, which stands behind all of its calls before but those that are out.
 pub record IsNextOf (token : Token) (token' : Token) : Type 0 where
   pub used : token'.account.used ≡ token.account.used + 1
   pub more : IsPrefix token.seen token'.seen
@@ -117,10 +127,65 @@ abbrev pub IsAddedAct : Token → ℕ → the_act.Act → ActReply → Token →
 IsAddedAct token number act reply token' =
     IsAdded token number (Act token.account.number (token.account.used + 1) act reply) token' × IsReply token.account.number act reply
 
--- No entry more, where memory lacked, and nothing outstanding: of a command the number may be spent.
+-- No entry more, where memory lacked, and nothing more is out: of a command the number may be spent.
 pub record IsUnadded (token : Token) (token' : Token) : Type 0 where
   pub start : token'.start ≡ token.start
   pub number : token'.account.number ≡ token.account.number
   pub mine : mine_of token' ≡ mine_of token
-  pub idle : token'.account.out ≡ []
+  pub out : token'.account.out ≡ token.account.out
+  pub more : IsPrefix token.seen token'.seen
+
+-- The tickets are those of what is out, in its order.
+abbrev pub AreOut : List Order → List Ticket → Type 0
+AreOut [] [] = Unit {0}
+AreOut (order ∷ orders) (ticket ∷ tickets) = IsOf ticket order × AreOut orders tickets
+AreOut orders tickets = ⊥
+
+-- The other ticket, if it is of the same lane, has a smaller ordinal.
+abbrev pub is_below : Ticket → Ticket → Bool
+is_below ticket other = if other.fence.lane == ticket.fence.lane then nat_lt other.fence.ordinal ticket.fence.ordinal else true
+
+-- A ticket's call has come back, and was run, or wasn't.
+abbrev pub ComesBack : Token → Ticket → Bool → Token → Type 0
+ComesBack token ticket true token' = (answer : Answer) × Finished token ticket answer token'
+ComesBack token ticket false token' = Spent token ticket token'
+
+-- The entries are those of these orders, one of each.
+abbrev pub AreEntries : List Order → List Entry → Type 0
+AreEntries [] [] = Unit {0}
+AreEntries (order ∷ orders) (entry ∷ entries) = IsEntryOf order entry × AreEntries orders entries
+AreEntries orders entries = ⊥
+
+-- A command was begun, under the client's next number: it is out behind all that was out, and stands behind all of the client's calls
+-- before but those that are out.
+pub record IsBegun (token : Token) (request : ℕ → Request) (ticket : Ticket) (token' : Token) : Type 0 where
+  pub submitted : Submitted token request ticket token'
+  pub account_is : IsAccount token'
+  pub next : IsNextOf token token'
+
+-- All that was out has come back and has its entry, and nothing else is changed.
+pub record IsIdle (token token' : Token) : Type 0 where
+  pub back : List Entry
+  pub came : AreEntries token.account.out back
+  pub start : token'.start ≡ token.start
+  pub number : token'.account.number ≡ token.account.number
+  pub used : token'.account.used ≡ token.account.used
+  pub holds : token'.account.holds ≡ token.account.holds
+  pub mine : mine_of token' ≡ mine_of token ++ back
+  pub out : token'.account.out ≡ []
+  pub more : IsPrefix token.seen token'.seen
+  pub account_is : IsAccount token'
+
+-- Each of these entries is that of an order that was out.
+abbrev pub AreOfOut : List Order → List Entry → Type 0
+AreOfOut orders back = AllByRecursion (λ entry. (order : Order) × Has orders order × IsEntryOf order entry) back
+
+-- Nothing is out any more; some of what was may have come back without having been run, for want of memory.
+pub record HasNothingOut (token token' : Token) : Type 0 where
+  pub back : List Entry
+  pub came : AreOfOut token.account.out back
+  pub start : token'.start ≡ token.start
+  pub number : token'.account.number ≡ token.account.number
+  pub mine : mine_of token' ≡ mine_of token ++ back
+  pub out : token'.account.out ≡ []
   pub more : IsPrefix token.seen token'.seen

@@ -1,6 +1,6 @@
 -- The entries that a client's calls give.
 use Rattle.std.specs.Prelude.{◌≡◌, ◌⊎◌, ◌+◌, ℕ, Bool, true, List, [], ◌∷◌, slice_set, if◌then◌else◌, Option, Some, None, Result, Ok, Err}
-use Rattle.vg_client_holds.specs.declared.act.Act.TheVariants.{Denied}
+use Rattle.vg_client_holds.specs.declared.act.Act.TheVariants.{Await, Denied}
 use Rattle.vg_client_holds.specs.declared.act.ActReply.{ActReply}
 use Rattle.vg_client_holds.specs.declared.act.ActReply.TheVariants as act_replies
 use Rattle.vg_client_holds.specs.declared.act.What.{What}
@@ -38,6 +38,7 @@ IsAsked client None request entry = (call ordinal : ℕ) × (reply : Reply) × (
 abbrev pub IsDone : ℕ → Holds → Deed → Entry → Type 0
 IsDone client holds (deeds.Act act) entry = (call : ℕ) × (reply : ActReply) × (entry ≡ entries.Act client call act reply)
 IsDone client holds (deeds.Ask ask) entry = IsAsked client (denied_for holds ask) (request_for ask) entry
+IsDone client holds (deeds.Wait fence) entry = (call : ℕ) × (reply : ActReply) × (entry ≡ entries.Act client call (Await fence.lane fence.ordinal) reply)
 
 abbrev pub IsEntryOf : ℕ → Holds → Task → Entry → Type 0
 IsEntryOf client holds task entry = IsDone client holds task.deed entry

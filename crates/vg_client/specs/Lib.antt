@@ -4,4 +4,5 @@ pub mod Given
 pub mod Outcomes
 pub mod Calls
 pub mod Callers
+pub mod Steps
 pub mod Numbers

@@ -1,29 +1,35 @@
 //! What a client is between its calls, and how it makes one.
 
-ghost use Rattle.std.specs.Prelude.{◌≡◌, ◌<◌, ◌≤◌, ◌-◌, ◌+◌, ◌^◌, ◌++◌, ◌∷◌, [], ℕ, false, List, length, replicate, None, IfOk, MatchResult, OnOk, OnErr};
+ghost use Rattle.std.specs.Prelude.{◌≡◌, ◌<◌, ◌≤◌, ◌-◌, ◌+◌, ◌^◌, ◌&&◌, ◌++◌, ◌∷◌, [], true, false, length, replicate, None, Ok, IfOk, MatchResult, OnOk, OnErr};
+ghost use Rattle.std.specs.List.{AllByRecursion};
 ghost use Rattle.vg_history.specs.declared.entry.Entry.TheVariants as entries;
 ghost use Rattle.vg_client_holds.specs.declared.act.Act.TheVariants as acts;
 ghost use Rattle.vg_client_holds.specs.declared.act.ActReply.TheVariants as act_replies;
 ghost use Rattle.vg_client_holds.specs.declared.setup.Setup.{Setup as Setups};
-ghost use Rattle.vg_machine.specs.Entries.{Entry as Entries};
 ghost use Rattle.vg_client.specs.Accounts.{IsAccount, IsActive, IsNew, IsNextOf, IsUnadded, mine_of};
-ghost use Rattle.vg_client.specs.Callers.{BeginsEnd, HasAdded, HasGoneOn, HasEnded, HasEntered, HasLeftBy, HasMade, IsReady, known};
+ghost use Rattle.vg_client.specs.Callers.{HasEnded, HasEntered, HasGone, HasLeftBy, HasLeftOff, HasLeftOffAtEnd, IsReady, known};
+ghost use Rattle.vg_client.specs.Steps.{HasFollowed, HasGonePlan, HasLeft, HasLeftOffBy, HasStoppedPlan, HasTickets};
+ghost use Rattle.vg_tasks.specs.Keeps.{KeepsHolds, PlansToAskOnce, PlansToKeep};
 ghost use Rattle.vg_tasks.specs.Plans.{IsCallFit, IsFitPlan};
-ghost use Rattle.vg_client.specs.Calls.{Begins, BeginsTasks, Gives, GivesTasks, context_behind, name_behind, newest, newest_context};
-ghost use Rattle.vg_client.specs.Outcomes.{HasPlayed, IsOutcome};
+ghost use Rattle.vg_tasks.specs.Tasks.{is_planned};
+ghost use Rattle.vg_client.specs.Calls.{context_behind, name_behind, newest, newest_context};
 
+use crate::begun::{begin_tasks, finish, finish_first};
 use crate::outcome::{Outcome, Played};
 use crate::play::{deny, play};
 use crate::tokens::{Token, act};
 use std::alloc::{AllocError, Global};
+use std::collections::VecDeque;
 use std::sync::Wait;
 use vg_book::{Book, Naming};
 use vg_calls::{Call, ContextRef, NameRef};
-use vg_driver::Driver;
+use vg_driver::{Driver, Ticket};
 use vg_machine::{Act, Display, What};
 use vg_names::{Contexts, Names};
 use vg_ring::Rings;
-use vg_tasks::{Tasks, end_tasks, tasks_of};
+use vg_tasks::{
+    Tasks, a_begun_call_asks_once, a_call_keeps_its_holds, begins, end_tasks, gives_up, tasks_of,
+};
 
 /// A client, which draws its own call numbers from 1.
 #[derive(Drop)]
@@ -33,6 +39,8 @@ pub(crate) struct Caller<B: Naming> {
     pub(crate) contexts: Contexts,
     /// For each scanout the key of the buffer that the client shows there.
     pub(crate) shows: Vec<Option<u32>>,
+    /// The tickets of what is begun, in its order.
+    pub(crate) begun: VecDeque<Ticket>,
 }
 
 /// A client begins.
@@ -43,7 +51,8 @@ pub(crate) fn enter<B: Naming, R: Wait>(
     token: Token<B>,
 ) -> Result<Caller<B>, Token<B>>
     requires { (setup : Setups) × IsNew setup token × (length setup.displays ≤ 16) }
-    ensures { MatchResult result (λ client. HasEntered token client) (λ left. IsUnadded token left) }
+    ensures entered { MatchResult result (λ client. HasEntered token client) (λ left. IsUnadded token left) }
+    ensures out { IfOk result HasTickets }
 {
     let mut token = token;
     let Ok(shows) = shows_none(alloc, token.holds().displays as usize) else {
@@ -55,6 +64,7 @@ pub(crate) fn enter<B: Naming, R: Wait>(
             names: Names::new(alloc),
             contexts: Contexts::new(alloc),
             shows,
+            begun: VecDeque::new(alloc),
         }),
         Err(_) => Err(token),
     }
@@ -67,8 +77,8 @@ fn shows_none(alloc: Global, scanouts: usize) -> Result<Vec<Option<u32>>, AllocE
     vec![in alloc; None; scanouts]
 }
 
-/// Makes a call: its tasks one after another, or the act that says what was denied. It gives what the call made. Where memory
-/// lacks, the entries that were made stand, and no outcome is given.
+/// Makes a call: its tasks one after another, or the act that says what was denied; of one that begins its command it begins that.
+/// It gives what the call made. Where memory lacks, the entries that were made stand, and no outcome is given.
 pub(crate) fn make_call<B: Naming, N: Rings, R: Wait>(
     rt: &R,
     alloc: Global,
@@ -78,21 +88,22 @@ pub(crate) fn make_call<B: Naming, N: Rings, R: Wait>(
     call: Call,
 ) -> Result<Outcome, AllocError>
     requires ready { IsReady client.old }
+    requires out { HasTickets client.old }
     requires fit { IsCallFit client.old.token.account.holds.displays call }
-    requires room { length (mine_of client.old.token) + 20 < 2 ^ 31 - 1 }
-    ensures done { IfOk result (λ outcome. (mine : List Entries)
-        × Gives client.old.token.account.number (known client.old) call mine (known client.new)
-        × HasGoneOn client.old mine client.new
-        × (length mine ≤ 19)
-        × IsOutcome client.old.token.seen mine client.new.token.seen outcome) }
+    requires room { client.old.token.account.used + 20 < 2 ^ 31 - 1 }
+    ensures done { IfOk result (λ outcome. HasGone outcome.last client.old call outcome client.new) }
     ensures name { IfOk result (λ outcome. outcome.name ≡ newest (known client.old) (known client.new)) }
     ensures context { IfOk result (λ outcome. outcome.context ≡ newest_context (known client.old) (known client.new)) }
-    ensures begun { OnErr result ((mine : List Entries)
-        × Begins client.old.token.account.number (known client.old) call mine
-        × HasAdded client.old mine client.new) }
+    ensures begun { OnErr result (HasLeftOff client.old call client.new) }
+    ensures out { HasTickets client.new }
 {
+    // Laws, and no work: which calls give up holds, and what a call that begins its command asks.
+    a_call_keeps_its_holds();
+    a_begun_call_asks_once();
     let made = client.names.made();
     let made_contexts = client.contexts.made();
+    let begun = begins(&call);
+    let finishes = gives_up(&call);
     let plan = tasks_of(
         alloc,
         client.token.holds(),
@@ -101,37 +112,67 @@ pub(crate) fn make_call<B: Naming, N: Rings, R: Wait>(
         client.shows.as_slice(),
         call,
     )?;
-    let played = follow(rt, alloc, book, driver, client, plan)?;
+    let played = follow(rt, alloc, book, driver, client, begun, finishes, plan)?;
     let name = name_made(&client.names, made);
     let context = context_made(&client.contexts, made_contexts);
     Ok(played.outcome(name, context))
 }
 
-/// Does the tasks of a call, or tells what was denied.
+/// Begins the task of a call, or does its tasks, or tells what was denied.
 fn follow<B: Naming, N: Rings, R: Wait>(
     rt: &R,
     alloc: Global,
     book: &Book<Display, B>,
     driver: &Driver<B, N>,
     client: &mut Caller<B>,
+    begins: bool,
+    finishes: bool,
     plan: Result<Tasks, What>,
 ) -> Result<Played, AllocError>
     requires ready { IsReady client.old }
+    requires out { HasTickets client.old }
     requires plan { IsFitPlan client.old.token.account.holds plan }
-    requires room { length (mine_of client.old.token) + 20 < 2 ^ 31 - 1 }
-    ensures done { IfOk result (λ played. (mine : List Entries)
-        × GivesTasks client.old.token.account.number (known client.old) plan mine (known client.new)
-        × HasGoneOn client.old mine client.new
-        × (length mine ≤ 19)
-        × HasPlayed client.old.token.seen mine client.new.token.seen played) }
-    ensures begun { OnErr result ((mine : List Entries)
-        × BeginsTasks client.old.token.account.number (known client.old) plan mine
-        × HasAdded client.old mine client.new) }
+    requires once { begins ≡ true → PlansToAskOnce plan }
+    requires keeps { finishes ≡ false → PlansToKeep plan }
+    requires apart { begins ≡ true → finishes ≡ false }
+    requires room { client.old.token.account.used + 20 < 2 ^ 31 - 1 }
+    ensures done { IfOk result (λ played. HasGonePlan begins (finishes && is_planned plan) plan client.old played client.new) }
+    ensures begun { OnErr result (HasStoppedPlan plan client.old client.new) }
+    ensures out { HasTickets client.new }
 {
     match plan {
-        Ok(tasks) => play(rt, alloc, book, driver, client, true, tasks),
+        Ok(tasks) => {
+            if begins {
+                begin_tasks(rt, alloc, book, driver, client, tasks)
+            } else {
+                play_behind(rt, alloc, book, driver, client, finishes, tasks)
+            }
+        }
         Err(what) => deny(rt, alloc, book, client, what),
     }
+}
+
+/// Does the tasks of a call, where it finishes what is begun once that has come back.
+fn play_behind<B: Naming, N: Rings, R: Wait>(
+    rt: &R,
+    alloc: Global,
+    book: &Book<Display, B>,
+    driver: &Driver<B, N>,
+    client: &mut Caller<B>,
+    finishes: bool,
+    tasks: Tasks,
+) -> Result<Played, AllocError>
+    requires ready { IsReady client.old }
+    requires out { HasTickets client.old }
+    requires plan { IsFitPlan client.old.token.account.holds (Ok tasks) }
+    requires keeps { finishes ≡ false → AllByRecursion KeepsHolds tasks }
+    requires room { client.old.token.account.used + 20 < 2 ^ 31 - 1 }
+    ensures done { IfOk result (λ played. HasFollowed finishes (Ok tasks) client.old played client.new) }
+    ensures begun { OnErr result (HasStoppedPlan (Ok tasks) client.old client.new) }
+    ensures out { HasTickets client.new }
+{
+    finish_first(rt, book, driver, client, finishes)?;
+    play(rt, alloc, book, driver, client, true, tasks)
 }
 
 /// The name that a call defined, where it is current and so many were defined before.
@@ -158,7 +199,8 @@ fn context_made(contexts: &Contexts, before: u32) -> Option<ContextRef>
     }
 }
 
-/// Ends the client: it gives up all that it has, and leaves. It gives the number of the entry with which it left.
+/// Ends the client: once all that it has begun has come back it gives up all that it has, and leaves. It gives the number of the entry
+/// with which it left.
 pub(crate) fn end<B: Naming, N: Rings, R: Wait>(
     rt: &R,
     alloc: Global,
@@ -167,15 +209,37 @@ pub(crate) fn end<B: Naming, N: Rings, R: Wait>(
     client: &mut Caller<B>,
 ) -> Result<u64, AllocError>
     requires ready { IsReady client.old }
-    requires room { length (mine_of client.old.token) < 2 ^ 24 }
+    requires out { HasTickets client.old }
+    requires room { client.old.token.account.used < 2 ^ 24 }
     ensures number { client.new.token.account.number ≡ client.old.token.account.number }
     ensures start { client.new.token.start ≡ client.old.token.start }
     ensures idle { client.new.token.account.out ≡ [] }
     ensures ended { OnOk result (HasEnded client.old client.new.token) }
     ensures entry { IfOk result (HasLeftBy client.new.token) }
-    ensures begun { OnErr result ((mine : List Entries)
-        × BeginsEnd client.old.token.account.number (known client.old) mine
-        × HasMade client.old.token mine client.new.token) }
+    ensures begun { OnErr result (HasLeftOffAtEnd client.old client.new.token) }
+{
+    finish(rt, book, driver, client)?;
+    give_up(rt, alloc, book, driver, client)
+}
+
+/// The client, which has nothing out, gives up all that it has, and leaves. It gives the number of the entry with which it left.
+fn give_up<B: Naming, N: Rings, R: Wait>(
+    rt: &R,
+    alloc: Global,
+    book: &Book<Display, B>,
+    driver: &Driver<B, N>,
+    client: &mut Caller<B>,
+) -> Result<u64, AllocError>
+    requires ready { IsReady client.old }
+    requires out { HasTickets client.old }
+    requires idle { client.old.token.account.out ≡ [] }
+    requires room { client.old.token.account.used < 2 ^ 24 }
+    ensures number { client.new.token.account.number ≡ client.old.token.account.number }
+    ensures start { client.new.token.start ≡ client.old.token.start }
+    ensures idle { client.new.token.account.out ≡ [] }
+    ensures left { OnOk result (HasLeft client.old client.new.token) }
+    ensures entry { IfOk result (HasLeftBy client.new.token) }
+    ensures begun { OnErr result (HasLeftOffBy client.old client.new.token) }
 {
     let tasks = end_tasks(alloc, client.token.holds(), &client.names, &client.contexts)?;
     play(rt, alloc, book, driver, client, false, tasks)?;
@@ -189,7 +253,8 @@ fn leave<B: Naming, R: Wait>(
     book: &Book<Display, B>,
     token: &mut Token<B>,
 ) -> Result<u64, AllocError>
-    requires { IsActive token.old }
+    requires active { IsActive token.old }
+    requires idle { token.old.account.out ≡ [] }
     ensures entry { OnOk result (mine_of token.new
         ≡ mine_of token.old ++ entries.Act token.old.account.number (token.old.account.used + 1) acts.Leave act_replies.Ok ∷ []) }
     ensures account { OnOk result (IsAccount token.new) }

@@ -1,17 +1,16 @@
 //! The life of a client: it enters, makes calls, and ends.
 
-ghost use Rattle.std.specs.Prelude.{◌≡◌, ◌<◌, ◌≤◌, ◌-◌, ◌+◌, ◌^◌, ◌⊎◌, [], true, false, List, length, IfOk, MatchResult, OnOk, OnErr};
+ghost use Rattle.std.specs.Prelude.{◌≡◌, ◌<◌, ◌≤◌, ◌-◌, ◌+◌, ◌^◌, ◌⊎◌, [], true, false, length, IfOk, MatchResult, OnOk, OnErr};
 ghost use mathlib.Core.List.{IsPrefix};
 ghost use Rattle.vg_client_holds.specs.declared.setup.Setup.{Setup as Setups};
-ghost use Rattle.vg_machine.specs.Entries.{Entry as Entries};
-ghost use Rattle.vg_client.specs.Accounts.{IsNew, IsUnadded, mine_of};
-ghost use Rattle.vg_client.specs.Callers.{BeginsEnd, HasAdded, HasEnded, HasEntered, HasGoneOn, HasLeftBy, HasMade, known};
+ghost use Rattle.vg_client.specs.Accounts.{HasNothingOut, IsNew, IsUnadded};
+ghost use Rattle.vg_client.specs.Callers.{HasEnded, HasEntered, HasGone, HasLeftBy, HasLeftOff, HasLeftOffAtEnd, known};
 ghost use Rattle.vg_tasks.specs.Plans.{IsCallFit};
-ghost use Rattle.vg_client.specs.Calls.{Begins, Gives, newest, newest_context};
-ghost use Rattle.vg_client.specs.Outcomes.{IsOutcome};
+ghost use Rattle.vg_client.specs.Calls.{newest, newest_context};
 
 use crate::caller::{Caller, end, enter, make_call};
 use crate::outcome::Outcome;
+use crate::tokens::finish_all;
 use std::alloc::{AllocError, Global};
 use std::marker::Model;
 use std::sync::Wait;
@@ -31,14 +30,15 @@ pub struct Client<B: Naming> {
 }
 
 impl<B: Naming> Model for Client<B> {
-    ghost use Rattle.std.specs.Prelude.{◌≡◌, [], false};
+    ghost use Rattle.std.specs.Prelude.{◌≡◌, false};
+    ghost use Rattle.vg_client.specs.Accounts.{AreOut};
     ghost use Rattle.vg_client.specs.Callers.{ClientState, IsReady};
 
     ghost Value = { ClientState B };
 
     ghost view = { λ c. record { caller = c.caller; stopped = c.stopped } };
 
-    ghost invariant = { λ c. (c.caller.token.account.out ≡ []) × (c.stopped ≡ false → IsReady c.caller) };
+    ghost invariant = { λ c. AreOut c.caller.token.account.out c.caller.begun.items × (c.stopped ≡ false → IsReady c.caller) };
 }
 
 impl<B: Naming> Client<B> {
@@ -63,7 +63,9 @@ impl<B: Naming> Client<B> {
 
     /// Makes a call: its entries one after another, until one isn't accepted, or the act that says what was denied. It gives the
     /// numbers of the entries, what the last one was answered, and the name, of a buffer or of a context, that the call made, if it
-    /// made one. For want of memory the entries that were made stand, no outcome is given, and the client has stopped.
+    /// made one. A call that begins its command has no entry yet, and gives its fence; one that gives up a lease, a buffer or a
+    /// context comes once all that the client has begun has come back. For want of memory the entries that were made stand, no
+    /// outcome is given, and the client has stopped.
     pub fn call<N: Rings, R: Wait>(
         &mut self,
         rt: &R,
@@ -73,18 +75,12 @@ impl<B: Naming> Client<B> {
         call: Call,
     ) -> Result<Outcome, AllocError>
         requires fit { IsCallFit self.old.caller.token.account.holds.displays call }
-        requires room { length (mine_of self.old.caller.token) + 20 < 2 ^ 31 - 1 }
-        ensures done { IfOk result (λ outcome. (mine : List Entries)
-            × Gives self.old.caller.token.account.number (known self.old.caller) call mine (known self.new.caller)
-            × HasGoneOn self.old.caller mine self.new.caller
-            × (length mine ≤ 19)
-            × IsOutcome self.old.caller.token.seen mine self.new.caller.token.seen outcome) }
+        requires room { self.old.caller.token.account.used + 20 < 2 ^ 31 - 1 }
+        ensures done { IfOk result (λ outcome. HasGone outcome.last self.old.caller call outcome self.new.caller) }
         ensures name { IfOk result (λ outcome. outcome.name ≡ newest (known self.old.caller) (known self.new.caller)) }
         ensures context { IfOk result (λ outcome. outcome.context ≡ newest_context (known self.old.caller) (known self.new.caller)) }
         ensures goes_on { OnOk result ((self.old.stopped ≡ false) × (self.new.stopped ≡ false)) }
-        ensures begun { OnErr result ((mine : List Entries)
-            × Begins self.old.caller.token.account.number (known self.old.caller) call mine
-            × HasAdded self.old.caller mine self.new.caller) }
+        ensures begun { OnErr result (HasLeftOff self.old.caller call self.new.caller) }
         ensures stops { OnErr result (self.new.stopped ≡ true) }
         ensures nothing { self.old.stopped ≡ true → self.new ≡ self.old }
     {
@@ -100,9 +96,9 @@ impl<B: Naming> Client<B> {
         }
     }
 
-    /// Ends the client: it gives up all that it has, and leaves. Its token comes back with nothing outstanding, beside the number
-    /// in the history of the entry with which it left. For want of memory the entries that were made stand, and it hasn't left. A
-    /// client that has stopped gives nothing up.
+    /// Ends the client: once all that it has begun has come back it gives up all that it has, and leaves. Its token comes back with
+    /// nothing outstanding, beside the number in the history of the entry with which it left. For want of memory the entries that
+    /// were made stand, and it hasn't left. A client that has stopped waits for what it has begun too, and gives nothing up.
     pub fn end<N: Rings, R: Wait>(
         self,
         rt: &R,
@@ -110,22 +106,21 @@ impl<B: Naming> Client<B> {
         book: &Book<Display, B>,
         driver: &Driver<B, N>,
     ) -> (ClientToken<Display, B>, Result<u64, AllocError>)
-        requires room { (self.stopped ≡ true) ⊎ (length (mine_of self.caller.token) < 2 ^ 24) }
+        requires room { (self.stopped ≡ true) ⊎ (self.caller.token.account.used < 2 ^ 24) }
         ensures number { result.0.account.number ≡ self.caller.token.account.number }
         ensures start { result.0.start ≡ self.caller.token.start }
         ensures idle { result.0.account.out ≡ [] }
         ensures ended { OnOk result.1 ((self.stopped ≡ false) × HasEnded self.caller result.0) }
         ensures entry { IfOk result.1 (HasLeftBy result.0) }
-        ensures begun { OnErr result.1 ((mine : List Entries)
-            × BeginsEnd self.caller.token.account.number (known self.caller) mine
-            × HasMade self.caller.token mine result.0) }
-        ensures nothing { self.stopped ≡ true → result.0 ≡ self.caller.token }
+        ensures begun { OnErr result.1 (HasLeftOffAtEnd self.caller result.0) }
+        ensures nothing { self.stopped ≡ true → HasNothingOut self.caller.token result.0 }
     {
         let Client { caller, stopped } = self;
+        let mut caller = caller;
         if stopped {
+            let _ = finish_all(rt, book, driver, &mut caller.token, &mut caller.begun);
             return (caller.token, Err(AllocError));
         }
-        let mut caller = caller;
         match end(rt, alloc, book, driver, &mut caller) {
             Ok(number) => (caller.token, Ok(number)),
             Err(_) => (caller.token, Err(AllocError)),

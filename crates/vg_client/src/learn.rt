@@ -23,6 +23,7 @@ pub(crate) fn learn<B: Naming>(
     requires room { client.old.names.made < 2 ^ 31 }
     requires room_for_contexts { client.old.contexts.made < 2 ^ 31 }
     ensures kept { client.new.token ≡ client.old.token }
+    ensures begun { client.new.begun ≡ client.old.begun }
     ensures names { OnOk result (client.new.names ≡ names_after change given.now client.old.names) }
     ensures contexts { OnOk result (client.new.contexts ≡ contexts_after change given.now client.old.contexts) }
     ensures shows { OnOk result (client.new.shows.items ≡ shows_after change given.now client.old.shows.items) }

@@ -2,6 +2,7 @@
 //! share, and commands that go to the device by a driver.
 #![tactic(auto)]
 
+mod begun;
 mod caller;
 mod client;
 mod given;

@@ -1,6 +1,7 @@
 //! What a call made, and what it was answered.
 
 ghost use Rattle.std.specs.Prelude.{◌≡◌, ◌++◌, ◌∷◌, [], IfOk, IsSome, None, OnOk, Some};
+ghost use Rattle.vg_client.specs.declared.outcome.Last.TheVariants as lasts;
 ghost use Rattle.vg_client.specs.Outcomes as outcomes;
 
 use crate::given::{Added, Given};
@@ -9,15 +10,18 @@ use std::alloc::{AllocError, Global};
 use std::marker::Model;
 use vg_calls::{ContextRef, NameRef};
 use vg_driver::Answer;
+use vg_fence::Fence;
 use vg_machine::ActReply;
 
-/// What the last entry of a call was answered.
+/// What the last entry of a call was answered, where it has one.
 #[derive(Drop)]
 pub enum Last {
     /// It is an act.
     Act { reply: ActReply },
     /// It is a command.
     Command { answer: Answer },
+    /// There is no entry yet: the command is begun, and the fence is its.
+    Begun { fence: Fence },
 }
 
 /// The numbers of a call's entries. A clause sees the list of them. Up to four take no memory.
@@ -43,8 +47,8 @@ impl Numbers {
     }
 }
 
-/// What a call made: the numbers of its entries in the history, from 1 and rising, what the last of them was answered, and the
-/// name of the buffer, and that of the context, that it made, if it made one.
+/// What a call made: the numbers of its entries in the history, from 1 and rising, what the last of them was answered, or the fence
+/// of the command that it began, and the name of the buffer, and that of the context, that it made, if it made one.
 #[derive(Drop)]
 pub struct Outcome {
     pub entries: Numbers,
@@ -53,7 +57,7 @@ pub struct Outcome {
     pub context: Option<ContextRef>,
 }
 
-/// What tasks have given so far: the numbers of their entries, and what the last of them was answered.
+/// What tasks have given so far: the numbers of their entries, and what the last of them was answered, or what was begun.
 #[derive(Drop)]
 pub(crate) struct Played {
     pub(crate) entries: SmallVec<u64, 4>,
@@ -82,7 +86,15 @@ impl Played {
         Ok(())
     }
 
-    /// The outcome of a call that gave at least one entry, and made this name or context.
+    /// A command is begun, and the fence is its.
+    pub(crate) fn begin(&mut self, fence: Fence)
+        ensures entries { self.new.entries.items ≡ self.old.entries.items }
+        ensures last { self.new.last ≡ Some (lasts.Begun fence) }
+    {
+        self.last = Some(Last::Begun { fence });
+    }
+
+    /// The outcome of a call that gave at least one entry, or began a command, and made this name or context.
     pub(crate) fn outcome(self, name: Option<NameRef>, context: Option<ContextRef>) -> Outcome
         requires { IsSome self.last }
         ensures entries { result.entries ≡ self.entries.items }

@@ -3,29 +3,34 @@
 ghost use Rattle.std.specs.Prelude.{◌≡◌, ◌<◌, ◌≤◌, ◌-◌, ◌+◌, ◌^◌, ◌⊎◌, ℕ, [], List, length, false, None, if◌then◌else◌, IfOk, OnErr, OnOk};
 ghost use Rattle.std.specs.List.{AllByRecursion};
 ghost use Rattle.vg_history.specs.declared.entry.Entry.TheVariants as entries;
+ghost use Rattle.vg_client_holds.specs.declared.act.Act.TheVariants as acts;
 ghost use Rattle.vg_client_holds.specs.declared.act.ActReply.{ActReply as ActReplies};
+ghost use Rattle.vg_client_holds.specs.declared.act.ActReply.TheVariants as act_replies;
 ghost use Rattle.vg_machine.specs.declared.history.Reply.{Reply as Replies};
 ghost use Rattle.vg_machine.specs.Entries.{Entry as Entries};
 ghost use Rattle.vg_client_holds.specs.Holds.{Deniable};
 ghost use Rattle.vg_driver.specs.Asks.{IsAsk, denied_for, request_for};
 ghost use Rattle.vg_client.specs.declared.given.Given.TheVariants as givens;
-ghost use Rattle.vg_client.specs.Accounts.{IsActive, MayAct, leaves, mine_of};
+ghost use Rattle.vg_client.specs.Accounts.{AreOut, IsActive, MayAct, leaves};
 ghost use Rattle.vg_client.specs.Callers.{HasAdded, HasDone, HasGoneOn, IsFewPages, IsReady, known};
 ghost use Rattle.vg_tasks.specs.Plans.{weights};
 ghost use Rattle.vg_client.specs.Calls.{IsAsked, IsDenial, IsDone, IsFrontOf, Plays};
+ghost use Rattle.vg_tasks.specs.Keeps.{KeepsByDeed, KeepsHolds};
 ghost use Rattle.vg_tasks.specs.Fits.{HasFewBytes, IsFit, IsFitDeed};
 ghost use Rattle.vg_client.specs.Given.{tells_denial};
 ghost use Rattle.vg_client.specs.Outcomes.{HasPlayed};
+ghost use Rattle.vg_client.specs.Steps.{HasDenied};
 
 use crate::caller::Caller;
 use crate::given::{Added, Given, leave_tasks};
 use crate::learn::learn;
 use crate::outcome::Played;
-use crate::tokens::{act as add_act, ask as add_ask};
+use crate::tokens::{act as add_act, ask as add_ask, wait as add_wait};
 use std::alloc::{AllocError, Global};
 use std::sync::Wait;
 use vg_book::{Book, Naming};
 use vg_driver::{Ask, Driver};
+use vg_fence::Fence;
 use vg_machine::{Act, ActReply, Display, What};
 use vg_ring::Rings;
 use vg_tasks::{Deed, Task, Tasks};
@@ -42,8 +47,11 @@ pub(crate) fn play<B: Naming, N: Rings, R: Wait>(
     tasks: Tasks,
 ) -> Result<Played, AllocError>
     requires ready { IsReady client.old }
+    requires out { AreOut client.old.token.account.out client.old.begun.items }
     requires fit { AllByRecursion IsFit tasks }
-    requires room { length (mine_of client.old.token) + weights tasks < 2 ^ 31 - 1 }
+    // A hold is given up with nothing outstanding.
+    requires idle { (client.old.token.account.out ≡ []) ⊎ AllByRecursion KeepsHolds tasks }
+    requires room { client.old.token.account.used + weights tasks < 2 ^ 31 - 1 }
     ensures done { IfOk result (λ played. (mine : List Entries)
         × Plays client.old.token.account.number stops (known client.old) tasks mine (known client.new) []
         × HasGoneOn client.old mine client.new
@@ -75,7 +83,9 @@ fn make<B: Naming, N: Rings, R: Wait>(
     deed: Deed,
 ) -> Result<Added, AllocError>
     requires active { IsActive client.old.token }
+    requires out { AreOut client.old.token.account.out client.old.begun.items }
     requires fit { IsFitDeed deed }
+    requires idle { (client.old.token.account.out ≡ []) ⊎ KeepsByDeed deed }
     ensures done { IfOk result (λ added. (entry : Entries)
         × IsDone client.old.token.account.number client.old.token.account.holds deed entry
         × HasDone client.old entry added client.new
@@ -85,6 +95,7 @@ fn make<B: Naming, N: Rings, R: Wait>(
     match deed {
         Deed::Act { act } => make_act(rt, alloc, book, client, act),
         Deed::Ask { ask } => make_ask(rt, alloc, book, driver, client, &ask),
+        Deed::Wait { fence } => make_wait(rt, alloc, book, driver, client, fence),
     }
 }
 
@@ -143,6 +154,7 @@ fn make_ask<B: Naming, N: Rings, R: Wait>(
     ask: &Ask,
 ) -> Result<Added, AllocError>
     requires active { IsActive client.old.token }
+    requires out { AreOut client.old.token.account.out client.old.begun.items }
     requires ask { IsAsk ask.now }
     ensures done { IfOk result (λ added. (entry : Entries)
         × IsAsked client.old.token.account.number (denied_for client.old.token.account.holds ask.now) (request_for ask.now) entry
@@ -166,6 +178,7 @@ fn submit<B: Naming, N: Rings, R: Wait>(
     ask: &Ask,
 ) -> Result<Added, AllocError>
     requires active { IsActive client.old.token }
+    requires out { AreOut client.old.token.account.out client.old.begun.items }
     requires ask { IsAsk ask.now }
     requires allowed { denied_for client.old.token.account.holds ask.now ≡ None }
     ensures done { IfOk result (λ added. (ordinal : ℕ) × (reply : Replies)
@@ -173,12 +186,44 @@ fn submit<B: Naming, N: Rings, R: Wait>(
         × IsFewPages added.given) }
     ensures err { OnErr result (HasAdded client.old [] client.new) }
 {
-    let answer = add_ask(rt, alloc, book, driver, &mut client.token, ask)?;
+    let answer = add_ask(
+        rt,
+        alloc,
+        book,
+        driver,
+        &mut client.token,
+        &client.begun,
+        ask,
+    )?;
     Ok(Added {
         number: answer.entry,
         given: Given::Command {
             queue: ask.queue(),
             reply: answer.reply,
+        },
+    })
+}
+
+/// Waits for a fence, and tells so.
+fn make_wait<B: Naming, N: Rings, R: Wait>(
+    rt: &R,
+    alloc: Global,
+    book: &Book<Display, B>,
+    driver: &Driver<B, N>,
+    client: &mut Caller<B>,
+    fence: Fence,
+) -> Result<Added, AllocError>
+    requires active { IsActive client.old.token }
+    ensures done { IfOk result (λ added. HasDone client.old
+        (entries.Act client.old.token.account.number (client.old.token.account.used + 1) (acts.Await fence.lane fence.ordinal) act_replies.Ok) added client.new
+        × IsFewPages added.given) }
+    ensures err { OnErr result (HasAdded client.old [] client.new) }
+{
+    let number = add_wait(rt, alloc, book, driver, &mut client.token, &fence)?;
+    Ok(Added {
+        number,
+        given: Given::Act {
+            reply: ActReply::Ok,
         },
     })
 }
@@ -193,12 +238,7 @@ pub(crate) fn deny<B: Naming, R: Wait>(
 ) -> Result<Played, AllocError>
     requires ready { IsReady client.old }
     requires may { Deniable client.old.token.account.holds what }
-    ensures done { IfOk result (λ played. (mine : List Entries)
-        × IsDenial client.old.token.account.number what mine
-        × HasGoneOn client.old mine client.new
-        × (known client.new ≡ known client.old)
-        × (length mine ≡ 1)
-        × HasPlayed client.old.token.seen mine client.new.token.seen played) }
+    ensures done { IfOk result (λ played. HasDenied what client.old played client.new) }
     ensures begun { OnErr result ((mine : List Entries)
         × ((mine ≡ []) ⊎ IsDenial client.old.token.account.number what mine)
         × HasAdded client.old mine client.new) }

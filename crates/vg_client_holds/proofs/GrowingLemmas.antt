@@ -9,7 +9,7 @@ use Rattle.vg_wire.specs.declared.request.Malformed.{Malformed}
 use Rattle.vg_wire.specs.declared.request.Queue.{Queue}
 use Rattle.vg_wire_ext.specs.Request.{request_of}
 use Rattle.vg_client_holds.specs.declared.act.Act.{Act}
-use Rattle.vg_client_holds.specs.declared.act.Act.TheVariants.{Enter, Reserve, Store, Load, Export, Import, Release, Free, Take, Drop, Denied, Leave}
+use Rattle.vg_client_holds.specs.declared.act.Act.TheVariants.{Enter, Reserve, Store, Load, Export, Import, Release, Free, Take, Drop, Await, Denied, Leave}
 use Rattle.vg_client_holds.specs.declared.act.ActReply.{ActReply}
 use Rattle.vg_client_holds.specs.declared.act.ActReply.TheVariants as replies
 use Rattle.vg_client_holds.specs.declared.act.What.{What}
@@ -118,6 +118,7 @@ grows h (Take scanout) replies.Kept e = more_itself h
 grows h (Take scanout) replies.Last e = more_itself h
 grows h (Take scanout) (replies.Refused refusal) e = more_itself h
 grows h (Drop scanout) reply e = absurd (false_is_true (sym e))
+grows h (Await lane ordinal) reply e = more_itself h
 grows h (Denied what) reply e = more_itself h
 grows h Leave reply e = absurd (false_is_true (sym e))
 

@@ -67,6 +67,11 @@ pub enum Act {
     Drop {
         scanout: u32,
     },
+    /// The client has waited for a fence: the command of this lane, 0 to 65, with this ordinal, from 1.
+    Await {
+        lane: u32,
+        ordinal: u64,
+    },
     /// The client asked for something that isn't allowed to it.
     Denied {
         what: What,

@@ -1,7 +1,7 @@
 -- What a half keeps, from call to call.
 use Rattle.std.proofs.Common.{◌≡◌, ◌≢◌, ℕ, ◌+◌, ◌-◌, ◌==◌, ◌<◌, ◌≤◌, Bool, zero, suc, true, false, cond, List, [], ◌∷◌, ◌++◌, Option, Some, None, max, set, get_or, length, inl, inr, refl, sym, ap, subst, ◌∙◌, arith, length-append, eq-eqb, ne_eqb}
 use Rattle.std.proofs.lemmas.Bool.{cases_eq, cases_lt}
-use Rattle.std.proofs.lemmas.List.{get_or-set_other, get_or-set_same, get_or_default, get_or_append_left, length-set}
+use Rattle.std.proofs.lemmas.List.{get_or-set_other, get_or-set_same, get_or_default, get_or_append_left, length-set, set-get_or}
 use Rattle.std.proofs.Math.Seq.{get_or-append_seam}
 use mathlib.Core.List.{IsPrefix}
 use Rattle.vg_history.specs.declared.machine.Machine.{Ghosts}
@@ -12,8 +12,9 @@ use Rattle.vg_history.proofs.ListLemmas.{has_prefix, has_snoc, prefix_self, pref
 use Rattle.vg_book.specs.declared.outcome.Carried.{Carried}
 use Rattle.vg_book.specs.declared.outcome.Carried.TheVariants as carried
 use Rattle.vg_book.specs.Outcomes.{asks_of, tag_of}
-use Rattle.vg_book.specs.Tokens.{Done, Noted, Rooted, TakesIn, finished_of}
+use Rattle.vg_book.specs.Tokens.{Client, Done, Noted, Rooted, TakesIn, Watched, finished_of}
 use Rattle.vg_book.specs.Views.{entry_of}
+use Rattle.vg_fence.specs.Fences.{FenceData}
 use Rattle.vg_asks.specs.declared.asked.Asked.{Asked}
 use Rattle.vg_chain.specs.declared.shape.Shape.{Shape}
 use Rattle.vg_wire.specs.declared.request.Queue.{Queue}
@@ -24,7 +25,7 @@ use Rattle.vg_ring.specs.Cargo as cargoes
 use Rattle.vg_ring.specs.Ends.{DriverLists, Publishes, Reaps}
 use Rattle.vg_ring.specs.Entries.{IsDone}
 use Rattle.vg_ring.specs.Making.{IsNewDriver}
-use Rattle.vg_driver.specs.Halves.{AreBack, AreHeard, AreKnown, HasFor, HasHeard, HasJoined, HeardData, Hears, IsHalf, IsHeard, IsJoined, IsKnown, NoteKnows, asked_in, seen_by, top_of, unheard}
+use Rattle.vg_driver.specs.Halves.{AreBack, AreHeard, AreKnown, HasFor, HasHeard, HasJoined, HeardData, Hears, IsHalf, IsHeard, IsJoined, IsKnown, NoteKnows, Signals, asked_in, seen_by, top_of, unheard}
 
 pub lane_small : (queue : Queue) (lane : ℕ) → IsLane queue lane → lane < 66
 lane_small Control lane is = omega (arith, is)
@@ -57,6 +58,17 @@ module _ {M S A R Q P H W : Type 0} (g : Ghosts M S A R Q P H W) where
   -- a note of what came back run, once it has seen what was known, knows the lane as far as both
   pub known_both : (lane ordinal known : ℕ) (note : Option (Noted M S A R Q P H W)) (es fs : List E) → HasFence g lane ordinal es → IsPrefix es fs → NoteKnows g lane known note → IsPrefix (seen_by note) fs → HasFence g lane (max ordinal known) fs
   known_both lane ordinal known note es fs fence more knows seen = fence_max lane ordinal known fs (fence_more lane ordinal es fs more fence) (known_more lane known note fs knows seen)
+
+  -- a lane that is known has a note
+  pub note_there : (lane ordinal known : ℕ) (note : Option (Noted M S A R Q P H W)) → NoteKnows g lane known note → 1 ≤ ordinal → ordinal ≤ known → note ≢ None
+  note_there lane ordinal known None knows first least is = absurd (omega (arith, knows, first, least))
+  note_there lane ordinal known (Some note) knows first least is = cc
+
+  -- a client that has seen what is known of a lane knows a fence of it
+  pub signal_known : (lane known : ℕ) (note : Option (Noted M S A R Q P H W)) (fence : FenceData) (c d : Client M S A R Q P H W) → NoteKnows g lane known note → fence.lane ≡ lane → fence.ordinal ≤ known → Watched g c d → IsPrefix (seen_by note) d.seen → Signals g c fence true d
+  signal_known lane known note fence c d knows lane_is least watched seen =
+      let fence_known : HasFence g lane fence.ordinal d.seen = λ j some most. known_more lane known note d.seen knows seen j some (omega (arith, most, least)) in
+      (subst (λ l. HasFence g l fence.ordinal d.seen) (sym lane_is) fence_known, watched)
 
   for_more : (tag : ℕ × ℕ) (asks : Asked) (es fs : List E) → IsPrefix es fs → HasFor g tag asks es → HasFor g tag asks fs
   for_more tag asks es fs more t = (t.0, t.1, t.2, t.3, has_prefix es fs _ more t.4, t.5, t.6)
@@ -167,6 +179,10 @@ module _ {M S A R Q P H W : Type 0} (g : Ghosts M S A R Q P H W) where
           ];
           known = subst (λ xs. AreKnown g xs (set heard lane h)) (sym r.reaped) (known_reaped wanted cargo a r.done lane ordinal lane_is ordinal_is less at h at_is back tag asks hears);
         }
+
+    -- a lane was asked, and is as it was
+    pub half_asked : (lane : ℕ) (at h : HeardData M S A R Q P H W) → at ≡ get_or heard lane at → h ≡ at → IsHalf g queue old replies room (set heard lane h)
+    half_asked lane at h at_is same = subst (IsHalf g queue old replies room) (sym (ap (set heard lane) (same ∙ at_is) ∙ set-get_or heard lane at)) k
 
     -- a cargo was published, and there is room for its reply
     pub half_sent : {P : Type 0} (shape : Shape) (cargo : CargoData P) (new : DriverLists) → Publishes old shape cargo new → (replies' room' published reaped : ℕ) → published ≡ length old.published → reaped ≡ length old.reaped

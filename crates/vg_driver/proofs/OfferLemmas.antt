@@ -1,5 +1,5 @@
 -- A request that may be published next.
-use Rattle.std.proofs.Common.{◌≡◌, ℕ, ◌+◌, ◌-◌, ◌^◌, ◌==◌, ◌<◌, ◌≤◌, ◌&&◌, nat_le, nat_lt, bit_and, Bool, true, false, cond, List, [], length, None, Result, Ok, Err, refl, sym, ap, subst, ◌∙◌, arith, length-append, ne_eqb}
+use Rattle.std.proofs.Common.{◌≡◌, ℕ, ◌+◌, ◌-◌, ◌^◌, ◌==◌, ◌<◌, ◌≤◌, ◌&&◌, nat_le, nat_lt, bit_and, Bool, true, false, cond, List, [], ◌∷◌, length, None, Result, Ok, Err, refl, sym, ap, subst, ◌∙◌, arith, length-append, ne_eqb}
 use Rattle.std.specs.Prelude.{IfOk}
 use Rattle.std.proofs.lemmas.Bool.Decides.{nat_tests}
 use Rattle.vg_chain.specs.declared.shape.Shape.{Shape}
@@ -17,6 +17,7 @@ use Rattle.vg_wire_ext.specs.Commands.{command_body, command_kind}
 use Rattle.vg_wire_ext.specs.Request.{request_bytes, request_of}
 use Rattle.vg_ring.specs.Cargo.{IsLane}
 use Rattle.vg_ring.specs.Ends.{DriverLists, HasRoom}
+use Rattle.vg_ring.specs.declared.views.Entry as ring
 use Rattle.vg_ring.specs.Entries.{lane_count}
 use Rattle.vg_ring.proofs.KeptLemmas.{made_some}
 use Rattle.vg_machine.specs.declared.history.Request.{Request}
@@ -97,6 +98,23 @@ small_room queues.Control command = omega arith
 
 request_long : (header : Header) (command : Command) → length (request_bytes header command) ≡ 24 + length (command_body command)
 request_long header command = simp length-append (omega (arith, length-header_bytes header))
+
+-- a lane has at most all entries
+lane_few : (lane : ℕ) (es : List ring.Entry) → lane_count lane es ≤ length es
+lane_few lane [] = omega arith
+lane_few lane (e ∷ es) = by_test (e.lane == lane) (lane_few lane es)
+  where
+    by_test : (b : Bool) → lane_count lane es ≤ length es → cond b 1 0 + lane_count lane es ≤ length (e ∷ es)
+    by_test true few = omega (arith, few)
+    by_test false few = omega (arith, few)
+
+-- a request that may be published has a fence
+pub next_fence : (holds : Holds) (lists : DriverLists) (request : Request) → IsNext holds lists request → (1 ≤ request.ordinal) × (request.ordinal < 2 ^ 63)
+next_fence holds lists request next =
+    let few = lane_few request.lane lists.published in
+    let ordinal = next.ordinal in
+    let last = next.last in
+    (omega (arith, ordinal), omega (arith, ordinal, few, last))
 
 -- a chain has a descriptor
 pub has_room : (lists : DriverLists) (request : Request) → (count : ℕ) × IsNeeded request.shape (length request.bytes) request.room count × HasRoom lists count → HasRoom lists 1

@@ -1,13 +1,15 @@
 -- What came back of a call is the ticket's order.
-use Rattle.std.proofs.Common.{◌≡◌, ◌⊎◌, inl, inr, ℕ, ◌==◌, ◌≤◌, Bool, true, false, cond, List, [], ◌∷◌, ◌++◌, map, refl, sym, ap, subst, ◌∙◌, arith, eq-eqb, true≢false}
+use Rattle.std.proofs.Common.{◌≡◌, ◌⊎◌, inl, inr, ℕ, ◌==◌, ◌≤◌, Bool, true, false, cond, List, [], ◌∷◌, ◌++◌, map, Result, Ok, Err, refl, sym, ap, subst, ◌∙◌, arith, eq-eqb, true≢false}
+use Rattle.std.specs.Prelude.{MatchResult}
 use mathlib.Core.List.{map-append}
 use Rattle.vg_history.specs.declared.entry.Entry.{Entry}
 use Rattle.vg_history.specs.Entries.{call_of}
 use Rattle.vg_history.specs.Lists.{Has, times, upto}
-use Rattle.vg_history.proofs.ListLemmas.{has_map, times_append, times_has, upto_one}
+use Rattle.vg_history.proofs.ListLemmas.{has_map, prefix_trans, times_append, times_has, upto_one}
 use Rattle.vg_book.specs.Outcomes.{asks_of, told_by}
-use Rattle.vg_book.specs.Tokens.{TakesBack, TakesUnrun, finished_of}
+use Rattle.vg_book.specs.Tokens.{TakesBack, TakesUnrun, Watched, finished_of}
 use Rattle.vg_book.specs.Views.{calls, entry_of, given_up, order_call, settled, without}
+use Rattle.vg_fence.specs.Fences.{FenceData}
 use Rattle.vg_client_holds.specs.declared.act.Act.{Act}
 use Rattle.vg_client_holds.specs.declared.act.ActReply.{ActReply}
 use Rattle.vg_machine.specs.declared.history.Reply.{Reply}
@@ -22,7 +24,8 @@ use Rattle.vg_book.specs.declared.outcome.Carried.{Carried}
 use Rattle.vg_book.specs.declared.outcome.Carried.TheVariants as carried
 use Rattle.vg_machine.specs.Written.{read_by, written_in}
 use Rattle.vg_driver.specs.Halves as halves
-use Rattle.vg_driver.specs.Tickets.{Account, DonePass, IsOf, IsOut, Order, Pass, Token}
+use Rattle.vg_driver.specs.Halves.{Signals}
+use Rattle.vg_driver.specs.Tickets.{Account, Awaited, DonePass, IsOf, IsOut, IsTold, Order, Pass, Token}
 
 abbrev Back : Type 0 → Type 0
 Back B = Carried State B State Act ActReply Request Reply Holds Request
@@ -90,3 +93,19 @@ reply_done f back shape bytes is shape_is told read =
     let same : f.order.request.shape ≡ shape = subst (λ (r : Back _). (asks_of display r).shape ≡ shape) is shape_is in
     let bytes_are : bytes ≡ written_in f.order.request.room f.reply = subst (λ (r : Back _). Tells (told_by display r) bytes) is told in
     ap (λ (s : Shape). read_by s bytes) (sym same) ∙ ap (read_by f.order.request.shape) bytes_are ∙ read
+
+-- a client that has at most seen more, twice
+watched_on : (c d e : Token) → Watched display c d → Watched display d e → Watched display c e
+watched_on c d e first second = record {
+  more = prefix_trans c.seen d.seen e.seen first.more second.more;
+  account = second.account ∙ first.account;
+  start = second.start ∙ first.start;
+  history = second.history;
+  known = second.known;
+}
+
+-- the client has met a fence, and told of it
+pub awaited : {E : Type 0} (old met new : Token) (fence : FenceData) (result : Result ℕ E) → Signals display old fence true met → MatchResult result (λ entry. IsTold met fence entry new) (λ e. Watched display met new)
+    → MatchResult result (λ entry. Awaited old fence entry new) (λ e. Watched display old new)
+awaited old met new fence (Ok entry) signals told = record { met = met; watched = signals.1; known = signals.0; reply = told.0; acted = told.1 }
+awaited old met new fence (Err e) signals watched = watched_on old met new signals.1 watched

@@ -9,7 +9,8 @@ use Rattle.vg_history.specs.Lists.{Has}
 use Rattle.vg_book.specs.declared.outcome.Carried.{Carried}
 use Rattle.vg_book.specs.declared.outcome.Carried.TheVariants as carried
 use Rattle.vg_book.specs.Outcomes.{asks_of, tag_of}
-use Rattle.vg_book.specs.Tokens.{Client, Drawn, Noted, Passed, Rooted}
+use Rattle.vg_book.specs.Tokens.{Client, Drawn, Noted, Passed, Rooted, Watched}
+use Rattle.vg_fence.specs.Fences.{FenceData}
 use Rattle.vg_chain.specs.declared.shape.Shape.{Shape}
 use Rattle.vg_chain.specs.Made.{IsCount, IsNeeded}
 use Rattle.vg_wire.specs.declared.request.Queue.{Queue}
@@ -110,6 +111,12 @@ module _ {M S A R Q P H W : Type 0} (g : Ghosts M S A R Q P H W) where
   abbrev pub NoteKnows : ℕ → ℕ → Option (Noted M S A R Q P H W) → Type 0
   NoteKnows lane known None = known ≡ 0
   NoteKnows lane known (Some note) = HasFence g lane known note.seen
+
+  -- The fence is known: the client has at most seen more, and all commands of the fence's lane up to it are there; or nothing is
+  -- changed.
+  abbrev pub Signals : Client M S A R Q P H W → FenceData → Bool → Client M S A R Q P H W → Type 0
+  Signals c fence true d = HasFence g fence.lane fence.ordinal d.seen × Watched g c d
+  Signals c fence false d = d ≡ c
 
   -- The request was made a pass under the client's next number.
   abbrev pub IsSent : Client M S A R Q P H W → Q → Client M S A R Q P H W → ℕ → Type 0

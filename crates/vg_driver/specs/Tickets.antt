@@ -1,11 +1,14 @@
 -- What a client's token tells of its commands, from a submission to the reply.
 use Rattle.std.specs.Prelude.{◌≡◌, ℕ, ◌+◌}
+use Rattle.vg_history.specs.History.{HasFence}
 use Rattle.vg_history.specs.Lists.{Has}
 use Rattle.vg_book.specs.declared.board.Account as books
 use Rattle.vg_book.specs.declared.board.Order as orders
 use Rattle.vg_book.specs.Tokens as tokens
-use Rattle.vg_book.specs.Tokens.{Drawn, TakesBack, TakesUnrun}
+use Rattle.vg_book.specs.Tokens.{Acted, Drawn, TakesBack, TakesUnrun, Watched}
+use Rattle.vg_fence.specs.Fences.{FenceData}
 use Rattle.vg_client_holds.specs.declared.act.Act.{Act}
+use Rattle.vg_client_holds.specs.declared.act.Act.TheVariants.{Await}
 use Rattle.vg_client_holds.specs.declared.act.ActReply.{ActReply}
 use Rattle.vg_machine.specs.declared.history.Reply.{Reply}
 use Rattle.vg_machine.specs.declared.history.Request.{Request}
@@ -68,3 +71,16 @@ pub record Spent (old : Token) (ticket : Ticket) (new : Token) : Type 0 where
   pub pass : Pass
   pub back : TakesUnrun display old pass new
   pub is : IsOf ticket pass.order
+
+-- The client has told of a fence.
+abbrev pub IsTold : Token → FenceData → ℕ → Token → Type 0
+IsTold old fence entry new = (reply : ActReply) × Acted display old (Await fence.lane fence.ordinal) new entry reply
+
+-- The client has waited for a fence, and told so: what it had seen by then has all commands of the fence's lane up to it, and its
+-- act stands behind that.
+pub record Awaited (old : Token) (fence : FenceData) (entry : ℕ) (new : Token) : Type 0 where
+  pub met : Token
+  pub watched : Watched display old met
+  pub known : HasFence display fence.lane fence.ordinal met.seen
+  pub reply : ActReply
+  pub acted : Acted display met (Await fence.lane fence.ordinal) new entry reply

@@ -1,13 +1,15 @@
 //! What came back of a command, run or unrun.
 
-ghost use Rattle.std.specs.Prelude.{◌≡◌, ◌≤◌, ◌<◌, ◌∷◌, length, IfSome, IsPermutation, MatchOption, vec_len, vec_capacity};
-ghost use Rattle.std.specs.List.{position};
+ghost use Rattle.std.specs.Prelude.{◌≡◌, ◌≤◌, ◌<◌, ◌∷◌, true, false, None, length, HoldsAt, IfSome, IsPermutation, MatchOption};
+ghost use Rattle.std.specs.List.{AllByRecursion};
+ghost use Rattle.std.specs.VecDeque.{deque_len, deque_capacity};
 ghost use Rattle.vg_book.specs.Outcomes.{asks_of, tag_of, told_by};
 ghost use Rattle.vg_ring.specs.Cargo.{Tells, asked_of};
 ghost use Rattle.vg_driver.specs.Halves.{Hears, IsOf};
 ghost use Rattle.vg_driver.specs.Halves as halves;
 
 use crate::heard::Heard;
+use std::collections::VecDeque;
 use std::marker::Model;
 use vg_book::{Book, Carried, Naming};
 use vg_chain::Shape;
@@ -80,25 +82,40 @@ impl<M: Machine, B: Naming> Back<M, B> {
     }
 }
 
-/// Where the first that came of a client's call stands, if it is there.
-fn place_of<M: Machine, B: Naming>(replies: &[Back<M, B>], client: u32, call: u64) -> Option<usize>
-    ensures place { result ≡ position (halves.is_of client call) replies.now }
-    ensures within { IfSome result (λ place. place < length replies.now) }
+/// Where something that came of a client's call stands, if it is there. It looks from both ends at once: what came last mostly is
+/// asked for next, or what came first.
+fn place_of<M: Machine, B: Naming>(
+    replies: &VecDeque<Back<M, B>>,
+    client: u32,
+    call: u64,
+) -> Option<usize>
+    ensures there { IfSome result (λ place. (place < length replies.now.items) × HoldsAt (λ back. halves.is_of client call back ≡ true) replies.now.items place) }
+    ensures none { result ≡ None → AllByRecursion (λ back. halves.is_of client call back ≡ false) replies.now.items }
 {
-    replies.iter().position(|reply| reply.is_of(client, call))
+    let len = replies.len();
+    for near in 0..len - len / 2 {
+        let far = len - 1 - near;
+        if replies[far].is_of(client, call) {
+            return Some(far);
+        }
+        if replies[near].is_of(client, call) {
+            return Some(near);
+        }
+    }
+    None
 }
 
-/// Takes out what came of a client's call, if it is there. All else stays, in any order.
+/// Takes out what came of a client's call, if it is there. All else stays, in its order.
 pub(crate) fn take_out<M: Machine, B: Naming>(
-    replies: &mut Vec<Back<M, B>>,
+    replies: &mut VecDeque<Back<M, B>>,
     client: u32,
     call: u64,
 ) -> Option<Back<M, B>>
     ensures of { IfSome result (IsOf client call) }
     ensures left { MatchOption result (replies.new.items ≡ replies.old.items) (λ reply. IsPermutation replies.old.items (reply ∷ replies.new.items)) }
-    ensures fewer { vec_len replies.new ≤ vec_len replies.old }
-    ensures room { vec_capacity replies.new ≡ vec_capacity replies.old }
+    ensures fewer { deque_len replies.new ≤ deque_len replies.old }
+    ensures room { deque_capacity replies.new ≡ deque_capacity replies.old }
 {
-    let place = place_of(replies.as_slice(), client, call)?;
-    Some(replies.swap_remove(place))
+    let place = place_of(replies, client, call)?;
+    replies.remove(place)
 }

@@ -1,14 +1,15 @@
 //! Both queues of a device, as its clients share them.
 
-ghost use Rattle.std.specs.Prelude.{◌≡◌, ℕ, None, IfOk, IfSome, MatchResult};
+ghost use Rattle.std.specs.Prelude.{◌≡◌, ℕ, true, None, IfOk, IfSome, MatchResult};
+ghost use Rattle.vg_book.specs.Tokens.{Watched};
 ghost use Rattle.vg_wire.specs.declared.request.Queue.TheVariants as queues;
 ghost use Rattle.vg_ring.specs.Making.{IsNewDriver};
 ghost use Rattle.vg_machine.specs.Written.{read_by};
 ghost use Rattle.vg_machine.specs.Replay.{display};
 ghost use Rattle.vg_driver.specs.Asks.{IsAsk, denied_for, queue_for, request_for};
-ghost use Rattle.vg_driver.specs.Halves.{AreBack, HasHeard, IsOf};
+ghost use Rattle.vg_driver.specs.Halves.{AreBack, HasHeard, IsOf, Signals};
 ghost use Rattle.vg_driver.specs.OffersWithin.{MayOffer};
-ghost use Rattle.vg_driver.specs.Tickets.{Finished, IsOut, Spent, Submitted};
+ghost use Rattle.vg_driver.specs.Tickets.{Awaited, Finished, IsOut, IsTold, Spent, Submitted};
 
 use crate::ask::Ask;
 use crate::back::Back;
@@ -20,6 +21,8 @@ use std::alloc::{AllocError, Global};
 use std::sync::{Mutex, Wait};
 use vg_book::{Book, Carried, ClientToken, Root};
 use vg_chain::Shape;
+use vg_client_holds::Act;
+use vg_fence::Fence;
 use vg_list::Seq;
 use vg_machine::{Display, Reply};
 use vg_ring::{ControlOf, CursorOf, DriverEnd, OfQueue, Rings};
@@ -94,6 +97,70 @@ fn wait_for<R: Wait, B: vg_book::Naming, Q: vg_ring::Naming + OfQueue>(
         backoff.snooze();
     }
     unreachable!()
+}
+
+/// Whether the command of a fence of the queue has come back. False where somebody else has the lock, too.
+fn look_for<B: vg_book::Naming, Q: vg_ring::Naming + OfQueue>(
+    half: &Mutex<Half<Display, B, Q>>,
+    book: &Book<Display, B>,
+    token: &mut ClientToken<Display, B>,
+    fence: &Fence,
+) -> Result<bool, AllocError>
+    ensures { MatchResult result (λ b. Signals display token.old fence.now b token.new) (λ _. token.new ≡ token.old) }
+{
+    match half.try_lock() {
+        Some(half) => {
+            let mut half = half;
+            half.signalled(book, token, fence)
+        }
+        None => Ok(false),
+    }
+}
+
+/// Waits until the command of a fence of the queue has come back.
+fn wait_on<R: Wait, B: vg_book::Naming, Q: vg_ring::Naming + OfQueue>(
+    rt: &R,
+    half: &Mutex<Half<Display, B, Q>>,
+    book: &Book<Display, B>,
+    token: &mut ClientToken<Display, B>,
+    fence: &Fence,
+) -> Result<(), AllocError>
+    ensures { MatchResult result (λ _. Signals display token.old fence.now true token.new) (λ _. token.new ≡ token.old) }
+{
+    let backoff = Backoff::new();
+    for _ in rt.forever() {
+        if look_for(half, book, token, fence)? {
+            return Ok(());
+        }
+        backoff.snooze();
+    }
+    unreachable!()
+}
+
+/// Adds the act that tells of a fence that the client has waited for, and gives the number of its entry.
+fn tell<R: Wait, B: vg_book::Naming>(
+    rt: &R,
+    alloc: Global,
+    book: &Book<Display, B>,
+    token: &mut ClientToken<Display, B>,
+    fence: &Fence,
+) -> Result<u64, AllocError>
+    ensures { MatchResult result (λ entry. IsTold token.old fence.now entry token.new) (λ _. Watched display token.old token.new) }
+{
+    let act = Act::Await {
+        lane: fence.lane(),
+        ordinal: fence.ordinal(),
+    };
+    let (entry, _) = token.act(rt, alloc, book, act)?;
+    Ok(entry)
+}
+
+/// The client looks at what it has seen, which is a history.
+fn look_back<B: vg_book::Naming>(book: &Book<Display, B>, token: &mut ClientToken<Display, B>)
+    ensures { Watched display token.old token.new }
+{
+    let note = token.note(book);
+    token.meet(book, note);
 }
 
 /// The reply to a request of this shape, by what is in the room for it.
@@ -197,12 +264,51 @@ impl<B: vg_book::Naming, N: Rings> Driver<B, N> {
         ensures { MatchResult result (λ answer. Finished token.old ticket answer token.new) (λ _. Spent token.old ticket token.new) }
     {
         let client = token.number();
-        let back = if ticket.fence.lane == 65 {
+        let back = if ticket.fence.lane() == 65 {
             wait_for(rt, &self.cursor, book, client, ticket.call)
         } else {
             wait_for(rt, &self.control, book, client, ticket.call)
         };
         settle(book, token, ticket, back)
+    }
+
+    /// Waits on the queue of a fence until its command has come back.
+    fn meet<R: Wait>(
+        &self,
+        rt: &R,
+        book: &Book<Display, B>,
+        token: &mut ClientToken<Display, B>,
+        fence: &Fence,
+    ) -> Result<(), AllocError>
+        ensures { MatchResult result (λ _. Signals display token.old fence.now true token.new) (λ _. token.new ≡ token.old) }
+    {
+        if fence.lane() == 65 {
+            wait_on(rt, &self.cursor, book, token, fence)
+        } else {
+            wait_on(rt, &self.control, book, token, fence)
+        }
+    }
+
+    /// Waits for a fence, until it is signalled: then the client has seen all commands of its lane up to it. Then it adds the act
+    /// that tells so, and gives the number of its entry in the history, from 1. It answers want of memory where a command of the
+    /// lane up to there came back without having been run.
+    pub fn wait<R: Wait>(
+        &self,
+        rt: &R,
+        alloc: Global,
+        book: &Book<Display, B>,
+        token: &mut ClientToken<Display, B>,
+        fence: &Fence,
+    ) -> Result<u64, AllocError>
+        ensures { MatchResult result (λ entry. Awaited token.old fence.now entry token.new) (λ _. Watched display token.old token.new) }
+    {
+        match self.meet(rt, book, token, fence) {
+            Ok(()) => tell(rt, alloc, book, token, fence),
+            Err(error) => {
+                look_back(book, token);
+                Err(error)
+            }
+        }
     }
 
     /// Waits until all that was published has come back, has the root see the commands of it, and gives both ends. It answers

@@ -1,21 +1,23 @@
 //! One queue of a device, as the clients share it under a lock.
 
-ghost use Rattle.std.specs.Prelude.{◌≡◌, ℕ, ◌+◌, ◌-◌, ◌^◌, ◌<◌, ◌%◌, true, [], length, IfOk, IfSome, MatchResult, OnOk};
+ghost use Rattle.std.specs.Prelude.{◌≡◌, ℕ, ◌+◌, ◌-◌, ◌^◌, ◌<◌, ◌%◌, true, [], length, nat_le, IfOk, IfSome, MatchResult, OnOk};
 ghost use Rattle.vg_ring.specs.Cargo.{asked_of};
 ghost use Rattle.vg_ring.specs.Ends.{HasRoom};
 ghost use Rattle.vg_ring.specs.Entries.{lane_count};
 ghost use Rattle.vg_ring.specs.Making.{IsNewDriver};
-ghost use Rattle.vg_driver.specs.Halves.{AreBack, AreHeard, HasHeard, HasJoined, HasReaped, IsOf, IsOffered, IsSent, ReapsOne};
+ghost use Rattle.vg_driver.specs.Halves.{AreBack, AreHeard, HasHeard, HasJoined, HasReaped, IsOf, IsOffered, IsSent, ReapsOne, Signals, top_of};
 
 use crate::back::{Back, take_out};
 use crate::heard::Heard;
 use crossbeam_utils::Backoff;
 use std::alloc::{AllocError, Global};
+use std::collections::VecDeque;
 use std::marker::Model;
 use std::snapshot::Snapshot;
 use std::sync::Wait;
 use vg_book::{Book, Carried, ClientToken, Root};
 use vg_chain::Shape;
+use vg_fence::Fence;
 use vg_history::Machine;
 use vg_ring::{DriverEnd, OfQueue, Parcel, Reaped, Tag};
 
@@ -26,13 +28,13 @@ const MOST_PUBLISHED: u64 = 9223372036854775807;
 #[derive(Drop)]
 pub struct Half<M: Machine, B: vg_book::Naming, Q: vg_ring::Naming + OfQueue> {
     end: DriverEnd<Carried<M, B>, Q>,
-    /// It has room for all that is still to come back.
-    replies: Vec<Back<M, B>>,
+    /// In the order in which they came back. It has room for all that is still to come back.
+    replies: VecDeque<Back<M, B>>,
     heard: Vec<Heard<M, B>>,
 }
 
 impl<M: Machine, B: vg_book::Naming, Q: vg_ring::Naming + OfQueue> Model for Half<M, B, Q> {
-    ghost use Rattle.std.specs.Prelude.{vec_len, vec_capacity};
+    ghost use Rattle.std.specs.VecDeque.{deque_len, deque_capacity};
     ghost use Rattle.vg_ring.specs.Ends.{DriverLists};
     ghost use Rattle.vg_driver.specs.Halves.{IsHalf};
 
@@ -40,7 +42,7 @@ impl<M: Machine, B: vg_book::Naming, Q: vg_ring::Naming + OfQueue> Model for Hal
 
     ghost view = { λ h. h.end };
 
-    ghost invariant = { λ h. IsHalf M.Machine Q.queue h.end (vec_len h.replies) (vec_capacity h.replies) h.heard.items };
+    ghost invariant = { λ h. IsHalf M.Machine Q.queue h.end (deque_len h.replies) (deque_capacity h.replies) h.heard.items };
 }
 
 /// Each lane, of which nothing came back.
@@ -65,7 +67,7 @@ impl<M: Machine, B: vg_book::Naming, Q: vg_ring::Naming + OfQueue> Half<M, B, Q>
     {
         Ok(Half {
             end,
-            replies: Vec::new(alloc),
+            replies: VecDeque::new(alloc),
             heard: all_lanes(alloc)?,
         })
     }
@@ -136,7 +138,7 @@ impl<M: Machine, B: vg_book::Naming, Q: vg_ring::Naming + OfQueue> Half<M, B, Q>
                 let Tag { lane, ordinal } = cargo.tag();
                 let mut reply = Back::of(cargo, len);
                 reply.tell(book, &mut self.heard[lane as usize], ordinal);
-                self.replies.push_reserved(reply);
+                self.replies.push_back_reserved(reply);
                 true
             }
         }
@@ -156,6 +158,39 @@ impl<M: Machine, B: vg_book::Naming, Q: vg_ring::Naming + OfQueue> Half<M, B, Q>
     {
         self.reap_all(book);
         take_out(&mut self.replies, client, call)
+    }
+
+    /// Whether the command of a fence of this queue is among what was taken from the ring.
+    fn signal(
+        &mut self,
+        book: &Book<M, B>,
+        token: &mut ClientToken<M, B>,
+        fence: &Fence,
+    ) -> Result<bool, AllocError>
+        ensures told { MatchResult result (λ b. Signals M.Machine token.old fence.now b token.new) (λ _. token.new ≡ token.old) }
+        ensures exactly { IfOk result (λ b. b ≡ nat_le fence.now.ordinal (top_of fence.now.lane self.old.reaped)) }
+        ensures same { self.new ≡ self.old }
+    {
+        let lane = fence.lane();
+        self.heard[lane as usize].signal(book, token, fence)
+    }
+
+    /// Takes all replies from the ring, and answers whether the command of a fence of this queue has come back: then the client has
+    /// seen all commands of its lane up to it. It answers want of memory where something of the lane up to there came back without
+    /// having been run.
+    pub fn signalled(
+        &mut self,
+        book: &Book<M, B>,
+        token: &mut ClientToken<M, B>,
+        fence: &Fence,
+    ) -> Result<bool, AllocError>
+        ensures told { MatchResult result (λ b. Signals M.Machine token.old fence.now b token.new) (λ _. token.new ≡ token.old) }
+        ensures exactly { IfOk result (λ b. b ≡ nat_le fence.now.ordinal (top_of fence.now.lane self.new.reaped)) }
+        ensures reaped { HasReaped self.old self.new }
+        ensures seen { self.new.seen ≡ length self.new.reaped % 65536 }
+    {
+        self.reap_all(book);
+        self.signal(book, token, fence)
     }
 
     /// Takes replies from the ring until all that was published has come back.

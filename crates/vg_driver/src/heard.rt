@@ -1,13 +1,15 @@
 //! How far a lane's commands have come back.
 
-ghost use Rattle.std.specs.Prelude.{◌≡◌, false, OnOk};
+ghost use Rattle.std.specs.Prelude.{◌≡◌, ◌≢◌, false, nat_le, None, IfOk, MatchResult, OnOk};
 ghost use mathlib.Core.List.{IsPrefix};
 ghost use Rattle.vg_book.specs.Outcomes.{tag_of};
-ghost use Rattle.vg_driver.specs.Halves.{HasHeard, Hears, seen_by, unheard};
+ghost use Rattle.vg_book.specs.Tokens.{Watched};
+ghost use Rattle.vg_driver.specs.Halves.{HasHeard, Hears, Signals, seen_by, unheard};
 
 use std::alloc::AllocError;
 use std::marker::Model;
-use vg_book::{Book, Carried, Naming, Note, Root};
+use vg_book::{Book, Carried, ClientToken, Naming, Note, Root};
+use vg_fence::Fence;
 use vg_history::Machine;
 
 /// A lane's greatest ordinal that came back, run or not, a note that knows the lane's commands up to some ordinal and all that
@@ -61,6 +63,30 @@ impl<M: Machine, B: Naming> Heard<M, B> {
         }
     }
 
+    /// Whether the command of a fence of this lane came back: then the client sees all commands of the lane up to it. It answers
+    /// want of memory where something of the lane up to there came back unrun.
+    pub(crate) fn signal(
+        &mut self,
+        book: &Book<M, B>,
+        token: &mut ClientToken<M, B>,
+        fence: &Fence,
+    ) -> Result<bool, AllocError>
+        requires { fence.now.lane ≡ self.old.lane }
+        ensures told { MatchResult result (λ b. Signals M.Machine token.old fence.now b token.new) (λ _. token.new ≡ token.old) }
+        ensures exactly { IfOk result (λ b. b ≡ nat_le fence.now.ordinal self.old.top) }
+        ensures same { self.new ≡ self.old }
+    {
+        let ordinal = fence.ordinal();
+        if self.top < ordinal {
+            return Ok(false);
+        }
+        if self.known < ordinal {
+            return Err(AllocError);
+        }
+        meet_known(book, token, &mut self.note);
+        Ok(true)
+    }
+
     /// The root sees what the lane's note has seen. It answers want of memory where something of the lane came back unrun.
     pub(crate) fn join(self, book: &Book<M, B>, root: &mut Root<M, B>) -> Result<(), AllocError>
         ensures root { HasHeard root.old root.new }
@@ -90,6 +116,22 @@ fn with_known<M: Machine, B: Naming>(
         note.meet(book, known);
     }
     note
+}
+
+/// The client sees what is known.
+fn meet_known<M: Machine, B: Naming>(
+    book: &Book<M, B>,
+    token: &mut ClientToken<M, B>,
+    known: &mut Option<Note<M, B>>,
+)
+    requires { known.old ≢ None }
+    ensures watched { Watched M.Machine token.old token.new }
+    ensures seen { IsPrefix (seen_by known.old) token.new.seen }
+    ensures same { known.new ≡ known.old }
+{
+    if let Some(known) = known {
+        token.meet(book, known.note(book));
+    }
 }
 
 /// The root sees what is known.

@@ -16,4 +16,5 @@ pub use driver::Driver;
 pub use half::Half;
 pub use request::Way;
 pub use threads::{drivers_may_be_shared, halves_may_be_sent};
-pub use ticket::{Answer, Fence, Ticket};
+pub use ticket::{Answer, Ticket};
+pub use vg_fence::Fence;

@@ -10,10 +10,11 @@ ghost use Rattle.vg_driver.specs.OffersWithin.{IsNext, IsParcelOf, MayOffer};
 
 use crate::ask::Ask;
 use crate::half::Half;
-use crate::ticket::{Fence, Ticket};
+use crate::ticket::Ticket;
 use std::alloc::{AllocError, Global};
 use std::snapshot::Snapshot;
 use vg_book::{Book, ClientToken};
+use vg_fence::Fence;
 use vg_machine::{Display, Request};
 use vg_ring::{OfQueue, Parcel, Tag};
 
@@ -50,10 +51,7 @@ fn send<B: vg_book::Naming, Q: vg_ring::Naming + OfQueue>(
     ensures { MatchResult result (λ ticket. Submitted token.old (λ _. request) ticket token.new) (λ _. token.new ≡ token.old) }
 {
     let asked = Snapshot::of(&request);
-    let fence = Fence {
-        lane: request.lane,
-        ordinal: request.ordinal,
-    };
+    let fence = Fence::new(request.lane, request.ordinal);
     let shape = request.shape;
     let parcel = parcel_of(alloc, half.next_head(), request)?;
     let call = half.send(book, token, shape, parcel, asked)?;

@@ -1,15 +1,7 @@
 //! What a submitted command is known by, and what it is answered.
 
+use vg_fence::Fence;
 use vg_machine::Reply;
-
-/// The place of a command on its lane.
-#[derive(Clone, Copy, Debug, PartialEq, Eq)]
-pub struct Fence {
-    /// From 0 to 65.
-    pub lane: u32,
-    /// From 1.
-    pub ordinal: u64,
-}
 
 /// A command that was submitted, by its fence and by its client's number for it.
 #[derive(Clone, Copy, Debug, PartialEq, Eq)]

@@ -5,7 +5,7 @@ use Rattle.vg_chain.specs.declared.chain.ChainFault.TheVariants.{Index, Loop, Ne
 use Rattle.vg_chain.specs.declared.shape.Shape.{Shape}
 use Rattle.vg_chain.specs.declared.shape.Shape.TheVariants.{Plain, Pieces, Indirect, Mixed, Bad}
 use Rattle.vg_client_holds.specs.declared.act.Act.{Act}
-use Rattle.vg_client_holds.specs.declared.act.Act.TheVariants.{Enter, Reserve, Store, Load, Export, Import, Release, Free, Take, Drop, Denied, Leave}
+use Rattle.vg_client_holds.specs.declared.act.Act.TheVariants.{Enter, Reserve, Store, Load, Export, Import, Release, Free, Take, Drop, Await, Denied, Leave}
 use Rattle.vg_client_holds.specs.declared.act.What.{What}
 use Rattle.vg_client_holds.specs.declared.act.What.TheVariants as whats
 use Rattle.vg_share.specs.declared.share.Geometry.{Geometry}
@@ -36,6 +36,10 @@ store_text key offset bytes times =
 unfoldable pub load_text : ℕ → ℕ → ℕ → List ℕ
 load_text key offset n = codes "load " ++ decimal key ++ codes " " ++ decimal offset ++ codes " " ++ decimal n
 
+-- `await L N`
+unfoldable pub await_text : ℕ → ℕ → List ℕ
+await_text lane ordinal = codes "await " ++ decimal lane ++ codes " " ++ decimal ordinal
+
 abbrev pub act_text : Act → List ℕ
 act_text Enter = codes "enter"
 act_text (Reserve width height format bytes) = reserve_text width height format bytes
@@ -47,6 +51,7 @@ act_text (Release key) = codes "release " ++ decimal key
 act_text (Free key) = codes "free " ++ decimal key
 act_text (Take scanout) = codes "take " ++ decimal scanout
 act_text (Drop scanout) = codes "drop " ++ decimal scanout
+act_text (Await lane ordinal) = await_text lane ordinal
 act_text (Denied what) = codes "denied " ++ what_text what
 act_text Leave = codes "leave"
 

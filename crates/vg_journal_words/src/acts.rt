@@ -2,7 +2,7 @@
 
 ghost use Rattle.std.specs.Prelude.{◌≡◌, ◌++◌, codes, decimal, OnOk};
 ghost use Rattle.vg_text.specs.Text.{hex_text};
-ghost use Rattle.vg_journal_words.specs.Text.{act_text, load_text, reserve_text, store_text, what_text};
+ghost use Rattle.vg_journal_words.specs.Text.{act_text, await_text, load_text, reserve_text, store_text, what_text};
 
 use std::alloc::AllocError;
 use vg_client_holds::{Act, What};
@@ -37,6 +37,7 @@ pub fn put_act(out: &mut Packed, act: &Act) -> Result<(), AllocError>
         Act::Free { key } => out.put_numbered(b"free ", *key),
         Act::Take { scanout } => out.put_numbered(b"take ", *scanout),
         Act::Drop { scanout } => out.put_numbered(b"drop ", *scanout),
+        Act::Await { lane, ordinal } => put_await(out, *lane, *ordinal),
         Act::Denied { what } => put_denied(out, what),
         Act::Leave => out.put(b"leave"),
     }
@@ -87,6 +88,14 @@ fn put_load(out: &mut Packed, key: u32, offset: u32, length: u32) -> Result<(), 
 {
     out.put(b"load ")?;
     out.put_three(u64::from(key), u64::from(offset), u64::from(length))
+}
+
+#[tactic(auto, unfolding(crate::specs::Text::await_text))]
+fn put_await(out: &mut Packed, lane: u32, ordinal: u64) -> Result<(), AllocError>
+    ensures { OnOk result (out.new ≡ out.old ++ await_text lane ordinal) }
+{
+    out.put_numbered(b"await ", lane)?;
+    out.put_counted(b" ", ordinal)
 }
 
 fn put_denied(out: &mut Packed, what: &What) -> Result<(), AllocError>

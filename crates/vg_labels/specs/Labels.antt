@@ -2,7 +2,12 @@
 use Rattle.std.specs.Prelude.{◌≡◌, ◌≤◌, ℕ, ◌-◌, List, [], length, map, Option, Some, None, slice_get, get_or}
 use Rattle.std.specs.List.{AllByRecursion}
 use Rattle.std.specs.declared.sync.OnceToken.{OnceToken}
+use Rattle.vg_history.specs.declared.machine.Machine.{Ghosts}
 use Rattle.vg_history.specs.declared.entry.Entry.{Entry}
+use Rattle.vg_history.specs.History.{HasCommand}
+use Rattle.vg_book.specs.Tokens.{Noted}
+use Rattle.vg_labels.specs.declared.label.Gift.{Gift}
+use Rattle.vg_labels.specs.declared.label.Gift.TheVariants as gifts
 use Rattle.vg_book.specs.Places.{HasCall}
 use Rattle.vg_labels.specs.declared.label.Given.{Given}
 use Rattle.vg_labels.specs.declared.table.Told.{Told}
@@ -13,9 +18,26 @@ pub record PostedView (M S A R Q P H W : Type 0) : Type 0 where
   pub call : ℕ
   pub seen : List (Entry M S A R Q P H W)
 
--- The entry with which this was given is there.
-abbrev pub Names : {M S A R Q P H W : Type 0} → List (Entry M S A R Q P H W) → Given → Type 0
-Names es given = HasCall es given.client given.call
+-- The entry with which this was given is there: that of a fence is its lane's command of its ordinal, any other the client's call.
+abbrev pub NamesBy : {M S A R Q P H W : Type 0} → Ghosts M S A R Q P H W → Gift → ℕ → ℕ → List (Entry M S A R Q P H W) → Type 0
+NamesBy g (gifts.Fence lane ordinal) client call es = HasCommand g lane ordinal es
+NamesBy g gift client call es = HasCall es client call
+
+abbrev pub Names : {M S A R Q P H W : Type 0} → Ghosts M S A R Q P H W → Given → List (Entry M S A R Q P H W) → Type 0
+Names g given es = NamesBy g given.gift given.client given.call es
+
+-- There is a note that has seen this call.
+abbrev pub HasNote : {M S A R Q P H W : Type 0} → ℕ → ℕ → Option (Noted M S A R Q P H W) → Type 0
+HasNote client call (Some note) = HasCall note.seen client call
+HasNote client call None = ⊥
+
+-- There is a note that has seen the entry with which this was given, where that is no fence.
+abbrev pub IsNotedBy : {M S A R Q P H W : Type 0} → Gift → ℕ → ℕ → Option (Noted M S A R Q P H W) → Type 0
+IsNotedBy (gifts.Fence lane ordinal) client call found = Unit {0}
+IsNotedBy gift client call found = HasNote client call found
+
+abbrev pub IsNoted : {M S A R Q P H W : Type 0} → Given → Option (Noted M S A R Q P H W) → Type 0
+IsNoted given note = IsNotedBy given.gift given.client given.call note
 
 -- What each label was given, by its number from 1.
 abbrev pub Values : Type 0

@@ -2,7 +2,8 @@
 
 ghost use Rattle.std.specs.Prelude.{◌≡◌, Some, IfSome};
 ghost use Rattle.vg_book.specs.Places.{HasCall};
-ghost use Rattle.vg_labels.specs.Labels.{Shows};
+ghost use Rattle.vg_labels.specs.declared.label.Gift.TheVariants as gifts;
+ghost use Rattle.vg_labels.specs.Labels.{IsNoted, Shows};
 
 use std::marker::Model;
 use std::sync::{Mutex, OnceLock, OnceToken, Wait};
@@ -12,9 +13,11 @@ use vg_history::Machine;
 /// What a line gives.
 #[derive(Clone, Copy)]
 pub enum Gift {
+    /// The fence of a command that was begun: its lane, and its ordinal there.
+    Fence { lane: u32, ordinal: u64 },
     /// The token of a buffer.
     Token { token: u32 },
-    /// Nothing: what the line asked was refused or denied.
+    /// Nothing: what the line asked was denied, or refused where it begins no command.
     Nothing,
 }
 
@@ -102,25 +105,51 @@ impl<M: Machine, B: Naming> Label<M, B> {
         self.value.set(rt, Some(given)).ok()
     }
 
+    /// Gives the label a fence, whose command need not have come back: who waits for the label waits for the fence then. Nothing where it
+    /// was given or given up before.
+    pub fn give_fence<'a, R: Wait>(
+        &'a self,
+        rt: &R,
+        client: u32,
+        call: u64,
+        lane: u32,
+        ordinal: u64,
+    ) -> Option<Shown<'a>>
+        ensures { IfSome result (Shows self.now (record { client = client; call = call; gift = gifts.Fence lane ordinal })) }
+    {
+        let gift = Gift::Fence { lane, ordinal };
+        self.value.set(rt, Some(Given { client, call, gift })).ok()
+    }
+
     /// Gives the label up, unless it was given: who waits for it waits no more.
     pub fn give_up<R: Wait>(&self, rt: &R) {
         let _ = self.value.set(rt, None);
     }
 
-    /// Waits until the label is given, and gives what it was given with a note that has seen the entry; or nothing where it was
-    /// given up.
+    /// Waits until the label is given, and gives what it was given, with a note that has seen the entry where that is no fence; or nothing
+    /// where it was given up.
     pub fn wait<'a, R: Wait>(
         &'a self,
         rt: &R,
         book: &Book<M, B>,
-    ) -> Option<(Given, Note<M, B>, Shown<'a>)>
+    ) -> Option<(Given, Option<Note<M, B>>, Shown<'a>)>
         ensures shown { IfSome result (λ r. Shows self.now r.0 r.2) }
-        ensures seen { IfSome result (λ r. HasCall r.1.seen r.0.client r.0.call) }
+        ensures seen { IfSome result (λ r. IsNoted r.0 r.1) }
     {
         let shown = self.wait_for_value(rt);
         let given = (*self.value.value(&shown))?;
-        let note = self.wait_for_note(rt, book, given.client, given.call);
+        let note = self.note_for(rt, book, given);
         Some((given, note, shown))
+    }
+
+    /// A note that has seen the entry with which this was given, where that is no fence.
+    fn note_for<R: Wait>(&self, rt: &R, book: &Book<M, B>, given: Given) -> Option<Note<M, B>>
+        ensures { IsNoted given result }
+    {
+        match given.gift {
+            Gift::Fence { .. } => None,
+            _ => Some(self.wait_for_note(rt, book, given.client, given.call)),
+        }
     }
 
     fn wait_for_value<'a, R: Wait>(&'a self, rt: &R) -> Shown<'a>

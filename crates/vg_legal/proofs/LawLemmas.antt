@@ -8,7 +8,7 @@ use Rattle.vg_calls.specs.declared.call.Call.{Call}
 use Rattle.vg_calls.specs.declared.call.Call.TheVariants as calls
 use Rattle.vg_client_holds.specs.declared.setup.Setup.{Setup}
 use Rattle.vg_client_holds.specs.declared.act.Act.{Act}
-use Rattle.vg_client_holds.specs.declared.act.Act.TheVariants.{Enter, Leave, Denied}
+use Rattle.vg_client_holds.specs.declared.act.Act.TheVariants.{Enter, Await, Leave, Denied}
 use Rattle.vg_client_holds.specs.declared.act.ActReply.{ActReply}
 use Rattle.vg_client_holds.specs.declared.act.ActReply.TheVariants as act_replies
 use Rattle.vg_client_holds.specs.declared.act.What.{What}
@@ -29,7 +29,7 @@ use Rattle.vg_script.specs.Waits.{AreKnown, label_list, waits}
 use Rattle.vg_script.specs.Waits as labels_of
 use Rattle.vg_labels.specs.declared.label.Given.{Given}
 use Rattle.vg_labels.specs.Labels.{Values}
-use Rattle.vg_script_part.specs.Values.{HasGiven, heard_call, token_of, value_of}
+use Rattle.vg_script_part.specs.Values.{HasGiven, fence_of, heard_call, token_of, value_of}
 use Rattle.vg_script_part.specs.Follows.{Follows, GivesAll, GivesCalls}
 use Rattle.vg_client.specs.Calls.{GivesTasks, IsAsked, IsDone, Plays, learned}
 use Rattle.vg_tasks.specs.Known.{Known, first_known}
@@ -37,8 +37,8 @@ use Rattle.vg_legal.specs.Legal.{FollowAll}
 use Rattle.vg_client.specs.Given.{given_of, left_after}
 use Rattle.vg_driver.specs.declared.ask.Ask.TheVariants as asks
 use Rattle.vg_driver.specs.Requests.{denied_by, raw_request, request_by}
-use Rattle.vg_tasks.specs.Tasks.{end_tasks, tasks_of}
-use Rattle.vg_legal.proofs.OrderLemmas.{alone-sorted}
+use Rattle.vg_tasks.specs.Tasks.{begins, end_tasks, tasks_of}
+use Rattle.vg_legal.proofs.OrderLemmas.{alone-sorted, none-after}
 
 -- what is left of a client's history from its k-th number on
 record Left (state : State) (before : List Entry) (k : ℕ) (xs : List Entry) : Type 0 where
@@ -119,6 +119,7 @@ same_asked state before k client None request e e' by is is' one other = command
 same_done : (state : State) (before : List Entry) (k client : ℕ) (holds : Holds) (deed : Deed) (e e' : Entry) → IsDone client holds deed e → IsDone client holds deed e'
     → Stood state before k e → Stood state before k e' → e ≡ e'
 same_done state before k client holds (deeds.Act act) e e' is is' one other = acts_same state before k client act is.0 is'.0 is.1 is'.1 e e' is.2 is'.2 one other
+same_done state before k client holds (deeds.Wait fence) e e' is is' one other = acts_same state before k client (Await fence.lane fence.ordinal) is.0 is'.0 is.1 is'.1 e e' is.2 is'.2 one other
 same_done state before k client holds (deeds.Ask (asks.Command way command)) e e' is is' one other =
     same_asked state before k client (denied_by holds way command) (request_by way command) e e' (record { lane = λ m n. refl; ordinal = λ n. refl }) is is' one other
 same_done state before k client holds (deeds.Ask (asks.Raw queue room shape bytes)) e e' is is' one other =
@@ -192,6 +193,7 @@ Agree labels V V' = (l : ℕ) → IsTrue (list_any (λ other. other == l) labels
 -- a call that waits for such a label is one
 heard-same : (labels : List ℕ) (V V' : Values) (call : Call) → Agree labels V V' → IfSome (waits call) (λ l. IsTrue (list_any (λ other. other == l) labels)) → heard_call V call ≡ heard_call V' call
 heard-same labels V V' (calls.Import label token) agree known = ap (λ (v : Option Given). calls.Import label (token_of v)) (agree label known)
+heard-same labels V V' (calls.Await label fence) agree known = ap (λ (v : Option Given). calls.Await label (fence_of v)) (agree label known)
 heard-same labels V V' call agree known = refl
 
 -- what a line gives is one where its entry is
@@ -217,8 +219,8 @@ agree-more labels more V V' one other l at = by_test (list_any (λ x. x == l) la
 
 -- what lines give is determined, where each label that a line waits for was given before it
 same_lines : (G H : List Entry) (V V' : Values) (client : ℕ) (labels : List ℕ) (lines : List Line) (f f' r r' : List Entry) (known K K' : Known) (state : State) (before : List Entry) (k : ℕ)
-    → Agree labels V V' → AreKnown labels lines → GivesAll G V client [] known lines f K → GivesAll H V' client [] known lines f' K' → Left state before k (f ++ r) → Left state before k (f' ++ r') → Same f f' K K' r r'
-same_lines G H V V' client labels [] f f' r r' known K K' state before k agree are gives gives' left left' =
+    → Agree labels V V' → AllByRecursion (λ (l : Line). begins l.call ≡ false) lines → AreKnown labels lines → GivesAll G V client [] known lines f K → GivesAll H V' client [] known lines f' K' → Left state before k (f ++ r) → Left state before k (f' ++ r') → Same f f' K K' r r'
+same_lines G H V V' client labels [] f f' r r' known K K' state before k agree done are gives gives' left left' =
     let One : List Entry → Type 0 = λ xs. Left state before k (xs ++ r) in
     let Other : List Entry → Type 0 = λ xs. Left state before k (xs ++ r') in
     record {
@@ -230,7 +232,7 @@ same_lines G H V V' client labels [] f f' r r' known K K' state before k agree a
       left = subst One gives.0 left;
       right = subst Other gives'.0 left';
     }
-same_lines G H V V' client labels (line ∷ lines) f f' r r' known K K' state before k agree are gives gives' left left' =
+same_lines G H V V' client labels (line ∷ lines) f f' r r' known K K' state before k agree done are gives gives' left left' =
     let Whole : List Entry → Type 0 = λ xs. Left state before k xs in
     let split : f ++ r ≡ gives.0 ++ (gives.1 ++ r) = ap (λ (xs : List Entry). xs ++ r) gives.3 ∙ append_assoc gives.0 gives.1 r in
     let split' : f' ++ r' ≡ gives'.0 ++ (gives'.1 ++ r') = ap (λ (xs : List Entry). xs ++ r') gives'.3 ∙ append_assoc gives'.0 gives'.1 r' in
@@ -239,8 +241,10 @@ same_lines G H V V' client labels (line ∷ lines) f f' r r' known K K' state be
     gives.4.given (subst (λ (c : Call). GivesTasks client known (tasks_of known c) gives'.0 gives'.2) (sym call) gives'.4.given) (subst Whole split left) (subst Whole split' left') in
     let more : Agree (labels ++ label_list (labels_of.gives line.call)) V V' = agree-more labels (label_list (labels_of.gives line.call)) V V' agree (given-same V V' (labels_of.gives line.call) gives.0 gives'.0 here.front gives.4.gave gives'.4.gave) in
     let Next : Known → Type 0 = λ next. GivesAll H V' client [] next lines gives'.1 K' in
+    let next : GivesAll G V client [] gives.2 lines gives.1 K = subst (λ (b : List ℕ). GivesAll G V client b gives.2 lines gives.1 K) (none-after known line.call gives.0 done.0) gives.5 in
+    let next' : GivesAll H V' client [] gives'.2 lines gives'.1 K' = subst (λ (b : List ℕ). GivesAll H V' client b gives'.2 lines gives'.1 K') (none-after known line.call gives'.0 done.0) gives'.5 in
     let rest = same_lines G H V V' client (labels ++ label_list (labels_of.gives line.call)) lines gives.1 gives'.1 r r' gives.2 K K' here.state here.before here.k
-    more are.1 gives.5 (subst Next (sym here.known) gives'.5) here.left here.right in
+    more done.1 are.1 next (subst Next (sym here.known) next') here.left here.right in
     record {
       front = gives.3 ∙ ap (λ (xs : List Entry). xs ++ gives.1) here.front ∙ ap (λ (xs : List Entry). gives'.0 ++ xs) rest.front ∙ sym gives'.3;
       known = rest.known;
@@ -252,9 +256,9 @@ same_lines G H V V' client labels (line ∷ lines) f f' r r' known K K' state be
     }
 
 -- what a client gives is determined
-same_calls : (setup : Setup) (client : ℕ) (lines : List Line) (V V' : Values) (G H : List Entry) (state : State) (before : List Entry) (k : ℕ) → AreKnown [] lines → GivesCalls setup G V client lines G → GivesCalls setup H V' client lines H
+same_calls : (setup : Setup) (client : ℕ) (lines : List Line) (V V' : Values) (G H : List Entry) (state : State) (before : List Entry) (k : ℕ) → AllByRecursion (λ (l : Line). begins l.call ≡ false) lines → AreKnown [] lines → GivesCalls setup G V client lines G → GivesCalls setup H V' client lines H
     → Left state before k G → Left state before k H → G ≡ H
-same_calls setup client lines V V' G H state before k are calls calls' left left' =
+same_calls setup client lines V V' G H state before k done are calls calls' left left' =
     let Whole : List Entry → Type 0 = λ xs. Left state before k xs in
     let enter : Entry = entries.Act client calls.first Enter act_replies.Ok in
     let enter' : Entry = entries.Act client calls'.first Enter act_replies.Ok in
@@ -267,7 +271,7 @@ same_calls setup client lines V V' G H state before k are calls calls' left left
     let entered : enter ≡ enter' = same_act state before k client Enter calls.first calls'.first act_replies.Ok act_replies.Ok one.here other.here in
     let Behind : Entry → Type 0 = λ x. Left (after state x) (before ++ x ∷ []) (k + 1) (calls'.middle ++ tail') in
     let given = same_lines G H V V' client [] lines calls.middle calls'.middle tail tail' (first_known setup client) calls.known calls'.known (after state enter) (before ++ enter ∷ []) (k + 1)
-    (λ l none. absurd (true≢false (sym none))) are calls.lines_give calls'.lines_give one.left (subst Behind (sym entered) other.left) in
+    (λ l none. absurd (true≢false (sym none))) done are calls.lines_give calls'.lines_give one.left (subst Behind (sym entered) other.left) in
     let Ending : Known → Type 0 = λ known. Plays client false known (end_tasks known) calls'.ending calls'.at_end [] in
     let ended = same_plays client false calls.ending calls'.ending (leave ∷ []) (leave' ∷ []) (end_tasks calls.known) calls.known calls.at_end calls'.at_end given.state given.before given.k
     calls.end_gives (subst Ending (sym given.known) calls'.end_gives) given.left given.right in
@@ -298,20 +302,21 @@ record Alone (setup : Setup) (values : Values) (lines : List Line) (H : List Ent
   calls : GivesCalls setup H values 1 lines H
   left : Left (start setup) [] 1 H
 
-alone : (setup : Setup) (values : Values) (lines : List Line) (H : List Entry) → Sound setup H → Follows setup values lines H 1 → OfClients 1 H → Alone setup values lines H
-alone setup values lines H sound follows owners =
-    let sorted : by_call (of_client 1 H) ≡ H = alone-sorted setup H values lines sound follows (one_client H owners) in
+alone : (setup : Setup) (values : Values) (lines : List Line) (H : List Entry) → AllByRecursion (λ (l : Line). begins l.call ≡ false) lines → Sound setup H → Follows setup values lines H 1 → OfClients 1 H → Alone setup values lines H
+alone setup values lines H done sound follows owners =
+    let sorted : by_call (of_client 1 H) ≡ H = alone-sorted setup H values lines done sound follows (one_client H owners) in
     record {
       calls = subst (GivesCalls setup H values 1 lines) sorted follows.calls;
       left = record { count = length (of_client 1 H); numbers = ap (map call_of) (sym sorted) ∙ follows.numbers; agrees = sound.agrees; order = sound.order };
     }
 
 -- two histories of at most one client's lines are one
-pub same_history : (clients : List (List Line)) (setup : Setup) (V V' : Values) (G H : List Entry) → length clients ≤ 1 → All (AreKnown []) clients → Sound setup G → FollowAll setup V 1 clients G → OfClients (length clients) G
+pub same_history : (clients : List (List Line)) (setup : Setup) (V V' : Values) (G H : List Entry) → length clients ≤ 1 → All (λ lines. AllByRecursion (λ (l : Line). begins l.call ≡ false) lines) clients → All (AreKnown []) clients → Sound setup G → FollowAll setup V 1 clients G → OfClients (length clients) G
     → Sound setup H → FollowAll setup V' 1 clients H → OfClients (length clients) H → G ≡ H
-same_history [] setup V V' G H one are sound follows owners sound' follows' owners' = no_entries G owners ∙ sym (no_entries H owners')
-same_history (lines ∷ []) setup V V' G H one are sound follows owners sound' follows' owners' =
-    let left = alone setup V lines G sound follows.0 owners in
-    let right = alone setup V' lines H sound' follows'.0 owners' in
-    same_calls setup 1 lines V V' G H (start setup) [] 1 (are 0 lines (omega arith)) left.calls right.calls left.left right.left
-same_history (lines ∷ other ∷ more) setup V V' G H one are sound follows owners sound' follows' owners' = absurd (omega arith)
+same_history [] setup V V' G H one done are sound follows owners sound' follows' owners' = no_entries G owners ∙ sym (no_entries H owners')
+same_history (lines ∷ []) setup V V' G H one done are sound follows owners sound' follows' owners' =
+    let finished = done 0 lines (omega arith) in
+    let left = alone setup V lines G finished sound follows.0 owners in
+    let right = alone setup V' lines H finished sound' follows'.0 owners' in
+    same_calls setup 1 lines V V' G H (start setup) [] 1 finished (are 0 lines (omega arith)) left.calls right.calls left.left right.left
+same_history (lines ∷ other ∷ more) setup V V' G H one done are sound follows owners sound' follows' owners' = absurd (omega arith)

@@ -1,5 +1,5 @@
 -- A history of one client alone stands by the numbers of its entries.
-use Rattle.std.proofs.Common.{◌≡◌, ◌≢◌, inl, inr, ◌+◌, ◌<◌, ◌≤◌, ◌==◌, ◌∙◌, sym, ap, refl, subst, arith, ℕ, zero, suc, Bool, true, false, cond, List, [], ◌∷◌, ◌++◌, length, map, append_assoc, nat_le, nat_lt}
+use Rattle.std.proofs.Common.{◌≡◌, ◌≢◌, inl, inr, ◌+◌, ◌<◌, ◌≤◌, ◌==◌, ◌∙◌, sym, ap, refl, subst, arith, ℕ, zero, suc, Bool, true, false, cond, List, [], ◌∷◌, ◌++◌, length, map, append_assoc, append-nil, nat_le, nat_lt}
 use Rattle.std.specs.List.{AllByRecursion, range_with_len}
 use Rattle.std.proofs.lemmas.Bool.Decides.{nat_tests}
 use mathlib.Core.List.{IsPrefix}
@@ -17,7 +17,9 @@ use Rattle.vg_script.specs.declared.types.Line.{Line}
 use Rattle.vg_client.specs.Own.{ArePlaced}
 use Rattle.vg_client.proofs.OwnLemmas.{all-has, all-more, all-of, by_call-of}
 use Rattle.vg_tasks.specs.Known.{Known}
-use Rattle.vg_script_part.specs.Follows.{Follows, GivesAll, GivesCalls}
+use Rattle.vg_calls.specs.declared.call.Call.{Call}
+use Rattle.vg_tasks.specs.Tasks.{begins, finishes}
+use Rattle.vg_script_part.specs.Follows.{Follows, GivesAll, GivesCalls, begun_after, begun_at, commands_in}
 
 -- each of these entries stands before those with greater numbers
 abbrev pub AreInPlace : List Entry → Type 0
@@ -106,31 +108,46 @@ all-append : (P : Entry → Type 0) (xs ys : List Entry) → AllByRecursion P xs
 all-append P [] ys one other = other
 all-append P (x ∷ xs) ys one other = (one.0, all-append P xs ys one.1 other)
 
-lines-placed : (H : List Entry) (values : Values) (client : ℕ) (known known' : Known) (lines : List Line) (mine : List Entry) → GivesAll H values client [] known lines mine known' → ArePlaced H client [] mine
-lines-placed H values client known known' [] mine given = subst (ArePlaced H client []) (sym given.0) tt
-lines-placed H values client known known' (line ∷ lines) mine given =
-    subst (ArePlaced H client []) (sym given.3) (all-append (λ e. IsPlaced H client [] (call_of e)) given.0 given.1 given.4.placed (lines-placed H values client given.2 known' lines given.1 given.5))
+-- where nothing is begun, and a line begins nothing, nothing is begun behind it
+same-none : (b : Bool) → ◌≡◌ {A = List ℕ} (cond b [] []) []
+same-none true = refl
+same-none false = refl
+
+pub none-at : (known : Known) (call : Call) → begun_at known call [] ≡ []
+none-at known call = same-none (finishes known call)
+
+pub none-after : (known : Known) (call : Call) (front : List Entry) → begins call ≡ false → begun_after known call [] front ≡ []
+none-after known call front begins_none =
+    ap (λ (b : Bool). begun_at known call [] ++ cond b (commands_in front) []) begins_none ∙ append-nil (begun_at known call []) ∙ none-at known call
+
+lines-placed : (H : List Entry) (values : Values) (client : ℕ) (known known' : Known) (lines : List Line) (mine : List Entry) → AllByRecursion (λ (l : Line). begins l.call ≡ false) lines → GivesAll H values client [] known lines mine known' → ArePlaced H client [] mine
+lines-placed H values client known known' [] mine done given = subst (ArePlaced H client []) (sym given.0) tt
+lines-placed H values client known known' (line ∷ lines) mine done given =
+    let Rest : List ℕ → Type 0 = λ b. GivesAll H values client b given.2 lines given.1 known' in
+    let rest = subst Rest (none-after known line.call given.0 done.0) given.5 in
+    let here = subst (λ (b : List ℕ). ArePlaced H client b given.0) (none-at known line.call) given.4.placed in
+    subst (ArePlaced H client []) (sym given.3) (all-append (λ e. IsPlaced H client [] (call_of e)) given.0 given.1 here (lines-placed H values client given.2 known' lines given.1 done.1 rest))
 
 first-number : (mine rest : List Entry) (first : Entry) (count : ℕ) → mine ≡ first ∷ rest → map call_of mine ≡ range_with_len 1 count → call_of first ≡ 1
 first-number mine rest first zero is numbers = let all : call_of first ∷ map call_of rest ≡ [] = ap (map call_of) (sym is) ∙ numbers in absurd (cc all)
 first-number mine rest first (suc count) is numbers = let all : call_of first ∷ map call_of rest ≡ 1 ∷ range_with_len 2 count = ap (map call_of) (sym is) ∙ numbers in cc all
 
-calls-placed : (setup : Setup) (H : List Entry) (values : Values) (client : ℕ) (lines : List Line) (mine : List Entry) (count : ℕ) → map call_of mine ≡ range_with_len 1 count → GivesCalls setup H values client lines mine → ArePlaced H client [] mine
-calls-placed setup H values client lines mine count numbers calls =
+calls-placed : (setup : Setup) (H : List Entry) (values : Values) (client : ℕ) (lines : List Line) (mine : List Entry) (count : ℕ) → AllByRecursion (λ (l : Line). begins l.call ≡ false) lines → map call_of mine ≡ range_with_len 1 count → GivesCalls setup H values client lines mine → ArePlaced H client [] mine
+calls-placed setup H values client lines mine count done numbers calls =
     let enter : Entry = entries.Act client calls.first Enter act_replies.Ok in
     let tail : List Entry = calls.ending ++ entries.Act client calls.last Leave act_replies.Ok ∷ [] in
     let one : calls.first ≡ 1 = first-number mine (calls.middle ++ tail) enter count calls.whole numbers in
     subst (ArePlaced H client []) (sym calls.whole) (
       λ i low high out. absurd (omega (arith, low, high, one)),
-      all-append (λ e. IsPlaced H client [] (call_of e)) calls.middle tail (lines-placed H values client _ calls.known lines calls.middle calls.lines_give) calls.end_placed,
+      all-append (λ e. IsPlaced H client [] (call_of e)) calls.middle tail (lines-placed H values client _ calls.known lines calls.middle done calls.lines_give) calls.end_placed,
     )
 
 -- so a sound history of client 1 alone stands by the numbers of its entries
-pub alone-sorted : (setup : Setup) (H : List Entry) (values : Values) (lines : List Line) → Sound setup H → Follows setup values lines H 1 → AreMine H → by_call (of_client 1 H) ≡ H
-alone-sorted setup H values lines sound follows owned =
+pub alone-sorted : (setup : Setup) (H : List Entry) (values : Values) (lines : List Line) → AllByRecursion (λ (l : Line). begins l.call ≡ false) lines → Sound setup H → Follows setup values lines H 1 → AreMine H → by_call (of_client 1 H) ≡ H
+alone-sorted setup H values lines done sound follows owned =
     let mine : of_client 1 H ≡ H = of_client-all 1 H owned in
     let sorted : List Entry = by_call (of_client 1 H) in
-    let all : ArePlaced H 1 [] sorted = calls-placed setup H values 1 lines sorted (length (of_client 1 H)) follows.numbers follows.calls in
+    let all : ArePlaced H 1 [] sorted = calls-placed setup H values 1 lines sorted (length (of_client 1 H)) done follows.numbers follows.calls in
     let each : (e : Entry) → Has H e → IsPlaced H 1 [] (call_of e) = λ e at.
     all-has (λ x. IsPlaced H 1 [] (call_of x)) sorted e all (by_call-of (of_client 1 H) e (subst (λ (es : List Entry). Has es e) (sym mine) at)) in
     ap by_call mine ∙ by_call-in_place H (in-place H [] H refl sound.order tt owned each)

@@ -1,25 +1,22 @@
 use Rattle.std.specs.Prelude.{◌≡◌, ◌≤◌, ◌+◌, ℕ, Bool, List, [], ◌∷◌, length, count_by, false}
 use Rattle.std.specs.List.{All, AllByRecursion}
+use Rattle.vg_book.specs.Places.{HasCall, StandsBehind}
 use Rattle.vg_machine.specs.Entries.{Entry}
 use Rattle.vg_history.specs.Lines.{is_on_first, is_on_second}
 use Rattle.vg_machine.specs.Replay.{display, replay}
-use Rattle.vg_machine.specs.Order.{Sound, client_of}
+use Rattle.vg_machine.specs.Order.{Sound, call_of, client_of}
 use Rattle.vg_script.specs.declared.types.Line.{Line}
 use Rattle.vg_script.specs.declared.types.Script.{Script}
-use Rattle.vg_calls.specs.declared.call.Call.{Call}
 use Rattle.vg_journal.specs.declared.journal.Journal.{Journal}
 use Rattle.vg_client_holds.specs.declared.setup.Setup.{Setup}
 use Rattle.vg_labels.specs.Labels.{Values}
+use Rattle.vg_tasks.specs.Tasks.{begins}
 use Rattle.vg_script_part.specs.Setup.{setup_of}
 use Rattle.vg_script_part.specs.Follows.{Follows}
 
--- Whether a call leaves its command unfinished, for a later line to wait for. None does yet.
-abbrev pub is_left : Call → Bool
-is_left call = false
-
--- No client leaves a command unfinished.
+-- No client begins a command that it goes on from without the reply.
 abbrev pub AreFinished : List (List Line) → Type 0
-AreFinished clients = All (λ lines. All (λ line. is_left line.call ≡ false) lines) clients
+AreFinished clients = All (λ lines. AllByRecursion (λ line. begins line.call ≡ false) lines) clients
 
 -- Each client follows its lines, by these values of labels, from this client on.
 abbrev pub FollowAll : Setup → Values → ℕ → List (List Line) → List Entry → Type 0
@@ -57,3 +54,8 @@ journal_of script H = record {
 -- The journal is that of a history that is legal for the script.
 abbrev pub IsLegalJournal : Script → Journal → Type 0
 IsLegalJournal script journal = (H : List Entry) × Legal script H × (journal ≡ journal_of script H)
+
+-- A line has given something with its one entry, and each of these entries of a client stands behind that.
+abbrev pub IsGivenBehind : List Entry → ℕ → (given front : List Entry) → Type 0
+IsGivenBehind H client given front =
+    (giver : Entry) × (given ≡ giver ∷ []) × AllByRecursion (λ e. StandsBehind H client (call_of e) (λ es. HasCall es (client_of giver) (call_of giver))) front

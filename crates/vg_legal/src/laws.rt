@@ -1,8 +1,9 @@
 //! Laws of the definitions, each the contract of a function that does nothing.
 
-ghost use Rattle.std.specs.Prelude.{◌≡◌, ◌≤◌, List, [], length, All};
+ghost use Rattle.std.specs.Prelude.{◌≡◌, ◌≤◌, ℕ, List, [], length, Some, All};
 ghost use Rattle.std.specs.List.{AllByRecursion};
 ghost use Rattle.vg_history.specs.History.{Ordered};
+ghost use Rattle.vg_history.specs.Lists.{Has};
 ghost use Rattle.vg_script.specs.declared.types.Line.{Line as Lines};
 ghost use Rattle.vg_script.specs.declared.types.Script.{Script as Scripts};
 ghost use Rattle.vg_script.specs.Waits.{AreKnown};
@@ -13,9 +14,10 @@ ghost use Rattle.vg_machine.specs.Order.{Sound};
 ghost use Rattle.vg_machine.specs.Replay.{Agrees, display};
 ghost use Rattle.vg_journal.specs.declared.journal.Journal.{Journal as Journals};
 ghost use Rattle.vg_legal.specs.Kept.{KeptAll};
-ghost use Rattle.vg_legal.specs.Legal.{AreFinished, FollowAll, IsLegalJournal, Legal};
+ghost use Rattle.vg_legal.specs.Legal.{AreFinished, FollowAll, IsGivenBehind, IsLegalJournal, Legal};
 ghost use Rattle.vg_legal.specs.Run.{IsOwned};
 ghost use Rattle.vg_script_part.specs.Setup.{setup_of};
+ghost use Rattle.vg_script_part.specs.Values.{HasGiven, HasHeard};
 
 /// A script of at most one client, none of whose commands is left unfinished, and each of whose lines that waits for a label stands
 /// behind the one that gives it, as in each that is read, has at most one legal history. So what is written is a function of the
@@ -37,4 +39,11 @@ pub fn nothing_without_clients()
 pub fn clients_make_one_history()
     ensures { (setup : Setups) (values : Values) (clients : List (List Lines)) (H : List Entries) → Agrees setup H → Ordered display H → AllByRecursion (IsOwned (length clients)) H → KeptAll setup values 1 clients H
         → Sound setup H × FollowAll setup values 1 clients H }
+{}
+
+/// A law, and no work: in a history whose lanes are in order, what waits for a label stands behind the very entry with which a line has
+/// given it: the export's, or the command's that was begun, of which the label's value has the fence.
+pub fn waits_stand_behind()
+    ensures { (H : List Entries) (values : Values) (label client : ℕ) (given front : List Entries) → Ordered display H → AllByRecursion (Has H) given → HasGiven values (Some label) given → HasHeard H values (Some label) client front
+        → IsGivenBehind H client given front }
 {}

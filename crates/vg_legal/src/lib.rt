@@ -6,4 +6,6 @@ mod journal;
 mod laws;
 
 pub use driving::{Device, Driven, drive, drive_in};
-pub use laws::{at_most_one_history, clients_make_one_history, nothing_without_clients};
+pub use laws::{
+    at_most_one_history, clients_make_one_history, nothing_without_clients, waits_stand_behind,
+};

@@ -21,7 +21,7 @@ use Rattle.vg_backing.specs.Backing.{AreHeld}
 use Rattle.vg_blob.specs.declared.blobs.Blob.{Blob}
 use Rattle.vg_blob.specs.Blobs.{IsHeld}
 use Rattle.vg_client_holds.specs.declared.act.Act.{Act}
-use Rattle.vg_client_holds.specs.declared.act.Act.TheVariants.{Enter, Reserve, Store, Load, Export, Import, Release, Free, Take, Drop, Denied, Leave}
+use Rattle.vg_client_holds.specs.declared.act.Act.TheVariants.{Enter, Reserve, Store, Load, Export, Import, Release, Free, Take, Drop, Await, Denied, Leave}
 use Rattle.vg_client_holds.specs.declared.act.ActReply.{ActReply}
 use Rattle.vg_client_holds.specs.declared.act.ActReply.TheVariants as act_replies
 use Rattle.vg_machine.specs.State.{State, has_resource}
@@ -256,6 +256,7 @@ kept-effect state client (Release key) =
 kept-effect state client (Free key) = kept-replied (free_refusal client key (has_resource state key) state.share) state _ _ tt
 kept-effect state client (Take scanout) = kept-replied (take_refusal scanout state.share) state _ _ tt
 kept-effect state client (Drop scanout) = kept-replied (drop_refusal client scanout (is_in_use state scanout) state.share) state _ _ tt
+kept-effect state client (Await lane ordinal) = tt
 kept-effect state client (Denied what) = tt
 kept-effect state client Leave = tt
 

@@ -3,7 +3,7 @@ use Rattle.std.specs.Prelude.{◌≡◌, ℕ, ◌+◌, ◌*◌, ◌==◌, ◌&&�
 use Rattle.std.specs.declared.alloc.AllocError.{AllocError}
 use Rattle.std.specs.List.{find, range_with_len}
 use Rattle.vg_client_holds.specs.declared.act.Act.{Act}
-use Rattle.vg_client_holds.specs.declared.act.Act.TheVariants.{Enter, Reserve, Store, Load, Export, Import, Release, Free, Take, Drop, Denied, Leave}
+use Rattle.vg_client_holds.specs.declared.act.Act.TheVariants.{Enter, Reserve, Store, Load, Export, Import, Release, Free, Take, Drop, Await, Denied, Leave}
 use Rattle.vg_client_holds.specs.declared.act.ActReply.{ActReply}
 use Rattle.vg_client_holds.specs.declared.act.ActReply.TheVariants as act_replies
 use Rattle.vg_share.specs.declared.share.Geometry.{Geometry}
@@ -100,6 +100,7 @@ effect_of state client (Release key) = release_step state client key
 effect_of state client (Free key) = free_step state client key
 effect_of state client (Take scanout) = take_step state client scanout
 effect_of state client (Drop scanout) = drop_step state client scanout
+effect_of state client (Await lane ordinal) = (state, act_replies.Ok)
 effect_of state client (Denied what) = (state, act_replies.Ok)
 effect_of state client Leave = (record state { share = ended client (entered client state.share) }, act_replies.Ok)
 

@@ -71,11 +71,17 @@ GiveUp before (entries.Act client call act reply) =
     gives_up act ≡ true → map call_of (by_call (of_client client before)) ≡ range_with_len 1 (call - 1)
 GiveUp before (entries.Command client call request reply) = Unit {0}
 
+-- A wait for a fence stands after all commands that were put on its lane up to it: those with the ordinals 1 to the fence's.
+abbrev pub FenceOrder : List Entry → Entry → Type 0
+FenceOrder before (entries.Act client call (acts.Await lane ordinal) reply) = history.HasFence display lane ordinal before
+FenceOrder before entry = Unit {0}
+
 -- An entry stands rightly behind those before it.
 pub record IsInOrder (before : List Entry) (entry : Entry) : Type 0 where
   pub lane : LaneOrder before entry
   pub call : CallOrder before entry
   pub give_up : GiveUp before entry
+  pub fence : FenceOrder before entry
 
 -- Each of these entries does, behind those before them all.
 abbrev pub AreInOrder : List Entry → List Entry → Type 0

@@ -34,7 +34,7 @@ impl Display {
         ensures err { OnErr result ((self.new ≡ self.old) × (holds.new ≡ holds.old)) }
     {
         match act {
-            Act::Enter | Act::Denied { .. } => Ok((ActReply::Ok, ActReply::Ok)),
+            Act::Enter | Act::Await { .. } | Act::Denied { .. } => Ok((ActReply::Ok, ActReply::Ok)),
             Act::Reserve {
                 width,
                 height,

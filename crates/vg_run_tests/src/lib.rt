@@ -2,9 +2,9 @@
 #![tactic(auto)]
 
 #[cfg(test)]
-mod faults;
-#[cfg(test)]
 mod journal;
+#[cfg(test)]
+mod lanes;
 #[cfg(test)]
 mod machine;
 #[cfg(test)]

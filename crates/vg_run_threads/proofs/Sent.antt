@@ -7,7 +7,9 @@ use denote.Ref.{NamedLft}
 use Rattle.std.proofs.Crossing.{crosses}
 use Rattle.vg_list.specs.contracts.seq.Seq as seq
 use Rattle.vg_script.specs.contracts.types.Line as line
+use Rattle.vg_calls.specs.contracts.call.Body as body
 use Rattle.vg_calls.specs.contracts.call.Call as call
+use Rattle.vg_fence.specs.contracts.fence.Fence as fence
 use Rattle.vg_book.specs.declared.board.Naming as Naming
 use Rattle.vg_ring.specs.declared.rings.Rings as Rings
 use Rattle.vg_driver.specs.contracts.driver.Driver as driver
@@ -29,9 +31,16 @@ use Rattle.vg_script_part.specs.contracts.performing.Performed as performed
 seq_send : (X : RattleType) → IsSend X → IsSend (seq.the_row X)
 seq_send X x = search (sendable, crosses) depth 20
 
+-- what is begun, and a fence
+body_send : IsSend (enum.field body.the_type).row
+body_send = enum_send (enum.shape body.the_type) (tt, (search (sendable, crosses) depth 20, (search (sendable, crosses) depth 20, (search (sendable, crosses) depth 20, tt))))
+
+fence_send : IsSend fence.the_row
+fence_send = search sendable depth 20
+
 -- a call, as a line has it
 call_send : IsSend (enum.field call.the_type).row
-call_send = enum_send (enum.shape call.the_type) (tt, (search (sendable, crosses, seq_send) depth 20, (search (sendable, crosses, seq_send) depth 20, (search (sendable, crosses, seq_send) depth 20, (search (sendable, crosses, seq_send) depth 20, (search (sendable, crosses, seq_send) depth 20, (search (sendable, crosses, seq_send) depth 20, (search (sendable, crosses, seq_send) depth 20, (search (sendable, crosses, seq_send) depth 20, (search (sendable, crosses, seq_send) depth 20, (search (sendable, crosses, seq_send) depth 20, (search (sendable, crosses, seq_send) depth 20, (search (sendable, crosses, seq_send) depth 20, (search (sendable, crosses, seq_send) depth 20, (search (sendable, crosses, seq_send) depth 20, (search (sendable, crosses, seq_send) depth 20, (tt, (search (sendable, crosses, seq_send) depth 20, (search (sendable, crosses, seq_send) depth 20, (search (sendable, crosses, seq_send) depth 20, (search (sendable, crosses, seq_send) depth 20, (search (sendable, crosses, seq_send) depth 20, (search (sendable, crosses, seq_send) depth 20, (search (sendable, crosses, seq_send) depth 20, (search (sendable, crosses, seq_send) depth 20, (search (sendable, crosses, seq_send) depth 20, tt))))))))))))))))))))))))))
+call_send = enum_send (enum.shape call.the_type) (tt, (search (sendable, crosses, seq_send, body_send, fence_send) depth 20, (search (sendable, crosses, seq_send, body_send, fence_send) depth 20, (search (sendable, crosses, seq_send, body_send, fence_send) depth 20, (search (sendable, crosses, seq_send, body_send, fence_send) depth 20, (search (sendable, crosses, seq_send, body_send, fence_send) depth 20, (search (sendable, crosses, seq_send, body_send, fence_send) depth 20, (search (sendable, crosses, seq_send, body_send, fence_send) depth 20, (search (sendable, crosses, seq_send, body_send, fence_send) depth 20, (search (sendable, crosses, seq_send, body_send, fence_send) depth 20, (search (sendable, crosses, seq_send, body_send, fence_send) depth 20, (search (sendable, crosses, seq_send, body_send, fence_send) depth 20, (search (sendable, crosses, seq_send, body_send, fence_send) depth 20, (search (sendable, crosses, seq_send, body_send, fence_send) depth 20, (search (sendable, crosses, seq_send, body_send, fence_send) depth 20, (search (sendable, crosses, seq_send, body_send, fence_send) depth 20, (tt, (search (sendable, crosses, seq_send, body_send, fence_send) depth 20, (search (sendable, crosses, seq_send, body_send, fence_send) depth 20, (search (sendable, crosses, seq_send, body_send, fence_send) depth 20, (search (sendable, crosses, seq_send, body_send, fence_send) depth 20, (search (sendable, crosses, seq_send, body_send, fence_send) depth 20, (search (sendable, crosses, seq_send, body_send, fence_send) depth 20, (search (sendable, crosses, seq_send, body_send, fence_send) depth 20, (search (sendable, crosses, seq_send, body_send, fence_send) depth 20, (search (sendable, crosses, seq_send, body_send, fence_send) depth 20, (search (sendable, crosses, seq_send, body_send, fence_send) depth 20, (search (sendable, crosses, seq_send, body_send, fence_send) depth 20, tt))))))))))))))))))))))))))))
 
 line_send : IsSend line.the_row
 line_send = let T = line.the_type in recorded_send _ _ _ T.to_one (struct_send (shape T) (search sendable, (call_send, tt)))

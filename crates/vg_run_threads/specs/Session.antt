@@ -1,5 +1,6 @@
 -- What clients and workers on threads leave: a history that has all of each client, and lanes that have run what was completed.
-use Rattle.std.specs.Prelude.{◌≡◌, ◌≤◌, ◌<◌, ◌==◌, ℕ, true, false, List, [], ◌∷◌, ◌++◌, length, map, Some, if◌then◌else◌}
+use Rattle.std.specs.Prelude.{◌≡◌, ◌≤◌, ◌<◌, ◌==◌, ℕ, Bool, true, false, List, [], ◌∷◌, ◌++◌, length, map, Some, if◌then◌else◌}
+use Rattle.std.specs.List.{list_any}
 use mathlib.Core.List.{IsPrefix}
 use Rattle.vg_history.specs.declared.entry.Entry.TheVariants as entries
 use Rattle.vg_history.specs.Lists.{Has, upto}
@@ -30,12 +31,20 @@ use Rattle.vg_script.specs.declared.types.Script.{Script}
 use Rattle.vg_driver.specs.Halves.{HasAsked}
 use Rattle.vg_driver.specs.Tickets.{Account, Order, Token}
 use Rattle.vg_client.specs.Accounts.{IsNew}
+use Rattle.vg_tasks.specs.Tasks.{begins}
 use Rattle.vg_script_part.specs.declared.performing.Performed.{Performed}
 use Rattle.vg_book.specs.Places.{IsCurrent}
 use Rattle.vg_labels.specs.Labels.{AreOf, AreTold, Values}
 use Rattle.vg_script_part.specs.Follows.{Kept}
 use Rattle.vg_script_part.specs.Performing.{HasPerformed, MayPerform, lines_of}
 use Rattle.vg_script_part.specs.Setup.{setup_of}
+
+-- Whether some of these lines, and of these clients', begins a command that its client goes on from.
+abbrev pub begins_one : List Line → Bool
+begins_one lines = list_any (λ line. begins line.call) lines
+
+abbrev pub begins_any : List (List Line) → Bool
+begins_any clients = list_any begins_one clients
 
 -- The root and the lanes' tokens of a book whose machine is a display.
 abbrev pub Root : Type 0

@@ -1,12 +1,12 @@
 //! A script's clients and a device's workers on threads.
 
-ghost use Rattle.std.specs.Prelude.{◌≡◌, ◌≤◌, [], ℕ, List, length, map, max, min, All, IfOk, OnOk};
+ghost use Rattle.std.specs.Prelude.{◌≡◌, ◌≤◌, [], ℕ, List, length, map, max, min, if◌then◌else◌, All, IfOk, OnOk};
 ghost use Rattle.vg_labels.specs.Labels.{AreOf, AreShown, values_of};
 ghost use Rattle.vg_script.specs.declared.types.Line.{Line as Lines};
 ghost use Rattle.vg_script.specs.Limits.{ScriptInLimits};
 ghost use Rattle.vg_script_part.specs.Performing as parts;
 ghost use Rattle.vg_script_part.specs.Setup as setups;
-ghost use Rattle.vg_run_threads.specs.Session.{AreAllTold, AreNew, HasTakenAll, HaveAllJoined, IsRootWith, IsStill};
+ghost use Rattle.vg_run_threads.specs.Session.{AreAllTold, AreNew, HasTakenAll, HaveAllJoined, IsRootWith, IsStill, begins_any, begins_one};
 
 use crate::closing::settle;
 use std::alloc::{AllocError, Global};
@@ -23,6 +23,7 @@ use vg_machine::{Display, Holds, Setup};
 use vg_ring::Rings;
 use vg_script::{Line, Script};
 use vg_script_part::{Performed, perform};
+use vg_tasks::begins;
 use vg_worker::{Gate, Worker};
 
 /// What clients and workers are given, each of them the same.
@@ -157,13 +158,35 @@ fn performers<'a, B: Naming, N: Rings>(
     Ok(jobs)
 }
 
-/// How many of so many workers can have something to do. A client has one command under way at a time, so more workers than
-/// clients would only look for work; one there is in any case.
+/// How many of so many workers can have something to do. Where no client begins a command that it goes on from, each has one under way
+/// at a time, so more workers than clients would only look for work; one there is in any case.
 fn useful_workers(script: &Script, workers: u32) -> u32
     requires limits { ScriptInLimits script.now }
-    ensures { result ≡ max 1 (min workers (length script.now.clients)) }
+    ensures { result ≡ max 1 (if begins_any script.now.clients then workers else min workers (length script.now.clients)) }
 {
-    workers.min(clients_of(script)).max(1)
+    if is_any_begun(script) {
+        workers.max(1)
+    } else {
+        workers.min(clients_of(script)).max(1)
+    }
+}
+
+/// Whether some client begins a command.
+fn is_any_begun(script: &Script) -> bool
+    ensures { result ≡ begins_any script.now.clients }
+{
+    script
+        .clients
+        .as_slice()
+        .iter()
+        .any(|lines| is_one_begun(lines.as_slice()))
+}
+
+/// Whether one of these lines begins a command.
+fn is_one_begun(lines: &[Line]) -> bool
+    ensures { result ≡ begins_one lines.now }
+{
+    lines.iter().any(|line| begins(&line.call))
 }
 
 /// How many clients a script has.

@@ -1,5 +1,5 @@
 -- The labels of what the lines give.
-use Rattle.std.proofs.Common.{◌≡◌, ℕ, zero, suc, ◌+◌, ◌==◌, ◌<◌, ◌≤◌, Bool, true, false, List, [], ◌∷◌, ◌++◌, length, Option, Some, None, if◌then◌else◌, arith, refl, ap, sym, ◌∙◌, subst, append-nil, append_assoc}
+use Rattle.std.proofs.Common.{◌≡◌, ℕ, zero, suc, ◌+◌, ◌==◌, ◌≤◌, Bool, true, false, List, [], ◌∷◌, ◌++◌, length, Option, Some, None, if◌then◌else◌, arith, refl, ap, sym, ◌∙◌, subst, append-nil, append_assoc}
 use Rattle.std.specs.Prelude.{All, option_map, IfSome, bytes_eq, codes, slice_index}
 use Rattle.std.specs.Bool.{⊤}
 use Rattle.std.specs.List.{range_with_len}
@@ -16,30 +16,44 @@ use Rattle.vg_call_lines.specs.Args.{no_args, one_arg, two_args, three_args, fou
 use Rattle.vg_call_lines.proofs.Counts.{no_args_give, one_arg_gives, two_args_give, three_args_give, four_args_give, five_args_give, six_args_give, eleven_args_give}
 use Rattle.vg_script.specs.Features.{feature_of}
 use Rattle.vg_script.specs.Seen.{Seen, add_line}
-use Rattle.vg_script.specs.Labels.{labels_of, number_from, number_in, start_of}
+use Rattle.vg_script.specs.Labels.{labels_of, label_from, label_in, start_of}
 use Rattle.vg_script.specs.Waits.{gives, waits, label_list, given_in, given_in_all}
-use Rattle.vg_call_lines.specs.Tables.{NameTable}
-use Rattle.vg_call_lines.specs.Rows.{Row, info_row, edid_row, buffer_row, blob_row, store_row, load_row, send_row, flush_row, take_row, drop_row, hide_row, show_row, showblob_row, flip_row, cursor_row, move_row, uuid_row, close_row, raw_row, context_row, endcontext_row, attach_row, detach_row, submit_row, export_row, import_row, request_row, queue_of, shape_of, row_of, row_of_buffers, row_of_scanouts, row_of_others, row_of_contexts, row_of_shared}
+use Rattle.vg_calls.specs.declared.call.Body.{Body}
+use Rattle.vg_calls.specs.declared.call.ContextRef.{ContextRef}
+use Rattle.vg_call_lines.specs.declared.names.LabelKind.{LabelKind}
+use Rattle.vg_call_lines.specs.declared.names.LabelKind.TheVariants.{Fence, Token}
+use Rattle.vg_call_lines.specs.declared.names.Label.{Label}
+use Rattle.vg_call_lines.specs.Tables.{NameTable, is_label, label_number}
+use Rattle.vg_call_lines.specs.Bodies.{Part, info_body, send_body, flush_body, submit_body, begun_parts}
+use Rattle.vg_call_lines.specs.Rows.{Row, info_row, edid_row, buffer_row, blob_row, store_row, load_row, send_row, flush_row, take_row, drop_row, hide_row, show_row, showblob_row, flip_row, cursor_row, move_row, uuid_row, close_row, raw_row, context_row, endcontext_row, attach_row, detach_row, submit_row, export_row, import_row, begun_row, begin_row, await_row, request_row, queue_of, shape_of, row_of, row_of_buffers, row_of_scanouts, row_of_others, row_of_contexts, row_of_shared, row_of_begun}
 use Rattle.vg_script.specs.Grammar.{Form, display_form, memory_form, feature_form, without_form, client_form, row_form, skipped_form, called_form, worded_form, form_of, line_form, one_more}
 use Rattle.vg_script.specs.Faults.{fails, given, form_gives, seen_after, AreFaultless, has_fault}
 use Rattle.vg_script.specs.Limits.{IsBetween}
-use Rattle.vg_script.proofs.NameLaws.{all_exported}
+use Rattle.vg_script.proofs.NameLaws.{all_given}
 
 -- ---- the rows
+-- Some text is a label with this number.
+abbrev IsIn : (List ℕ → Option Label) → ℕ → Type 0
+IsIn labels number = (text : List ℕ) × (kind : LabelKind) × (labels text ≡ Some (record { kind = kind; number = number }))
+
+is_in : (labels : List ℕ → Option Label) (text : List ℕ) (kind : LabelKind) (o : Option Label) → labels text ≡ o → is_label kind o ≡ true → IsIn labels (label_number o)
+is_in labels text kind None e h = absurd (cc h)
+is_in labels text kind (Some label) e h = (text, label.kind, e)
+
 -- A row gives the next labels, and waits for one of the text.
 abbrev RowLabels : NameTable → Option Row → Type 0
 RowLabels table None = ⊤
 RowLabels table (Some row) =
     (row.after.labels ≡ table.labels)
-    × ((n : ℕ) × (row.after.exported ≡ table.exported + n) × (label_list (gives row.call) ≡ range_with_len (table.exported + 1) n))
-    × (row.names ≡ true → IfSome (waits row.call) (λ label. (0 < label) × (word : List ℕ) × (label ≡ table.labels word)))
+    × ((n : ℕ) × (row.after.given ≡ table.given + n) × (label_list (gives row.call) ≡ range_with_len (table.given + 1) n))
+    × (row.names ≡ true → IfSome (waits row.call) (IsIn table.labels))
 
 either_labelled : (table : NameTable) (b : Bool) (x y : Option Row) → RowLabels table x → RowLabels table y → RowLabels table (if b then x else y)
 either_labelled table true x y p q = p
 either_labelled table false x y p q = q
 
 info_labelled : (n : ℕ) (table : NameTable) → RowLabels table (info_row table)
-unfolding info_row
+unfolding info_row info_body
 info_labelled n table = (refl, (0, omega arith, refl), λ h. tt)
 
 edid_labelled : (n : ℕ) (table : NameTable) (scanout : List ℕ) → RowLabels table (edid_row table scanout)
@@ -59,11 +73,11 @@ unfolding load_row
 load_labelled n table name offset size = (refl, (0, omega arith, refl), λ h. tt)
 
 send_labelled : (n : ℕ) (table : NameTable) (name x y width height : List ℕ) → RowLabels table (send_row table name x y width height)
-unfolding send_row
+unfolding send_row send_body
 send_labelled n table name x y width height = (refl, (0, omega arith, refl), λ h. tt)
 
 flush_labelled : (n : ℕ) (table : NameTable) (name x y width height : List ℕ) → RowLabels table (flush_row table name x y width height)
-unfolding flush_row
+unfolding flush_row flush_body
 flush_labelled n table name x y width height = (refl, (0, omega arith, refl), λ h. tt)
 
 take_labelled : (n : ℕ) (table : NameTable) (scanout : List ℕ) → RowLabels table (take_row n table scanout)
@@ -104,7 +118,22 @@ export_labelled n table name label = (refl, (1, refl, refl), λ h. tt)
 
 import_labelled : (n : ℕ) (table : NameTable) (label name : List ℕ) → RowLabels table (import_row table label name)
 unfolding import_row
-import_labelled n table label name = (refl, (0, omega arith, refl), λ h. (grind (arith, nat_tests), label, refl))
+import_labelled n table label name = (refl, (0, omega arith, refl), λ h. is_in table.labels label Token (table.labels label) refl (grind arith))
+
+parts_labelled : (table : NameTable) (label : List ℕ) (parts : Option (Part (Option (ContextRef × ℕ) × Body))) → RowLabels table (option_map (begun_row table label) parts)
+parts_labelled table label None = tt
+parts_labelled table label (Some parts) = (refl, (1, refl, refl), λ h. tt)
+
+begin_labelled : (table : NameTable) (args : List (List ℕ)) → RowLabels table (begin_row table args)
+unfolding begin_row
+begin_labelled table [] = tt
+begin_labelled table (label ∷ []) = tt
+begin_labelled table (label ∷ on ∷ []) = tt
+begin_labelled table (label ∷ on ∷ word ∷ args) = parts_labelled table label (begun_parts table on word args)
+
+await_labelled : (n : ℕ) (table : NameTable) (label : List ℕ) → RowLabels table (await_row table label)
+unfolding await_row
+await_labelled n table label = (refl, (0, omega arith, refl), λ h. is_in table.labels label Fence (table.labels label) refl (grind arith))
 
 close_labelled : (n : ℕ) (table : NameTable) (name : List ℕ) → RowLabels table (close_row table name)
 unfolding close_row
@@ -135,7 +164,7 @@ unfolding detach_row
 detach_labelled n table context name = (refl, (0, omega arith, refl), λ h. tt)
 
 submit_labelled : (n : ℕ) (table : NameTable) (context ring : List ℕ) → RowLabels table (submit_row table context ring)
-unfolding submit_row
+unfolding submit_row submit_body
 submit_labelled n table context ring = (refl, (0, omega arith, refl), λ h. tt)
 
 request_labelled : (n : ℕ) (table : NameTable) (queue : Option Queue) (shape : Option Shape) (room hex : List ℕ) → RowLabels table (request_row table queue shape room hex)
@@ -149,7 +178,7 @@ unfolding raw_row
 raw_labelled n table queue room shape hex = request_labelled n table (queue_of queue) (shape_of shape) room hex
 
 row_labelled : (word : List ℕ) (n : ℕ) (table : NameTable) (args : List (List ℕ)) → RowLabels table (row_of word n table args)
-unfolding row_of row_of_buffers row_of_scanouts row_of_others row_of_contexts row_of_shared
+unfolding row_of row_of_buffers row_of_scanouts row_of_others row_of_contexts row_of_shared row_of_begun
 row_labelled word n table args =
     either_labelled table (bytes_eq word (codes "info")) (no_args (info_row table) args) _ (no_args_give (RowLabels table) tt (info_row table) (info_labelled n table) args)
     (either_labelled table (bytes_eq word (codes "edid")) (one_arg (edid_row table) args) _ (one_arg_gives (RowLabels table) tt (edid_row table) (edid_labelled n table) args)
@@ -176,22 +205,24 @@ row_labelled word n table args =
     (either_labelled table (bytes_eq word (codes "detach")) (two_args (detach_row table) args) _ (two_args_give (RowLabels table) tt (detach_row table) (detach_labelled n table) args)
     (either_labelled table (bytes_eq word (codes "submit")) (two_args (submit_row table) args) _ (two_args_give (RowLabels table) tt (submit_row table) (submit_labelled n table) args)
     (either_labelled table (bytes_eq word (codes "export")) (two_args (export_row table) args) _ (two_args_give (RowLabels table) tt (export_row table) (export_labelled n table) args)
-    (either_labelled table (bytes_eq word (codes "import")) (two_args (import_row table) args) _ (two_args_give (RowLabels table) tt (import_row table) (import_labelled n table) args) tt)))))))))))))))))))))))))
+    (either_labelled table (bytes_eq word (codes "import")) (two_args (import_row table) args) _ (two_args_give (RowLabels table) tt (import_row table) (import_labelled n table) args)
+    (either_labelled table (bytes_eq word (codes "begin")) (begin_row table args) _ (begin_labelled table args)
+    (either_labelled table (bytes_eq word (codes "await")) (one_arg (await_row table) args) _ (one_arg_gives (RowLabels table) tt (await_row table) (await_labelled n table) args) tt)))))))))))))))))))))))))))
 
 -- ---- the forms
-abbrev IsOfText : (List ℕ → ℕ) → Line → Type 0
-IsOfText labels line = IfSome (waits line.call) (λ label. (0 < label) × (word : List ℕ) × (label ≡ labels word))
+abbrev IsOfText : (List ℕ → Option Label) → Line → Type 0
+IsOfText labels line = IfSome (waits line.call) (IsIn labels)
 
-record Labelled (labels : List ℕ → ℕ) (seen : Seen) : Type 0 where
+record Labelled (labels : List ℕ → Option Label) (seen : Seen) : Type 0 where
   same : seen.table.labels ≡ labels
-  in_order : given_in_all seen.clients ≡ range_with_len 1 seen.table.exported
+  in_order : given_in_all seen.clients ≡ range_with_len 1 seen.table.given
   known : All (All (IsOfText labels)) seen.clients
 
-abbrev FormLabels : (List ℕ → ℕ) → Option Form → Type 0
+abbrev FormLabels : (List ℕ → Option Label) → Option Form → Type 0
 FormLabels labels None = ⊤
 FormLabels labels (Some form) = form.place ≡ true → form.names ≡ true → Labelled labels form.gives
 
-either_form : (labels : List ℕ → ℕ) (b : Bool) (x y : Option Form) → FormLabels labels x → FormLabels labels y → FormLabels labels (if b then x else y)
+either_form : (labels : List ℕ → Option Label) (b : Bool) (x y : Option Form) → FormLabels labels x → FormLabels labels y → FormLabels labels (if b then x else y)
 either_form labels true x y p q = p
 either_form labels false x y p q = q
 
@@ -222,48 +253,48 @@ All-add_line P [] line fits calls = calls
 All-add_line P (client ∷ []) line fits calls = All-cons (All P) (client ++ line ∷ []) [] (All-push P client line (All-head (All P) client [] calls) fits) (All-nil (All P))
 All-add_line P (client ∷ next ∷ more) line fits calls = All-cons (All P) client _ (All-head (All P) client (next ∷ more) calls) (All-add_line P (next ∷ more) line fits (All-tail (All P) client (next ∷ more) calls))
 
-display_labelled : (labels : List ℕ → ℕ) (seen : Seen) → Labelled labels seen → (a b : List ℕ) → FormLabels labels (display_form seen a b)
+display_labelled : (labels : List ℕ → Option Label) (seen : Seen) → Labelled labels seen → (a b : List ℕ) → FormLabels labels (display_form seen a b)
 unfolding display_form
 display_labelled labels seen w a b = λ place names. record { same = w.same; in_order = w.in_order; known = w.known }
 
-memory_labelled : (labels : List ℕ → ℕ) (seen : Seen) → Labelled labels seen → (a : List ℕ) → FormLabels labels (memory_form seen a)
+memory_labelled : (labels : List ℕ → Option Label) (seen : Seen) → Labelled labels seen → (a : List ℕ) → FormLabels labels (memory_form seen a)
 unfolding memory_form
 memory_labelled labels seen w a = λ place names. record { same = w.same; in_order = w.in_order; known = w.known }
 
-feature_labelled : (labels : List ℕ → ℕ) (seen : Seen) → Labelled labels seen → (feature : Option Feature) → FormLabels labels (option_map (feature_form seen) feature)
+feature_labelled : (labels : List ℕ → Option Label) (seen : Seen) → Labelled labels seen → (feature : Option Feature) → FormLabels labels (option_map (feature_form seen) feature)
 unfolding feature_form
 feature_labelled labels seen w None = tt
 feature_labelled labels seen w (Some new) = λ place names. record { same = w.same; in_order = w.in_order; known = w.known }
 
-without_labelled : (labels : List ℕ → ℕ) (seen : Seen) → Labelled labels seen → (a : List ℕ) → FormLabels labels (without_form seen a)
+without_labelled : (labels : List ℕ → Option Label) (seen : Seen) → Labelled labels seen → (a : List ℕ) → FormLabels labels (without_form seen a)
 unfolding without_form
 without_labelled labels seen w a = feature_labelled labels seen w (feature_of a)
 
-client_labelled : (labels : List ℕ → ℕ) (seen : Seen) → Labelled labels seen → FormLabels labels (client_form seen)
+client_labelled : (labels : List ℕ → Option Label) (seen : Seen) → Labelled labels seen → FormLabels labels (client_form seen)
 unfolding client_form
 client_labelled labels seen w = λ place names. record { same = w.same; in_order = given_in_all-begun seen.clients ∙ w.in_order; known = All-push (All (IsOfText labels)) seen.clients [] w.known (All-nil (IsOfText labels)) }
 
-row_form_labelled : (labels : List ℕ → ℕ) (seen : Seen) → Labelled labels seen → (row : Option Row) → RowLabels seen.table row → FormLabels labels (option_map (row_form seen) row)
+row_form_labelled : (labels : List ℕ → Option Label) (seen : Seen) → Labelled labels seen → (row : Option Row) → RowLabels seen.table row → FormLabels labels (option_map (row_form seen) row)
 unfolding row_form
 row_form_labelled labels seen w None r = tt
 row_form_labelled labels seen w (Some row) r = λ place names.
     let begun : (length seen.clients == 0) ≡ false = grind arith in
     let line : Line = record { number = seen.lines; call = row.call } in
     let counted = r.1 in
-    let by_text : IsOfText labels line = subst (λ ls. IfSome (waits row.call) (λ label. (0 < label) × (word : List ℕ) × (label ≡ ls word))) w.same (r.2 names) in
+    let by_text : IsOfText labels line = subst (λ ls. IfSome (waits row.call) (IsIn ls)) w.same (r.2 names) in
     record {
       same = r.0 ∙ w.same;
       in_order = given_in_all-add_line seen.clients line begun ∙ ap (λ xs. xs ++ label_list (gives row.call)) w.in_order
-          ∙ ap (λ xs. range_with_len 1 seen.table.exported ++ xs) (counted.2 ∙ ap (λ k. range_with_len k counted.0) (omega arith))
-          ∙ sym (range_more 1 seen.table.exported counted.0) ∙ ap (λ k. range_with_len 1 k) (sym counted.1);
+          ∙ ap (λ xs. range_with_len 1 seen.table.given ++ xs) (counted.2 ∙ ap (λ k. range_with_len k counted.0) (omega arith))
+          ∙ sym (range_more 1 seen.table.given counted.0) ∙ ap (λ k. range_with_len 1 k) (sym counted.1);
       known = All-add_line (IsOfText labels) seen.clients line by_text w.known;
     }
 
-called_labelled : (labels : List ℕ → ℕ) (seen : Seen) → Labelled labels seen → (word : List ℕ) (args : List (List ℕ)) → FormLabels labels (called_form seen word args)
+called_labelled : (labels : List ℕ → Option Label) (seen : Seen) → Labelled labels seen → (word : List ℕ) (args : List (List ℕ)) → FormLabels labels (called_form seen word args)
 unfolding called_form
 called_labelled labels seen w word args = row_form_labelled labels seen w (row_of word (length seen.displays) seen.table args) (row_labelled word (length seen.displays) seen.table args)
 
-worded_labelled : (labels : List ℕ → ℕ) (seen : Seen) → Labelled labels seen → (word : List ℕ) (args : List (List ℕ)) → FormLabels labels (worded_form seen word args)
+worded_labelled : (labels : List ℕ → Option Label) (seen : Seen) → Labelled labels seen → (word : List ℕ) (args : List (List ℕ)) → FormLabels labels (worded_form seen word args)
 unfolding worded_form
 worded_labelled labels seen w word args =
     either_form labels (bytes_eq word (codes "display")) (two_args (display_form seen) args) _ (two_args_give (FormLabels labels) tt (display_form seen) (display_labelled labels seen w) args)
@@ -271,56 +302,57 @@ worded_labelled labels seen w word args =
     (either_form labels (bytes_eq word (codes "without")) (one_arg (without_form seen) args) _ (one_arg_gives (FormLabels labels) tt (without_form seen) (without_labelled labels seen w) args)
     (either_form labels (bytes_eq word (codes "client")) (no_args (client_form seen) args) _ (no_args_give (FormLabels labels) tt (client_form seen) (client_labelled labels seen w) args) (called_labelled labels seen w word args))))
 
-form_labelled : (labels : List ℕ → ℕ) (seen : Seen) → Labelled labels seen → (words : List (List ℕ)) → FormLabels labels (form_of seen words)
+form_labelled : (labels : List ℕ → Option Label) (seen : Seen) → Labelled labels seen → (words : List (List ℕ)) → FormLabels labels (form_of seen words)
 unfolding form_of skipped_form
 form_labelled labels seen w [] = λ place names. w
 form_labelled labels seen w (word ∷ args) = either_form labels (slice_index word 0 == 35) (Some (skipped_form seen)) _ (λ place names. w) (worded_labelled labels seen w word args)
 
 -- ---- the lines
-form_given : (labels : List ℕ → ℕ) (seen : Seen) (form : Option Form) → fails true (λ f. f.place) form ≡ false → fails false (λ f. f.names) form ≡ false → FormLabels labels form → Labelled labels (form_gives seen form)
+form_given : (labels : List ℕ → Option Label) (seen : Seen) (form : Option Form) → fails true (λ f. f.place) form ≡ false → fails false (λ f. f.names) form ≡ false → FormLabels labels form → Labelled labels (form_gives seen form)
 form_given labels seen None place names fits = absurd (cc)
 form_given labels seen (Some form) place names fits = fits (grind arith) (grind arith)
 
-one_labelled : (labels : List ℕ → ℕ) (seen : Seen) → Labelled labels seen → Labelled labels (one_more seen)
+one_labelled : (labels : List ℕ → Option Label) (seen : Seen) → Labelled labels seen → Labelled labels (one_more seen)
 one_labelled labels seen w = record { same = w.same; in_order = w.in_order; known = w.known }
 
-line_labelled : (labels : List ℕ → ℕ) (seen : Seen) (line : List ℕ) → Labelled labels seen → ((kind : Kind) → has_fault kind seen line ≡ false) → Labelled labels (given seen line)
+line_labelled : (labels : List ℕ → Option Label) (seen : Seen) (line : List ℕ) → Labelled labels seen → ((kind : Kind) → has_fault kind seen line ≡ false) → Labelled labels (given seen line)
 unfolding line_form
 line_labelled labels seen line w none = form_given labels seen (form_of (one_more seen) (words_of line)) (none Word) (none Name) (form_labelled labels (one_more seen) (one_labelled labels seen w) (words_of line))
 
-lines_labelled : (labels : List ℕ → ℕ) (seen : Seen) (lines : List (List ℕ)) → Labelled labels seen → AreFaultless seen lines → Labelled labels (seen_after seen lines)
+lines_labelled : (labels : List ℕ → Option Label) (seen : Seen) (lines : List (List ℕ)) → Labelled labels seen → AreFaultless seen lines → Labelled labels (seen_after seen lines)
 lines_labelled labels seen [] w none = w
 lines_labelled labels seen (line ∷ more) w none = lines_labelled labels (given seen line) more (line_labelled labels seen line w none.0) none.1
 
-number_few : (first : ℕ) (labels : List (List ℕ)) (word : List ℕ) → 0 < first → number_from first labels word + 1 ≤ first + length labels
-unfolding number_from
-number_few first [] word some = omega (arith, some)
-number_few first (label ∷ more) word some = by_test (bytes_eq label word) (number_few (first + 1) more word (omega arith))
+number_few : (first : ℕ) (labels : List (LabelKind × List ℕ)) (word : List ℕ) (label : Label) → label_from first labels word ≡ Some label → (first ≤ label.number) × (label.number + 1 ≤ first + length labels)
+unfolding label_from
+number_few first [] word label h = absurd (cc h)
+number_few first (one ∷ more) word label h = by_test (bytes_eq one.1 word) h (number_few (first + 1) more word label)
   where
-    by_test : (b : Bool) → number_from (first + 1) more word + 1 ≤ first + 1 + length more → (if b then first else number_from (first + 1) more word) + 1 ≤ first + length (label ∷ more)
-    by_test true h = omega arith
-    by_test false h = omega (arith, h)
+    by_test : (b : Bool) → (if b then Some (record { kind = one.0; number = first }) else label_from (first + 1) more word) ≡ Some label
+        → (label_from (first + 1) more word ≡ Some label → (first + 1 ≤ label.number) × (label.number + 1 ≤ first + 1 + length more)) → (first ≤ label.number) × (label.number + 1 ≤ first + length (one ∷ more))
+    by_test true e f = let n : first ≡ label.number = ap (λ o. label_number o) e in (omega (arith, n), omega (arith, n))
+    by_test false e f = let g = f e in (omega (arith, g.0), omega (arith, g.1))
 
-known_one : (labels : List (List ℕ)) (n : ℕ) → n ≡ length labels → (o : Option ℕ) → IfSome o (λ label. (0 < label) × (word : List ℕ) × (label ≡ number_in labels word)) → IfSome o (IsBetween 1 n)
+known_one : (labels : List (LabelKind × List ℕ)) (n : ℕ) → n ≡ length labels → (o : Option ℕ) → IfSome o (IsIn (label_in labels)) → IfSome o (IsBetween 1 n)
 known_one labels n e None h = tt
-known_one labels n e (Some label) h = let few = number_few 1 labels h.1 (omega arith) in (omega (arith, h.0), omega (arith, few, e, h.2))
+known_one labels n e (Some label) h = let few = number_few 1 labels h.0 (record { kind = h.1; number = label }) h.2 in (few.0, omega (arith, few.1, e))
 
-known_in : (labels : List (List ℕ)) (n : ℕ) → n ≡ length labels → (lines : List Line) → All (IsOfText (number_in labels)) lines → All (λ line. IfSome (waits line.call) (IsBetween 1 n)) lines
+known_in : (labels : List (LabelKind × List ℕ)) (n : ℕ) → n ≡ length labels → (lines : List Line) → All (IsOfText (label_in labels)) lines → All (λ line. IfSome (waits line.call) (IsBetween 1 n)) lines
 known_in labels n e [] h = All-nil (λ line. IfSome (waits line.call) (IsBetween 1 n))
 known_in labels n e (line ∷ more) h =
-    All-cons (λ line. IfSome (waits line.call) (IsBetween 1 n)) line more (known_one labels n e (waits line.call) (All-head (IsOfText (number_in labels)) line more h)) (known_in labels n e more (All-tail (IsOfText (number_in labels)) line more h))
+    All-cons (λ line. IfSome (waits line.call) (IsBetween 1 n)) line more (known_one labels n e (waits line.call) (All-head (IsOfText (label_in labels)) line more h)) (known_in labels n e more (All-tail (IsOfText (label_in labels)) line more h))
 
-known_in_all : (labels : List (List ℕ)) (n : ℕ) → n ≡ length labels → (clients : List (List Line)) → All (All (IsOfText (number_in labels))) clients → All (All (λ line. IfSome (waits line.call) (IsBetween 1 n))) clients
+known_in_all : (labels : List (LabelKind × List ℕ)) (n : ℕ) → n ≡ length labels → (clients : List (List Line)) → All (All (IsOfText (label_in labels))) clients → All (All (λ line. IfSome (waits line.call) (IsBetween 1 n))) clients
 known_in_all labels n e [] h = All-nil (All (λ line. IfSome (waits line.call) (IsBetween 1 n)))
 known_in_all labels n e (lines ∷ more) h =
-    All-cons (All (λ line. IfSome (waits line.call) (IsBetween 1 n))) lines more (known_in labels n e lines (All-head (All (IsOfText (number_in labels))) lines more h)) (known_in_all labels n e more (All-tail (All (IsOfText (number_in labels))) lines more h))
+    All-cons (All (λ line. IfSome (waits line.call) (IsBetween 1 n))) lines more (known_in labels n e lines (All-head (All (IsOfText (label_in labels))) lines more h)) (known_in_all labels n e more (All-tail (All (IsOfText (label_in labels))) lines more h))
 
 -- The labels of a text that has no fault.
 pub all_labelled : (lines : List (List ℕ)) → AreFaultless (start_of lines) lines
-    → (given_in_all (seen_after (start_of lines) lines).clients ≡ range_with_len 1 (seen_after (start_of lines) lines).table.exported)
-    × All (All (λ line. IfSome (waits line.call) (IsBetween 1 (seen_after (start_of lines) lines).table.exported))) (seen_after (start_of lines) lines).clients
+    → (given_in_all (seen_after (start_of lines) lines).clients ≡ range_with_len 1 (seen_after (start_of lines) lines).table.given)
+    × All (All (λ line. IfSome (waits line.call) (IsBetween 1 (seen_after (start_of lines) lines).table.given))) (seen_after (start_of lines) lines).clients
 all_labelled lines faultless =
-    let labels = number_in (labels_of lines) in
+    let labels = label_in (labels_of lines) in
     let w = lines_labelled labels (start_of lines) lines (record { same = refl; in_order = refl; known = All-nil (All (IsOfText labels)) }) faultless in
-    let count = all_exported (start_of lines) lines faultless in
-    (w.in_order, known_in_all (labels_of lines) (seen_after (start_of lines) lines).table.exported (omega (arith, count)) (seen_after (start_of lines) lines).clients w.known)
+    let count = all_given (start_of lines) lines faultless in
+    (w.in_order, known_in_all (labels_of lines) (seen_after (start_of lines) lines).table.given (omega (arith, count)) (seen_after (start_of lines) lines).clients w.known)

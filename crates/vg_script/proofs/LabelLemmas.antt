@@ -1,15 +1,18 @@
 -- The numbers of labels, as they are read.
 use Rattle.std.proofs.Common.{◌≡◌, ℕ, ◌+◌, ◌==◌, ◌<◌, ◌≤◌, Bool, true, false, cond, List, [], ◌∷◌, ◌++◌, length, Option, Some, None, if◌then◌else◌, arith, refl, ap, sym, ◌∙◌, Bor, bytes_eq, rules, append-nil, append_assoc, length-append}
-use Rattle.std.proofs.lemmas.Bool.Decides.{nat_tests}
 use mathlib.Core.Path.{fun_ext}
 use Rattle.std.proofs.lemmas.Map.Text.{is_eq-slice_cmp}
-use Rattle.std.specs.BTreeMap.{BTreeMap, UpdatesBy, get_by}
+use Rattle.std.specs.BTreeMap.{BTreeMap, UpdatesBy}
 use Rattle.std.specs.Cmp.Lexicographic.{slice_cmp}
 use Rattle.std.specs.Ordering.{nat_cmp}
 use Rattle.std.proofs.lemmas.Slice.Eq.{bytes_eq-Decides}
-use Rattle.vg_call_lines.specs.Tables.{number_or_none, numbers_of}
-use Rattle.vg_script.specs.Labels.{with_found, label_of, labels_of, number_from, number_in}
-use Rattle.vg_script.specs.LabelsWithin.{with_number}
+use Rattle.std.specs.Prelude.{is_none, codes}
+use Rattle.vg_call_lines.specs.declared.names.LabelKind.{LabelKind}
+use Rattle.vg_call_lines.specs.declared.names.Label.{Label}
+use Rattle.vg_call_lines.specs.Tables.{labels_in}
+use Rattle.vg_script_words.specs.Words.{words_of, is_text}
+use Rattle.vg_script.specs.Labels.{with_found, label_among, label_of, labels_of, label_from, label_in}
+use Rattle.vg_script.specs.LabelsWithin.{may_define, with_new}
 use Rattle.vg_script.specs.Lines.{lines_of}
 use Rattle.vg_script.proofs.Lines.{lines_of-nil, lines_of-first, shorter}
 use Rattle.std.specs.List.{before_first, after_first}
@@ -18,100 +21,118 @@ is_same : (a b : List ℕ) → bytes_eq a b ≡ true → a ≡ b
 is_same a b h = search (rules, bytes_eq-Decides)
 
 -- A map with one label more.
-cond-number : (b : Bool) (number other : ℕ) (found : Option ℕ) → number_or_none found ≡ other → number_or_none (cond b (Some number) found) ≡ (if b then number else other)
-cond-number true number other found h = refl
-cond-number false number other found h = h
+cond-label : (b : Bool) (one other : Option Label) → cond b one other ≡ (if b then one else other)
+cond-label true one other = refl
+cond-label false one other = refl
 
-pub numbered : (old new : BTreeMap (Bor (List ℕ)) ℕ) (label : List ℕ) (number : ℕ) → UpdatesBy (λ x y. slice_cmp nat_cmp x.now y.now) (λ k. slice_cmp nat_cmp label k.now) old new (Some number)
-    → numbers_of old label ≡ 0 → numbers_of new ≡ with_number (numbers_of old) label number
-numbered old new label number updates none =
+pub labelled : (old new : BTreeMap (Bor (List ℕ)) Label) (text : List ℕ) (label : Label) → UpdatesBy (λ x y. slice_cmp nat_cmp x.now y.now) (λ k. slice_cmp nat_cmp text k.now) old new (Some label)
+    → is_none (labels_in old text) ≡ true → labels_in new ≡ with_new (labels_in old) text label
+labelled old new text label updates none =
     rw none
-    (fun_ext (λ q.
-    let found = get_by (λ k. slice_cmp nat_cmp q k.now) old in
-    ap number_or_none (updates.0 (record { ref_ptr = (0, 0); now = q })) ∙ ap (λ b. number_or_none (cond b (Some number) found)) (is_eq-slice_cmp label q) ∙ cond-number (bytes_eq label q) number (numbers_of old q) found refl))
+    (fun_ext (λ q. updates.0 (record { ref_ptr = (0, 0); now = q }) ∙ ap (λ b. cond b (Some label) (labels_in old q)) (is_eq-slice_cmp text q) ∙ cond-label (bytes_eq text q) (Some label) (labels_in old q)))
 
-pub not_numbered : (numbers : List ℕ → ℕ) (label : List ℕ) (number : ℕ) → (numbers label == 0) ≡ false → numbers ≡ with_number numbers label number
-not_numbered numbers label number some = rw some refl
+-- The labels of some lines with one behind them.
+abbrev or_else : Option Label → Option Label → Option Label
+or_else (Some label) other = Some label
+or_else None other = other
 
--- The numbers of labels with one behind them.
-pub number_from-snoc : (first : ℕ) (labels : List (List ℕ)) (label word : List ℕ) → 0 < first
-    → number_from first (labels ++ label ∷ []) word ≡ (if number_from first labels word == 0 then (if bytes_eq label word then first + length labels else 0) else number_from first labels word)
-unfolding number_from
-number_from-snoc first [] label word h = by_test (bytes_eq label word)
+abbrev labelled_if : Bool → LabelKind → ℕ → Option Label
+labelled_if true kind number = Some (record { kind = kind; number = number })
+labelled_if false kind number = None
+
+pub label_from-snoc : (first : ℕ) (labels : List (LabelKind × List ℕ)) (label : LabelKind × List ℕ) (word : List ℕ)
+    → label_from first (labels ++ label ∷ []) word ≡ or_else (label_from first labels word) (labelled_if (bytes_eq label.1 word) label.0 (first + length labels))
+unfolding label_from
+label_from-snoc first [] label word = by_test (bytes_eq label.1 word)
   where
-    by_test : (b : Bool) → (if b then first else 0) ≡ (if b then first + 0 else 0)
-    by_test true = omega arith
+    by_test : (b : Bool) → (if b then Some (record { kind = label.0; number = first }) else None) ≡ labelled_if b label.0 (first + 0)
+    by_test true = ap (λ n. labelled_if true label.0 n) (omega arith)
     by_test false = refl
-number_from-snoc first (other ∷ labels) label word h = by_test (bytes_eq other word) (number_from-snoc (first + 1) labels label word (omega arith))
+label_from-snoc first (other ∷ labels) label word = by_test (bytes_eq other.1 word) (label_from-snoc (first + 1) labels label word)
   where
-    by_test : (b : Bool)
-        → number_from (first + 1) (labels ++ label ∷ []) word ≡ (if number_from (first + 1) labels word == 0 then (if bytes_eq label word then first + 1 + length labels else 0) else number_from (first + 1) labels word)
-        → (if b then first else number_from (first + 1) (labels ++ label ∷ []) word)
-        ≡ (if (if b then first else number_from (first + 1) labels word) == 0 then (if bytes_eq label word then first + length (other ∷ labels) else 0) else (if b then first else number_from (first + 1) labels word))
-    by_test true e = let some : (first == 0) ≡ false = grind (arith, nat_tests) in rw some refl
-    by_test false e =
-        let f : first + length (other ∷ labels) ≡ first + 1 + length labels = omega arith in
-        rw f e
+    by_test : (b : Bool) → label_from (first + 1) (labels ++ label ∷ []) word ≡ or_else (label_from (first + 1) labels word) (labelled_if (bytes_eq label.1 word) label.0 (first + 1 + length labels))
+        → (if b then Some (record { kind = other.0; number = first }) else label_from (first + 1) (labels ++ label ∷ []) word)
+        ≡ or_else (if b then Some (record { kind = other.0; number = first }) else label_from (first + 1) labels word) (labelled_if (bytes_eq label.1 word) label.0 (first + length (other ∷ labels)))
+    by_test true e = refl
+    by_test false e = e ∙ ap (λ n. or_else (label_from (first + 1) labels word) (labelled_if (bytes_eq label.1 word) label.0 n)) (omega arith)
 
-add_one : (labels : List (List ℕ)) (label word : List ℕ) (b : Bool) → (number_in labels label == 0) ≡ b
-    → (if b then (λ word. if bytes_eq label word then length labels + 1 else number_in labels word) else number_in labels) word ≡ number_in (labels ++ label ∷ []) word
-add_one labels label word false e = by_test (bytes_eq label word) refl (number_in labels word == 0) refl ∙ sym (number_from-snoc 1 labels label word (omega arith))
+or_none : (o : Option Label) → o ≡ or_else o None
+or_none None = refl
+or_none (Some label) = refl
+
+add_one : (labels : List (LabelKind × List ℕ)) (label : LabelKind × List ℕ) (word : List ℕ) (o : Option Label) → label_in labels label.1 ≡ o
+    → (if is_none o then (λ w. if bytes_eq label.1 w then Some (record { kind = label.0; number = length labels + 1 }) else label_in labels w) else label_in labels) word ≡ label_in (labels ++ label ∷ []) word
+add_one labels label word (Some found) e = by_test (bytes_eq label.1 word) refl (label_in labels word) refl ∙ sym (label_from-snoc 1 labels label word)
   where
-    by_test : (b : Bool) → bytes_eq label word ≡ b → (c : Bool) → (number_in labels word == 0) ≡ c
-        → number_in labels word ≡ (if c then (if b then 1 + length labels else 0) else number_in labels word)
-    by_test b d false f = refl
-    by_test true d true f = absurd (let same = ap (λ w. number_in labels w == 0) (is_same label word d) in cc (same, e, f))
-    by_test false d true f = grind (arith, nat_tests)
-add_one labels label word true e = by_test (bytes_eq label word) refl (number_in labels word == 0) refl ∙ sym (number_from-snoc 1 labels label word (omega arith))
+    by_test : (b : Bool) → bytes_eq label.1 word ≡ b → (p : Option Label) → label_in labels word ≡ p → p ≡ or_else p (labelled_if b label.0 (1 + length labels))
+    by_test b d (Some there) f = refl
+    by_test false d None f = refl
+    by_test true d None f = absurd (let same = ap (λ w. label_in labels w) (is_same label.1 word d) in cc (same, e, f))
+add_one labels label word None e = by_test (bytes_eq label.1 word) refl (label_in labels word) refl ∙ sym (label_from-snoc 1 labels label word)
   where
-    by_test : (b : Bool) → bytes_eq label word ≡ b → (c : Bool) → (number_in labels word == 0) ≡ c
-        → (if b then length labels + 1 else number_in labels word) ≡ (if c then (if b then 1 + length labels else 0) else number_in labels word)
-    by_test true d true f = omega arith
-    by_test true d false f = absurd (let same = ap (λ w. number_in labels w == 0) (is_same label word d) in cc (same, e, f))
-    by_test false d true f = grind (arith, nat_tests)
-    by_test false d false f = refl
+    by_test : (b : Bool) → bytes_eq label.1 word ≡ b → (p : Option Label) → label_in labels word ≡ p
+        → (if b then Some (record { kind = label.0; number = length labels + 1 }) else p) ≡ or_else p (labelled_if b label.0 (1 + length labels))
+    by_test false d p f = or_none p
+    by_test true d None f = ap (λ n. labelled_if true label.0 n) (omega arith)
+    by_test true d (Some there) f = absurd (let same = ap (λ w. label_in labels w) (is_same label.1 word d) in cc (same, e, f))
 
-pub one_label_more : (labels : List (List ℕ)) (label : List ℕ) → with_number (number_in labels) label (length labels + 1) ≡ number_in (labels ++ label ∷ [])
-one_label_more labels label = fun_ext (λ word. add_one labels label word (number_in labels label == 0) refl)
+pub one_label_more : (labels : List (LabelKind × List ℕ)) (label : LabelKind × List ℕ)
+    → with_new (label_in labels) label.1 (record { kind = label.0; number = length labels + 1 }) ≡ label_in (labels ++ label ∷ [])
+one_label_more labels label = fun_ext (λ word. add_one labels label word (label_in labels label.1) refl)
 
--- The labels of the lines so far have these numbers, and there are so many of them.
-pub record IsReading (bytes rest : List ℕ) (numbers : List ℕ → ℕ) (count : ℕ) : Type 0 where
-  pub front : List (List ℕ)
+-- A line whose words begin with neither defines no label.
+defines_none : (words : List (List ℕ)) → may_define words ≡ false → label_among words ≡ None
+defines_none [] h = refl
+defines_none (word ∷ args) h =
+    let export : bytes_eq word (codes "export") ≡ false = grind arith in
+    let begin : bytes_eq word (codes "begin") ≡ false = grind arith in
+    rw (export, begin) refl
+
+if_none : (b : Bool) (o : Option (LabelKind × List ℕ)) → o ≡ None → (if b then o else None) ≡ None
+if_none true o h = h
+if_none false o h = refl
+
+pub may_not : (line : List ℕ) → may_define (words_of line) ≡ false → label_of line ≡ None
+may_not line h = if_none (is_text line) (label_among (words_of line)) (defines_none (words_of line) h)
+
+-- The labels of the lines so far have these labels, and there are so many of them.
+pub record IsReading (bytes rest : List ℕ) (labels : List ℕ → Option Label) (count : ℕ) : Type 0 where
+  pub front : List (LabelKind × List ℕ)
   pub parts : labels_of (lines_of bytes) ≡ front ++ labels_of (lines_of rest)
-  pub same : numbers ≡ number_in front
+  pub same : labels ≡ label_in front
   pub counted : count ≡ length front
   pub few : count + length rest ≤ length bytes
 
-pub starts : (bytes : List ℕ) (numbers : List ℕ → ℕ) → ((word : List ℕ) → numbers word ≡ 0) → IsReading bytes bytes numbers 0
-unfolding number_from
-starts bytes numbers none = record { front = []; parts = refl; same = fun_ext (λ word. none word); counted = refl; few = omega arith }
+pub starts : (bytes : List ℕ) (labels : List ℕ → Option Label) → ((word : List ℕ) → labels word ≡ None) → IsReading bytes bytes labels 0
+unfolding label_from
+starts bytes labels none = record { front = []; parts = refl; same = fun_ext (λ word. none word); counted = refl; few = omega arith }
 
 first_line : (rest line after : List ℕ) → 0 < length rest → line ≡ before_first (λ b. b == 10) rest → after ≡ after_first (λ b. b == 10) rest → labels_of (lines_of rest) ≡ with_found (label_of line) (labels_of (lines_of after))
 unfolding labels_of
 first_line rest line after some l a = ap labels_of (lines_of-first rest some) ∙ rw (l, a) refl
 
-pub goes_on : (bytes rest line after : List ℕ) (numbers : List ℕ → ℕ) (count : ℕ) → 0 < length rest → line ≡ before_first (λ b. b == 10) rest → after ≡ after_first (λ b. b == 10) rest
-    → IsReading bytes rest numbers count → label_of line ≡ None → IsReading bytes after numbers count
-goes_on bytes rest line after numbers count some l a r none =
+pub goes_on : (bytes rest line after : List ℕ) (labels : List ℕ → Option Label) (count : ℕ) → 0 < length rest → line ≡ before_first (λ b. b == 10) rest → after ≡ after_first (λ b. b == 10) rest
+    → IsReading bytes rest labels count → label_of line ≡ None → IsReading bytes after labels count
+goes_on bytes rest line after labels count some l a r none =
     let less = shorter (λ b. b == 10) rest some in
     let left = ap length a in
     record { front = r.front; parts = r.parts ∙ ap (λ ls. r.front ++ ls) (first_line rest line after some l a ∙ ap (λ o. with_found o (labels_of (lines_of after))) none); same = r.same; counted = r.counted; few = omega (arith, r.few, less, left) }
 
-pub goes_on_with : (bytes rest line after : List ℕ) (numbers new : List ℕ → ℕ) (count : ℕ) (label : List ℕ) → 0 < length rest → line ≡ before_first (λ b. b == 10) rest → after ≡ after_first (λ b. b == 10) rest
-    → IsReading bytes rest numbers count → label_of line ≡ Some label → new ≡ with_number numbers label (count + 1) → IsReading bytes after new (count + 1)
-goes_on_with bytes rest line after numbers new count label some l a r is next =
+pub goes_on_with : (bytes rest line after : List ℕ) (labels new : List ℕ → Option Label) (count : ℕ) (label : LabelKind × List ℕ) → 0 < length rest → line ≡ before_first (λ b. b == 10) rest → after ≡ after_first (λ b. b == 10) rest
+    → IsReading bytes rest labels count → label_of line ≡ Some label → new ≡ with_new labels label.1 (record { kind = label.0; number = count + 1 }) → IsReading bytes after new (count + 1)
+goes_on_with bytes rest line after labels new count label some l a r is next =
     let less = shorter (λ b. b == 10) rest some in
     let left = ap length a in
     record {
       front = r.front ++ label ∷ [];
       parts = r.parts ∙ ap (λ ls. r.front ++ ls) (first_line rest line after some l a ∙ ap (λ o. with_found o (labels_of (lines_of after))) is) ∙ sym (append_assoc r.front (label ∷ []) (labels_of (lines_of after)));
-      same = next ∙ ap (λ f. with_number f label (count + 1)) r.same ∙ ap (λ n. with_number (number_in r.front) label (n + 1)) r.counted ∙ one_label_more r.front label;
+      same = next ∙ ap (λ f. with_new f label.1 (record { kind = label.0; number = count + 1 })) r.same ∙ ap (λ n. with_new (label_in r.front) label.1 (record { kind = label.0; number = n + 1 })) r.counted ∙ one_label_more r.front label;
       counted = omega (arith, r.counted, length-append r.front (label ∷ []));
       few = omega (arith, r.few, less, left);
     }
 
-pub ends : (bytes rest : List ℕ) (numbers : List ℕ → ℕ) (count : ℕ) → rest ≡ [] → IsReading bytes rest numbers count → numbers ≡ number_in (labels_of (lines_of bytes))
+pub ends : (bytes rest : List ℕ) (labels : List ℕ → Option Label) (count : ℕ) → rest ≡ [] → IsReading bytes rest labels count → labels ≡ label_in (labels_of (lines_of bytes))
 unfolding labels_of
-ends bytes rest numbers count none r =
+ends bytes rest labels count none r =
     let nothing : labels_of (lines_of rest) ≡ [] = ap (λ xs. labels_of (lines_of xs)) none ∙ ap labels_of lines_of-nil in
-    r.same ∙ ap number_in (sym (r.parts ∙ ap (λ ls. r.front ++ ls) nothing ∙ append-nil r.front))
+    r.same ∙ ap label_in (sym (r.parts ∙ ap (λ ls. r.front ++ ls) nothing ∙ append-nil r.front))

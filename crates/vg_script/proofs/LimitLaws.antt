@@ -8,6 +8,8 @@ use Rattle.std.proofs.lemmas.Int.{ints}
 use Rattle.std.proofs.lemmas.List.Sums.{sum_by-append}
 use Rattle.std.proofs.lemmas.List.Elements.{All-nil, All-push, All-cons, All-head, All-tail}
 use Rattle.vg_calls.specs.declared.call.Call.{Call}
+use Rattle.vg_calls.specs.declared.call.Body.{Body}
+use Rattle.vg_calls.specs.declared.call.ContextRef.{ContextRef}
 use Rattle.vg_script_words.specs.declared.kind.Kind.{Kind}
 use Rattle.vg_script_words.specs.declared.kind.Kind.TheVariants.{Word, Limit}
 use Rattle.vg_script.specs.declared.types.Line.{Line}
@@ -23,14 +25,17 @@ use Rattle.vg_call_lines.proofs.Counts.{no_args_give, one_arg_gives, two_args_gi
 use Rattle.vg_script.specs.Features.{feature_of, is_same}
 use Rattle.vg_script.specs.Labels.{start_of}
 use Rattle.vg_script.specs.Seen.{Seen, nothing_seen, add_line}
-use Rattle.vg_call_lines.specs.Tables.{NameTable}
-use Rattle.vg_call_lines.specs.Rows.{Row, info_row, edid_row, buffer_row, blob_row, store_row, load_row, send_row, flush_row, take_row, drop_row, hide_row, show_row, showblob_row, flip_row, cursor_row, move_row, uuid_row, close_row, raw_row, context_row, endcontext_row, attach_row, detach_row, submit_row, export_row, import_row, request_row, queue_of, shape_of, bad_shape_of, row_of, row_of_buffers, row_of_scanouts, row_of_others, row_of_contexts, row_of_shared}
+use Rattle.vg_call_lines.specs.declared.names.Label.{Label}
+use Rattle.vg_call_lines.specs.Tables.{NameTable, context_ref_to}
+use Rattle.vg_call_lines.specs.Rows.{Row, info_row, edid_row, buffer_row, blob_row, store_row, load_row, send_row, flush_row, take_row, drop_row, hide_row, show_row, showblob_row, flip_row, cursor_row, move_row, uuid_row, close_row, raw_row, context_row, endcontext_row, attach_row, detach_row, submit_row, export_row, import_row, begun_row, begin_row, await_row, request_row, queue_of, shape_of, bad_shape_of, row_of, row_of_buffers, row_of_scanouts, row_of_others, row_of_contexts, row_of_shared, row_of_begun}
+use Rattle.vg_call_lines.specs.Bodies.{Part, info_body, send_body, flush_body, submit_body, submit_body_on, is_timeline, timeline_words, on_timeline, together, body_of, begun_parts}
 use Rattle.vg_script.specs.Grammar.{Form, display_form, memory_form, feature_form, without_form, client_form, row_form, skipped_form, called_form, worded_form, form_of, line_form, one_more, script_of, read_script}
 use Rattle.vg_script.specs.Faults.{fails, given, form_gives, seen_after, AreFaultless, has_fault}
-use Rattle.vg_script.specs.Limits.{IsBetween, IsPosition, ShapeInLimits, CallInLimits, ClientInLimits, DisplayInLimits, makes_context, contexts_in, ScriptInLimits}
+use Rattle.vg_script.specs.Limits.{IsBetween, IsPosition, ShapeInLimits, BodyInLimits, CallInLimits, ClientInLimits, DisplayInLimits, makes_context, contexts_in, ScriptInLimits}
 use Rattle.std.specs.List.{range_with_len}
 use Rattle.vg_script.specs.Waits.{waits, given_in_all}
 use Rattle.vg_script.proofs.LabelLaws.{all_labelled}
+use Rattle.vg_script.proofs.NameLaws.{same_bytes}
 use Rattle.vg_script.proofs.FaultLaws.{good_script}
 use Rattle.vg_script.proofs.ClientLists.{length-add_line, lines-add_line}
 
@@ -56,7 +61,7 @@ length-hex_bytes (digit ∷ []) = refl
 length-hex_bytes (high ∷ low ∷ more) = let e = length-hex_bytes more in omega (arith, e)
 
 info_fits : (n : ℕ) (table : NameTable) → RowFits n table (info_row table)
-unfolding info_row
+unfolding info_row info_body
 info_fits n table = λ h. (tt, refl, λ few. few)
 
 edid_fits : (n : ℕ) (table : NameTable) (scanout : List ℕ) → RowFits n table (edid_row table scanout)
@@ -76,11 +81,11 @@ unfolding load_row
 load_fits n table name offset size = λ h. (grind (arith, nat_tests), refl, λ few. few)
 
 send_fits : (n : ℕ) (table : NameTable) (name x y width height : List ℕ) → RowFits n table (send_row table name x y width height)
-unfolding send_row
+unfolding send_row send_body
 send_fits n table name x y width height = λ h. (tt, refl, λ few. few)
 
 flush_fits : (n : ℕ) (table : NameTable) (name x y width height : List ℕ) → RowFits n table (flush_row table name x y width height)
-unfolding flush_row
+unfolding flush_row flush_body
 flush_fits n table name x y width height = λ h. (tt, refl, λ few. few)
 
 take_fits : (n : ℕ) (table : NameTable) (scanout : List ℕ) → RowFits n table (take_row n table scanout)
@@ -150,6 +155,76 @@ import_fits : (n : ℕ) (table : NameTable) (label name : List ℕ) → RowFits 
 unfolding import_row
 import_fits n table label name = λ h. (refl, refl, λ few. few)
 
+await_fits : (n : ℕ) (table : NameTable) (label : List ℕ) → RowFits n table (await_row table label)
+unfolding await_row
+await_fits n table label = λ h. (refl, refl, λ few. few)
+
+-- A timeline's ring and what is begun on it.
+abbrev OnFits : Option (ContextRef × ℕ) → Type 0
+OnFits on = IfSome on (λ on. IsBetween 0 63 on.1)
+
+on_fits : (table : NameTable) (words : Option (List ℕ × List ℕ)) → (on_timeline table words).limits ≡ true → OnFits (on_timeline table words).says
+on_fits table None h = tt
+on_fits table (Some words) h = grind (arith, nat_tests)
+
+abbrev BodyFits : Option (ContextRef × ℕ) → Option (Part Body) → Type 0
+BodyFits on None = ⊤
+BodyFits on (Some body) = body.limits ≡ true → BodyInLimits on body.says
+
+either_body : (on : Option (ContextRef × ℕ)) (b : Bool) (x y : Option (Part Body)) → BodyFits on x → BodyFits on y → BodyFits on (if b then x else y)
+either_body on true x y p q = p
+either_body on false x y p q = q
+
+same_timeline : (table : NameTable) (k context r ring : List ℕ) → k ≡ context → r ≡ ring → ◌≡◌ {A = Option (ContextRef × ℕ)} (Some (context_ref_to table k, value r)) (Some (context_ref_to table context, value ring))
+same_timeline table k context r ring e f = rw (e, f) refl
+
+submit_on_fits : (table : NameTable) (words : Option (List ℕ × List ℕ)) (context ring : List ℕ) → BodyFits (on_timeline table words).says (submit_body_on table words context ring)
+unfolding submit_body_on
+submit_on_fits table None context ring = λ h. absurd (cc h)
+submit_on_fits table (Some words) context ring = λ h.
+    let k : bytes_eq words.0 context ≡ true = grind arith in
+    let r : bytes_eq words.1 ring ≡ true = grind arith in
+    same_timeline table words.0 context words.1 ring (same_bytes words.0 context k) (same_bytes words.1 ring r)
+
+body_fits : (table : NameTable) (words : Option (List ℕ × List ℕ)) (word : List ℕ) (args : List (List ℕ)) → BodyFits (on_timeline table words).says (body_of table words word args)
+unfolding body_of info_body send_body flush_body
+body_fits table words word args =
+    let on = (on_timeline table words).says in
+    either_body on (bytes_eq word (codes "info")) (no_args info_body args) _ (no_args_give (BodyFits on) tt info_body (λ h. tt) args)
+    (either_body on (bytes_eq word (codes "send")) (five_args (send_body table) args) _ (five_args_give (BodyFits on) tt (send_body table) (λ a b c d e h. tt) args)
+    (either_body on (bytes_eq word (codes "flush")) (five_args (flush_body table) args) _ (five_args_give (BodyFits on) tt (flush_body table) (λ a b c d e h. tt) args)
+    (either_body on (bytes_eq word (codes "submit")) (two_args (submit_body_on table words) args) None (two_args_give (BodyFits on) tt (submit_body_on table words) (submit_on_fits table words) args) tt)))
+
+abbrev PartsFit : Option (Part (Option (ContextRef × ℕ) × Body)) → Type 0
+PartsFit None = ⊤
+PartsFit (Some parts) = parts.limits ≡ true → OnFits parts.says.0 × BodyInLimits parts.says.0 parts.says.1
+
+together_fits : (on : Part (Option (ContextRef × ℕ))) (body : Option (Part Body)) → (on.limits ≡ true → OnFits on.says) → BodyFits on.says body → PartsFit (option_map (together on) body)
+together_fits on None p q = tt
+together_fits on (Some body) p q = λ h. let a : on.limits ≡ true = grind arith in let b : body.limits ≡ true = grind arith in (p a, q b)
+
+gated_fits : (b : Bool) (parts : Option (Part (Option (ContextRef × ℕ) × Body))) → PartsFit parts → PartsFit (if b then parts else None)
+gated_fits true parts p = p
+gated_fits false parts p = tt
+
+parts_fit : (table : NameTable) (on word : List ℕ) (args : List (List ℕ)) → PartsFit (begun_parts table on word args)
+unfolding begun_parts
+parts_fit table on word args =
+    let words = timeline_words on in
+    gated_fits (is_timeline on) (option_map (together (on_timeline table words)) (body_of table words word args))
+    (together_fits (on_timeline table words) (body_of table words word args) (on_fits table words) (body_fits table words word args))
+
+begun_fits : (n : ℕ) (table : NameTable) (label : List ℕ) (parts : Option (Part (Option (ContextRef × ℕ) × Body))) → PartsFit parts → RowFits n table (option_map (begun_row table label) parts)
+begun_fits n table label None p = tt
+begun_fits n table label (Some parts) p = λ h. (p h, refl, λ few. few)
+
+begin_fits : (n : ℕ) (table : NameTable) (args : List (List ℕ)) → RowFits n table (begin_row table args)
+unfolding begin_row
+begin_fits n table [] = tt
+begin_fits n table (label ∷ []) = tt
+begin_fits n table (label ∷ on ∷ []) = tt
+begin_fits n table (label ∷ on ∷ word ∷ args) = begun_fits n table label (begun_parts table on word args) (parts_fit table on word args)
+
 close_fits : (n : ℕ) (table : NameTable) (name : List ℕ) → RowFits n table (close_row table name)
 unfolding close_row
 close_fits n table name = λ h. (tt, refl, λ few. few)
@@ -187,7 +262,7 @@ unfolding detach_row
 detach_fits n table context name = λ h. (tt, refl, λ few. few)
 
 submit_fits : (n : ℕ) (table : NameTable) (context ring : List ℕ) → RowFits n table (submit_row table context ring)
-unfolding submit_row
+unfolding submit_row submit_body
 submit_fits n table context ring = λ h. (grind (arith, nat_tests), refl, λ few. few)
 
 -- A shape that a word spells has 2 to 8 pieces, if it has pieces.
@@ -238,7 +313,7 @@ unfolding raw_row
 raw_fits n table queue room shape hex = request_fits n table (queue_of queue) (shape_of shape) room hex (shape_fits shape)
 
 row_fits : (word : List ℕ) (n : ℕ) (table : NameTable) (args : List (List ℕ)) → RowFits n table (row_of word n table args)
-unfolding row_of row_of_buffers row_of_scanouts row_of_others row_of_contexts row_of_shared
+unfolding row_of row_of_buffers row_of_scanouts row_of_others row_of_contexts row_of_shared row_of_begun
 row_fits word n table args =
     either_fits n table (bytes_eq word (codes "info")) (no_args (info_row table) args) _ (no_args_give (RowFits n table) tt (info_row table) (info_fits n table) args)
     (either_fits n table (bytes_eq word (codes "edid")) (one_arg (edid_row table) args) _ (one_arg_gives (RowFits n table) tt (edid_row table) (edid_fits n table) args)
@@ -265,7 +340,9 @@ row_fits word n table args =
     (either_fits n table (bytes_eq word (codes "detach")) (two_args (detach_row table) args) _ (two_args_give (RowFits n table) tt (detach_row table) (detach_fits n table) args)
     (either_fits n table (bytes_eq word (codes "submit")) (two_args (submit_row table) args) _ (two_args_give (RowFits n table) tt (submit_row table) (submit_fits n table) args)
     (either_fits n table (bytes_eq word (codes "export")) (two_args (export_row table) args) _ (two_args_give (RowFits n table) tt (export_row table) (export_fits n table) args)
-    (either_fits n table (bytes_eq word (codes "import")) (two_args (import_row table) args) _ (two_args_give (RowFits n table) tt (import_row table) (import_fits n table) args) tt)))))))))))))))))))))))))
+    (either_fits n table (bytes_eq word (codes "import")) (two_args (import_row table) args) _ (two_args_give (RowFits n table) tt (import_row table) (import_fits n table) args)
+    (either_fits n table (bytes_eq word (codes "begin")) (begin_row table args) _ (begin_fits n table args)
+    (either_fits n table (bytes_eq word (codes "await")) (one_arg (await_row table) args) _ (one_arg_gives (RowFits n table) tt (await_row table) (await_fits n table) args) tt)))))))))))))))))))))))))))
 
 -- ---- the forms
 
@@ -503,15 +580,15 @@ lines_within : (seen : Seen) (lines : List (List ℕ)) → Within seen → AreFa
 lines_within seen [] w none = w
 lines_within seen (line ∷ more) w none = lines_within (given seen line) more (line_within seen line w none.0) none.1
 
-nothing_within : (labels : List ℕ → ℕ) → Within (nothing_seen labels)
+nothing_within : (labels : List ℕ → Option Label) → Within (nothing_seen labels)
 nothing_within labels = record { few = lit≤ tt; sizes = All-nil DisplayInLimits; pages = tt; features = λ feature. lit≤ tt; clients = lit≤ tt; lines = lit≤ tt; calls = All-nil (ClientInLimits 0); contexts = All-nil FewContexts; made = refl }
 
 pages_within : (pages : Option ℕ) → IfSome pages (IsBetween 1 16384) → IsBetween 1 16384 (unwrap_or pages 4096)
 pages_within None w = (lit≤ tt, lit≤ tt)
 pages_within (Some n) w = w
 
-made_within : (seen : Seen) → Within seen → 0 < length seen.displays → given_in_all seen.clients ≡ range_with_len 1 seen.table.exported
-    → All (λ lines. All (λ line. IfSome (waits line.call) (IsBetween 1 seen.table.exported)) lines) seen.clients → ScriptInLimits (script_of seen)
+made_within : (seen : Seen) → Within seen → 0 < length seen.displays → given_in_all seen.clients ≡ range_with_len 1 seen.table.given
+    → All (λ lines. All (λ line. IfSome (waits line.call) (IsBetween 1 seen.table.given)) lines) seen.clients → ScriptInLimits (script_of seen)
 made_within seen w some labels known = record {
   count = (omega arith, w.few);
   sizes = w.sizes;

@@ -1,9 +1,10 @@
 -- Which names are defined after lines that have no fault, and their numbers.
-use Rattle.std.proofs.Common.{◌≡◌, ℕ, ◌+◌, ◌==◌, ◌⊎◌, inl, inr, ◌||◌, not, Bool, true, false, List, [], ◌∷◌, ◌++◌, length, Option, Some, None, if◌then◌else◌, arith, refl, ap, sym, ◌∙◌, subst, rules}
+use Rattle.std.proofs.Common.{◌≡◌, ℕ, ◌+◌, ◌==◌, ◌⊎◌, inl, inr, ◌&&◌, ◌||◌, not, Bool, true, false, List, [], ◌∷◌, ◌++◌, length, Option, Some, None, if◌then◌else◌, arith, refl, ap, sym, ◌∙◌, subst, rules}
 use Rattle.std.specs.Prelude.{All, option_map, bytes_eq, codes, slice_index, is_none, is_some}
-use Rattle.vg_script.specs.Labels.{with_found, label_among, label_of, labels_of}
+use Rattle.vg_script.specs.Labels.{as_kind, with_found, label_among, label_of, labels_of}
 use Rattle.std.specs.Bool.{⊤}
 use Rattle.std.proofs.lemmas.Slice.Eq.{bytes_eq-Decides}
+use Rattle.std.proofs.lemmas.Bool.Decides.{nat_tests}
 use Rattle.std.proofs.lemmas.List.Elements.{All-nil, All-cons, All-head, All-tail}
 use Rattle.vg_chain.specs.declared.shape.Shape.{Shape}
 use Rattle.vg_wire.specs.declared.request.Queue.{Queue}
@@ -12,6 +13,11 @@ use Rattle.vg_script_words.specs.declared.kind.Kind.TheVariants.{Text, Word, Nam
 use Rattle.vg_script_words.specs.Words.{words_of, is_text}
 use Rattle.vg_call_lines.specs.Args.{no_args, one_arg, two_args, three_args, four_args, five_args, six_args, eleven_args}
 use Rattle.vg_call_lines.proofs.Counts.{no_args_give, one_arg_gives, two_args_give, three_args_give, four_args_give, five_args_give, six_args_give, eleven_args_give}
+use Rattle.vg_calls.specs.declared.call.Body.{Body}
+use Rattle.vg_calls.specs.declared.call.ContextRef.{ContextRef}
+use Rattle.vg_call_lines.specs.declared.names.LabelKind.{LabelKind}
+use Rattle.vg_call_lines.specs.declared.names.LabelKind.TheVariants.{Fence}
+use Rattle.vg_call_lines.specs.declared.names.Label.{Label}
 use Rattle.vg_call_lines.specs.declared.names.Named.{Named}
 use Rattle.vg_call_lines.specs.declared.names.NameKind.{NameKind}
 use Rattle.vg_call_lines.specs.declared.names.NameKind.TheVariants.{Buffer, Context}
@@ -19,7 +25,8 @@ use Rattle.vg_script.specs.declared.types.Feature.{Feature}
 use Rattle.vg_script.specs.Features.{feature_of}
 use Rattle.vg_script.specs.Seen.{Seen, nothing_seen}
 use Rattle.vg_call_lines.specs.Tables.{NameTable, no_names, with_name, with_context, without_name, without_names, with_label}
-use Rattle.vg_call_lines.specs.Rows.{Row, info_row, edid_row, buffer_row, blob_row, store_row, load_row, send_row, flush_row, take_row, drop_row, hide_row, show_row, showblob_row, flip_row, cursor_row, move_row, uuid_row, close_row, raw_row, context_row, endcontext_row, attach_row, detach_row, submit_row, export_row, import_row, request_row, queue_of, shape_of, row_of, row_of_buffers, row_of_scanouts, row_of_others, row_of_contexts, row_of_shared}
+use Rattle.vg_call_lines.specs.Rows.{Row, info_row, edid_row, buffer_row, blob_row, store_row, load_row, send_row, flush_row, take_row, drop_row, hide_row, show_row, showblob_row, flip_row, cursor_row, move_row, uuid_row, close_row, raw_row, context_row, endcontext_row, attach_row, detach_row, submit_row, export_row, import_row, begun_row, begin_row, await_row, request_row, queue_of, shape_of, row_of, row_of_buffers, row_of_scanouts, row_of_others, row_of_contexts, row_of_shared, row_of_begun}
+use Rattle.vg_call_lines.specs.Bodies.{Part, info_body, send_body, flush_body, submit_body, submit_body_on, is_timeline, timeline_words, on_timeline, together, body_of, is_body, begun_parts}
 use Rattle.vg_script.specs.Grammar.{Form, display_form, memory_form, feature_form, without_form, client_form, row_form, skipped_form, called_form, worded_form, form_of, line_form, one_more}
 use Rattle.vg_script.specs.Faults.{fails, given, form_gives, seen_after, AreFaultless, has_fault}
 use Rattle.vg_script.specs.Names.{begin_client, defined_by, ended_by, is_this, end_name, is_of, counted, names_in, IsDefinedBy}
@@ -44,7 +51,7 @@ after_words false None None false table = table
 abbrev changed : List (List ℕ) → NameTable → NameTable
 changed words table = after_words (begin_client words) (defined_by words) (ended_by words) (is_some (label_among words)) table
 
-same_bytes : (a b : List ℕ) → bytes_eq a b ≡ true → a ≡ b
+pub same_bytes : (a b : List ℕ) → bytes_eq a b ≡ true → a ≡ b
 same_bytes a b h = search (rules, bytes_eq-Decides)
 
 own_bytes : (a : List ℕ) → bytes_eq a a ≡ true
@@ -58,7 +65,7 @@ apart word one other h d = rw (same_bytes word one h) d
 abbrev is_plain : List ℕ → Bool
 is_plain word =
     not (bytes_eq word (codes "client") || bytes_eq word (codes "buffer") || bytes_eq word (codes "blob") || bytes_eq word (codes "import") || bytes_eq word (codes "context")
-    || bytes_eq word (codes "close") || bytes_eq word (codes "endcontext") || bytes_eq word (codes "export"))
+    || bytes_eq word (codes "close") || bytes_eq word (codes "endcontext") || bytes_eq word (codes "export") || bytes_eq word (codes "begin"))
 
 -- The words begin with one that is this.
 as_one : (word one : List ℕ) (args : List (List ℕ)) (table after : NameTable) → bytes_eq word one ≡ true → after ≡ changed (one ∷ args) table → after ≡ changed (word ∷ args) table
@@ -78,14 +85,16 @@ unchanged word args table p =
     let close : bytes_eq word (codes "close") ≡ false = grind arith in
     let endcontext : bytes_eq word (codes "endcontext") ≡ false = grind arith in
     let export : bytes_eq word (codes "export") ≡ false = grind arith in
-    by_args args client buffer blob import context close endcontext export
+    let begin : bytes_eq word (codes "begin") ≡ false = grind arith in
+    by_args args client buffer blob import context close endcontext export begin
   where
     by_args : (args : List (List ℕ)) → bytes_eq word (codes "client") ≡ false → bytes_eq word (codes "buffer") ≡ false → bytes_eq word (codes "blob") ≡ false → bytes_eq word (codes "import") ≡ false
-        → bytes_eq word (codes "context") ≡ false → bytes_eq word (codes "close") ≡ false → bytes_eq word (codes "endcontext") ≡ false → bytes_eq word (codes "export") ≡ false → table ≡ changed (word ∷ args) table
-    by_args [] client buffer blob import context close endcontext export = rw client refl
-    by_args (second ∷ []) client buffer blob import context close endcontext export = rw (client, context, close, endcontext) refl
-    by_args (second ∷ third ∷ []) client buffer blob import context close endcontext export = rw (client, buffer, blob, import, close, endcontext, export) refl
-    by_args (second ∷ third ∷ fourth ∷ more) client buffer blob import context close endcontext export = rw (client, buffer, blob, import, close, endcontext) refl
+        → bytes_eq word (codes "context") ≡ false → bytes_eq word (codes "close") ≡ false → bytes_eq word (codes "endcontext") ≡ false → bytes_eq word (codes "export") ≡ false → bytes_eq word (codes "begin") ≡ false
+        → table ≡ changed (word ∷ args) table
+    by_args [] client buffer blob import context close endcontext export begin = rw (client, export, begin) refl
+    by_args (second ∷ []) client buffer blob import context close endcontext export begin = rw (client, context, close, endcontext, export, begin) refl
+    by_args (second ∷ third ∷ []) client buffer blob import context close endcontext export begin = rw (client, buffer, blob, import, close, endcontext, export, begin) refl
+    by_args (second ∷ third ∷ fourth ∷ more) client buffer blob import context close endcontext export begin = rw (client, buffer, blob, import, close, endcontext, export, begin) refl
 
 -- Words that define a name find it undefined.
 abbrev IsFresh : Option (NameKind × List ℕ) → NameTable → Type 0
@@ -142,7 +151,7 @@ kept_row word one args table None k p h = tt
 kept_row word one args table (Some row) k p h = let q = plain_as word one h p in (k ∙ unchanged word args table q, λ names. fresh word args table q)
 
 info_keeps : (n : ℕ) (table : NameTable) → KeepsNames table (info_row table)
-unfolding info_row
+unfolding info_row info_body
 info_keeps n table = refl
 
 edid_keeps : (n : ℕ) (table : NameTable) (scanout : List ℕ) → KeepsNames table (edid_row table scanout)
@@ -158,11 +167,11 @@ unfolding load_row
 load_keeps n table name offset size = refl
 
 send_keeps : (n : ℕ) (table : NameTable) (name x y width height : List ℕ) → KeepsNames table (send_row table name x y width height)
-unfolding send_row
+unfolding send_row send_body
 send_keeps n table name x y width height = refl
 
 flush_keeps : (n : ℕ) (table : NameTable) (name x y width height : List ℕ) → KeepsNames table (flush_row table name x y width height)
-unfolding flush_row
+unfolding flush_row flush_body
 flush_keeps n table name x y width height = refl
 
 take_keeps : (n : ℕ) (table : NameTable) (scanout : List ℕ) → KeepsNames table (take_row n table scanout)
@@ -221,8 +230,12 @@ unfolding detach_row
 detach_keeps n table context name = refl
 
 submit_keeps : (n : ℕ) (table : NameTable) (context ring : List ℕ) → KeepsNames table (submit_row table context ring)
-unfolding submit_row
+unfolding submit_row submit_body
 submit_keeps n table context ring = refl
+
+await_keeps : (n : ℕ) (table : NameTable) (label : List ℕ) → KeepsNames table (await_row table label)
+unfolding await_row
+await_keeps n table label = refl
 
 buffer_names : (word : List ℕ) (table : NameTable) (args : List (List ℕ)) → bytes_eq word (codes "buffer") ≡ true → RowNames (word ∷ args) table (four_args (buffer_row table) args)
 unfolding buffer_row
@@ -279,8 +292,67 @@ import_names word table (a ∷ b ∷ []) h =
     (as_one word (codes "import") (a ∷ b ∷ []) table (with_name b table) h refl, λ names. fresh_as word (codes "import") (a ∷ b ∷ []) table h (is_none_is (table.names b) (grind arith)))
 import_names word table (a ∷ b ∷ next ∷ more) h = tt
 
+-- ---- `begin`, whose row there is where its words have the form of its line
+no_some : {X : Type 0} (given : Option X) → is_some given ≡ true → (args : List (List ℕ)) → is_some (no_args given args) ≡ (length args == 0)
+no_some given h [] = h
+no_some given h (a ∷ more) = grind (arith, nat_tests)
+
+two_some : {X : Type 0} (given : (a b : List ℕ) → Option X) → ((a b : List ℕ) → is_some (given a b) ≡ true) → (args : List (List ℕ)) → is_some (two_args given args) ≡ (length args == 2)
+two_some given h [] = refl
+two_some given h (a ∷ []) = refl
+two_some given h (a ∷ b ∷ []) = h a b
+two_some given h (a ∷ b ∷ c ∷ more) = grind (arith, nat_tests)
+
+five_some : {X : Type 0} (given : (a b c d e : List ℕ) → Option X) → ((a b c d e : List ℕ) → is_some (given a b c d e) ≡ true) → (args : List (List ℕ)) → is_some (five_args given args) ≡ (length args == 5)
+five_some given h [] = refl
+five_some given h (a ∷ []) = refl
+five_some given h (a ∷ b ∷ []) = refl
+five_some given h (a ∷ b ∷ c ∷ []) = refl
+five_some given h (a ∷ b ∷ c ∷ d ∷ []) = refl
+five_some given h (a ∷ b ∷ c ∷ d ∷ e ∷ []) = h a b c d e
+five_some given h (a ∷ b ∷ c ∷ d ∷ e ∷ f ∷ more) = grind (arith, nat_tests)
+
+either_some : {X : Type 0} (b : Bool) (x y : Option X) (p q : Bool) → is_some x ≡ p → is_some y ≡ q → is_some (if b then x else y) ≡ (if b then p else q)
+either_some true x y p q h k = h
+either_some false x y p q h k = k
+
+body_some : (table : NameTable) (on : Option (List ℕ × List ℕ)) (word : List ℕ) (args : List (List ℕ)) → is_some (body_of table on word args) ≡ is_body word (length args)
+unfolding body_of info_body send_body flush_body submit_body_on
+body_some table on word args =
+    either_some (bytes_eq word (codes "info")) (no_args info_body args) _ (length args == 0) _ (no_some info_body refl args)
+    (either_some (bytes_eq word (codes "send")) (five_args (send_body table) args) _ (length args == 5) _ (five_some (send_body table) (λ a b c d e. refl) args)
+    (either_some (bytes_eq word (codes "flush")) (five_args (flush_body table) args) _ (length args == 5) _ (five_some (flush_body table) (λ a b c d e. refl) args)
+    (either_some (bytes_eq word (codes "submit")) (two_args (submit_body_on table on) args) None (length args == 2) false (two_some (submit_body_on table on) (λ a b. refl) args) refl)))
+
+gated_some : {X Y : Type 0} (b : Bool) (f : X → Y) (o : Option X) (c : Bool) → is_some o ≡ c → is_some (if b then option_map f o else None) ≡ (b && c)
+gated_some true f None c h = h
+gated_some true f (Some x) c h = h
+gated_some false f o c h = refl
+
+parts_some : (table : NameTable) (on word : List ℕ) (args : List (List ℕ)) → is_some (begun_parts table on word args) ≡ (is_timeline on && is_body word (length args))
+unfolding begun_parts
+parts_some table on word args =
+    gated_some (is_timeline on) (together (on_timeline table (timeline_words on))) (body_of table (timeline_words on) word args) (is_body word (length args)) (body_some table (timeline_words on) word args)
+
+labelled_if : (b : Bool) (text : List ℕ) (table : NameTable) → true ≡ b → with_label table ≡ after_words false None None (is_some (as_kind Fence (if b then Some text else None))) table
+labelled_if true text table h = refl
+labelled_if false text table h = absurd (cc h)
+
+parts_names : (word label on what : List ℕ) (args : List (List ℕ)) (table : NameTable) (parts : Option (Part (Option (ContextRef × ℕ) × Body))) → bytes_eq word (codes "begin") ≡ true
+    → is_some parts ≡ (is_timeline on && is_body what (length args)) → RowNames (word ∷ label ∷ on ∷ what ∷ args) table (option_map (begun_row table label) parts)
+parts_names word label on what args table None h e = tt
+parts_names word label on what args table (Some parts) h e =
+    (as_one word (codes "begin") (label ∷ on ∷ what ∷ args) table (with_label table) h (labelled_if (is_timeline on && is_body what (length args)) label table e), λ names. fresh_as word (codes "begin") (label ∷ on ∷ what ∷ args) table h tt)
+
+begin_names : (word : List ℕ) (table : NameTable) (args : List (List ℕ)) → bytes_eq word (codes "begin") ≡ true → RowNames (word ∷ args) table (begin_row table args)
+unfolding begin_row
+begin_names word table [] h = tt
+begin_names word table (a ∷ []) h = tt
+begin_names word table (a ∷ b ∷ []) h = tt
+begin_names word table (a ∷ b ∷ what ∷ args) h = parts_names word a b what args table (begun_parts table b what args) h (parts_some table b what args)
+
 row_names : (word : List ℕ) (n : ℕ) (table : NameTable) (args : List (List ℕ)) → RowNames (word ∷ args) table (row_of word n table args)
-unfolding row_of row_of_buffers row_of_scanouts row_of_others row_of_contexts row_of_shared
+unfolding row_of row_of_buffers row_of_scanouts row_of_others row_of_contexts row_of_shared row_of_begun
 row_names word n table args =
     let words = word ∷ args in
     either_row words table (bytes_eq word (codes "info")) (no_args (info_row table) args) _ (kept_row word (codes "info") args table (no_args (info_row table) args) (no_args_give (KeepsNames table) tt (info_row table) (info_keeps n table) args) refl)
@@ -308,7 +380,9 @@ row_names word n table args =
     (either_row words table (bytes_eq word (codes "detach")) (two_args (detach_row table) args) _ (kept_row word (codes "detach") args table (two_args (detach_row table) args) (two_args_give (KeepsNames table) tt (detach_row table) (detach_keeps n table) args) refl)
     (either_row words table (bytes_eq word (codes "submit")) (two_args (submit_row table) args) _ (kept_row word (codes "submit") args table (two_args (submit_row table) args) (two_args_give (KeepsNames table) tt (submit_row table) (submit_keeps n table) args) refl)
     (either_row words table (bytes_eq word (codes "export")) (two_args (export_row table) args) _ (export_names word table args)
-    (either_row words table (bytes_eq word (codes "import")) (two_args (import_row table) args) _ (import_names word table args) tt)))))))))))))))))))))))))
+    (either_row words table (bytes_eq word (codes "import")) (two_args (import_row table) args) _ (import_names word table args)
+    (either_row words table (bytes_eq word (codes "begin")) (begin_row table args) _ (begin_names word table args)
+    (either_row words table (bytes_eq word (codes "await")) (one_arg (await_row table) args) _ (kept_row word (codes "await") args table (one_arg (await_row table) args) (one_arg_gives (KeepsNames table) tt (await_row table) (await_keeps n table) args) refl) tt)))))))))))))))))))))))))))
 
 -- ---- the forms
 
@@ -402,7 +476,8 @@ comment_plain word h =
     let close = no_comment word (codes "close") h refl (bytes_eq word (codes "close")) refl in
     let endcontext = no_comment word (codes "endcontext") h refl (bytes_eq word (codes "endcontext")) refl in
     let export = no_comment word (codes "export") h refl (bytes_eq word (codes "export")) refl in
-    rw (client, buffer, blob, import, context, close, endcontext, export) refl
+    let begin = no_comment word (codes "begin") h refl (bytes_eq word (codes "begin")) refl in
+    rw (client, buffer, blob, import, context, close, endcontext, export, begin) refl
 
 form_names : (words : List (List ℕ)) (seen : Seen) → FormNames words seen (form_of seen words)
 unfolding form_of skipped_form
@@ -449,33 +524,44 @@ counts : (kind : NameKind) (words : List (List ℕ)) (table : NameTable) → cou
 counts kind words table = counts_after kind (begin_client words) (defined_by words) (ended_by words) (is_some (label_among words)) table
 
 -- How many labels were defined after these words.
-exports_none : (client : Bool) (defined : Option (NameKind × List ℕ)) (ended : Option (List ℕ)) (table : NameTable) → (after_words client defined ended false table).exported ≡ table.exported
-exports_none true defined ended table = refl
-exports_none false (Some (Buffer, name)) ended table = refl
-exports_none false (Some (Context, name)) ended table = refl
-exports_none false None (Some name) table = refl
-exports_none false None None table = refl
+gives_none : (client : Bool) (defined : Option (NameKind × List ℕ)) (ended : Option (List ℕ)) (table : NameTable) → (after_words client defined ended false table).given ≡ table.given
+gives_none true defined ended table = refl
+gives_none false (Some (Buffer, name)) ended table = refl
+gives_none false (Some (Context, name)) ended table = refl
+gives_none false None (Some name) table = refl
+gives_none false None None table = refl
 
-abbrev HasExported : List (List ℕ) → NameTable → Type 0
-HasExported words table = (changed words table).exported ≡ table.exported + length (with_found (label_among words) [])
+abbrev HasGiven : List (List ℕ) → NameTable → Type 0
+HasGiven words table = (changed words table).given ≡ table.given + length (with_found (label_among words) [])
 
-exports : (words : List (List ℕ)) (table : NameTable) → HasExported words table
-exports [] table = omega arith
-exports (first ∷ []) table = let e = exports_none (begin_client (first ∷ [])) None None table in omega (arith, e)
-exports (first ∷ second ∷ []) table =
-    let words = first ∷ second ∷ [] in
-    let e = exports_none (begin_client words) (defined_by words) (ended_by words) table in omega (arith, e)
-exports (first ∷ second ∷ third ∷ []) table = by_test (bytes_eq first (codes "export")) refl
+gives_export : (args : List (List ℕ)) (table : NameTable) → HasGiven (codes "export" ∷ args) table
+gives_export [] table = omega arith
+gives_export (a ∷ []) table = omega arith
+gives_export (a ∷ b ∷ []) table = refl
+gives_export (a ∷ b ∷ c ∷ more) table = omega arith
+
+given_if : (b : Bool) (text : List ℕ) (table : NameTable)
+    → (after_words false None None (is_some (as_kind Fence (if b then Some text else None))) table).given ≡ table.given + length (with_found (as_kind Fence (if b then Some text else None)) [])
+given_if true text table = refl
+given_if false text table = omega arith
+
+gives_begin : (args : List (List ℕ)) (table : NameTable) → HasGiven (codes "begin" ∷ args) table
+gives_begin [] table = omega arith
+gives_begin (a ∷ []) table = omega arith
+gives_begin (a ∷ b ∷ []) table = omega arith
+gives_begin (a ∷ b ∷ what ∷ args) table = given_if (is_timeline b && is_body what (length args)) a table
+
+gives_more : (words : List (List ℕ)) (table : NameTable) → HasGiven words table
+gives_more [] table = omega arith
+gives_more (word ∷ args) table = by_test (bytes_eq word (codes "export")) (bytes_eq word (codes "begin")) refl refl
   where
     words : List (List ℕ)
-    words = first ∷ second ∷ third ∷ []
+    words = word ∷ args
 
-    by_test : (b : Bool) → bytes_eq first (codes "export") ≡ b → HasExported words table
-    by_test true e = subst (λ w. HasExported (w ∷ second ∷ third ∷ []) table) (sym (same_bytes first (codes "export") e)) refl
-    by_test false e = rw e (let f = exports_none (begin_client words) (defined_by words) (ended_by words) table in omega (arith, f))
-exports (first ∷ second ∷ third ∷ fourth ∷ more) table =
-    let words = first ∷ second ∷ third ∷ fourth ∷ more in
-    let e = exports_none (begin_client words) (defined_by words) (ended_by words) table in omega (arith, e)
+    by_test : (b c : Bool) → bytes_eq word (codes "export") ≡ b → bytes_eq word (codes "begin") ≡ c → HasGiven words table
+    by_test true c e f = subst (λ w. HasGiven (w ∷ args) table) (sym (same_bytes word (codes "export") e)) (gives_export args table)
+    by_test false true e f = subst (λ w. HasGiven (w ∷ args) table) (sym (same_bytes word (codes "begin") f)) (gives_begin args table)
+    by_test false false e f = rw (e, f) (let g = gives_none (begin_client words) (defined_by words) (ended_by words) table in omega (arith, g))
 
 text_label : (line : List ℕ) → is_text line ≡ true → label_of line ≡ label_among (words_of line)
 text_label line h = rw h refl
@@ -484,18 +570,18 @@ not_not : (b : Bool) → not b ≡ false → b ≡ true
 not_not true h = refl
 not_not false h = absurd (cc h)
 
-found_behind : (o : Option (List ℕ)) (labels : List (List ℕ)) → length (with_found o labels) ≡ length (with_found o []) + length labels
+found_behind : (o : Option (LabelKind × List ℕ)) (labels : List (LabelKind × List ℕ)) → length (with_found o labels) ≡ length (with_found o []) + length labels
 found_behind None labels = omega arith
 found_behind (Some label) labels = omega arith
 
 -- After lines without a fault as many labels were defined as they have.
-pub all_exported : (start : Seen) (lines : List (List ℕ)) → AreFaultless start lines → (seen_after start lines).table.exported ≡ start.table.exported + length (labels_of lines)
+pub all_given : (start : Seen) (lines : List (List ℕ)) → AreFaultless start lines → (seen_after start lines).table.given ≡ start.table.given + length (labels_of lines)
 unfolding labels_of
-all_exported start [] faultless = omega arith
-all_exported start (line ∷ more) faultless =
-    let e = all_exported (given start line) more faultless.1 in
-    let f = ap (λ (t : NameTable). t.exported) (line_changes start line faultless.0) in
-    let g = exports (words_of line) start.table in
+all_given start [] faultless = omega arith
+all_given start (line ∷ more) faultless =
+    let e = all_given (given start line) more faultless.1 in
+    let f = ap (λ (t : NameTable). t.given) (line_changes start line faultless.0) in
+    let g = gives_more (words_of line) start.table in
     let h = ap (λ o. length (with_found o [])) (text_label line (not_not (is_text line) (faultless.0 Text))) in
     let i = found_behind (label_of line) (labels_of more) in
     omega (arith, e, f, g, h, i)
@@ -664,11 +750,11 @@ defined_to name named start (line ∷ more) faultless h =
     ]
 
 -- No name was defined before the first line.
-none_yet : (labels : List ℕ → ℕ) (kind : NameKind) → count_of kind (no_names labels) ≡ 0
+none_yet : (labels : List ℕ → Option Label) (kind : NameKind) → count_of kind (no_names labels) ≡ 0
 none_yet labels Buffer = refl
 none_yet labels Context = refl
 
-pub names_to : (labels : List ℕ → ℕ) (lines : List (List ℕ)) (name : List ℕ) (named : Named) → AreFaultless (nothing_seen labels) lines → (seen_after (nothing_seen labels) lines).table.names name ≡ Some named
+pub names_to : (labels : List ℕ → Option Label) (lines : List (List ℕ)) (name : List ℕ) (named : Named) → AreFaultless (nothing_seen labels) lines → (seen_after (nothing_seen labels) lines).table.names name ≡ Some named
     → IsDefinedBy lines name named
 names_to labels lines name named faultless h =
     elim (defined_to name named (nothing_seen labels) lines faultless h) [
@@ -684,7 +770,7 @@ names_to labels lines name named faultless h =
       | inr k ↦ absurd (let n = k.0 in cc)
     ]
 
-pub names_from : (labels : List ℕ → ℕ) (lines : List (List ℕ)) (name : List ℕ) (named : Named) → AreFaultless (nothing_seen labels) lines → IsDefinedBy lines name named
+pub names_from : (labels : List ℕ → Option Label) (lines : List (List ℕ)) (name : List ℕ) (named : Named) → AreFaultless (nothing_seen labels) lines → IsDefinedBy lines name named
     → (seen_after (nothing_seen labels) lines).table.names name ≡ Some named
 names_from labels lines name named faultless f =
     let P : List (List ℕ) → Type 0 = λ ls. AreFaultless (nothing_seen labels) ls in

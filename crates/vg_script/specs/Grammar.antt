@@ -142,7 +142,7 @@ fault_at line kind = record { line = line; kind = kind_code kind }
 
 -- The script of a text that has no fault. It has 4,096 pages where it doesn't say how many.
 abbrev pub script_of : Seen → Script
-script_of seen = record { displays = seen.displays; pages = unwrap_or seen.pages 4096; without = seen.without; clients = seen.clients; labels = seen.table.exported }
+script_of seen = record { displays = seen.displays; pages = unwrap_or seen.pages 4096; without = seen.without; clients = seen.clients; labels = seen.table.given }
 
 abbrev pub go_on : ℕ → Result Seen Kind → (Seen → Result Script ScriptFault) → Result Script ScriptFault
 go_on line (Ok seen) more = more seen

@@ -1,5 +1,5 @@
 -- The limits that each script keeps.
-use Rattle.std.specs.Prelude.{◌≡◌, ℕ, ℤ, pos, negsuc, ◌*◌, ◌<◌, ◌≤◌, Bool, true, false, is_some, None, List, length, sum_by, count_by, All, IsTrue, IfSome}
+use Rattle.std.specs.Prelude.{◌≡◌, ℕ, ℤ, pos, negsuc, ◌*◌, ◌<◌, ◌≤◌, Bool, true, false, is_some, Option, Some, None, List, length, sum_by, count_by, All, IsTrue, IfSome}
 use Rattle.std.specs.List.{range_with_len}
 use Rattle.vg_script.specs.Waits.{waits, given_in_all}
 use Rattle.std.specs.Bool.{⊤}
@@ -8,11 +8,14 @@ use Rattle.vg_chain.specs.declared.shape.Shape.{Shape}
 use Rattle.vg_chain.specs.declared.shape.Shape.TheVariants.{Pieces}
 use Rattle.vg_chain.specs.Space.{most_room}
 use Rattle.vg_calls.specs.declared.call.Call.{Call}
+use Rattle.vg_calls.specs.declared.call.Body.{Body}
+use Rattle.vg_calls.specs.declared.call.Body.TheVariants as bodies
+use Rattle.vg_calls.specs.declared.call.ContextRef.{ContextRef}
 use Rattle.vg_script.specs.declared.types.Feature.{Feature}
 use Rattle.vg_script.specs.declared.types.Line.{Line}
 use Rattle.vg_script.specs.declared.types.Script.{Script}
 use Rattle.vg_script.specs.Features.{is_same}
-use Rattle.vg_calls.specs.declared.call.Call.TheVariants.{Info, Edid, Buffer, Blob, Store, Load, Send, Flush, Take, Drop, Hide, Show, ShowBlob, Flip, Cursor, Move, Context, EndContext, Attach, Detach, Submit, Uuid, Export, Import, Close, Raw}
+use Rattle.vg_calls.specs.declared.call.Call.TheVariants.{Info, Edid, Buffer, Blob, Store, Load, Send, Flush, Take, Drop, Hide, Show, ShowBlob, Flip, Cursor, Move, Context, EndContext, Attach, Detach, Submit, Uuid, Export, Import, Begin, Await, Close, Raw}
 
 abbrev pub IsBetween : ℕ → ℕ → ℕ → Type 0
 IsBetween low high n = (low ≤ n) × (n ≤ high)
@@ -30,6 +33,13 @@ ShapeInLimits shape = ⊤
 abbrev pub IsPosition : ℤ → Type 0
 IsPosition (pos n) = n ≤ 32767
 IsPosition (negsuc n) = n ≤ 32767
+
+-- What is submitted is begun on its own timeline.
+abbrev pub BodyInLimits : Option (ContextRef × ℕ) → Body → Type 0
+BodyInLimits timeline bodies.Info = ⊤
+BodyInLimits timeline (bodies.Send name rect) = ⊤
+BodyInLimits timeline (bodies.Flush name rect) = ⊤
+BodyInLimits timeline (bodies.Submit context ring) = timeline ≡ Some (context, ring)
 
 -- The numbers of a call, where there are so many displays.
 abbrev pub CallInLimits : ℕ → Call → Type 0
@@ -61,6 +71,8 @@ CallInLimits displays (Submit context ring) = IsBetween 0 63 ring
 CallInLimits displays (Uuid name) = ⊤
 CallInLimits displays (Export name label) = ⊤
 CallInLimits displays (Import label token) = token ≡ None
+CallInLimits displays (Begin label timeline body) = IfSome timeline (λ on. IsBetween 0 63 on.1) × BodyInLimits timeline body
+CallInLimits displays (Await label fence) = fence ≡ None
 CallInLimits displays (Close name) = ⊤
 CallInLimits displays (Raw queue room shape bytes) = IsBetween 0 most_room room × ShapeInLimits shape × IsBetween 0 4096 (length bytes)
 

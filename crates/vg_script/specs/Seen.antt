@@ -2,6 +2,7 @@
 use Rattle.std.specs.Prelude.{ℕ, List, [], ◌∷◌, ◌++◌, Option, None}
 use Rattle.vg_script.specs.declared.types.Feature.{Feature}
 use Rattle.vg_script.specs.declared.types.Line.{Line}
+use Rattle.vg_call_lines.specs.declared.names.Label.{Label}
 use Rattle.vg_call_lines.specs.Tables.{NameTable, no_names}
 
 pub record Seen : Type 0 where
@@ -25,5 +26,5 @@ add_line (client ∷ []) line = (client ++ line ∷ []) ∷ []
 add_line (client ∷ next ∷ more) line = client ∷ add_line (next ∷ more) line
 
 -- Before the first line of a text with these labels.
-abbrev pub nothing_seen : (List ℕ → ℕ) → Seen
+abbrev pub nothing_seen : (List ℕ → Option Label) → Seen
 nothing_seen labels = record { lines = 0; displays = []; pages = None; without = []; clients = []; table = no_names labels }

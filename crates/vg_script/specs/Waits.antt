@@ -4,16 +4,18 @@ use Rattle.std.specs.Prelude.{◌≡◌, ℕ, ◌+◌, ◌<◌, ◌==◌, ◌⊎
 use Rattle.std.specs.Bool.{⊤}
 use Rattle.std.specs.List.{list_any}
 use Rattle.vg_calls.specs.declared.call.Call.{Call}
-use Rattle.vg_calls.specs.declared.call.Call.TheVariants.{Export, Import}
+use Rattle.vg_calls.specs.declared.call.Call.TheVariants.{Export, Import, Begin, Await}
 use Rattle.vg_script.specs.declared.types.Line.{Line}
 
 -- The number of the label that a call gives, and of the one that it waits for.
 abbrev pub gives : Call → Option ℕ
 gives (Export name label) = Some label
+gives (Begin label timeline body) = Some label
 gives call = None
 
 abbrev pub waits : Call → Option ℕ
 waits (Import label token) = Some label
+waits (Await label fence) = Some label
 waits call = None
 
 -- The labels that lines give, in their order: of one client, and of all.

@@ -1,20 +1,22 @@
 //! The labels of a text, and their numbers.
 
-ghost use Rattle.std.specs.Prelude.{◌≡◌, ◌==◌, ◌<◌, ◌-◌, ◌^◌, length, option_map, IfOk, OnOk};
-ghost use Rattle.vg_call_lines.specs.Tables.{numbers_of};
+ghost use Rattle.std.specs.Prelude.{◌≡◌, ◌<◌, ◌-◌, ◌^◌, ◌||◌, bytes_eq, codes, length, map, option_map, IfOk, OnOk, Some};
+ghost use Rattle.vg_call_lines.specs.Args.{two_args};
+ghost use Rattle.vg_call_lines.specs.Tables.{labels_in};
 ghost use Rattle.vg_script_words.specs.Words.{words_of};
 ghost use Rattle.vg_script.specs.Lines.{lines_of};
-ghost use Rattle.vg_script.specs.Labels.{label_of, labels_of, number_in};
-ghost use Rattle.vg_script.specs.LabelsWithin.{begin_export, with_number};
+ghost use Rattle.vg_script.specs.Labels.{as_kind, label_among, label_of, labels_of, label_in};
+ghost use Rattle.vg_script.specs.LabelsWithin.{may_define, label_now, with_new};
 
 use std::alloc::{AllocError, Global};
 use std::collections::BTreeMap;
+use vg_call_lines::{Label, LabelKind, begun_label};
 use vg_script_words::{cut, is, is_text, put_words};
 
-/// The number of each label that the text's lines define: its place among them, from 1 on.
-pub(crate) fn labels(alloc: Global, bytes: &[u8]) -> Result<BTreeMap<&[u8], u32>, AllocError>
+/// The labels that the text's lines define. The number of each is its place among them, from 1 on.
+pub(crate) fn labels(alloc: Global, bytes: &[u8]) -> Result<BTreeMap<&[u8], Label>, AllocError>
     requires { length bytes.now < 2 ^ 32 - 1 }
-    ensures { IfOk result (λ labels. numbers_of labels ≡ number_in (labels_of (lines_of bytes.now))) }
+    ensures { IfOk result (λ labels. labels_in labels ≡ label_in (labels_of (lines_of bytes.now))) }
 {
     let mut labels = BTreeMap::new(alloc);
     let mut count = 0;
@@ -23,60 +25,97 @@ pub(crate) fn labels(alloc: Global, bytes: &[u8]) -> Result<BTreeMap<&[u8], u32>
     while !rest.is_empty() {
         let (line, after) = cut(rest, b'\n');
         rest = after;
-        if let Some(label) = label_of(&mut words, line)? {
+        if let Some((kind, label)) = label_of(&mut words, line)? {
             count += 1;
-            add_label(&mut labels, label, count)?;
+            let number = count;
+            add_label(&mut labels, label, Label { kind, number })?;
         }
     }
     Ok(labels)
 }
 
 /// The label that a line defines, where it does. Its words are put in place of others.
-fn label_of<'a>(words: &mut Vec<&'a [u8]>, line: &'a [u8]) -> Result<Option<&'a [u8]>, AllocError>
-    ensures { IfOk result (λ label. option_map (λ label. label.now) label ≡ label_of line.now) }
+fn label_of<'a>(
+    words: &mut Vec<&'a [u8]>,
+    line: &'a [u8],
+) -> Result<Option<(LabelKind, &'a [u8])>, AllocError>
+    ensures { IfOk result (λ label. label_now label ≡ label_of line.now) }
 {
-    if !is_export(line) || !is_text(line) {
+    if !may_define(line) || !is_text(line) {
         return Ok(None);
     }
     put_words(words, line)?;
-    match words.as_slice() {
-        &[_, _, label] => Ok(Some(label)),
-        _ => Ok(None),
+    Ok(label_among(words.as_slice()))
+}
+
+/// The label that words define, where they do.
+fn label_among<'a>(words: &[&'a [u8]]) -> Option<(LabelKind, &'a [u8])>
+    ensures { label_now result ≡ label_among (map (λ word. word.now) words.now) }
+{
+    let [word, args @ ..] = words else {
+        return None;
+    };
+    if is(word, b"export") {
+        return as_kind(LabelKind::Token, exported_label(args));
+    }
+    if is(word, b"begin") {
+        return as_kind(LabelKind::Fence, begun_label(args));
+    }
+    None
+}
+
+/// A label of this kind, where there is one.
+fn as_kind(kind: LabelKind, label: Option<&[u8]>) -> Option<(LabelKind, &[u8])>
+    ensures { label_now result ≡ as_kind kind (option_map (λ text. text.now) label.entry) }
+{
+    match label {
+        Some(label) => Some((kind, label)),
+        None => None,
     }
 }
 
-/// Whether a line's first word is `export`.
-fn is_export(line: &[u8]) -> bool
-    ensures { result ≡ begin_export (words_of line.now) }
+/// The label of a line `export A X`, by the arguments behind its first word.
+fn exported_label<'a>(args: &[&'a [u8]]) -> Option<&'a [u8]>
+    ensures { option_map (λ label. label.now) result ≡ two_args (λ name label. Some label) (map (λ arg. arg.now) args.now) }
+{
+    match args {
+        &[_, label] => Some(label),
+        _ => None,
+    }
+}
+
+/// Whether a line's first word is `export` or `begin`.
+fn may_define(line: &[u8]) -> bool
+    ensures { result ≡ may_define (words_of line.now) }
 {
     let mut rest = line;
     while !rest.is_empty() {
         let (word, after) = cut(rest, b' ');
         if !word.is_empty() {
-            return is(word, b"export");
+            return is_defining(word);
         }
         rest = after;
     }
     false
 }
 
-/// Gives a label this number, where it has none.
-fn add_label<'a>(
-    labels: &mut BTreeMap<&'a [u8], u32>,
-    label: &'a [u8],
-    number: u32,
-) -> Result<(), AllocError>
-    ensures { OnOk result (numbers_of labels.new ≡ with_number (numbers_of labels.old) label.now number) }
+/// Whether a word is `export` or `begin`.
+fn is_defining(word: &[u8]) -> bool
+    ensures { result ≡ bytes_eq word.now (codes "export") || bytes_eq word.now (codes "begin") }
 {
-    if number_of(labels, label) == 0 {
-        labels.insert(label, number)?;
-    }
-    Ok(())
+    is(word, b"export") || is(word, b"begin")
 }
 
-/// A label's number, 0 where it has none.
-fn number_of(labels: &BTreeMap<&[u8], u32>, label: &[u8]) -> u32
-    ensures { result ≡ numbers_of labels.now label.now }
+/// Adds a label, where it is none yet.
+fn add_label<'a>(
+    labels: &mut BTreeMap<&'a [u8], Label>,
+    text: &'a [u8],
+    label: Label,
+) -> Result<(), AllocError>
+    ensures { OnOk result (labels_in labels.new ≡ with_new (labels_in labels.old) text.now label) }
 {
-    labels.get(label).copied().unwrap_or(0)
+    if !labels.contains_key(text) {
+        labels.insert(text, label)?;
+    }
+    Ok(())
 }

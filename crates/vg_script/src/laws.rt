@@ -1,11 +1,12 @@
 //! What holds of the grammar itself: each function here does nothing, and its contract is a law.
 
-ghost use Rattle.std.specs.Prelude.{◌≡◌, ◌≤◌, ◌⊎◌, ◌↔◌, ℕ, List, [], length, All, Some};
+ghost use Rattle.std.specs.Prelude.{◌≡◌, ◌≤◌, ◌⊎◌, ◌↔◌, ℕ, List, [], length, All, Option, Some};
 ghost use Rattle.vg_script.specs.declared.types.Script.{Script};
 ghost use Rattle.vg_script.specs.Lines.{lines_of};
 ghost use Rattle.vg_script.specs.Grammar.{Parses, Faulty};
 ghost use Rattle.vg_script.specs.Faults.{HasFirstFault, IsScriptOf, AreFaultless, seen_after};
 ghost use Rattle.vg_script.specs.Names.{IsDefinedBy};
+ghost use Rattle.vg_call_lines.specs.declared.names.Label.{Label};
 ghost use Rattle.vg_call_lines.specs.declared.names.Named.{Named};
 ghost use Rattle.vg_script.specs.Waits.{AreKnown};
 ghost use Rattle.vg_script.specs.Seen.{nothing_seen};
@@ -23,7 +24,7 @@ pub fn script_or_fault()
 
 /// The fault of a text stands in its first line that has one, and is of the least kind that this line has. Where
 /// no line has one, the text lacks a display and the fault stands behind its last line, or some lines wait for
-/// themselves and the fault stands at the first import of these, or it is the script that its lines give.
+/// themselves and the fault stands at the first `await` or `import` of these, or it is the script that its lines give.
 pub fn first_fault()
     ensures fault { (bytes : List ℕ) (line kind : ℕ)
         → (Faulty bytes line kind ↔ HasFirstFault (lines_of bytes) line kind) }
@@ -46,6 +47,6 @@ pub fn labels_are_known()
 /// (`close` or `endcontext` and the name) or begins another client, and the client's lines have defined so many names of the kind
 /// with it.
 pub fn defined_names()
-    ensures { (labels : List ℕ → ℕ) (lines : List (List ℕ)) (name : List ℕ) (named : Named) → AreFaultless (nothing_seen labels) lines
+    ensures { (labels : List ℕ → Option Label) (lines : List (List ℕ)) (name : List ℕ) (named : Named) → AreFaultless (nothing_seen labels) lines
         → (((seen_after (nothing_seen labels) lines).table.names name ≡ Some named) ↔ IsDefinedBy lines name named) }
 {}

@@ -13,6 +13,6 @@ mod waits;
 pub use laws::{defined_names, first_fault, labels_are_known, script_limits, script_or_fault};
 pub use text::parse;
 pub use types::{Feature, Line, Script, ScriptFault};
-pub use vg_call_lines::{NameKind, Named};
-pub use vg_calls::{Call, ContextRef, NameRef};
+pub use vg_call_lines::{Label, LabelKind, NameKind, Named};
+pub use vg_calls::{Body, Call, ContextRef, NameRef};
 pub use vg_script_words::Kind;

@@ -8,7 +8,7 @@ use crate::types::{Feature, Line, Script, ScriptFault};
 use crate::waits::cycle;
 use std::alloc::{AllocError, Global};
 use std::collections::BTreeMap;
-use vg_call_lines::{Names, call_of};
+use vg_call_lines::{Label, Names, call_of};
 use vg_list::Seq;
 use vg_script_words::{Kind, Stop, both_spelled, is, is_text, limited, put_words, size, spelled};
 
@@ -36,15 +36,15 @@ pub(crate) struct Reader<'a> {
 
 impl<'a> Reader<'a> {
     ghost use Rattle.std.specs.Prelude.{◌≡◌, ◌==◌, ◌&&◌, not, is_none, ◌+◌, ◌-◌, ◌<◌, ◌^◌, [], ◌∷◌, map, IfOk};
-    ghost use Rattle.vg_call_lines.specs.Tables.{numbers_of};
+    ghost use Rattle.vg_call_lines.specs.Tables.{labels_in};
     ghost use Rattle.vg_script.specs.Seen.{Seen, nothing_seen};
     ghost use Rattle.vg_script.specs.Grammar.{display_form, memory_form, without_form, client_form, called_form, worded_form, form_of, feature_form, settled, settled_form, after_line, scan};
     ghost use Rattle.vg_script.specs.ReadingWithin.{seen, Goes, MayDefine};
     ghost use Rattle.vg_script.specs.SearchWithin.{cycle_line};
 
     /// Before the first line of a text with these labels.
-    pub(crate) fn new(alloc: Global, labels: BTreeMap<&'a [u8], u32>) -> Reader<'a>
-        ensures { seen result ≡ nothing_seen (numbers_of labels.entry) }
+    pub(crate) fn new(alloc: Global, labels: BTreeMap<&'a [u8], Label>) -> Reader<'a>
+        ensures { seen result ≡ nothing_seen (labels_in labels.entry) }
     {
         Reader {
             lines: 0,
@@ -266,7 +266,7 @@ impl<'a> Reader<'a> {
             pages: pages.unwrap_or(4_096),
             without: Seq::from_vec(without),
             clients: Seq::from_vec(clients),
-            labels: names.exported,
+            labels: names.given,
         })
     }
 }

@@ -86,7 +86,11 @@ fn put_place(places: &mut Vec<(u32, u32)>, line: &Line, at: (u32, u32)) -> Resul
 fn gives(call: &Call) -> bool
     ensures { result ≡ is_some (gives call.now) }
 {
-    matches!(call, Call::Export { .. })
+    match call {
+        Call::Export { .. } => true,
+        Call::Begin { .. } => true,
+        _ => false,
+    }
 }
 
 /// The label that a call waits for, if it does.
@@ -95,6 +99,7 @@ fn waits(call: &Call) -> Option<u32>
 {
     match call {
         Call::Import { label, .. } => Some(*label),
+        Call::Await { label, .. } => Some(*label),
         _ => None,
     }
 }

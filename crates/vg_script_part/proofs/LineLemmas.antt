@@ -1,7 +1,7 @@
 -- What the lines of a client give, one line after another.
 use Rattle.std.proofs.Common.{◌≡◌, ◌⊎◌, inl, inr, ⊎_elim, ◌+◌, ◌*◌, ◌≤◌, ◌<◌, ◌^◌, ◌∙◌, sym, ap, refl, subst, arith, ℕ, zero, suc, Bool, true, false, cond, List, [], ◌∷◌, ◌++◌, length, length-append, map, drop, get_or, nat_le, append_assoc, append-nil, Option, Some, None, Result, Ok, Err}
-use Rattle.std.specs.Prelude.{OnErr, OnOk}
-use Rattle.std.proofs.lemmas.List.{drop_all}
+use Rattle.std.specs.Prelude.{IfSome, OnErr, OnOk}
+use Rattle.std.proofs.lemmas.List.{drop_all, map-append}
 use Rattle.std.proofs.lemmas.List.{length-reverse}
 use mathlib.Core.List.{reverse, reverse-append, reverse-reverse, nil≢cons}
 use mathlib.Core.List.{IsPrefix}
@@ -10,7 +10,9 @@ use Rattle.std.proofs.lemmas.List.{length-map}
 use Rattle.std.proofs.lemmas.List.FromFn.{length-range_with_len}
 use Rattle.vg_history.specs.Lists.{Has}
 use Rattle.vg_history.specs.declared.entry.Entry.TheVariants as entries
-use Rattle.vg_history.proofs.ListLemmas.{prefix_trans}
+use Rattle.vg_history.proofs.ListLemmas.{has_append, has_left, has_right, prefix_trans}
+use Rattle.vg_book.specs.Places.{begun_of}
+use Rattle.vg_book.specs.Views.{order_call}
 use Rattle.vg_client_holds.specs.declared.setup.Setup.{Setup}
 use Rattle.vg_client_holds.specs.declared.act.Act.TheVariants.{Enter, Leave}
 use Rattle.vg_client_holds.specs.declared.act.ActReply.TheVariants as act_replies
@@ -18,64 +20,90 @@ use Rattle.vg_machine.specs.Entries.{Entry}
 use Rattle.vg_machine.specs.Order.{by_call, call_of, of_client, placed}
 use Rattle.vg_machine.specs.State.{State, start}
 use Rattle.vg_script.specs.declared.types.Line.{Line}
-use Rattle.vg_script.specs.Limits.{CallInLimits, ShapeInLimits}
+use Rattle.vg_script.specs.Limits.{BodyInLimits, CallInLimits, IsBetween, ShapeInLimits}
 use Rattle.vg_chain.specs.declared.shape.Shape.{Shape}
 use Rattle.vg_chain.specs.declared.shape.Shape.TheVariants as shapes
 use Rattle.vg_chain.specs.Made.{IsCount}
+use Rattle.vg_calls.specs.declared.call.Body.{Body}
+use Rattle.vg_calls.specs.declared.call.Body.TheVariants as bodies
+use Rattle.vg_calls.specs.declared.call.ContextRef.{ContextRef}
 use Rattle.vg_calls.specs.declared.call.Call.{Call}
 use Rattle.vg_calls.specs.declared.call.Call.TheVariants as calls
-use Rattle.vg_driver.specs.Tickets.{Token}
+use Rattle.vg_driver.specs.Tickets.{Account, Order, Token}
 use Rattle.vg_client.specs.Accounts.{IsAccount, IsNew, mine_of}
-use Rattle.vg_client.specs.Callers.{ClientState, HasAdded, HasEnded, HasEntered, known}
+use Rattle.vg_client.specs.Callers.{ClientState, HasEnded, HasEntered, known}
 use Rattle.vg_client.specs.Own.{OwnStand}
-use Rattle.vg_client.proofs.AccountLemmas.{sorted-mine}
 use Rattle.vg_tasks.specs.Known.{Known, first_known}
-use Rattle.vg_tasks.specs.Plans.{IsCallFit}
+use Rattle.vg_tasks.specs.Plans.{IsBodyFit, IsCallFit}
 use Rattle.vg_labels.specs.declared.table.Told.{Told}
 use Rattle.vg_labels.specs.Labels.{AreTold, Values}
 use Rattle.vg_script_part.specs.Follows.{GivesAll, GivesCalls}
-use Rattle.vg_script_part.specs.Performing.{AreInLimits, GivesRest, HasDoneLine, HasKept, HasPerformed, HasSeenMore, Hears, IsFollowing, IsLineCall}
+use Rattle.vg_script_part.specs.Performing.{AreInLimits, GivesRest, HasDoneLine, HasKept, HasPerformed, HasSeenMore, Hears, IsFollowing, IsIn, IsLineCall, Slot, slot_call}
+use Rattle.vg_script_part.proofs.SlotLemmas.{all-come, filled-apart, filled-calls, made-calls, made-filled, made-in, made-slots, ranges-join, slots-append, slots-map, sorted-whole}
 
 pub following-first : {B : Type 0} (setup : Setup) (lines : List Line) (token : Token) (client : ClientState B) → IsNew setup token → HasEntered token client.caller → client.stopped ≡ false → IsFollowing setup [] lines 0 client
 following-first setup lines token client new entered goes_on =
-    let n : ℕ = client.caller.token.account.number in
+    let account : Account = client.caller.token.account in
+    let n : ℕ = account.number in
     let number : n ≡ token.account.number = entered.number in
     let first : known client.caller ≡ first_known setup n = entered.known_is setup new ∙ ap (first_known setup) (sym number) in
-    let mine : mine_of client.caller.token ≡ entries.Act n 1 Enter act_replies.Ok ∷ [] = entered.mine ∙ ap (λ (n : ℕ). entries.Act n 1 Enter act_replies.Ok ∷ []) (sym number) in
-    let one : length (mine_of client.caller.token) ≡ 1 = ap (λ (xs : List Entry). length xs) mine in
+    let enter : Entry = entries.Act n 1 Enter act_replies.Ok in
+    let mine : mine_of client.caller.token ≡ enter ∷ [] = entered.mine ∙ ap (λ (n : ℕ). entries.Act n 1 Enter act_replies.Ok ∷ []) (sym number) in
+    let used = entered.used in
+    let none : begun_of account ≡ [] = ap (λ (os : List Order). map order_call os) entered.idle in
     record {
       begun = entered.start ∙ new.begun;
       displays = ap (λ (k : Known). k.holds.displays) first;
-      few = omega (arith, one);
+      few = omega (arith, used);
       goes_on = goes_on;
       ready = entered.ready;
-      gives = ([], mine, λ H values rest after begins told gives. subst (λ (k : Known). GivesAll H values n [] k lines rest after) first gives);
+      slots = made-slots (enter ∷ []);
+      numbers = made-calls (enter ∷ []) ∙ ap (range_with_len 1) (sym used);
+      calls = made-in account (enter ∷ []) (λ e has. subst (λ (es : List Entry). Has es e) (sym mine) has);
+      gives = λ filled fills. (
+        [],
+        made-filled (enter ∷ []) filled fills,
+        λ H values rest after begins told gives.
+            subst (λ (b : List ℕ). GivesAll H values n b (first_known setup n) lines rest after) none (subst (λ (k : Known). GivesAll H values n (begun_of account) k lines rest after) first gives),
+      );
     }
 
 pub following-more : {B : Type 0} (setup : Setup) (told told' : List Told) (lines : List Line) (i : ℕ) (client client' : ClientState B) (line : Line) → IsFollowing setup told lines i client → drop i lines ≡ line ∷ drop (i + 1) lines
     → HasDoneLine told told' client client' line.call → IsFollowing setup told' lines (i + 1) client'
 following-more setup told told' lines i client client' line following here done =
-    let before = following.gives in
-    let n : ℕ = client.caller.token.account.number in
-    let mine : List Entry = done.mine in
+    let old : Account = client.caller.token.account in
+    let new : Account = client'.caller.token.account in
+    let n : ℕ = old.number in
+    let xs : List Slot = following.slots in
+    let ys : List Slot = done.slots in
     let few = done.few in
-    let regroup : (rest : List Entry) → (before.0 ++ mine) ++ rest ≡ before.0 ++ (mine ++ rest) = λ rest. simp append_assoc in
-    let longer : length (mine_of client'.caller.token) ≡ length (mine_of client.caller.token) + length mine = ap (λ (xs : List Entry). length xs) done.own ∙ length-append (mine_of client.caller.token) mine in
-    let Rests : ℕ → Type 0 = λ k. GivesRest setup client'.caller.token.seen told' k lines (drop (i + 1) lines) (known client'.caller) (mine_of client'.caller.token) in
-    let rests : Rests n = (
-      before.0 ++ mine,
-      done.own ∙ ap (λ (xs : List Entry). xs ++ mine) before.1,
+    let used = done.used in
+    let both : map slot_call (xs ++ ys) ≡ map slot_call xs ++ map slot_call ys = map-append slot_call xs ys in
+    let joined : range_with_len 1 old.used ++ range_with_len (old.used + 1) (length ys) ≡ range_with_len 1 (old.used + length ys) =
+    (let e : old.used + 1 ≡ 1 + old.used = omega arith in ap (λ (f : ℕ). range_with_len 1 old.used ++ range_with_len f (length ys)) e) ∙ ranges-join 1 old.used (length ys) in
+    let Rests : ℕ → Type 0 = λ k. GivesRest setup client'.caller.token.seen told' k lines (drop (i + 1) lines) (begun_of new) (known client'.caller) (xs ++ ys) in
+    let rests : Rests n = λ filled fills.
+    let apart = filled-apart xs ys filled fills in
+    let before = following.gives apart.front apart.fills in (
+      before.0 ++ apart.rest,
+      apart.whole ∙ ap (λ (es : List Entry). es ++ apart.rest) before.1,
       λ H values rest after begins as_told left.
-          let with_line = subst (λ (ls : List Line). GivesAll H values n [] (known client.caller) ls (mine ++ rest) after) (sym here) (mine, rest, known client'.caller, refl, done.line H values begins as_told, left) in
-          subst (λ (xs : List Entry). GivesAll H values n [] (first_known setup n) lines xs after) (sym (regroup rest))
-          (before.2 H values (mine ++ rest) after (prefix_trans client.caller.token.seen client'.caller.token.seen H done.more begins) (done.told_more values as_told) with_line),
+          let regroup : (before.0 ++ apart.rest) ++ rest ≡ before.0 ++ (apart.rest ++ rest) = simp append_assoc in
+          let on = done.line H values apart.rest begins as_told apart.fills_rest in
+          let left_so = subst (λ (b : List ℕ). GivesAll H values n b (known client'.caller) (drop (i + 1) lines) rest after) (sym on.1) left in
+          let with_line = subst (λ (ls : List Line). GivesAll H values n (begun_of old) (known client.caller) ls (apart.rest ++ rest) after) (sym here) (apart.rest, rest, known client'.caller, refl, on.0, left_so) in
+          subst (λ (es : List Entry). GivesAll H values n [] (first_known setup n) lines es after) (sym regroup)
+          (before.2 H values (apart.rest ++ rest) after (prefix_trans client.caller.token.seen client'.caller.token.seen H done.more begins) (done.told_more values as_told) with_line),
     ) in
     record {
       begun = done.start ∙ following.begun;
       displays = done.displays ∙ following.displays;
-      few = omega (arith, few, longer, following.few);
+      few = omega (arith, few, used, following.few);
       goes_on = done.goes_on;
       ready = done.ready;
+      slots = xs ++ ys;
+      numbers = both ∙ ap (λ (ns : List ℕ). ns ++ map slot_call ys) following.numbers ∙ ap (λ (ns : List ℕ). range_with_len 1 old.used ++ ns) done.numbers ∙ joined ∙ ap (range_with_len 1) (sym used);
+      calls = slots-append (IsIn new) xs ys (slots-map (IsIn old) (IsIn new) xs done.kept following.calls) done.added;
       gives = subst Rests (sym done.number) rests;
     }
 
@@ -87,11 +115,25 @@ shape-fits shapes.Indirect within = tt
 shape-fits shapes.Mixed within = tt
 shape-fits (shapes.Bad fault) within = tt
 
+body-fits : (timeline : Option (ContextRef × ℕ)) (body : Body) → IfSome timeline (λ t. IsBetween 0 63 t.1) → BodyInLimits timeline body → IsBodyFit body
+body-fits timeline bodies.Info ring within = tt
+body-fits timeline (bodies.Send name rect) ring within = tt
+body-fits timeline (bodies.Flush name rect) ring within = tt
+body-fits timeline (bodies.Submit context r) ring within =
+    let low = subst (λ (t : Option (ContextRef × ℕ)). IfSome t (λ t. IsBetween 0 63 t.1)) within ring in
+    let high : r ≤ 63 = low.1 in
+    omega (arith, high)
+
+ring-fits : (timeline : Option (ContextRef × ℕ)) → IfSome timeline (λ t. IsBetween 0 63 t.1) → IfSome timeline (λ t. t.1 < 64)
+ring-fits None within = tt
+ring-fits (Some t) within = let high = within.1 in omega (arith, high)
+
 pub call-fits : (displays : ℕ) (call : Call) → CallInLimits displays call → IsCallFit displays call
 call-fits displays (calls.Buffer width height format) within = (within.0.1, within.1.1)
 call-fits displays (calls.Blob size) within = within.1
 call-fits displays (calls.Drop scanout) within = within
 call-fits displays (calls.Submit context ring) within = let few = within.1 in omega (arith, few)
+call-fits displays (calls.Begin label timeline body) within = (ring-fits timeline within.0, body-fits timeline body within.0 within.1)
 call-fits displays (calls.Raw queue room shape bytes) within = let few = within.2.1 in (omega (arith, few), within.0.1, shape-fits shape within.1)
 call-fits displays call within = tt
 
@@ -181,20 +223,32 @@ by_call-length (e ∷ es) = placed-length e (by_call es) ∙ ap suc (by_call-len
 
 -- once no line is left, and the client has ended, it has kept to its lines
 pub performed : {B : Type 0} (setup : Setup) (told : List Told) (lines : List Line) (i : ℕ) (client : ClientState B) (token : Token)
-    → IsFollowing setup told lines i client → length lines ≤ i → token.account.number ≡ client.caller.token.account.number → token.start ≡ client.caller.token.start → HasEnded client.caller token → HasPerformed setup told lines token
-performed setup told lines i client token following done number start_is ended =
-    let before = following.gives in
+    → IsFollowing setup told lines i client → length lines ≤ i → token.account.number ≡ client.caller.token.account.number → token.account.out ≡ [] → token.start ≡ client.caller.token.start → HasEnded client.caller token → HasPerformed setup told lines token
+performed setup told lines i client token following done number idle start_is ended =
     let n : ℕ = client.caller.token.account.number in
     let S : List Entry = token.seen in
     let is : IsAccount token = ended.account_is in
     let same : is.setup ≡ setup = ap (λ (first : Option State). setup_in first setup) (sym is.standing.begun ∙ start_is ∙ following.begun) in
-    let sorted : by_call (of_client token.account.number S) ≡ mine_of token = sorted-mine token is.standing.current is.idle is.in_order in
-    let long : length (map call_of (mine_of token)) ≡ length (mine_of token) = simp length-map in
-    let counted : token.account.used ≡ length (of_client token.account.number S) =
-    sym (length-range_with_len 1 token.account.used) ∙ ap (λ (ns : List ℕ). length ns) (sym is.in_order) ∙ long ∙ ap (λ (es : List Entry). length es) (sym sorted) ∙ by_call-length (of_client token.account.number S) in
+    let mid = ended.finished in
     let tail : List Entry = ended.ending ++ entries.Act n ended.last Leave act_replies.Ok ∷ [] in
-    let calls : (values : Values) → AreTold values told → GivesCalls setup S values n lines (mine_of token) = λ values as_told.
-    let none : GivesAll S values n [] (known client.caller) (drop i lines) [] (known client.caller) = subst (λ (ls : List Line). GivesAll S values n [] (known client.caller) ls [] (known client.caller)) (sym (drop_all i lines done)) (refl, refl) in
+    let come = all-come client.caller.token.account mid.idle.back (mine_of ended.middle.token) following.slots mid.idle.came mid.idle.mine following.calls in
+    let filled : List Entry = come.filled in
+    let before = following.gives filled come.fills in
+    let used : ℕ = client.caller.token.account.used in
+    let more : List Entry = filled ++ tail in
+    let numbers : map call_of more ≡ range_with_len 1 token.account.used =
+    map-append call_of filled tail ∙ ap (λ (ns : List ℕ). ns ++ map call_of tail) (filled-calls following.slots filled come.fills ∙ following.numbers) ∙ ap (λ (ns : List ℕ). range_with_len 1 used ++ ns) ended.numbers
+    ∙ (let e : used + 1 ≡ 1 + used = omega arith in ap (λ (f : ℕ). range_with_len 1 used ++ range_with_len f (length tail)) e) ∙ ranges-join 1 used (length tail) ∙ ap (range_with_len 1) (sym ended.used) in
+    let there : (e : Entry) → Has more e → Has (mine_of token) e = λ e has. subst (λ (es : List Entry). Has es e) (sym ended.own)
+    (⊎_elim (λ (h : Has filled e). has_left (mine_of ended.middle.token) tail e (come.there e h)) (λ (h : Has tail e). has_right (mine_of ended.middle.token) tail e h) (has_append filled tail e has)) in
+    let sorted : by_call (of_client token.account.number S) ≡ more = sorted-whole token more is.standing.current idle numbers there in
+    let long : length (map call_of more) ≡ length more = simp length-map in
+    let counted : token.account.used ≡ length (of_client token.account.number S) =
+    sym (length-range_with_len 1 token.account.used) ∙ ap (λ (ns : List ℕ). length ns) (sym numbers) ∙ long ∙ ap (λ (es : List Entry). length es) (sym sorted) ∙ by_call-length (of_client token.account.number S) in
+    let seen_more : IsPrefix client.caller.token.seen S = prefix_trans client.caller.token.seen ended.middle.token.seen S mid.idle.more ended.more in
+    let begun : List ℕ = begun_of client.caller.token.account in
+    let calls : (values : Values) → AreTold values told → GivesCalls setup S values n lines more = λ values as_told.
+    let none : GivesAll S values n begun (known client.caller) (drop i lines) [] (known client.caller) = subst (λ (ls : List Line). GivesAll S values n begun (known client.caller) ls [] (known client.caller)) (sym (drop_all i lines done)) (refl, refl) in
     record {
       first = 1;
       last = ended.last;
@@ -202,8 +256,8 @@ performed setup told lines i client token following done number start_is ended =
       ending = ended.ending;
       known = known client.caller;
       at_end = ended.after;
-      whole = ended.own ∙ ap (λ (xs : List Entry). xs ++ tail) before.1;
-      lines_give = subst (λ (xs : List Entry). GivesAll S values n [] (first_known setup n) lines xs (known client.caller)) (append-nil before.0) (before.2 S values [] (known client.caller) ended.more as_told none);
+      whole = ap (λ (xs : List Entry). xs ++ tail) before.1;
+      lines_give = subst (λ (xs : List Entry). GivesAll S values n [] (first_known setup n) lines xs (known client.caller)) (append-nil before.0) (before.2 S values [] (known client.caller) seen_more as_told none);
       end_gives = ended.plays;
       end_placed = ended.placed;
     } in
@@ -212,27 +266,24 @@ performed setup told lines i client token following done number start_is ended =
       kept = λ values as_told. record {
         own = subst (λ (s : Setup). OwnStand s token.account.number [] S) same is.standing.own;
         follows = record {
-          numbers = ap (λ (es : List Entry). map call_of es) sorted ∙ is.in_order ∙ ap (range_with_len 1) counted;
-          calls = subst (GivesCalls setup S values token.account.number lines) (sym sorted) (subst (λ (k : ℕ). GivesCalls setup S values k lines (mine_of token)) (sym number) (calls values as_told));
+          numbers = ap (λ (es : List Entry). map call_of es) sorted ∙ numbers ∙ ap (range_with_len 1) counted;
+          calls = subst (GivesCalls setup S values token.account.number lines) (sym sorted) (subst (λ (k : ℕ). GivesCalls setup S values k lines more) (sym number) (calls values as_told));
         };
       };
     }
 
 -- what is left of a client after a line that it couldn't make, and behind those before it
-pub kept-added : {B : Type 0} (old new : ClientState B) (mine : List Entry) → HasAdded old.caller mine new.caller → (new.stopped ≡ true) ⊎ (length mine ≤ 19) → HasKept old new
-kept-added old new mine added (inl stopped) = record { number = added.number; few = inl stopped }
-kept-added old new mine added (inr few) =
-    let longer : length (mine_of new.caller.token) ≡ length (mine_of old.caller.token) + length mine = ap (λ (xs : List Entry). length xs) added.own ∙ length-append (mine_of old.caller.token) mine in
-    record { number = added.number; few = inr (omega (arith, few, longer)) }
+pub kept-stopped : {B : Type 0} (old new : ClientState B) → new.caller.token.account.number ≡ old.caller.token.account.number → new.stopped ≡ true → HasKept old new
+kept-stopped old new number stopped = record { number = number; few = inl stopped }
 
 pub kept-same : {B : Type 0} (old : ClientState B) → HasKept old old
 kept-same old = record { number = refl; few = inr (omega arith) }
 
--- few entries, where the client hasn't stopped
-pub few-left : {B : Type 0} (old new : ClientState B) → HasKept old new → length (mine_of old.caller.token) ≤ 1 + 19 * 100000 → (new.stopped ≡ true) ⊎ (length (mine_of new.caller.token) < 2 ^ 24)
+-- few numbers, where the client hasn't stopped
+pub few-left : {B : Type 0} (old new : ClientState B) → HasKept old new → old.caller.token.account.used ≤ 1 + 19 * 100000 → (new.stopped ≡ true) ⊎ (new.caller.token.account.used < 2 ^ 24)
 few-left old new kept few = by_case kept.few
   where
-    by_case : (new.stopped ≡ true) ⊎ (length (mine_of new.caller.token) ≤ length (mine_of old.caller.token) + 19) → (new.stopped ≡ true) ⊎ (length (mine_of new.caller.token) < 2 ^ 24)
+    by_case : (new.stopped ≡ true) ⊎ (new.caller.token.account.used ≤ old.caller.token.account.used + 19) → (new.stopped ≡ true) ⊎ (new.caller.token.account.used < 2 ^ 24)
     by_case (inl stopped) = inl stopped
     by_case (inr more) = inr (omega (arith, more, few))
 
@@ -247,16 +298,16 @@ ok-told {T = T} {E = E} {P = P} r x is told = let Told : Result T E → Type 0 =
 -- what a client that has only seen more has left
 pub kept-seen : {B : Type 0} (old new : ClientState B) → HasSeenMore old new → HasKept old new
 kept-seen old new seen =
-    let same : length (mine_of new.caller.token) ≡ length (mine_of old.caller.token) = ap (λ a. length a.mine) seen.account in
-    record { number = ap (λ a. a.number) seen.account; few = inr (omega (arith, same)) }
+    let same : new.caller.token.account.used ≡ old.caller.token.account.used = ap (λ (a : Account). a.used) seen.account in
+    record { number = ap (λ (a : Account). a.number) seen.account; few = inr (omega (arith, same)) }
 
 pub kept-behind : {B : Type 0} (old mid new : ClientState B) → HasSeenMore old mid → HasKept mid new → HasKept old new
 kept-behind old mid new seen kept =
-    let same : length (mine_of mid.caller.token) ≡ length (mine_of old.caller.token) = ap (λ a. length a.mine) seen.account in
-    record { number = kept.number ∙ ap (λ a. a.number) seen.account; few = by_case same kept.few }
+    let same : mid.caller.token.account.used ≡ old.caller.token.account.used = ap (λ (a : Account). a.used) seen.account in
+    record { number = kept.number ∙ ap (λ (a : Account). a.number) seen.account; few = by_case same kept.few }
   where
-    by_case : length (mine_of mid.caller.token) ≡ length (mine_of old.caller.token) → (new.stopped ≡ true) ⊎ (length (mine_of new.caller.token) ≤ length (mine_of mid.caller.token) + 19)
-        → (new.stopped ≡ true) ⊎ (length (mine_of new.caller.token) ≤ length (mine_of old.caller.token) + 19)
+    by_case : mid.caller.token.account.used ≡ old.caller.token.account.used → (new.stopped ≡ true) ⊎ (new.caller.token.account.used ≤ mid.caller.token.account.used + 19)
+        → (new.stopped ≡ true) ⊎ (new.caller.token.account.used ≤ old.caller.token.account.used + 19)
     by_case same (inl stopped) = inl stopped
     by_case same (inr few) = inr (omega (arith, few, same))
 
@@ -268,4 +319,5 @@ ok_more (Err e) p f = tt
 -- so is the call with what it heard
 pub heard-fits : (displays : ℕ) (labels : List ℕ) (seen : List Entry) (call heard : Call) (told told' : List Told) → CallInLimits displays call → Hears labels seen call told told' heard → IsCallFit displays heard
 heard-fits displays labels seen (calls.Import label token) heard told told' within hears = subst (λ (c : Call). IsCallFit displays c) (sym hears.call_is) tt
+heard-fits displays labels seen (calls.Await label fence) heard told told' within hears = subst (λ (c : Call). IsCallFit displays c) (sym hears.call_is) tt
 heard-fits displays labels seen call heard told told' within hears = subst (λ (c : Call). IsCallFit displays c) (sym hears.0) (call-fits displays call within)

@@ -11,7 +11,7 @@ use Rattle.vg_client.specs.Calls.{Gives}
 use Rattle.vg_client.specs.Numbers.{defines, makes_context}
 use Rattle.vg_labels.specs.Labels.{Values}
 use Rattle.vg_script_part.specs.Values.{heard_call}
-use Rattle.vg_script_part.specs.Follows.{GivesAll}
+use Rattle.vg_script_part.specs.Follows.{GivesAll, begun_after}
 use Rattle.vg_script_part.specs.Numbers.{contexts_in, names_in}
 
 -- the law of a call that counts something of what its client knows up by one, where it passes a test
@@ -21,10 +21,12 @@ EachCounted count test = (client : ℕ) (known known' : Known) (call : Call) (mi
 -- what a call heard doesn't change whether it defines a name, or makes a context
 heard-defines : (values : Values) (call : Call) → defines (heard_call values call) ≡ defines call
 heard-defines values (calls.Import label token) = refl
+heard-defines values (calls.Await label fence) = refl
 heard-defines values call = refl
 
 heard-makes : (values : Values) (call : Call) → makes_context (heard_call values call) ≡ makes_context call
 heard-makes values (calls.Import label token) = refl
+heard-makes values (calls.Await label fence) = refl
 heard-makes values call = refl
 
 all-counted : (count : Known → ℕ) (test : Call → Bool) → EachCounted count test → ((values : Values) (call : Call) → test (heard_call values call) ≡ test call)
@@ -34,7 +36,7 @@ all-counted count test each heard H values client begun known known' [] mine giv
 all-counted count test each heard H values client begun known known' (line ∷ lines) mine gives =
     let here : count gives.2 ≡ count known + cond (test line.call) 1 0 =
     each client known gives.2 (heard_call values line.call) gives.0 gives.4.given ∙ ap (λ (b : Bool). count known + cond b 1 0) (heard values line.call) in
-    let rest = all-counted count test each heard H values client begun gives.2 known' lines gives.1 gives.5 in
+    let rest = all-counted count test each heard H values client (begun_after known line.call begun gives.0) gives.2 known' lines gives.1 gives.5 in
     let both = sum_by-cons (λ (l : Line). cond (test l.call) 1 0) line lines in
     omega (arith, here, rest, both)
 

@@ -1,12 +1,16 @@
 -- One client's part of a script, from its entry to its end.
-use Rattle.std.specs.Prelude.{◌≡◌, ◌⊎◌, ◌≤◌, ◌+◌, ◌-◌, ◌*◌, ℕ, true, false, List, [], ◌∷◌, ◌++◌, length, drop, get_or, Option, Some, None, All, IfSome}
+use Rattle.std.specs.Prelude.{◌≡◌, ◌⊎◌, ◌≤◌, ◌+◌, ◌-◌, ◌*◌, ℕ, true, false, List, [], ◌∷◌, ◌++◌, length, map, drop, get_or, Option, Some, None, All, IfSome}
+use Rattle.std.specs.List.{AllByRecursion, range_with_len}
 use mathlib.Core.List.{IsPrefix}
-use Rattle.vg_book.specs.Places.{HasCall, IsCurrent}
-use Rattle.vg_driver.specs.Tickets.{Token}
+use Rattle.vg_history.specs.Lists.{Has}
+use Rattle.vg_book.specs.Places.{HasCall, IsCurrent, begun_of}
+use Rattle.vg_book.specs.Views.{IsEntryOf}
+use Rattle.vg_driver.specs.Tickets.{Account, Order, Token}
 use Rattle.vg_client_holds.specs.declared.setup.Setup.{Setup}
 use Rattle.vg_client_holds.specs.declared.act.Act.TheVariants.{Enter}
 use Rattle.vg_client_holds.specs.declared.act.ActReply.TheVariants as act_replies
 use Rattle.vg_machine.specs.Entries.{Entry}
+use Rattle.vg_machine.specs.Order.{call_of}
 use Rattle.vg_machine.specs.Replay.{display}
 use Rattle.vg_history.specs.declared.entry.Entry.TheVariants as entries
 use Rattle.vg_machine.specs.State.{start}
@@ -16,18 +20,18 @@ use Rattle.vg_script.specs.declared.types.Line.{Line}
 use Rattle.vg_script.specs.declared.types.Script.{Script}
 use Rattle.vg_script.specs.Limits.{CallInLimits, IsBetween}
 use Rattle.vg_script.specs.Waits.{gives, waits}
-use Rattle.vg_client.specs.Accounts.{IsNew, mine_of}
+use Rattle.vg_client.specs.Accounts.{IsNew}
 use Rattle.vg_client.specs.Callers.{ClientState, IsReady, known}
 use Rattle.vg_tasks.specs.Known.{Known, first_known}
 use Rattle.vg_labels.specs.declared.label.Given.{Given}
 use Rattle.vg_labels.specs.declared.table.Told.{Told}
-use Rattle.vg_labels.specs.Labels.{AreOf, AreTold, IsOf, Values}
+use Rattle.vg_labels.specs.Labels.{AreTold, IsOf, Names, Values}
 use Rattle.vg_labels.specs.declared.label.Gift.{Gift}
 use Rattle.vg_labels.specs.declared.label.Gift.TheVariants as gifts
 use Rattle.vg_client.specs.declared.outcome.Last.{Last}
 use Rattle.vg_client.specs.declared.outcome.Last.TheVariants as lasts
-use Rattle.vg_script_part.specs.Values.{gift_of, token_in}
-use Rattle.vg_script_part.specs.Follows.{GivesAll, IsLine, Kept}
+use Rattle.vg_script_part.specs.Values.{fence_in, gift_of, token_in}
+use Rattle.vg_script_part.specs.Follows.{GivesAll, IsLine, Kept, begun_after}
 
 -- The lines of a script's client, of which the first has number 1.
 abbrev pub lines_of : Script → ℕ → List Line
@@ -51,10 +55,10 @@ AreInLimits setup count lines = (length setup.displays ≤ 16) × (length lines 
 abbrev pub MayPerform : Setup → ℕ → List Line → Token → Type 0
 MayPerform setup count lines token = IsNew setup token × AreInLimits setup count lines
 
--- What is left of a client where memory lacked: it is who it was, and has stopped, or has few entries more.
+-- What is left of a client where memory lacked: it is who it was, and has stopped, or has drawn few numbers more.
 pub record HasKept {B : Type 0} (old new : ClientState B) : Type 0 where
   pub number : new.caller.token.account.number ≡ old.caller.token.account.number
-  pub few : (new.stopped ≡ true) ⊎ (length (mine_of new.caller.token) ≤ length (mine_of old.caller.token) + 19)
+  pub few : (new.stopped ≡ true) ⊎ (new.caller.token.account.used ≤ old.caller.token.account.used + 19)
 
 -- A client has at most seen more.
 pub record HasSeenMore {B : Type 0} (old new : ClientState B) : Type 0 where
@@ -72,69 +76,117 @@ pub record TellsOne (labels : List ℕ) (label : ℕ) (given : Given) (told told
   pub is_of : IsOf labels one
   pub value : one.shown.value ≡ Some given
 
+-- The entry with which a label was given was seen, but that of a fence.
+abbrev pub IsThere : List Entry → Given → Gift → Type 0
+IsThere seen given (gifts.Fence lane ordinal) = Unit {0}
+IsThere seen given gift = HasCall seen given.client given.call
+
 -- What a call waits for was told and seen, and the call has it; or it waits for nothing, and is as it was.
-pub record HearsOne (labels : List ℕ) (seen : List Entry) (label : ℕ) (told told' : List Told) (heard : Call) : Type 0 where
+pub record HearsToken (labels : List ℕ) (seen : List Entry) (label : ℕ) (told told' : List Told) (heard : Call) : Type 0 where
   pub given : Given
   pub tells : TellsOne labels label given told told'
-  pub there : HasCall seen given.client given.call
+  pub there : Names display given seen
   pub call_is : heard ≡ calls.Import label (token_in given.gift)
 
+pub record HearsFence (labels : List ℕ) (seen : List Entry) (label : ℕ) (told told' : List Told) (heard : Call) : Type 0 where
+  pub given : Given
+  pub tells : TellsOne labels label given told told'
+  -- the call waits for a fence itself, which counts from 1
+  pub there : IsThere seen given given.gift
+  pub counts : IfSome (fence_in given.gift) (λ fence. 1 ≤ fence.ordinal)
+  pub call_is : heard ≡ calls.Await label (fence_in given.gift)
+
 abbrev pub Hears : List ℕ → List Entry → Call → List Told → List Told → Call → Type 0
-Hears labels seen (calls.Import label token) told told' heard = HearsOne labels seen label told told' heard
+Hears labels seen (calls.Import label token) told told' heard = HearsToken labels seen label told told' heard
+Hears labels seen (calls.Await label fence) told told' heard = HearsFence labels seen label told told' heard
 Hears labels seen call told told' heard = (heard ≡ call) × (told' ≡ told)
 
--- What the last entry of a call gave.
+-- What a call gave, by its last entry, or by what it began.
 abbrev pub gift_told : Last → Gift
 gift_told (lasts.Act reply) = gift_of reply
+gift_told (lasts.Begun fence) = gifts.Fence fence.lane fence.ordinal
 gift_told (lasts.Command answer) = gifts.Nothing
 
 -- What a client gives with the entry of its last call.
 abbrev pub given_by : {B : Type 0} → ClientState B → Last → Given
 given_by client last = record { client = client.caller.token.account.number; call = client.caller.token.account.used; gift = gift_told last }
 
--- A client that is to give something has seen the entry of its last call.
-abbrev pub HasLast : {B : Type 0} → Option ℕ → ClientState B → Type 0
-HasLast None client = Unit {0}
-HasLast (Some label) client = HasCall client.caller.token.seen client.caller.token.account.number client.caller.token.account.used
+-- A client that is to give something has seen the entry of its last call, unless that is begun.
+abbrev pub HasLast : {B : Type 0} → Option ℕ → Last → ClientState B → Type 0
+HasLast None last client = Unit {0}
+HasLast (Some label) (lasts.Begun fence) client = Unit {0}
+HasLast (Some label) last client = HasCall client.caller.token.seen client.caller.token.account.number client.caller.token.account.used
 
 -- What a call gives was told; or it gives nothing, and nothing was told.
 abbrev pub Tells : List ℕ → Option ℕ → Given → List Told → List Told → Type 0
 Tells labels None given told told' = told' ≡ told
 Tells labels (Some label) given told told' = TellsOne labels label given told told'
 
--- In each history that goes on from what was seen, and by all values that are as they were told, these are a line's entries.
-abbrev pub HasLine : List Entry → List Told → ℕ → Known → Call → List Entry → Known → Type 0
-HasLine seen told client known call mine next = (H : List Entry) (values : Values) → IsPrefix seen H → AreTold values told → IsLine H values client [] known call mine next
+-- What a client has of a call: its entry, or what it asked, where that hasn't come back.
+pub data Slot : Type 0 where
+  Made : Entry → Slot
+  Begun : Order → Slot
+
+abbrev pub slot_call : Slot → ℕ
+slot_call (Made entry) = call_of entry
+slot_call (Begun order) = order.call
+
+-- The entries of these calls, whatever was answered to what was begun.
+abbrev pub Fills : List Slot → List Entry → Type 0
+Fills [] [] = Unit {0}
+Fills (Made entry ∷ slots) (filled ∷ more) = (filled ≡ entry) × Fills slots more
+Fills (Begun order ∷ slots) (filled ∷ more) = IsEntryOf order filled × Fills slots more
+Fills slots filled = ⊥
+
+-- The call is one of the client's: its entry has come back, or it is out still, where it was begun.
+abbrev pub IsIn : Account → Slot → Type 0
+IsIn account (Made entry) = Has account.mine entry
+IsIn account (Begun order) = Has account.out order ⊎ ((entry : Entry) × Has account.mine entry × IsEntryOf order entry)
+
+-- In each history that goes on from what was seen, by all values that are as they were told, and whatever is answered to what was
+-- begun, these are a line's entries, and these calls are begun behind it.
+abbrev pub HasLine : List Entry → List Told → ℕ → List ℕ → Known → Call → List Slot → List ℕ → Known → Type 0
+HasLine seen told client begun known call slots begun' next = (H : List Entry) (values : Values) (front : List Entry) → IsPrefix seen H → AreTold values told
+    → Fills slots front → IsLine H values client begun known call front next × (begun_after known call begun front ≡ begun')
 
 -- A client has made the call of a line, behind what that waits for, and has told what it gives.
 pub record HasDoneLine {B : Type 0} (told told' : List Told) (old new : ClientState B) (call : Call) : Type 0 where
-  pub mine : List Entry
-  pub line : HasLine new.caller.token.seen told' old.caller.token.account.number (known old.caller) call mine (known new.caller)
+  pub slots : List Slot
+  pub line : HasLine new.caller.token.seen told' old.caller.token.account.number (begun_of old.caller.token.account) (known old.caller) call slots
+      (begun_of new.caller.token.account) (known new.caller)
   pub told_more : (values : Values) → AreTold values told' → AreTold values told
-  pub few : length mine ≤ 19
+  pub few : length slots ≤ 19
   pub start : new.caller.token.start ≡ old.caller.token.start
   pub number : new.caller.token.account.number ≡ old.caller.token.account.number
-  pub own : mine_of new.caller.token ≡ mine_of old.caller.token ++ mine
+  pub used : new.caller.token.account.used ≡ old.caller.token.account.used + length slots
+  pub numbers : map slot_call slots ≡ range_with_len (old.caller.token.account.used + 1) (length slots)
+  pub added : AllByRecursion (IsIn new.caller.token.account) slots
+  pub kept : (slot : Slot) → IsIn old.caller.token.account slot → IsIn new.caller.token.account slot
   pub more : IsPrefix old.caller.token.seen new.caller.token.seen
   pub displays : new.caller.token.account.holds.displays ≡ old.caller.token.account.holds.displays
   pub ready : IsReady new.caller
   pub goes_on : new.stopped ≡ false
 
 -- The entries so far, and those of the lines that are left, are those of all lines: in each history that goes on from what was seen,
--- and by all values that are as they were told.
-abbrev pub GivesRest : Setup → List Entry → List Told → ℕ → List Line → List Line → Known → List Entry → Type 0
-GivesRest setup seen told client lines left known mine = (middle : List Entry) × (mine ≡ entries.Act client 1 Enter act_replies.Ok ∷ middle)
+-- by all values that are as they were told, and whatever is answered to what was begun.
+abbrev pub GivesRest : Setup → List Entry → List Told → ℕ → List Line → List Line → List ℕ → Known → List Slot → Type 0
+GivesRest setup seen told client lines left begun known slots = (filled : List Entry) → Fills slots filled
+    → (middle : List Entry) × (filled ≡ entries.Act client 1 Enter act_replies.Ok ∷ middle)
     × ((H : List Entry) (values : Values) (rest : List Entry) (after : Known) → IsPrefix seen H → AreTold values told
-    → GivesAll H values client [] known left rest after → GivesAll H values client [] (first_known setup client) lines (middle ++ rest) after)
+    → GivesAll H values client begun known left rest after → GivesAll H values client [] (first_known setup client) lines (middle ++ rest) after)
 
 -- How far a client has come with its lines: it has done the first so many.
 pub record IsFollowing {B : Type 0} (setup : Setup) (told : List Told) (lines : List Line) (i : ℕ) (client : ClientState B) : Type 0 where
   pub begun : client.caller.token.start ≡ Some (start setup)
   pub displays : client.caller.token.account.holds.displays ≡ length setup.displays
-  pub few : length (mine_of client.caller.token) ≤ 1 + 19 * i
+  pub few : client.caller.token.account.used ≤ 1 + 19 * i
   pub goes_on : client.stopped ≡ false
   pub ready : IsReady client.caller
-  pub gives : GivesRest setup client.caller.token.seen told client.caller.token.account.number lines (drop i lines) (known client.caller) (mine_of client.caller.token)
+  pub slots : List Slot
+  pub numbers : map slot_call slots ≡ range_with_len 1 client.caller.token.account.used
+  pub calls : AllByRecursion (IsIn client.caller.token.account) slots
+  pub gives : GivesRest setup client.caller.token.seen told client.caller.token.account.number lines (drop i lines)
+      (begun_of client.caller.token.account) (known client.caller) slots
 
 -- The client of this token has kept to its lines, by all values that are as they were told, and all that it has done stands in what
 -- it has seen.

@@ -7,7 +7,9 @@ use Rattle.vg_calls.specs.declared.call.Call.TheVariants as calls
 use Rattle.vg_client_holds.specs.declared.act.ActReply.{ActReply}
 use Rattle.vg_client_holds.specs.declared.act.ActReply.TheVariants as act_replies
 use Rattle.vg_history.specs.declared.entry.Entry.TheVariants as entries
+use Rattle.vg_fence.specs.Fences.{FenceData}
 use Rattle.vg_machine.specs.Entries.{Entry}
+use Rattle.vg_machine.specs.Replay.{display}
 use Rattle.vg_machine.specs.Order.{call_of, client_of}
 use Rattle.vg_labels.specs.declared.label.Gift.{Gift}
 use Rattle.vg_labels.specs.declared.label.Gift.TheVariants as gifts
@@ -19,9 +21,10 @@ abbrev pub gift_of : ActReply → Gift
 gift_of (act_replies.Exported token) = gifts.Token token
 gift_of reply = gifts.Nothing
 
+-- A command gives its fence, whatever it is answered.
 abbrev pub gift_in : Entry → Gift
 gift_in (entries.Act client call act reply) = gift_of reply
-gift_in (entries.Command client call request reply) = gifts.Nothing
+gift_in (entries.Command client call request reply) = gifts.Fence request.lane request.ordinal
 
 -- What a line gives with this entry.
 abbrev pub value_of : Entry → Given
@@ -29,16 +32,26 @@ value_of entry = record { client = client_of entry; call = call_of entry; gift =
 
 abbrev pub token_in : Gift → Option ℕ
 token_in (gifts.Token token) = Some token
-token_in gifts.Nothing = None
+token_in gift = None
 
 -- The token that a label was given, if it was given one.
 abbrev pub token_of : Option Given → Option ℕ
 token_of (Some given) = token_in given.gift
 token_of None = None
 
+abbrev pub fence_in : Gift → Option FenceData
+fence_in (gifts.Fence lane ordinal) = Some (record { lane = lane; ordinal = ordinal })
+fence_in gift = None
+
+-- The fence that a label was given, if it was given one.
+abbrev pub fence_of : Option Given → Option FenceData
+fence_of (Some given) = fence_in given.gift
+fence_of None = None
+
 -- The call of a line, with what its label was given.
 abbrev pub heard_call : Values → Call → Call
 heard_call values (calls.Import label token) = calls.Import label (token_of (values label))
+heard_call values (calls.Await label fence) = calls.Await label (fence_of (values label))
 heard_call values call = call
 
 -- What a line waits for is there: its label was given something, and each of these entries of the line stands behind the one with
@@ -46,7 +59,7 @@ heard_call values call = call
 abbrev pub HasHeard : List Entry → Values → Option ℕ → ℕ → List Entry → Type 0
 HasHeard H values None client front = Unit {0}
 HasHeard H values (Some label) client front =
-    (given : Given) × (values label ≡ Some given) × AllByRecursion (λ e. StandsBehind H client (call_of e) (λ es. Names es given)) front
+    (given : Given) × (values label ≡ Some given) × AllByRecursion (λ e. StandsBehind H client (call_of e) (Names display given)) front
 
 -- What a line gives is its label's value: it gives it with its one entry.
 abbrev pub HasGiven : Values → Option ℕ → List Entry → Type 0

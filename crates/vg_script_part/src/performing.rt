@@ -3,7 +3,7 @@
 ghost use Rattle.std.specs.Prelude.{◌≡◌, ◌⊎◌, ◌≤◌, ◌<◌, ◌+◌, ◌-◌, ◌^◌, [], true, false, Some, length, IfOk, OnErr, OnOk};
 ghost use Rattle.vg_client_holds.specs.declared.setup.Setup.{Setup};
 ghost use Rattle.vg_machine.specs.State.{start};
-ghost use Rattle.vg_client.specs.Accounts.{IsNew, mine_of};
+ghost use Rattle.vg_client.specs.Accounts.{IsNew};
 ghost use Rattle.vg_client.specs.Callers.{IsReady};
 ghost use Rattle.vg_labels.specs.Labels.{AreOf};
 ghost use Rattle.vg_script_part.specs.Performing.{AreInLimits, HasDoneLine, HasKept, HasPerformed, IsFollowing, IsLineCall, MayPerform};
@@ -120,7 +120,7 @@ fn run_lines<'a, B: Naming, N: Rings, R: Wait>(
     requires following { (setup : Setup) × AreInLimits setup (length labels.now.items) lines.items × IsFollowing setup told.old.items lines.items 0 client.old }
     requires told { AreOf labels.now.items told.old.items }
     ensures number { client.new.caller.token.account.number ≡ client.old.caller.token.account.number }
-    ensures few { (client.new.stopped ≡ true) ⊎ (length (mine_of client.new.caller.token) < 2 ^ 24) }
+    ensures few { (client.new.stopped ≡ true) ⊎ (client.new.caller.token.account.used < 2 ^ 24) }
     ensures told { AreOf labels.now.items told.new.items }
     ensures done { result ≡ true → (setup : Setup) × (client.old.caller.token.start ≡ Some (start setup)) × IsFollowing setup told.new.items lines.items (length lines.items) client.new }
 {
@@ -150,7 +150,7 @@ fn run_line<'a, B: Naming, N: Rings, R: Wait>(
 ) -> Result<(), AllocError>
     requires ready { IsReady client.old.caller }
     requires call { IsLineCall client.old.caller.token.account.holds.displays (length labels.now.items) call }
-    requires room { length (mine_of client.old.caller.token) + 20 < 2 ^ 31 - 1 }
+    requires room { client.old.caller.token.account.used + 20 < 2 ^ 31 - 1 }
     requires told { AreOf labels.now.items told.old.items }
     ensures done { OnOk result (HasDoneLine told.old.items told.new.items client.old client.new call) }
     ensures told { AreOf labels.now.items told.new.items }

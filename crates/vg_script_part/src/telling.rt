@@ -1,33 +1,36 @@
 //! What a client hears of labels, and what it tells.
 
-ghost use Rattle.std.specs.Prelude.{◌≡◌, ◌≤◌, length, IfOk, OnOk};
-ghost use Rattle.vg_book.specs.Places.{HasCall};
+ghost use Rattle.std.specs.Prelude.{◌≡◌, ◌≤◌, length, Some, None, IfOk, IfSome, OnOk};
 ghost use Rattle.vg_labels.specs.declared.label.Given.{Given as Givens};
-ghost use Rattle.vg_labels.specs.Labels.{AreOf};
+ghost use Rattle.vg_labels.specs.Labels.{AreOf, IsNoted, Shows};
 ghost use Rattle.vg_script.specs.Waits.{gives, waits};
 ghost use Rattle.vg_script_part.specs.Performing as performing;
-ghost use Rattle.vg_script_part.specs.Performing.{HasLast, HasSeenMore, Hears, IsLabel, Tells, TellsOne, given_by};
+ghost use Rattle.vg_script_part.specs.Performing.{HasLast, HasSeenMore, Hears, IsLabel, IsThere, Tells, TellsOne, given_by};
 ghost use Rattle.vg_script_part.specs.Values as values;
 
 use std::alloc::AllocError;
 use std::sync::Wait;
-use vg_book::{Book, Naming};
+use vg_book::{Book, Naming, Note};
 use vg_client::{Call, Client, Last};
-use vg_labels::{Gift, Given, Label, Told};
+use vg_fence::Fence;
+use vg_labels::{Gift, Given, Label, Shown, Told};
 use vg_machine::{ActReply, Display};
+
+/// The greatest ordinal of a fence.
+const MOST_ORDINAL: u64 = 9_223_372_036_854_775_807;
 
 /// The label that a call gives, if it gives one.
 pub(crate) fn given_label(call: &Call) -> Option<u32>
     ensures { result ≡ gives call.now }
 {
     match call {
-        Call::Export { label, .. } => Some(*label),
+        Call::Begin { label, .. } | Call::Export { label, .. } => Some(*label),
         _ => None,
     }
 }
 
-/// Waits for what a call waits for: then the client has seen the entry with which its label was given, and the call has the token,
-/// if that was one. A label that was given up is answered as want of memory.
+/// Waits for what a call waits for: then the client has seen the entry with which its label was given, unless that is a fence's, and the
+/// call has the token or the fence, if it was one. A label that was given up is answered as want of memory.
 pub(crate) fn hear<'a, B: Naming, R: Wait>(
     rt: &R,
     book: &Book<Display, B>,
@@ -44,15 +47,21 @@ pub(crate) fn hear<'a, B: Naming, R: Wait>(
 {
     match call {
         Call::Import { label, .. } => {
-            let token = hear_label(rt, book, labels, client, told, label)?;
+            let gift = hear_label(rt, book, labels, client, told, label)?;
+            let token = token_in(rt, gift);
             Ok(Call::Import { label, token })
+        }
+        Call::Await { label, .. } => {
+            let gift = hear_label(rt, book, labels, client, told, label)?;
+            let fence = fence_in(rt, gift);
+            Ok(Call::Await { label, fence })
         }
         call => Ok(call),
     }
 }
 
-/// Waits for the label of this number: then the client has seen the entry with which it was given. It gives the token, if that was
-/// one.
+/// Waits for the label of this number, and gives what it was given: then the client has seen the entry with which that was, unless that is
+/// a fence's.
 fn hear_label<'a, B: Naming, R: Wait>(
     rt: &R,
     book: &Book<Display, B>,
@@ -60,22 +69,38 @@ fn hear_label<'a, B: Naming, R: Wait>(
     client: &mut Client<B>,
     told: &mut Vec<Told<'a>>,
     label: u32,
-) -> Result<Option<u32>, AllocError>
+) -> Result<Gift, AllocError>
     requires label { (1 ≤ label) × (label ≤ length labels.now.items) }
     requires told { AreOf labels.now.items told.old.items }
     ensures more { HasSeenMore client.old client.new }
     ensures told { AreOf labels.now.items told.new.items }
-    ensures heard { IfOk result (λ token. (given : Givens)
+    ensures heard { IfOk result (λ gift. (given : Givens)
+        × (gift ≡ given.gift)
         × TellsOne labels.now.items label given told.old.items told.new.items
-        × HasCall client.new.caller.token.seen given.client given.call
-        × (token ≡ values.token_in given.gift)) }
+        × IsThere client.new.caller.token.seen given given.gift) }
 {
     let Some((given, note, shown)) = labels[label as usize - 1].wait(rt, book) else {
         return Err(AllocError);
     };
-    client.meet(book, note);
+    see(book, client, given, note);
     told.push(Told { label, shown })?;
-    Ok(token_in(given.gift))
+    Ok(given.gift)
+}
+
+/// Sees what the note has seen, if there is one: the entry with which this was given, unless that is a fence's.
+fn see<B: Naming>(
+    book: &Book<Display, B>,
+    client: &mut Client<B>,
+    given: Given,
+    note: Option<Note<Display, B>>,
+)
+    requires { IsNoted given note }
+    ensures more { HasSeenMore client.old client.new }
+    ensures there { IsThere client.new.caller.token.seen given given.gift }
+{
+    if let Some(note) = note {
+        client.meet(book, note);
+    }
 }
 
 /// Tells what the client's last call gave to the label of this number, if it gives one. A label that was given up is answered as want
@@ -90,7 +115,7 @@ pub(crate) fn tell<'a, B: Naming, R: Wait>(
     last: &Last,
 ) -> Result<(), AllocError>
     requires label { IsLabel (length labels.now.items) gives }
-    requires last { HasLast gives client.old }
+    requires last { HasLast gives last.now client.old }
     requires told { AreOf labels.now.items told.old.items }
     ensures same { client.new ≡ client.old }
     ensures told { AreOf labels.now.items told.new.items }
@@ -99,27 +124,45 @@ pub(crate) fn tell<'a, B: Naming, R: Wait>(
     let Some(label) = gives else {
         return Ok(());
     };
-    let given = Given {
-        client: client.number(),
-        call: client.calls(),
-        gift: gift_told(last),
-    };
-    let note = client.note(book);
-    let Some(shown) = labels[label as usize - 1].give(rt, note, given) else {
+    let Some(shown) = give(rt, book, &labels[label as usize - 1], client, last) else {
         return Err(AllocError);
     };
     told.push(Told { label, shown })?;
     Ok(())
 }
 
-/// What the last entry of a call gave.
-fn gift_told(last: &Last) -> Gift
-    ensures { result ≡ performing.gift_told last.now }
+/// Gives a label what the client's last call gave. Nothing where it was given up before.
+fn give<'a, B: Naming, R: Wait>(
+    rt: &R,
+    book: &Book<Display, B>,
+    label: &'a Label<Display, B>,
+    client: &mut Client<B>,
+    last: &Last,
+) -> Option<Shown<'a>>
+    requires { HasLast (Some label.now) last.now client.old }
+    ensures same { client.new ≡ client.old }
+    ensures shown { IfSome result (Shows label.now (given_by client.old last.now)) }
 {
+    let (owner, call) = (client.number(), client.calls());
     match last {
-        Last::Act { reply } => gift_of(reply),
-        Last::Command { .. } => Gift::Nothing,
+        Last::Begun { fence } => {
+            label.give_fence(rt, owner, call, fence.lane(), fence.ordinal())
+        }
+        Last::Act { reply } => {
+            let note = client.note(book);
+            label.give(rt, note, given_with(owner, call, gift_of(reply)))
+        }
+        Last::Command { .. } => {
+            let note = client.note(book);
+            label.give(rt, note, given_with(owner, call, Gift::Nothing))
+        }
     }
+}
+
+fn given_with(client: u32, call: u64, gift: Gift) -> Given
+    ensures { result ≡ record { client = client; call = call; gift = gift } }
+{
+    Given { client, call, gift }
 }
 
 /// What an act gives: the token that it made, if it made one.
@@ -132,11 +175,40 @@ fn gift_of(reply: &ActReply) -> Gift
     }
 }
 
-fn token_in(gift: Gift) -> Option<u32>
-    ensures { result ≡ values.token_in gift }
+/// The token, if it is one. What an import waits for was given by an export, which gives no fence: for one this waits without end.
+fn token_in<R: Wait>(rt: &R, gift: Gift) -> Option<u32>
+    ensures token { result ≡ values.token_in gift }
+    ensures no_fence { values.fence_in gift ≡ None }
 {
     match gift {
         Gift::Token { token } => Some(token),
         Gift::Nothing => None,
+        Gift::Fence { .. } => {
+            for _ in rt.forever() {}
+            unreachable!()
+        }
     }
+}
+
+/// The fence, if it is one.
+fn fence_in<R: Wait>(rt: &R, gift: Gift) -> Option<Fence>
+    ensures fence { result ≡ values.fence_in gift }
+    ensures counts { IfSome result (λ fence. 1 ≤ fence.ordinal) }
+{
+    match gift {
+        Gift::Fence { lane, ordinal } => Some(fence_at(rt, lane, ordinal)),
+        _ => None,
+    }
+}
+
+/// The fence of this lane and ordinal. What a command gives is one: for numbers that no fence has this waits without end.
+fn fence_at<R: Wait>(rt: &R, lane: u32, ordinal: u64) -> Fence
+    ensures fence { result ≡ record { lane = lane; ordinal = ordinal } }
+    ensures counts { 1 ≤ ordinal }
+{
+    if lane < 66 && ordinal >= 1 && ordinal <= MOST_ORDINAL {
+        return Fence::new(lane, ordinal);
+    }
+    for _ in rt.forever() {}
+    unreachable!()
 }

@@ -1,1 +1,2 @@
 pub mod TaskLemmas
+pub mod KeepLemmas

@@ -15,14 +15,17 @@ abbrev pub HasFewBytes : the_act.Act → Type 0
 HasFewBytes (acts.Reserve width height format bytes) = bytes ≤ 1228800
 HasFewBytes act = Unit {0}
 
--- What is done for a task is no client's first act, nor its last, nor the telling of a denial, but of a name; and a request of it is no longer than may be sent.
+-- What is done for a task is no client's first act, nor its last, nor the telling of a denial, but of a name, nor that of a fence, which it
+-- waits for; and a request of it is no longer than may be sent.
 abbrev pub IsFitDeed : Deed → Type 0
 IsFitDeed (deeds.Act acts.Enter) = ⊥
 IsFitDeed (deeds.Act acts.Leave) = ⊥
+IsFitDeed (deeds.Act (acts.Await lane ordinal)) = ⊥
 IsFitDeed (deeds.Act (acts.Denied Name)) = Unit {0}
 IsFitDeed (deeds.Act (acts.Denied what)) = ⊥
 IsFitDeed (deeds.Act act) = HasFewBytes act
 IsFitDeed (deeds.Ask ask) = IsAsk ask
+IsFitDeed (deeds.Wait fence) = Unit {0}
 
 -- A buffer is no larger than a display.
 abbrev pub IsFitChange : Change → Type 0

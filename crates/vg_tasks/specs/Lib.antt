@@ -3,4 +3,5 @@ pub mod Known
 pub mod Table
 pub mod Fits
 pub mod Tasks
+pub mod Keeps
 pub mod Plans

@@ -1,5 +1,5 @@
 -- What a call that is within its limits plans: few tasks, each within its limits, or what is denied.
-use Rattle.std.specs.Prelude.{◌≡◌, ◌≤◌, ◌<◌, ◌+◌, ℕ, List, [], ◌∷◌, length, Result, Ok, Err}
+use Rattle.std.specs.Prelude.{◌≡◌, ◌≤◌, ◌<◌, ◌+◌, ℕ, List, [], ◌∷◌, length, IfSome, Result, Ok, Err}
 use Rattle.std.specs.List.{AllByRecursion}
 use Rattle.vg_chain.specs.Space.{most_request, most_room}
 use Rattle.vg_chain.specs.Made.{IsCount}
@@ -8,6 +8,8 @@ use Rattle.vg_client_holds.specs.declared.holds.Holds.{Holds}
 use Rattle.vg_client_holds.specs.Holds.{Deniable}
 use Rattle.vg_calls.specs.declared.call.Call.{Call}
 use Rattle.vg_calls.specs.declared.call.Call.TheVariants as calls
+use Rattle.vg_calls.specs.declared.call.Body.{Body}
+use Rattle.vg_calls.specs.declared.call.Body.TheVariants as bodies
 use Rattle.vg_tasks.specs.declared.task.Change.{Change}
 use Rattle.vg_tasks.specs.declared.task.Change.TheVariants.{NewBuffer, NewBlob, EndOfName}
 use Rattle.vg_tasks.specs.declared.task.Task.{Task}
@@ -24,12 +26,18 @@ abbrev pub weights : List Task → ℕ
 weights [] = 0
 weights (task ∷ more) = weight_of task.change + weights more
 
+-- A ring index is below 64.
+abbrev pub IsBodyFit : Body → Type 0
+IsBodyFit (bodies.Submit context ring) = ring < 64
+IsBodyFit body = Unit {0}
+
 -- A call whose numbers are within its limits, with so many displays.
 abbrev pub IsCallFit : ℕ → Call → Type 0
 IsCallFit displays (calls.Buffer width height format) = (width ≤ 640) × (height ≤ 480)
 IsCallFit displays (calls.Blob size) = size ≤ 1228800
 IsCallFit displays (calls.Drop scanout) = scanout < displays
 IsCallFit displays (calls.Submit context ring) = ring < 64
+IsCallFit displays (calls.Begin label timeline body) = IfSome timeline (λ t. t.1 < 64) × IsBodyFit body
 IsCallFit displays (calls.Raw queue room shape bytes) = (length bytes ≤ most_request) × (room ≤ most_room) × IsCount shape
 IsCallFit displays call = Unit {0}
 

@@ -1,5 +1,5 @@
 -- The tasks that calls are made of: for each what is done, and what the answer changes.
-use Rattle.std.specs.Prelude.{ℕ, ℤ, pos, ◌+◌, ◌-◌, ◌*◌, ◌^◌, min, List, map, replicate, Some, None}
+use Rattle.std.specs.Prelude.{ℕ, ℤ, pos, ◌+◌, ◌-◌, ◌*◌, ◌^◌, min, List, map, replicate, Option, Some, None}
 use Rattle.vg_formats.specs.declared.rect.Rect.{Rect}
 use Rattle.vg_formats.specs.declared.entry.MemEntry.{MemEntry}
 use Rattle.vg_pages.specs.Memory.{page_address}
@@ -12,10 +12,12 @@ use Rattle.vg_chain.specs.declared.shape.Shape.{Shape}
 use Rattle.vg_client_holds.specs.declared.act.Act as the_act
 use Rattle.vg_client_holds.specs.declared.act.Act.TheVariants as acts
 use Rattle.vg_client_holds.specs.declared.act.What.TheVariants.{Name}
+use Rattle.vg_calls.specs.declared.call.ContextRef.{ContextRef}
+use Rattle.vg_fence.specs.Fences.{FenceData}
 use Rattle.vg_names.specs.declared.names.Held.{Held}
 use Rattle.vg_tasks.specs.declared.task.Change.{Change}
 use Rattle.vg_tasks.specs.declared.task.Change.TheVariants.{Nothing, NewBuffer, NewBlob, Imported, EndOfName, Shows, NewContext, EndOfContext, GoesOn}
-use Rattle.vg_tasks.specs.declared.task.Deed.TheVariants.{Act, Ask}
+use Rattle.vg_tasks.specs.declared.task.Deed.TheVariants.{Act, Ask, Wait}
 use Rattle.vg_tasks.specs.declared.task.Task.{Task}
 use Rattle.vg_driver.specs.declared.ask.Ask.TheVariants.{Command, Raw}
 use Rattle.vg_driver.specs.declared.request.Way.{Way}
@@ -42,8 +44,11 @@ no_rect = record { x = 0; y = 0; width = 0; height = 0 }
 abbrev pub page_entry : ℕ → MemEntry
 page_entry page = record { addr = page_address page; length = 4096 }
 
+abbrev pub info_on : Way → Task
+info_on way = command_task way (TwoD commands.DisplayInfo) Nothing
+
 abbrev pub info_task : Task
-info_task = two_d_task commands.DisplayInfo Nothing
+info_task = info_on (Control 0)
 
 abbrev pub edid_task : ℕ → Task
 edid_task scanout = control_task (Edid scanout) Nothing
@@ -85,8 +90,11 @@ abbrev pub offset_of : ℕ → ℕ → ℕ → ℕ
 offset_of width x y = min (4 * (width * y + x)) (2 ^ 64 - 1)
 
 -- A transfer takes each pixel from its own place in the buffer.
+abbrev pub send_on : Way → Held → Rect → Task
+send_on way held rect = command_task way (TwoD (commands.Transfer rect (offset_of held.width rect.x rect.y) held.key)) Nothing
+
 abbrev pub send_task : Held → Rect → Task
-send_task held rect = two_d_task (commands.Transfer rect (offset_of held.width rect.x rect.y) held.key) Nothing
+send_task held rect = send_on (Control 0) held rect
 
 abbrev pub export_task : ℕ → Task
 export_task key = act_task (acts.Export key)
@@ -98,8 +106,11 @@ import_task token = record { deed = Act (acts.Import token); change = Imported }
 abbrev pub no_import_task : Task
 no_import_task = record { deed = Act (acts.Denied Name); change = Imported }
 
+abbrev pub flush_on : Way → ℕ → Rect → Task
+flush_on way key rect = command_task way (TwoD (commands.Flush rect key)) Nothing
+
 abbrev pub flush_task : ℕ → Rect → Task
-flush_task key rect = two_d_task (commands.Flush rect key) Nothing
+flush_task key rect = flush_on (Control 0) key rect
 
 abbrev pub take_task : ℕ → Task
 take_task scanout = act_task (acts.Take scanout)
@@ -168,6 +179,15 @@ attach_context_task client number key = context_task client number (CtxAttach ke
 
 abbrev pub detach_context_task : ℕ → ℕ → ℕ → Task
 detach_context_task client number key = context_task client number (CtxDetach key) Nothing
+
+-- The way of a command that is begun: a timeline of a context of the client, or none.
+abbrev pub begun_way : ℕ → Option (ContextRef × ℕ) → Way
+begun_way client (Some (context, ring)) = Timeline (context_id client context.number) ring
+begun_way client None = Control 0
+
+-- The client waits for a fence, and tells so.
+abbrev pub wait_task : FenceData → Task
+wait_task fence = record { deed = Wait fence; change = Nothing }
 
 -- Commands of no bytes on a timeline of a context.
 abbrev pub submit_task : ℕ → ℕ → ℕ → Task

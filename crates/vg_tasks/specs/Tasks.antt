@@ -1,5 +1,5 @@
 -- The tasks of each call of a client, one after another. A task gives one entry.
-use Rattle.std.specs.Prelude.{ℕ, ℤ, zero, suc, ◌+◌, ◌==◌, ◌&&◌, Bool, false, if◌then◌else◌, List, [], ◌∷◌, ◌++◌, map, Option, Some, None, Result, Ok, Err}
+use Rattle.std.specs.Prelude.{ℕ, ℤ, zero, suc, ◌+◌, ◌==◌, ◌&&◌, Bool, true, false, if◌then◌else◌, List, [], ◌∷◌, ◌++◌, map, Option, Some, None, Result, Ok, Err}
 use Rattle.vg_formats.specs.declared.rect.Rect.{Rect}
 use Rattle.vg_client_holds.specs.declared.act.What.{What}
 use Rattle.vg_client_holds.specs.declared.act.What.TheVariants.{Name, Scanout}
@@ -7,6 +7,10 @@ use Rattle.vg_client_holds.specs.declared.holds.Holds.{Holds}
 use Rattle.vg_client_holds.specs.Holds.{has_number}
 use Rattle.vg_calls.specs.declared.call.Call.{Call}
 use Rattle.vg_calls.specs.declared.call.Call.TheVariants as calls
+use Rattle.vg_calls.specs.declared.call.Body.{Body}
+use Rattle.vg_calls.specs.declared.call.Body.TheVariants as bodies
+use Rattle.vg_driver.specs.declared.request.Way.{Way}
+use Rattle.vg_fence.specs.Fences.{FenceData}
 use Rattle.vg_names.specs.declared.names.Held.{Held}
 use Rattle.vg_calls.specs.declared.call.NameRef.{NameRef}
 use Rattle.vg_calls.specs.declared.call.ContextRef.{ContextRef}
@@ -14,7 +18,7 @@ use Rattle.vg_tasks.specs.declared.task.Task.{Task}
 use Rattle.vg_tasks.specs.Known.{Known}
 use Rattle.vg_names.specs.Names.{NamesState, found, has_one_name}
 use Rattle.vg_names.specs.Contexts.{ContextsState, is_current}
-use Rattle.vg_tasks.specs.Table.{attach_context_task, clear_task, cursor_task, detach_context_task, drop_task, edid_task, end_context_task, export_task, flush_task, hide_cursor_task, hide_task, import_task, info_task, load_task, make_context_task, move_task, no_import_task, no_rect, raw_task, release_task, reserve_blob_task, reserve_task, send_task, show_blob_task, show_task, store_task, submit_task, take_task, uuid_task}
+use Rattle.vg_tasks.specs.Table.{attach_context_task, begun_way, clear_task, cursor_task, detach_context_task, drop_task, edid_task, end_context_task, export_task, flush_on, flush_task, hide_cursor_task, hide_task, import_task, info_on, info_task, load_task, make_context_task, move_task, no_import_task, no_rect, raw_task, release_task, reserve_blob_task, reserve_task, send_on, send_task, show_blob_task, show_task, store_task, submit_task, take_task, uuid_task, wait_task}
 
 -- The tasks of a call on a name: where the name isn't current the call is denied for it.
 abbrev pub if_current : Option Held → (Held → List Task) → Result (List Task) What
@@ -74,8 +78,28 @@ abbrev pub import_tasks : Option ℕ → List Task
 import_tasks (Some token) = import_task token ∷ []
 import_tasks None = no_import_task ∷ []
 
+-- The context of a timeline, where one is named, has to be current.
+abbrev pub is_timeline : ContextsState → Option (ContextRef × ℕ) → Bool
+is_timeline contexts None = true
+is_timeline contexts (Some (context, ring)) = is_current context.number contexts
+
+abbrev pub on_timeline : ContextsState → Option (ContextRef × ℕ) → Result (List Task) What → Result (List Task) What
+on_timeline contexts timeline tasks = if is_timeline contexts timeline then tasks else Err Name
+
+-- What a begun command is: one task, which goes this way.
+abbrev pub body_tasks : Known → Way → Body → Result (List Task) What
+body_tasks known way bodies.Info = Ok (info_on way ∷ [])
+body_tasks known way (bodies.Send name rect) = with_held known.names name (λ held. send_on way held (sent_of held rect) ∷ [])
+body_tasks known way (bodies.Flush name rect) = with_held known.names name (λ held. flush_on way held.key rect ∷ [])
+body_tasks known way (bodies.Submit context ring) = with_context known.contexts context (Ok (submit_task known.holds.client context.number ring ∷ []))
+
+-- The wait for a fence, if there is one.
+abbrev pub await_tasks : Option FenceData → Result (List Task) What
+await_tasks (Some fence) = Ok (wait_task fence ∷ [])
+await_tasks None = Err Name
+
 -- The tasks of a call, by what its client knows; or what is denied before there is any: a name that isn't current, of a buffer or
--- of a context, and the end of a lease that there isn't. An import without a token is denied by its task, since its name takes a number.
+-- of a context, the end of a lease that there isn't, and a wait for no fence. An import without a token is denied by its task, since its name takes a number.
 abbrev pub tasks_of : Known → Call → Result (List Task) What
 tasks_of known calls.Info = Ok (info_task ∷ [])
 tasks_of known (calls.Edid scanout) = Ok (edid_task scanout ∷ [])
@@ -104,8 +128,30 @@ tasks_of known (calls.Submit context ring) = with_context known.contexts context
 tasks_of known (calls.Uuid name) = with_held known.names name (λ held. uuid_task held.key ∷ [])
 tasks_of known (calls.Export name label) = with_held known.names name (λ held. export_task held.key ∷ [])
 tasks_of known (calls.Import label token) = Ok (import_tasks token)
+tasks_of known (calls.Begin label timeline body) = on_timeline known.contexts timeline (body_tasks known (begun_way known.holds.client timeline) body)
+tasks_of known (calls.Await label fence) = await_tasks fence
 tasks_of known (calls.Raw queue room shape bytes) = Ok (raw_task queue room shape bytes ∷ [])
 tasks_of known (calls.Close name) = with_held known.names name (close_tasks known.names.current known.shows)
+
+-- A call that begins its one command, and goes on without the reply.
+abbrev pub begins : Call → Bool
+begins (calls.Begin label timeline body) = true
+begins call = false
+
+abbrev pub is_planned : Result (List Task) What → Bool
+is_planned (Ok tasks) = true
+is_planned (Err what) = false
+
+-- A call that gives up a lease, a buffer or a context.
+abbrev pub gives_up : Call → Bool
+gives_up (calls.Drop scanout) = true
+gives_up (calls.Close name) = true
+gives_up (calls.EndContext context) = true
+gives_up call = false
+
+-- Such a call, where it isn't denied at once, comes behind all that its client has begun.
+abbrev pub finishes : Known → Call → Bool
+finishes known call = gives_up call && is_planned (tasks_of known call)
 
 -- The leased ones of so many scanouts from this one on are given back, rising.
 abbrev pub leases_back : List ℕ → ℕ → ℕ → List Task

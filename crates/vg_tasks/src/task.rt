@@ -6,9 +6,11 @@ ghost use Rattle.vg_tasks.specs.Table as table;
 ghost use Rattle.vg_tasks.specs.Table.{no_rect, page_entry};
 
 use std::alloc::{AllocError, Global};
+use vg_calls::ContextRef;
 use vg_chain::Shape;
 use vg_client_holds::{Act, What};
 use vg_driver::{Ask, Way};
+use vg_fence::Fence;
 use vg_formats::{MemEntry, Rect};
 use vg_list::Seq;
 use vg_names::Held;
@@ -28,6 +30,8 @@ pub struct Task {
 pub enum Deed {
     Act { act: Act },
     Ask { ask: Ask },
+    /// Waits for a fence, and tells so by an act.
+    Wait { fence: Fence },
 }
 
 /// What the answer to a task changes, for its client and for the rest of the call.
@@ -109,7 +113,14 @@ fn two_d_task(command: Command2d, change: Change) -> Task
 pub(crate) fn info_task() -> Task
     ensures { result ≡ table.info_task }
 {
-    two_d_task(Command2d::DisplayInfo, Change::Nothing)
+    info_on(Way::Control { context: 0 })
+}
+
+/// The same, on some way.
+pub(crate) fn info_on(way: Way) -> Task
+    ensures { result ≡ table.info_on way }
+{
+    command_task(way, Command::TwoD(Command2d::DisplayInfo), Change::Nothing)
 }
 
 /// GET_EDID
@@ -272,12 +283,19 @@ pub(crate) fn load_task(key: u32, offset: u32, length: u32) -> Task
 pub(crate) fn send_task(held: Held, rect: Rect) -> Task
     ensures { result ≡ table.send_task held rect }
 {
+    send_on(Way::Control { context: 0 }, held, rect)
+}
+
+/// The same, on some way.
+pub(crate) fn send_on(way: Way, held: Held, rect: Rect) -> Task
+    ensures { result ≡ table.send_on way held rect }
+{
     let command = Command2d::Transfer {
         rect,
         offset: offset_of(held.width, rect.x, rect.y),
         resource: held.key,
     };
-    two_d_task(command, Change::Nothing)
+    command_task(way, Command::TwoD(command), Change::Nothing)
 }
 
 /// The place of a pixel in a buffer of this width; one that no offset can tell is told as the greatest there is.
@@ -323,11 +341,41 @@ pub(crate) fn no_import_task() -> Task
 pub(crate) fn flush_task(key: u32, rect: Rect) -> Task
     ensures { result ≡ table.flush_task key rect }
 {
+    flush_on(Way::Control { context: 0 }, key, rect)
+}
+
+/// The same, on some way.
+pub(crate) fn flush_on(way: Way, key: u32, rect: Rect) -> Task
+    ensures { result ≡ table.flush_on way key rect }
+{
     let command = Command2d::Flush {
         rect,
         resource: key,
     };
-    two_d_task(command, Change::Nothing)
+    command_task(way, Command::TwoD(command), Change::Nothing)
+}
+
+/// The way of a command that is begun: a timeline of a context of the client, or none.
+pub(crate) fn begun_way(client: u32, timeline: Option<(ContextRef, u8)>) -> Way
+    ensures { result ≡ table.begun_way client timeline }
+{
+    match timeline {
+        Some((context, ring)) => Way::Timeline {
+            context: context_id(client, context.number),
+            ring,
+        },
+        None => Way::Control { context: 0 },
+    }
+}
+
+/// Waits for a fence, and tells so.
+pub(crate) fn wait_task(fence: Fence) -> Task
+    ensures { result ≡ table.wait_task fence }
+{
+    Task {
+        deed: Deed::Wait { fence },
+        change: Change::Nothing,
+    }
 }
 
 /// SET_SCANOUT of a part of a buffer.

@@ -1,8 +1,8 @@
 //! The tasks of each call.
 
-ghost use Rattle.std.specs.Prelude.{◌≡◌, ◌<◌, ◌≤◌, ◌+◌, ◌*◌, ◌^◌, ◌++◌, ◌∷◌, [], if◌then◌else◌, map, length, Ok, OnOk, OnErr, IfOk, IfErr};
+ghost use Rattle.std.specs.Prelude.{◌≡◌, ◌<◌, ◌≤◌, ◌+◌, ◌*◌, ◌^◌, ◌++◌, ◌∷◌, [], if◌then◌else◌, map, length, Ok, OnOk, OnErr, IfOk, IfErr, IfSome};
 ghost use Rattle.std.specs.List.{AllByRecursion};
-ghost use Rattle.vg_tasks.specs.Plans.{IsCallFit, Plans, weights};
+ghost use Rattle.vg_tasks.specs.Plans.{IsBodyFit, IsCallFit, Plans, weights};
 ghost use Rattle.vg_tasks.specs.Fits.{IsFit};
 ghost use Rattle.vg_client_holds.specs.Holds.{Deniable as MayDeny, has_number};
 ghost use Rattle.vg_client_holds.specs.declared.act.What.TheVariants as whats;
@@ -13,15 +13,16 @@ ghost use Rattle.vg_names.specs.Names.{has_one_name};
 
 use crate::queue::Tasks;
 use crate::task::{
-    Task, act_task, attach_context_task, clear_task, cursor_task, detach_context_task, drop_task,
-    edid_task, end_context_task, export_task, flush_task, hide_cursor_task, hide_task, import_task,
-    info_task, load_task, make_context_task, move_task, no_import_task, raw_task, release_task,
-    reserve_blob_task, reserve_task, send_task, show_blob_task, show_task, store_task, submit_task,
-    uuid_task,
+    Task, act_task, attach_context_task, begun_way, clear_task, cursor_task, detach_context_task,
+    drop_task, edid_task, end_context_task, export_task, flush_on, flush_task, hide_cursor_task,
+    hide_task, import_task, info_on, info_task, load_task, make_context_task, move_task,
+    no_import_task, raw_task, release_task, reserve_blob_task, reserve_task, send_on, send_task,
+    show_blob_task, show_task, store_task, submit_task, uuid_task, wait_task,
 };
 use std::alloc::{AllocError, Global};
-use vg_calls::{Call, NameRef};
+use vg_calls::{Body, Call, ContextRef, NameRef};
 use vg_client_holds::{Act, Holds, What};
+use vg_fence::Fence;
 use vg_formats::Rect;
 use vg_list::Seq;
 use vg_names::{Contexts, Held, Names};
@@ -154,6 +155,10 @@ pub fn tasks_of(
             with_held!(names, name, held => one(alloc, export_task(held.key)))
         }
         Call::Import { token, .. } => import_tasks(alloc, token),
+        Call::Begin { timeline, body, .. } => {
+            begun_tasks(alloc, holds, names, contexts, timeline, body)
+        }
+        Call::Await { fence, .. } => await_tasks(alloc, fence),
         Call::Raw {
             queue,
             room,
@@ -163,6 +168,82 @@ pub fn tasks_of(
         Call::Close { name } => {
             with_held!(names, name, held => close_held(alloc, names, shows, held))
         }
+    }
+}
+
+/// The one command of a call that begins it.
+fn begun_tasks(
+    alloc: Global,
+    holds: &Holds,
+    names: &Names,
+    contexts: &Contexts,
+    timeline: Option<(ContextRef, u8)>,
+    body: Body,
+) -> Result<Result<Tasks, What>, AllocError>
+    requires timeline { IfSome timeline (λ t. t.1 < 64) }
+    requires body { IsBodyFit body }
+    ensures plans { Plans (plan.on_timeline contexts.now timeline (plan.body_tasks (record { holds = holds.now; names = names.now; contexts = contexts.now; shows = [] }) (table.begun_way holds.now.client timeline) body)) result }
+    ensures denied { IfOk result (λ done. IfErr done (λ what. what ≡ whats.Name)) }
+{
+    if !is_timeline(contexts, timeline) {
+        return Ok(Err(What::Name));
+    }
+    let way = begun_way(holds.client, timeline);
+    match body {
+        Body::Info => one(alloc, info_on(way)),
+        Body::Send { name, rect } => with_held!(names, name, held => one(
+            alloc,
+            send_on(way, held, sent_of(held, rect)),
+        )),
+        Body::Flush { name, rect } => {
+            with_held!(names, name, held => one(alloc, flush_on(way, held.key, rect)))
+        }
+        Body::Submit { context, ring } => with_context!(
+            contexts,
+            context,
+            one(alloc, submit_task(holds.client, context.number, ring))
+        ),
+    }
+}
+
+/// Whether the context of a timeline is current, where there is one.
+fn is_timeline(contexts: &Contexts, timeline: Option<(ContextRef, u8)>) -> bool
+    ensures { result ≡ plan.is_timeline contexts.now timeline }
+{
+    match timeline {
+        Some((context, _)) => contexts.is_current(context.number),
+        None => true,
+    }
+}
+
+/// The wait for a fence, if there is one.
+fn await_tasks(alloc: Global, fence: Option<Fence>) -> Result<Result<Tasks, What>, AllocError>
+    ensures plans { Plans (plan.await_tasks fence) result }
+    ensures denied { IfOk result (λ done. IfErr done (λ what. what ≡ whats.Name)) }
+{
+    match fence {
+        Some(fence) => one(alloc, wait_task(fence)),
+        None => Ok(Err(What::Name)),
+    }
+}
+
+/// Whether a call begins its one command, and goes on without the reply.
+pub fn begins(call: &Call) -> bool
+    ensures { result ≡ plan.begins call.now }
+{
+    match call {
+        Call::Begin { .. } => true,
+        _ => false,
+    }
+}
+
+/// Whether a call gives up a lease, a buffer or a context.
+pub fn gives_up(call: &Call) -> bool
+    ensures { result ≡ plan.gives_up call.now }
+{
+    match call {
+        Call::Drop { .. } | Call::Close { .. } | Call::EndContext { .. } => true,
+        _ => false,
     }
 }
 

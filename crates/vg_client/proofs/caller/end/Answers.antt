@@ -1,35 +1,31 @@
-use Rattle.std.proofs.Common.{◌∙◌, ap, arith}
-use Rattle.vg_client_holds.specs.declared.holds.Holds.{Holds}
-use Rattle.vg_tasks.specs.Tasks.{end_tasks}
-use Rattle.vg_client.proofs.PlayLemmas.{end-stood, end-unbegun, end-unleft, ended-by, err-then, on_err, three-ok, used-length}
+use Rattle.std.proofs.Common.{◌∙◌, arith}
+use Rattle.vg_client.proofs.PlayLemmas.{err-then, on_err}
+use Rattle.vg_client.proofs.StepLemmas.{behind-finished, end-left-off, end-unfinished, ended-behind, ok-then}
 use Rattle.vg_client.proofs.caller.end.Goals as goal
 
-pub returns-in_err-tasks-clause-begun : goal.returns-in_err-tasks-clause-begun
-returns-in_err-tasks-clause-begun g c = on_err _ (end-unbegun c.args.client.now c.requires.ready)
+pub returns-in_err-finish-clause-begun : goal.returns-in_err-finish-clause-begun
+returns-in_err-finish-clause-begun g c = on_err _ (end-unfinished c.args.client.now c.finish.new.client.token c.finish.ensures.idle)
 
-pub play-requires-clause-room : goal.play-requires-clause-room
-play-requires-clause-room g c =
-    let ready = c.requires.ready in
-    let used = used-length c.args.client.now.token ready.active in
-    let displays = ap (λ (h : Holds). h.displays) c.holds.ensures in
-    omega (arith, used, displays, c.in_ok-tasks.ensures.few, ready.small.few_displays, ready.small.current, ready.small.made, ready.small.current_contexts, ready.small.made_contexts, c.requires.room)
+pub give_up-requires-clause-ready : goal.give_up-requires-clause-ready
+give_up-requires-clause-ready g c = c.in_ok-finish.ensures.done.ready
 
-pub returns-in_err-play-clause-begun : goal.returns-in_err-play-clause-begun
-returns-in_err-play-clause-begun g c =
-    let client = c.args.client.now in
-    let tasks = c.in_ok-tasks.ensures.tasks ∙ ap (λ (h : Holds). end_tasks (record { holds = h; names = client.names; contexts = client.contexts; shows = client.shows.items })) c.holds.ensures in
-    on_err _ (end-stood client c.play.new.client _ tasks c.in_err-play.ensures.begun)
+pub give_up-requires-clause-out : goal.give_up-requires-clause-out
+give_up-requires-clause-out g c = (behind-finished c.args.client.now c.finish.new.client c.in_ok-finish.ensures.done).out
+
+pub give_up-requires-clause-idle : goal.give_up-requires-clause-idle
+give_up-requires-clause-idle g c = c.finish.ensures.idle.out
+
+pub give_up-requires-clause-room : goal.give_up-requires-clause-room
+give_up-requires-clause-room g c = let used = c.in_ok-finish.ensures.done.idle.used in omega (arith, used, c.requires.room)
 
 pub returns-clause-ended : goal.returns-clause-ended
-returns-clause-ended g c =
-    let client = c.args.client.now in
-    let done = c.in_ok-play.ensures.done in
-    let tasks = c.in_ok-tasks.ensures.tasks ∙ ap (λ (h : Holds). end_tasks (record { holds = h; names = client.names; contexts = client.contexts; shows = client.shows.items })) c.holds.ensures in
-    three-ok _ (λ account entry next. ended-by client c.play.new.client _ done.0 c.leave.new.token tasks done.1 c.requires.ready done.2 account entry next) c.leave.ensures.account c.leave.ensures.entry c.leave.ensures.next
+returns-clause-ended g c = ok-then _ (ended-behind c.args.client.now c.finish.new.client c.give_up.new.client.token c.in_ok-finish.ensures.done) c.give_up.ensures.left
 
 pub returns-clause-begun : goal.returns-clause-begun
-returns-clause-begun g c =
-    let client = c.args.client.now in
-    let done = c.in_ok-play.ensures.done in
-    let tasks = c.in_ok-tasks.ensures.tasks ∙ ap (λ (h : Holds). end_tasks (record { holds = h; names = client.names; contexts = client.contexts; shows = client.shows.items })) c.holds.ensures in
-    err-then _ (end-unleft client c.play.new.client _ done.0 c.leave.new.token tasks done.1 done.2.added) c.leave.ensures.err
+returns-clause-begun g c = err-then _ (end-left-off c.args.client.now c.finish.new.client c.give_up.new.client.token c.in_ok-finish.ensures.done) c.give_up.ensures.begun
+
+pub returns-clause-number : goal.returns-clause-number
+returns-clause-number g c = c.give_up.ensures.number ∙ c.in_ok-finish.ensures.done.idle.number
+
+pub returns-clause-start : goal.returns-clause-start
+returns-clause-start g c = c.give_up.ensures.start ∙ c.in_ok-finish.ensures.done.idle.start

@@ -5,7 +5,7 @@ use Rattle.vg_client.proofs.play.deny.Goals as goal
 pub returns-in_err-played-clause-begun : goal.returns-in_err-played-clause-begun
 returns-in_err-played-clause-begun g c =
     let client = c.args.client.now in
-    on_err _ (stood-undenied client client c.args.what (added-none client c.requires.ready.active.account_is.idle))
+    on_err _ (stood-undenied client client c.args.what (added-none client))
 
 pub returns-in_err-added-clause-begun : goal.returns-in_err-added-clause-begun
 returns-in_err-added-clause-begun g c = on_err _ (stood-undenied c.args.client.now c.make_act.new.client c.args.what c.in_err-added.ensures.err)

@@ -12,9 +12,9 @@ returns-clause-done g c =
     let is = given-is account.number (account.used + 1) c.args.act reply c.is_denial-is_told.result c.given_act.result c.is_denial-is_told.ensures c.given_act.ensures in (
       reply,
       done-by c.args.client.now _ (entries.Act account.number (account.used + 1) c.args.act reply) (record { number = c.in_ok-number.number; given = c.given_act.result })
-          added.0 c.requires.may.present (stays-act account.number (account.used + 1) c.args.act reply c.requires.stays) refl refl refl is,
+          added.0 c.requires.may.present (stays-act account.number (account.used + 1) c.args.act reply c.requires.stays) refl refl refl refl is,
       few-act added.1.0 account.number c.args.act reply c.is_denial-is_told.result c.given_act.result c.requires.few added.1.1 c.given_act.ensures,
     )
 
 pub returns-in_err-number-clause-err : goal.returns-in_err-number-clause-err
-returns-in_err-number-clause-err g c = on_err _ (unadded c.args.client.now _ c.in_err-number.ensures.err)
+returns-in_err-number-clause-err g c = on_err _ (unadded c.args.client.now _ c.in_err-number.ensures.err refl)

@@ -16,9 +16,9 @@ returns-clause-done g c =
       added.0,
       answer.reply,
       done-by client _ (entries.Command account.number (account.used + 1) (request_for c.args.ask.now added.0) answer.reply) (record { number = answer.entry; given = givens.Command c.queue.result answer.reply })
-          added.1 c.requires.active.present refl refl refl refl (ap (λ (q : Queue). givens.Command q answer.reply) (c.queue.ensures ∙ sym (made_queue c.args.ask.now added.0))),
+          added.1 c.requires.active.present refl refl refl refl refl (ap (λ (q : Queue). givens.Command q answer.reply) (c.queue.ensures ∙ sym (made_queue c.args.ask.now added.0))),
       tt,
     )
 
 pub returns-in_err-answer-clause-err : goal.returns-in_err-answer-clause-err
-returns-in_err-answer-clause-err g c = on_err _ (unadded c.args.client.now _ c.in_err-answer.ensures.err)
+returns-in_err-answer-clause-err g c = on_err _ (unadded c.args.client.now _ c.in_err-answer.ensures.err refl)

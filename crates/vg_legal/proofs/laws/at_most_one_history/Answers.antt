@@ -4,4 +4,4 @@ use Rattle.vg_legal.proofs.laws.at_most_one_history.Goals as goal
 
 pub returns : goal.returns
 returns c = λ script G H one finished known left right.
-    same_history script.clients (setup_of script) left.values right.values G H one known left.sound left.follows left.clients right.sound right.follows right.clients
+    same_history script.clients (setup_of script) left.values right.values G H one finished known left.sound left.follows left.clients right.sound right.follows right.clients

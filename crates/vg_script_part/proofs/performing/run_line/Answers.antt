@@ -1,9 +1,9 @@
-use Rattle.std.proofs.Common.{inr, subst, sym}
+use Rattle.std.proofs.Common.{refl, subst, sym}
 use Rattle.vg_script_part.specs.Performing.{HasDoneLine, HasKept}
 use Rattle.vg_driver.specs.Tickets.{Account}
 use Rattle.vg_tasks.specs.Plans.{IsCallFit}
-use Rattle.vg_script_part.proofs.LineLemmas.{heard-fits, kept-added, kept-behind, ok_more, on_err}
-use Rattle.vg_script_part.proofs.ToldLemmas.{has-last, line-done}
+use Rattle.vg_script_part.proofs.LineLemmas.{heard-fits, kept-behind, ok_more, on_err}
+use Rattle.vg_script_part.proofs.ToldLemmas.{gone-few, has-last, line-done}
 use Rattle.vg_script_part.proofs.performing.run_line.Goals as goal
 
 pub call-requires-clause-fit : goal.call-requires-clause-fit
@@ -13,21 +13,18 @@ call-requires-clause-fit g c =
 
 pub tell-requires-clause-last : goal.tell-requires-clause-last
 tell-requires-clause-last g c =
-    let done = c.in_ok-outcome.ensures.done in
-    has-last c.args.labels.now.items c.hear.new.client.caller.token.seen c.hear.new.client c.call.new.self c.given_label-gives.result c.args.call c.in_ok-call.call c.args.told.now.items c.hear.new.told.items done.0
-    c.given_label-gives.ensures c.in_ok-call.ensures.heard done.1 done.2
+    has-last c.args.labels.now.items c.hear.new.client.caller.token.seen c.hear.new.client c.call.new.self c.given_label-gives.result c.args.call c.in_ok-call.call c.args.told.now.items c.hear.new.told.items c.in_ok-outcome.outcome
+    c.given_label-gives.ensures c.in_ok-call.ensures.heard c.in_ok-outcome.outcome.last c.in_ok-outcome.ensures.done
 
 pub returns-clause-done : goal.returns-clause-done
 returns-clause-done g c =
-    let done = c.in_ok-outcome.ensures.done in
     ok_more c.tell.result c.tell.ensures.tells (λ tells.
     subst (λ new. HasDoneLine c.args.told.now.items c.tell.new.told.items c.args.client.now new c.args.call) (sym c.tell.ensures.same)
-    (line-done c.args.labels.now.items c.args.client.now c.hear.new.client c.call.new.self c.given_label-gives.result c.args.call c.in_ok-call.call c.args.told.now.items c.hear.new.told.items c.tell.new.told.items done.0 c.in_ok-outcome.outcome
-    c.requires.ready.active.account_is.idle c.given_label-gives.ensures c.hear.ensures.more c.in_ok-call.ensures.heard done.1 done.2 done.3 done.4 c.in_ok-outcome.ensures.goes_on.1 tells))
+    (line-done c.args.labels.now.items c.args.client.now c.hear.new.client c.call.new.self c.given_label-gives.result c.args.call c.in_ok-call.call c.args.told.now.items c.hear.new.told.items c.tell.new.told.items c.in_ok-outcome.outcome
+    c.in_ok-outcome.outcome.last refl c.given_label-gives.ensures c.hear.ensures.more c.in_ok-call.ensures.heard c.in_ok-outcome.ensures.done c.in_ok-outcome.ensures.goes_on.1 tells))
 
 pub returns-clause-err : goal.returns-clause-err
 returns-clause-err g c =
-    let done = c.in_ok-outcome.ensures.done in
     on_err c.tell.result
     (subst (λ new. HasKept c.args.client.now new) (sym c.tell.ensures.same)
-    (kept-behind c.args.client.now c.hear.new.client c.call.new.self c.hear.ensures.more (kept-added c.hear.new.client c.call.new.self done.0 done.2.added (inr done.3))))
+    (kept-behind c.args.client.now c.hear.new.client c.call.new.self c.hear.ensures.more (gone-few c.hear.new.client c.call.new.self c.in_ok-call.call c.in_ok-outcome.outcome c.in_ok-outcome.outcome.last c.in_ok-outcome.ensures.done)))

@@ -1,5 +1,5 @@
 use Rattle.std.proofs.Common.{◌+◌, ◌-◌, ◌≤◌, ◌∙◌, rules, ℕ, length, sym, ap, subst}
-use Rattle.std.specs.Prelude.{vec_len, vec_capacity}
+use Rattle.std.specs.VecDeque.{deque_len, deque_capacity}
 use Rattle.vg_chain.specs.Made.{IsNeeded}
 use Rattle.vg_ring.specs.Ends.{HasRoom}
 use Rattle.vg_driver.proofs.HalfLemmas.{half_sent}
@@ -13,9 +13,9 @@ publish-requires-clause-room g c =
 pub invariant_of-self-2 : goal.invariant_of-self-2
 invariant_of-self-2 g c =
     let d = c.self.inside in
-    let room : vec_len c.reserve.new.self + (c.published.result - c.reaped.result + 1) ≤ vec_capacity c.reserve.new.self = search rules in
-    half_sent g.M.Machine g.Q.OfQueue.queue d.end (vec_len d.replies) (vec_capacity d.replies) d.heard.items c.self.invariant c.args.shape c.load.result c.publish.new.self c.publish.ensures.published
-    (vec_len c.reserve.new.self) (vec_capacity c.reserve.new.self) c.published.result c.reaped.result c.published.ensures c.reaped.ensures room
+    let room : deque_len c.reserve.new.self + (c.published.result - c.reaped.result + 1) ≤ deque_capacity c.reserve.new.self = search rules in
+    half_sent g.M.Machine g.Q.OfQueue.queue d.end (deque_len d.replies) (deque_capacity d.replies) d.heard.items c.self.invariant c.args.shape c.load.result c.publish.new.self c.publish.ensures.published
+    (deque_len c.reserve.new.self) (deque_capacity c.reserve.new.self) c.published.result c.reaped.result c.published.ensures c.reaped.ensures room
 
 pub returns : goal.returns
 returns g c = ((c.pass_of-pass.result, c.pass_of-pass.ensures), c.call-call.ensures ∙ ap (λ p. p.order.call) c.pass_of-pass.ensures.pass)

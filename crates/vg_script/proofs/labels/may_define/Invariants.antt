@@ -1,6 +1,6 @@
 use Rattle.std.proofs.Common.{◌≡◌, length}
 use Rattle.vg_script_words.specs.Words.{words_of}
-use Rattle.vg_script.proofs.labels.is_export.Given as goal
+use Rattle.vg_script.proofs.labels.may_define.Given as goal
 
 abbrev pub invariant-loop-rest : goal.invariant-loop-rest
 invariant-loop-rest l = words_of l.rest ≡ words_of l.line
