@@ -21,7 +21,7 @@ pub record HasGap (gaps : BTreeMap ℕ ℕ) (n : ℕ) : Type 0 where
   pub low : first ≤ n
   pub high : n ≤ last
 
-same-test : (a b : Bool) → (a ≡ true → b ≡ true) → (b ≡ true → a ≡ true) → a ≡ b
+pub same-test : (a b : Bool) → (a ≡ true → b ≡ true) → (b ≡ true → a ≡ true) → a ≡ b
 same-test a b to from = same_from_decides a b ((λ h. h), (λ h. h)) (from, to)
 
 is-low : (n first last : ℕ) → is_within n (first, last) ≡ true → first ≤ n

@@ -29,7 +29,7 @@ added-above old new top number apart below above opened = record {
 
 -- ---- the greatest one
 
-used-within : (numbers : UsedNumbers) (n : ℕ) → is_used numbers n ≡ true → (1 ≤ n) × (n ≤ numbers.top)
+pub used-within : (numbers : UsedNumbers) (n : ℕ) → is_used numbers n ≡ true → (1 ≤ n) × (n ≤ numbers.top)
 used-within numbers n used = (grind (arith, nat_tests), grind (arith, nat_tests))
 
 used-where : (top n : ℕ) (inside : Bool) → 1 ≤ n → n ≤ top → inside ≡ false → (nat_le 1 n && (nat_le n top && not inside)) ≡ true
