@@ -10,4 +10,4 @@ mod words;
 pub use laws::{
     bytes_and_their_words, lists_and_their_words, numbers_and_their_words, words_and_their_line,
 };
-pub use words::{any_bytes, bytes, number, number32, numbers, put_parts};
+pub use words::{any_bytes, bytes, number, number32, numbers, put_parts, short_number};

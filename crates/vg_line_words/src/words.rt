@@ -48,7 +48,7 @@ pub fn number(word: &[u8], bound: u64) -> Option<u64>
 }
 
 /// A number below a bound that is itself at most 4,294,967,296.
-fn short_number(word: &[u8], bound: u64) -> Option<u32>
+pub fn short_number(word: &[u8], bound: u64) -> Option<u32>
     requires { bound ≤ 2 ^ 32 }
     ensures { result ≡ number_of bound word.now }
 {
