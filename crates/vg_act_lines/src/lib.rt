@@ -6,8 +6,10 @@
 #![tactic(auto)]
 
 mod acts;
+mod laws;
 mod numbers;
 mod replies;
 
 pub use acts::read_act;
+pub use laws::{acts_and_their_text, pages_and_their_text, replies_and_their_text};
 pub use replies::read_reply;

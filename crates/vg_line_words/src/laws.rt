@@ -40,3 +40,12 @@ pub fn words_and_their_line()
         → parts_at mark (join_with_byte mark (word ∷ words)) ≡ word ∷ words }
     ensures only { (mark : ℕ) (text : List ℕ) → join_with_byte mark (parts_at mark text) ≡ text }
 {}
+
+/// Plain words that stand in a row with a blank between two are the parts of their line, which has no line end in it, and
+/// none of them has a `=`.
+pub fn plain_words_and_their_line()
+    ensures back { (word : List ℕ) (words : List (List ℕ)) → All (λ w. is_plain w ≡ true) (word ∷ words)
+        → parts_at 32 (join_with_byte 32 (word ∷ words)) ≡ word ∷ words }
+    ensures line { (words : List (List ℕ)) → All (λ w. is_plain w ≡ true) words → lacks 10 (join_with_byte 32 words) ≡ true }
+    ensures sign { (word : List ℕ) → is_plain word ≡ true → lacks 61 word ≡ true }
+{}

@@ -8,6 +8,7 @@ mod laws;
 mod words;
 
 pub use laws::{
-    bytes_and_their_words, lists_and_their_words, numbers_and_their_words, words_and_their_line,
+    bytes_and_their_words, lists_and_their_words, numbers_and_their_words,
+    plain_words_and_their_line, words_and_their_line,
 };
 pub use words::{any_bytes, bytes, number, number32, numbers, put_parts, short_number};
