@@ -1,0 +1,3 @@
+mod FindLemmas
+mod ShapeLaws
+mod CommandLaws
