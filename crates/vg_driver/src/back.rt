@@ -9,7 +9,7 @@ ghost use Rattle.vg_driver.specs.Halves.{Hears, IsOf};
 ghost use Rattle.vg_driver.specs.Halves as halves;
 
 use crate::heard::Heard;
-use std::collections::VecDeque;
+use slab::Slab;
 use std::marker::Model;
 use vg_book::{Book, Carried, Naming};
 use vg_chain::Shape;
@@ -82,40 +82,19 @@ impl<M: Machine, B: Naming> Back<M, B> {
     }
 }
 
-/// Where something that came of a client's call stands, if it is there. It looks from both ends at once: what came last mostly is
-/// asked for next, or what came first.
-fn place_of<M: Machine, B: Naming>(
-    replies: &VecDeque<Back<M, B>>,
-    client: u32,
-    call: u64,
-) -> Option<usize>
-    ensures there { IfSome result (λ place. (place < length replies.now.items) × HoldsAt (λ back. halves.is_of client call back ≡ true) replies.now.items place) }
-    ensures none { result ≡ None → AllByRecursion (λ back. halves.is_of client call back ≡ false) replies.now.items }
-{
-    let len = replies.len();
-    for near in 0..len - len / 2 {
-        let far = len - 1 - near;
-        if replies[far].is_of(client, call) {
-            return Some(far);
-        }
-        if replies[near].is_of(client, call) {
-            return Some(near);
-        }
-    }
-    None
-}
-
-/// Takes out what came of a client's call, if it is there. All else stays, in its order.
+/// Takes what came of a client's call out of its place, if it is there. All else stays.
 pub(crate) fn take_out<M: Machine, B: Naming>(
-    replies: &mut VecDeque<Back<M, B>>,
+    replies: &mut Slab<Option<Back<M, B>>>,
+    place: usize,
     client: u32,
     call: u64,
 ) -> Option<Back<M, B>>
     ensures of { IfSome result (IsOf client call) }
-    ensures left { MatchOption result (replies.new.items ≡ replies.old.items) (λ reply. IsPermutation replies.old.items (reply ∷ replies.new.items)) }
-    ensures fewer { deque_len replies.new ≤ deque_len replies.old }
-    ensures room { deque_capacity replies.new ≡ deque_capacity replies.old }
+    ensures left { result ≡ None → replies.new ≡ replies.old }
+    ensures others { IfSome result (λ back. Updates replies.old replies.new place None) }
 {
-    let place = place_of(replies, client, call)?;
-    replies.remove(place)
+    match replies.get(place) {
+        Some(Some(back)) if back.is_of(client, call) => replies.try_remove(place)?,
+        _ => None,
+    }
 }
