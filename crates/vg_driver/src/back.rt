@@ -1,15 +1,12 @@
 //! What came back of a command, run or unrun.
 
-ghost use Rattle.std.specs.Prelude.{◌≡◌, ◌≤◌, ◌<◌, ◌∷◌, true, false, None, length, HoldsAt, IfSome, IsPermutation, MatchOption};
-ghost use Rattle.std.specs.List.{AllByRecursion};
-ghost use Rattle.std.specs.VecDeque.{deque_len, deque_capacity};
+ghost use Rattle.std.specs.Prelude.{◌≡◌, length};
 ghost use Rattle.vg_book.specs.Outcomes.{asks_of, tag_of, told_by};
 ghost use Rattle.vg_ring.specs.Cargo.{Tells, asked_of};
-ghost use Rattle.vg_driver.specs.Halves.{Hears, IsOf};
+ghost use Rattle.vg_driver.specs.Halves.{Hears};
 ghost use Rattle.vg_driver.specs.Halves as halves;
 
 use crate::heard::Heard;
-use slab::Slab;
 use std::marker::Model;
 use vg_book::{Book, Carried, Naming};
 use vg_chain::Shape;
@@ -70,7 +67,7 @@ impl<M: Machine, B: Naming> Back<M, B> {
     }
 
     /// Whether it came of the client's call.
-    fn is_of(&self, client: u32, call: u64) -> bool
+    pub(crate) fn is_of(&self, client: u32, call: u64) -> bool
         ensures { result ≡ halves.is_of client call self.now }
     {
         match &self.pass {
@@ -79,22 +76,5 @@ impl<M: Machine, B: Naming> Back<M, B> {
                 pass.client() == client && pass.call() == call
             }
         }
-    }
-}
-
-/// Takes what came of a client's call out of its place, if it is there. All else stays.
-pub(crate) fn take_out<M: Machine, B: Naming>(
-    replies: &mut Slab<Option<Back<M, B>>>,
-    place: usize,
-    client: u32,
-    call: u64,
-) -> Option<Back<M, B>>
-    ensures of { IfSome result (IsOf client call) }
-    ensures left { result ≡ None → replies.new ≡ replies.old }
-    ensures others { IfSome result (λ back. Updates replies.old replies.new place None) }
-{
-    match replies.get(place) {
-        Some(Some(back)) if back.is_of(client, call) => replies.try_remove(place)?,
-        _ => None,
     }
 }

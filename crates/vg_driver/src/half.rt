@@ -7,10 +7,10 @@ ghost use Rattle.vg_ring.specs.Entries.{lane_count};
 ghost use Rattle.vg_ring.specs.Making.{IsNewDriver};
 ghost use Rattle.vg_driver.specs.Halves.{AreBack, AreHeard, HasHeard, HasJoined, HasReaped, IsOf, IsOffered, IsSent, ReapsOne, Signals, top_of};
 
-use crate::back::{Back, take_out};
+use crate::back::Back;
 use crate::heard::Heard;
+use crate::replies::Replies;
 use crossbeam_utils::Backoff;
-use slab::Slab;
 use std::alloc::{AllocError, Global};
 use std::marker::Model;
 use std::snapshot::Snapshot;
@@ -28,10 +28,7 @@ const MOST_PUBLISHED: u64 = 9223372036854775807;
 #[derive(Drop)]
 pub struct Half<M: Machine, B: vg_book::Naming, Q: vg_ring::Naming + OfQueue> {
     end: DriverEnd<Carried<M, B>, Q>,
-    /// A place for each command that was published and whose reply nobody has taken yet.
-    replies: Slab<Option<Back<M, B>>>,
-    /// By head descriptors: the place of the command that was published there last.
-    places: Vec<usize>,
+    replies: Replies<M, B>,
     heard: Vec<Heard<M, B>>,
 }
 
@@ -68,8 +65,7 @@ impl<M: Machine, B: vg_book::Naming, Q: vg_ring::Naming + OfQueue> Half<M, B, Q>
     {
         Ok(Half {
             end,
-            replies: Slab::new(alloc),
-            places: Vec::new(alloc),
+            replies: Replies::new(alloc),
             heard: all_lanes(alloc)?,
         })
     }
@@ -121,37 +117,12 @@ impl<M: Machine, B: vg_book::Naming, Q: vg_ring::Naming + OfQueue> Half<M, B, Q>
         requires parcel { IsOffered self.old shape parcel }
         ensures { MatchResult result (λ sent. IsSent M.Machine token.old request.value token.new sent.0) (λ _. token.new ≡ token.old) }
     {
-        let place = self.keep_place(self.end.next_head())?;
+        let place = self.replies.keep_place(self.end.next_head())?;
         let Tag { lane, ordinal } = parcel.tag();
         let pass = token.pass_of(book, request, (lane, ordinal));
         let call = pass.call();
         self.end.publish(shape, parcel.load(Carried::Wanted(pass)));
         Ok((call, place))
-    }
-
-    /// Keeps a place for the reply of the command that is published at this head.
-    fn keep_place(&mut self, head: u16) -> Result<usize, AllocError>
-        ensures { self.new ≡ self.old }
-    {
-        let head = head as usize;
-        if self.places.len() <= head {
-            self.places.resize(head + 1, 0)?;
-        }
-        let place = self.replies.insert(None)?;
-        self.places[head] = place;
-        Ok(place)
-    }
-
-    /// Puts what came back of the command that was published at this head to its place.
-    fn put(&mut self, head: u16, back: Back<M, B>)
-        ensures { self.new ≡ self.old }
-    {
-        let Some(&place) = self.places.get(head as usize) else {
-            return;
-        };
-        if let Some(reply) = self.replies.get_mut(place) {
-            *reply = Some(back);
-        }
     }
 
     /// Takes the next reply from the ring. False where there is none.
@@ -164,7 +135,7 @@ impl<M: Machine, B: vg_book::Naming, Q: vg_ring::Naming + OfQueue> Half<M, B, Q>
                 let Tag { lane, ordinal } = cargo.tag();
                 let mut reply = Back::of(cargo, len);
                 reply.tell(book, &mut self.heard[lane as usize], ordinal);
-                self.put(head, reply);
+                self.replies.put(head, reply);
                 true
             }
         }
@@ -189,7 +160,7 @@ impl<M: Machine, B: vg_book::Naming, Q: vg_ring::Naming + OfQueue> Half<M, B, Q>
         ensures { IfSome result (IsOf client call) }
     {
         self.reap_all(book);
-        take_out(&mut self.replies, place, client, call)
+        self.replies.take(place, client, call)
     }
 
     /// Whether the command of a fence of this queue is among what was taken from the ring.
