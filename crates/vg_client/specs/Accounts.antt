@@ -189,3 +189,7 @@ pub record HasNothingOut (token token' : Token) : Type 0 where
   pub mine : mine_of token' ≡ mine_of token ++ back
   pub out : token'.account.out ≡ []
   pub more : IsPrefix token.seen token'.seen
+
+-- No ticket of these passes the ordinal that its lane has here.
+abbrev pub AreUnder : List ℕ → List Ticket → Type 0
+AreUnder tops tickets = (length tops ≡ 66) × AllByRecursion (λ t. t.fence.ordinal ≤ get_or tops t.fence.lane 0) tickets
