@@ -100,7 +100,7 @@ fn begin_allowed<B: Naming, N: Rings, R: Wait>(
 {
     let mut played = Played::with_room(alloc, 0)?;
     // Its ticket can't be lost.
-    client.begun.reserve(1)?;
+    client.begun.reserve()?;
     let ticket = begin(
         rt,
         alloc,
@@ -111,7 +111,7 @@ fn begin_allowed<B: Naming, N: Rings, R: Wait>(
         ask,
     )?;
     played.begin(ticket.fence);
-    client.begun.push_back_reserved(ticket);
+    client.begun.push_reserved(ticket);
     Ok(played)
 }
 

@@ -17,13 +17,13 @@ ghost use Rattle.vg_client.specs.Calls.{context_behind, name_behind, newest, new
 use crate::begun::{begin_tasks, finish, finish_first};
 use crate::outcome::{Outcome, Played};
 use crate::play::{deny, play};
+use crate::tickets::Tickets;
 use crate::tokens::{Token, act};
 use std::alloc::{AllocError, Global};
-use std::collections::VecDeque;
 use std::sync::Wait;
 use vg_book::{Book, Naming};
 use vg_calls::{Call, ContextRef, NameRef};
-use vg_driver::{Driver, Ticket};
+use vg_driver::Driver;
 use vg_machine::{Act, Display, What};
 use vg_names::{Contexts, Names};
 use vg_ring::Rings;
@@ -40,7 +40,7 @@ pub(crate) struct Caller<B: Naming> {
     /// For each scanout the key of the buffer that the client shows there.
     pub(crate) shows: Vec<Option<u32>>,
     /// The tickets of what is begun, in its order.
-    pub(crate) begun: VecDeque<Ticket>,
+    pub(crate) begun: Tickets,
 }
 
 /// A client begins.
@@ -58,13 +58,16 @@ pub(crate) fn enter<B: Naming, R: Wait>(
     let Ok(shows) = shows_none(alloc, token.holds().displays as usize) else {
         return Err(token);
     };
+    let Ok(begun) = Tickets::new(alloc) else {
+        return Err(token);
+    };
     match act(rt, alloc, book, &mut token, Act::Enter) {
         Ok(_) => Ok(Caller {
             token,
             names: Names::new(alloc),
             contexts: Contexts::new(alloc),
             shows,
-            begun: VecDeque::new(alloc),
+            begun,
         }),
         Err(_) => Err(token),
     }

@@ -10,6 +10,7 @@ mod laws;
 mod learn;
 mod outcome;
 mod play;
+mod tickets;
 mod tokens;
 
 pub use client::Client;

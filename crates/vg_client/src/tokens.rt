@@ -1,16 +1,15 @@
 //! What a client does by its token: an act, a wait for a fence, and commands that go to the device and come back.
 
-ghost use Rattle.std.specs.Prelude.{◌≡◌, ℕ, ◌+◌, true, [], None, IfOk, OnErr, OnOk};
-ghost use Rattle.std.specs.List.{list_all};
+ghost use Rattle.std.specs.Prelude.{◌≡◌, ℕ, ◌+◌, [], None, IfOk, OnErr, OnOk};
 ghost use Rattle.vg_history.specs.declared.entry.Entry.TheVariants as entries;
 ghost use Rattle.vg_client_holds.specs.declared.act.Act.TheVariants as acts;
 ghost use Rattle.vg_client_holds.specs.declared.act.ActReply.TheVariants as act_replies;
 ghost use Rattle.vg_driver.specs.Asks.{IsAsk, denied_for, request_for};
 ghost use Rattle.vg_driver.specs.Tickets.{IsOut};
-ghost use Rattle.vg_client.specs.Accounts.{AreOut, ComesBack, HasNothingOut, IsActive, IsAdded, IsAddedAct, IsBegun, IsIdle, IsUnadded, MayAct, is_below};
+ghost use Rattle.vg_client.specs.Accounts.{AreOut, ComesBack, HasNothingOut, IsActive, IsAdded, IsAddedAct, IsBegun, IsIdle, IsUnadded, MayAct};
 
+use crate::tickets::Tickets;
 use std::alloc::{AllocError, Global};
-use std::collections::VecDeque;
 use std::sync::Wait;
 use vg_book::{Book, ClientToken, Naming, calls_stand_behind};
 use vg_driver::{Answer, Ask, Driver, Ticket};
@@ -59,36 +58,6 @@ pub(crate) fn wait<B: Naming, N: Rings, R: Wait>(
     Ok(entry)
 }
 
-/// Whether a ticket of the same lane has a smaller ordinal.
-fn is_behind(ticket: &Ticket, other: &Ticket) -> bool
-    ensures { result ≡ is_below ticket.now other.now }
-{
-    if other.fence.lane() == ticket.fence.lane() {
-        other.fence.ordinal() < ticket.fence.ordinal()
-    } else {
-        true
-    }
-}
-
-/// Whether a ticket stands behind all of these that are of its lane.
-fn is_last(begun: &VecDeque<Ticket>, ticket: &Ticket) -> bool
-    ensures { result ≡ list_all (is_below ticket.now) begun.now.items }
-{
-    begun.iter().all(|other| is_behind(ticket, other))
-}
-
-/// The ticket stands behind all of these that are of its lane. The ordinals of a lane rise, so that needs no waiting; were it
-/// otherwise, this would wait without end.
-fn see_last<R: Wait>(rt: &R, begun: &VecDeque<Ticket>, ticket: &Ticket)
-    ensures { list_all (is_below ticket.now) begun.now.items ≡ true }
-{
-    if is_last(begun, ticket) {
-        return;
-    }
-    for _ in rt.forever() {}
-    unreachable!()
-}
-
 /// Submits what the client asks of the device, and doesn't wait for it. `begun` has the tickets of what it has begun before. For
 /// want of memory nothing is changed.
 pub(crate) fn begin<B: Naming, N: Rings, R: Wait>(
@@ -97,7 +66,7 @@ pub(crate) fn begin<B: Naming, N: Rings, R: Wait>(
     book: &Book<Display, B>,
     driver: &Driver<B, N>,
     token: &mut Token<B>,
-    begun: &VecDeque<Ticket>,
+    begun: &Tickets,
     ask: &Ask,
 ) -> Result<Ticket, AllocError>
     requires active { IsActive token.old }
@@ -110,7 +79,7 @@ pub(crate) fn begin<B: Naming, N: Rings, R: Wait>(
     // A law, and no work: the client's next call stands behind all of its calls before but those that are begun.
     calls_stand_behind::<Display>();
     let ticket = driver.submit(rt, alloc, book, token, ask)?;
-    see_last(rt, begun, &ticket);
+    begun.see_last(rt, &ticket);
     Ok(ticket)
 }
 
@@ -122,7 +91,7 @@ pub(crate) fn ask<B: Naming, N: Rings, R: Wait>(
     book: &Book<Display, B>,
     driver: &Driver<B, N>,
     token: &mut Token<B>,
-    begun: &VecDeque<Ticket>,
+    begun: &Tickets,
     ask: &Ask,
 ) -> Result<Answer, AllocError>
     requires active { IsActive token.old }
@@ -162,7 +131,7 @@ pub(crate) fn finish_all<B: Naming, N: Rings, R: Wait>(
     book: &Book<Display, B>,
     driver: &Driver<B, N>,
     token: &mut Token<B>,
-    begun: &mut VecDeque<Ticket>,
+    begun: &mut Tickets,
 ) -> Result<(), AllocError>
     requires out { AreOut token.old.account.out begun.old.items }
     ensures done { OnOk result (IsActive token.old → IsIdle token.old token.new × IsActive token.new) }

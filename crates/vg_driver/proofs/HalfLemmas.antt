@@ -1,5 +1,5 @@
 -- What a half keeps, from call to call.
-use Rattle.std.proofs.Common.{◌≡◌, ◌≢◌, ℕ, ◌+◌, ◌-◌, ◌==◌, ◌<◌, ◌≤◌, Bool, zero, suc, true, false, cond, List, [], ◌∷◌, ◌++◌, Option, Some, None, max, set, get_or, length, inl, inr, refl, sym, ap, subst, ◌∙◌, arith, length-append, eq-eqb, ne_eqb}
+use Rattle.std.proofs.Common.{◌≡◌, ◌≢◌, ℕ, ◌+◌, ◌==◌, ◌<◌, ◌≤◌, Bool, zero, suc, true, false, cond, List, [], ◌∷◌, ◌++◌, Option, Some, None, max, set, get_or, length, inl, inr, refl, sym, ap, subst, ◌∙◌, arith, length-append, eq-eqb, ne_eqb}
 use Rattle.std.proofs.lemmas.Bool.{cases_eq, cases_lt}
 use Rattle.std.proofs.lemmas.List.{get_or-set_other, get_or-set_same, get_or_default, get_or_append_left, length-set, set-get_or}
 use Rattle.std.proofs.Math.Seq.{get_or-append_seam}
@@ -17,19 +17,28 @@ use Rattle.vg_book.specs.Views.{entry_of}
 use Rattle.vg_fence.specs.Fences.{FenceData}
 use Rattle.vg_asks.specs.declared.asked.Asked.{Asked}
 use Rattle.vg_chain.specs.declared.shape.Shape.{Shape}
+use Rattle.vg_chain.specs.Made.{IsNeeded}
 use Rattle.vg_wire.specs.declared.request.Queue.{Queue}
 use Rattle.vg_wire.specs.declared.request.Queue.TheVariants.{Control, Cursor}
 use Rattle.vg_ring.specs.declared.views.Answer.{Answer}
 use Rattle.vg_ring.specs.Cargo.{CargoData, IsLane}
 use Rattle.vg_ring.specs.Cargo as cargoes
-use Rattle.vg_ring.specs.Ends.{DriverLists, Publishes, Reaps}
+use Rattle.vg_ring.specs.Ends.{DriverLists, HasRoom, Publishes, Reaps}
 use Rattle.vg_ring.specs.Entries.{IsDone}
 use Rattle.vg_ring.specs.Making.{IsNewDriver}
+use Rattle.vg_ring.proofs.KeptLemmas.{made_some}
 use Rattle.vg_driver.specs.Halves.{AreBack, AreHeard, AreKnown, HasFor, HasHeard, HasJoined, HeardData, Hears, IsHalf, IsHeard, IsJoined, IsKnown, NoteKnows, Signals, asked_in, seen_by, top_of, unheard}
 
 pub lane_small : (queue : Queue) (lane : ℕ) → IsLane queue lane → lane < 66
 lane_small Control lane is = omega (arith, is)
 lane_small Cursor lane is = omega (arith, is)
+
+-- a chain has a descriptor
+pub has_room : (lists : DriverLists) (shape : Shape) (bytes room : ℕ) → (count : ℕ) × IsNeeded shape bytes room count × HasRoom lists count → HasRoom lists 1
+has_room lists shape bytes room (count, needed, free) =
+    let one = made_some shape bytes room 0 0 [] in
+    let is = needed 0 0 [] in
+    omega (arith, one, is, free)
 
 -- a note of what came back run knows the lane up to it
 pub fence_at : {M B S A R Q P H W : Type 0} (g : Ghosts M S A R Q P H W) (back : Carried M B S A R Q P H W) (f : Done M S A R Q P H W) (lane ordinal : ℕ) (seen : List (Entry M S A R Q P H W)) → back ≡ carried.Done f → tag_of g back ≡ (lane, ordinal)
@@ -119,7 +128,7 @@ module _ {M S A R Q P H W : Type 0} (g : Ghosts M S A R Q P H W) where
       let asked : asks_of g back ≡ asked_in answer.entry = asks ∙ ap asked_in done.entry in
       (subst (λ n. n < 66) lane small, λ run. subst (λ t. HasFor g t (asked_in answer.entry) (seen_by new.note)) tags (subst (λ a. HasFor g (tag_of g back) a (seen_by new.note)) asked (hears.run run).1))
 
-  module _ (queue : Queue) (old : DriverLists) (replies room : ℕ) (heard : List (HeardData M S A R Q P H W)) (k : IsHalf g queue old replies room heard) where
+  module _ (queue : Queue) (old : DriverLists) (heard : List (HeardData M S A R Q P H W)) (k : IsHalf g queue old heard) where
     -- the lane's place
     pub at_lane : (lane : ℕ) (at : HeardData M S A R Q P H W) → lane < 66 → at ≡ get_or heard lane at → IsHeard old.reaped lane at
     at_lane lane at less is = subst (IsHeard old.reaped lane) (get_or_default heard lane (unheard 0) at (let long = k.lanes in omega (arith, less, long)) ∙ sym is) (k.tops lane less)
@@ -151,8 +160,8 @@ module _ {M S A R Q P H W : Type 0} (g : Ghosts M S A R Q P H W) where
 
     -- a reply was taken
     pub half_reaped : {B C : Type 0} (wanted : C → Bool) (head len : ℕ) (cargo : CargoData C) (new : DriverLists) → Reaps wanted old head len cargo new → (lane ordinal : ℕ) → lane ≡ cargo.parcel.lane → ordinal ≡ cargo.parcel.ordinal
-        → lane < 66 → (at h : HeardData M S A R Q P H W) → at ≡ get_or heard lane at → (back : Carried M B S A R Q P H W) → tag_of g back ≡ (lane, ordinal) → asks_of g back ≡ cargoes.asked_of cargo.parcel → Hears g at back ordinal h → (replies' room' : ℕ) → replies' ≡ replies + 1 → room ≤ room' → IsHalf g queue new replies' room' (set heard lane h)
-    half_reaped wanted head len cargo new r lane ordinal lane_is ordinal_is less at h at_is back tag asks hears replies' room' more wide =
+        → lane < 66 → (at h : HeardData M S A R Q P H W) → at ≡ get_or heard lane at → (back : Carried M B S A R Q P H W) → tag_of g back ≡ (lane, ordinal) → asks_of g back ≡ cargoes.asked_of cargo.parcel → Hears g at back ordinal h → IsHalf g queue new (set heard lane h)
+    half_reaped wanted head len cargo new r lane ordinal lane_is ordinal_is less at h at_is back tag asks hears =
         let a = r.answer in
         let at_ok = at_lane lane at less at_is in
         let entry_lane : lane ≡ a.entry.lane = lane_is ∙ ap (λ e. e.lane) r.done.entry in
@@ -162,7 +171,6 @@ module _ {M S A R Q P H W : Type 0} (g : Ghosts M S A R Q P H W) where
         record {
           queue_is = r.same.0 ∙ k.queue_is;
           most = (let one = r.most in omega (arith, one, reaped_long, published_long));
-          room_is = (let was = k.room_is in omega (arith, was, reaped_long, published_long, more, wide));
           lanes = length-set heard lane h ∙ k.lanes;
           tops = λ other small. elim (cases_eq other lane) [
             | inl here ↦ (
@@ -181,41 +189,38 @@ module _ {M S A R Q P H W : Type 0} (g : Ghosts M S A R Q P H W) where
         }
 
     -- a lane was asked, and is as it was
-    pub half_asked : (lane : ℕ) (at h : HeardData M S A R Q P H W) → at ≡ get_or heard lane at → h ≡ at → IsHalf g queue old replies room (set heard lane h)
-    half_asked lane at h at_is same = subst (IsHalf g queue old replies room) (sym (ap (set heard lane) (same ∙ at_is) ∙ set-get_or heard lane at)) k
+    pub half_asked : (lane : ℕ) (at h : HeardData M S A R Q P H W) → at ≡ get_or heard lane at → h ≡ at → IsHalf g queue old (set heard lane h)
+    half_asked lane at h at_is same = subst (IsHalf g queue old) (sym (ap (set heard lane) (same ∙ at_is) ∙ set-get_or heard lane at)) k
 
-    -- a cargo was published, and there is room for its reply
-    pub half_sent : {P : Type 0} (shape : Shape) (cargo : CargoData P) (new : DriverLists) → Publishes old shape cargo new → (replies' room' published reaped : ℕ) → published ≡ length old.published → reaped ≡ length old.reaped
-        → replies' + (published - reaped + 1) ≤ room' → IsHalf g queue new replies' room' heard
-    half_sent shape cargo new p replies' room' published reaped published_is reaped_is fits =
+    -- a cargo was published
+    pub half_sent : {P : Type 0} (shape : Shape) (cargo : CargoData P) (new : DriverLists) → Publishes old shape cargo new → IsHalf g queue new heard
+    half_sent shape cargo new p =
         let reaped_long : length new.reaped ≡ length old.reaped = ap {B = ℕ} length p.reaped in
         let published_long : length new.published ≡ length old.published + 1 = ap {B = ℕ} length p.published ∙ length-append old.published _ in
         record {
           queue_is = p.same.0 ∙ k.queue_is;
           most = (let was = k.most in omega (arith, was, reaped_long, published_long));
-          room_is = (let was = k.most in omega (arith, was, reaped_long, published_long, published_is, reaped_is, fits));
           lanes = k.lanes;
           tops = subst (λ xs. AreHeard xs heard) (sym p.reaped) k.tops;
           known = subst (λ xs. AreKnown g xs heard) (sym p.reaped) k.known;
         }
 
   -- nothing was published
-  pub half_new : (queue : Queue) (size : ℕ) (lists : DriverLists) (replies room : ℕ) (heard : List (HeardData M S A R Q P H W)) → IsNewDriver queue size lists → replies ≡ 0 → length heard ≡ 66 → AreHeard [] heard → IsHalf g queue lists replies room heard
-  half_new queue size lists replies room heard is empty lanes tops =
+  pub half_new : (queue : Queue) (size : ℕ) (lists : DriverLists) (heard : List (HeardData M S A R Q P H W)) → IsNewDriver queue size lists → length heard ≡ 66 → AreHeard [] heard → IsHalf g queue lists heard
+  half_new queue size lists heard is lanes tops =
       let reaped : length lists.reaped ≡ 0 = ap {B = ℕ} length is.reaped in
       let published : length lists.published ≡ 0 = ap {B = ℕ} length is.published in
       record {
         queue_is = is.queue_is;
         most = omega (arith, reaped, published);
-        room_is = omega (arith, reaped, published, empty);
         lanes = lanes;
         tops = subst (λ xs. AreHeard xs heard) (sym is.reaped) tops;
         known = subst (λ xs. AreKnown g xs heard) (sym is.reaped) (λ answer has. absurd has);
       }
 
   -- all that was published came back, and the root has seen what the lanes' notes have
-  pub back_by : (queue : Queue) (lists : DriverLists) (replies room : ℕ) (heard : List (HeardData M S A R Q P H W)) (old new : Rooted M S A R Q P H W) → IsHalf g queue lists replies room heard → length lists.reaped ≡ length lists.published → HasJoined old heard new → AreBack g lists new.seen
-  back_by queue lists replies room heard old new k all joined = record {
+  pub back_by : (queue : Queue) (lists : DriverLists) (heard : List (HeardData M S A R Q P H W)) (old new : Rooted M S A R Q P H W) → IsHalf g queue lists heard → length lists.reaped ≡ length lists.published → HasJoined old heard new → AreBack g lists new.seen
+  back_by queue lists heard old new k all joined = record {
     all = all;
     asked = λ answer has.
         let known = k.known answer has in

@@ -1,7 +1,6 @@
 pub mod RequestLemmas
 pub mod ShortLemmas
 pub mod HalfLemmas
-pub mod BackLemmas
 pub mod OfferLemmas
 pub mod TicketLemmas
 pub mod Sent

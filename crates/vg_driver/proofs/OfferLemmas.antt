@@ -19,7 +19,6 @@ use Rattle.vg_ring.specs.Cargo.{IsLane}
 use Rattle.vg_ring.specs.Ends.{DriverLists, HasRoom}
 use Rattle.vg_ring.specs.declared.views.Entry as ring
 use Rattle.vg_ring.specs.Entries.{lane_count}
-use Rattle.vg_ring.proofs.KeptLemmas.{made_some}
 use Rattle.vg_machine.specs.declared.history.Request.{Request}
 use Rattle.vg_client_holds.specs.declared.holds.Holds.{Holds}
 use Rattle.vg_client_holds.specs.Holds.{denied_of, denied_request}
@@ -115,13 +114,6 @@ next_fence holds lists request next =
     let ordinal = next.ordinal in
     let last = next.last in
     (omega (arith, ordinal), omega (arith, ordinal, few, last))
-
--- a chain has a descriptor
-pub has_room : (lists : DriverLists) (request : Request) → (count : ℕ) × IsNeeded request.shape (length request.bytes) request.room count × HasRoom lists count → HasRoom lists 1
-has_room lists request (count, needed, room) =
-    let one = made_some request.shape (length request.bytes) request.room 0 0 [] in
-    let is = needed 0 0 [] in
-    omega (arith, one, is, room)
 
 -- what is made of a command, and of bytes
 pub made_command : (way : Way) (command : Command) (ordinal : ℕ) (request : Request) → MayGo way command → IsShort command

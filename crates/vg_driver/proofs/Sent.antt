@@ -15,6 +15,7 @@ use Rattle.vg_ring.proofs.Sent.{driver_send}
 use Rattle.vg_driver.specs.contracts.back.Back as back
 use Rattle.vg_driver.specs.contracts.back.Back.TheInside as back_in
 use Rattle.vg_driver.specs.contracts.heard.Heard as heard
+use Rattle.vg_driver.specs.contracts.replies.Replies as replies
 use Rattle.vg_driver.specs.contracts.half.Half as half
 use Rattle.vg_driver.specs.contracts.half.Half.TheInside as half_in
 use Rattle.vg_client_holds.specs.contracts.act.Act as act
@@ -58,10 +59,13 @@ module _ (M S A R Q P H W : RattleType) (m : IsSend M) (a : IsSend A) (r : IsSen
       let w = pass_send M S A R Q P H W m a r q p B gm gb in
       view_send _ _ _ _ _ (recorded_send _ _ _ T.to_one (struct_send (shape T) (search (sendable, crosses) depth 20, (search (sendable, crosses) depth 40, (search (sendable, crosses) depth 20, tt)))))
 
+  replies_send : IsSend (replies.the_field M B S A R Q P H W gm gb).row
+  replies_send = search (sendable, crosses, back_send) depth 40
+
   carried_send : IsSend (carried.the_row M B S A R Q P H W gm gb)
   carried_send = let d = done_send M S A R Q P H W m a r q p B gm gb in let w = pass_send M S A R Q P H W m a r q p B gm gb in search (sendable, crosses) depth 20
 
   module _ (N : RattleType) (gn : ring.Ghosts N.Denot) (gq : OfQueue.Ghosts N.Denot) (n : IsSend N) where
     pub half_send : IsSend (half.the_row M B N S A R Q P H W gm gb gn gq)
     half_send = let T = half_in.the_type M B N S A R Q P H W gm gb gn gq in
-        view_send _ _ _ _ _ (recorded_send _ _ _ T.to_one (struct_send (shape T) (driver_send _ N _ gn carried_send n, (search (sendable, crosses, back_send) depth 20, (search (sendable, crosses, heard_send) depth 20, tt)))))
+        view_send _ _ _ _ _ (recorded_send _ _ _ T.to_one (struct_send (shape T) (driver_send _ N _ gn carried_send n, (replies_send, (search (sendable, crosses, heard_send) depth 20, tt)))))

@@ -144,11 +144,10 @@ module _ {M S A R Q P H W : Type 0} (g : Ghosts M S A R Q P H W) where
     pub more : IsPrefix (seen_by old.note) (seen_by new.note)
     pub run : new.unrun ≡ false → (old.unrun ≡ false) × HasFor (tag_of g back) (asks_of g back) (seen_by new.note)
 
-  -- What a half keeps: there is room for all replies that are still to come, and the lanes know what came back.
-  pub record IsHalf (queue : Queue) (lists : DriverLists) (replies room : ℕ) (heard : List (HeardData M S A R Q P H W)) : Type 0 where
+  -- What a half keeps: the lanes know what came back.
+  pub record IsHalf (queue : Queue) (lists : DriverLists) (heard : List (HeardData M S A R Q P H W)) : Type 0 where
     pub queue_is : lists.queue ≡ queue
     pub most : length lists.reaped ≤ length lists.published
-    pub room_is : replies + length lists.published ≤ room + length lists.reaped
     pub lanes : length heard ≡ 66
     pub tops : AreHeard lists.reaped heard
     pub known : AreKnown lists.reaped heard

@@ -1,15 +1,12 @@
 //! What came back of a command, run or unrun.
 
-ghost use Rattle.std.specs.Prelude.{◌≡◌, ◌≤◌, ◌<◌, ◌∷◌, true, false, None, length, HoldsAt, IfSome, IsPermutation, MatchOption};
-ghost use Rattle.std.specs.List.{AllByRecursion};
-ghost use Rattle.std.specs.VecDeque.{deque_len, deque_capacity};
+ghost use Rattle.std.specs.Prelude.{◌≡◌, length};
 ghost use Rattle.vg_book.specs.Outcomes.{asks_of, tag_of, told_by};
 ghost use Rattle.vg_ring.specs.Cargo.{Tells, asked_of};
-ghost use Rattle.vg_driver.specs.Halves.{Hears, IsOf};
+ghost use Rattle.vg_driver.specs.Halves.{Hears};
 ghost use Rattle.vg_driver.specs.Halves as halves;
 
 use crate::heard::Heard;
-use std::collections::VecDeque;
 use std::marker::Model;
 use vg_book::{Book, Carried, Naming};
 use vg_chain::Shape;
@@ -70,7 +67,7 @@ impl<M: Machine, B: Naming> Back<M, B> {
     }
 
     /// Whether it came of the client's call.
-    fn is_of(&self, client: u32, call: u64) -> bool
+    pub(crate) fn is_of(&self, client: u32, call: u64) -> bool
         ensures { result ≡ halves.is_of client call self.now }
     {
         match &self.pass {
@@ -80,42 +77,4 @@ impl<M: Machine, B: Naming> Back<M, B> {
             }
         }
     }
-}
-
-/// Where something that came of a client's call stands, if it is there. It looks from both ends at once: what came last mostly is
-/// asked for next, or what came first.
-fn place_of<M: Machine, B: Naming>(
-    replies: &VecDeque<Back<M, B>>,
-    client: u32,
-    call: u64,
-) -> Option<usize>
-    ensures there { IfSome result (λ place. (place < length replies.now.items) × HoldsAt (λ back. halves.is_of client call back ≡ true) replies.now.items place) }
-    ensures none { result ≡ None → AllByRecursion (λ back. halves.is_of client call back ≡ false) replies.now.items }
-{
-    let len = replies.len();
-    for near in 0..len - len / 2 {
-        let far = len - 1 - near;
-        if replies[far].is_of(client, call) {
-            return Some(far);
-        }
-        if replies[near].is_of(client, call) {
-            return Some(near);
-        }
-    }
-    None
-}
-
-/// Takes out what came of a client's call, if it is there. All else stays, in its order.
-pub(crate) fn take_out<M: Machine, B: Naming>(
-    replies: &mut VecDeque<Back<M, B>>,
-    client: u32,
-    call: u64,
-) -> Option<Back<M, B>>
-    ensures of { IfSome result (IsOf client call) }
-    ensures left { MatchOption result (replies.new.items ≡ replies.old.items) (λ reply. IsPermutation replies.old.items (reply ∷ replies.new.items)) }
-    ensures fewer { deque_len replies.new ≤ deque_len replies.old }
-    ensures room { deque_capacity replies.new ≡ deque_capacity replies.old }
-{
-    let place = place_of(replies, client, call)?;
-    replies.remove(place)
 }

@@ -66,14 +66,14 @@ fn look<B: vg_book::Naming, Q: vg_ring::Naming + OfQueue>(
     half: &Mutex<Half<Display, B, Q>>,
     book: &Book<Display, B>,
     client: u32,
-    call: u64,
+    ticket: &Ticket,
 ) -> Option<Back<Display, B>>
-    ensures { IfSome result (IsOf client call) }
+    ensures { IfSome result (IsOf client ticket.now.call) }
 {
     match half.try_lock() {
         Some(half) => {
             let mut half = half;
-            half.answer(book, client, call)
+            half.answer(book, ticket.place, client, ticket.call)
         }
         None => None,
     }
@@ -85,13 +85,13 @@ fn wait_for<R: Wait, B: vg_book::Naming, Q: vg_ring::Naming + OfQueue>(
     half: &Mutex<Half<Display, B, Q>>,
     book: &Book<Display, B>,
     client: u32,
-    call: u64,
+    ticket: &Ticket,
 ) -> Back<Display, B>
-    ensures { IsOf client call result }
+    ensures { IsOf client ticket.now.call result }
 {
     let backoff = Backoff::new();
     for _ in rt.forever() {
-        if let Some(back) = look(half, book, client, call) {
+        if let Some(back) = look(half, book, client, ticket) {
             return back;
         }
         backoff.snooze();
@@ -265,9 +265,9 @@ impl<B: vg_book::Naming, N: Rings> Driver<B, N> {
     {
         let client = token.number();
         let back = if ticket.fence.lane() == 65 {
-            wait_for(rt, &self.cursor, book, client, ticket.call)
+            wait_for(rt, &self.cursor, book, client, &ticket)
         } else {
-            wait_for(rt, &self.control, book, client, ticket.call)
+            wait_for(rt, &self.control, book, client, &ticket)
         };
         settle(book, token, ticket, back)
     }

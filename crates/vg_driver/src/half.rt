@@ -7,11 +7,11 @@ ghost use Rattle.vg_ring.specs.Entries.{lane_count};
 ghost use Rattle.vg_ring.specs.Making.{IsNewDriver};
 ghost use Rattle.vg_driver.specs.Halves.{AreBack, AreHeard, HasHeard, HasJoined, HasReaped, IsOf, IsOffered, IsSent, ReapsOne, Signals, top_of};
 
-use crate::back::{Back, take_out};
+use crate::back::Back;
 use crate::heard::Heard;
+use crate::replies::Replies;
 use crossbeam_utils::Backoff;
 use std::alloc::{AllocError, Global};
-use std::collections::VecDeque;
 use std::marker::Model;
 use std::snapshot::Snapshot;
 use std::sync::Wait;
@@ -28,13 +28,11 @@ const MOST_PUBLISHED: u64 = 9223372036854775807;
 #[derive(Drop)]
 pub struct Half<M: Machine, B: vg_book::Naming, Q: vg_ring::Naming + OfQueue> {
     end: DriverEnd<Carried<M, B>, Q>,
-    /// In the order in which they came back. It has room for all that is still to come back.
-    replies: VecDeque<Back<M, B>>,
+    replies: Replies<M, B>,
     heard: Vec<Heard<M, B>>,
 }
 
 impl<M: Machine, B: vg_book::Naming, Q: vg_ring::Naming + OfQueue> Model for Half<M, B, Q> {
-    ghost use Rattle.std.specs.VecDeque.{deque_len, deque_capacity};
     ghost use Rattle.vg_ring.specs.Ends.{DriverLists};
     ghost use Rattle.vg_driver.specs.Halves.{IsHalf};
 
@@ -42,7 +40,7 @@ impl<M: Machine, B: vg_book::Naming, Q: vg_ring::Naming + OfQueue> Model for Hal
 
     ghost view = { λ h. h.end };
 
-    ghost invariant = { λ h. IsHalf M.Machine Q.queue h.end (deque_len h.replies) (deque_capacity h.replies) h.heard.items };
+    ghost invariant = { λ h. IsHalf M.Machine Q.queue h.end h.heard.items };
 }
 
 /// Each lane, of which nothing came back.
@@ -67,7 +65,7 @@ impl<M: Machine, B: vg_book::Naming, Q: vg_ring::Naming + OfQueue> Half<M, B, Q>
     {
         Ok(Half {
             end,
-            replies: VecDeque::new(alloc),
+            replies: Replies::new(alloc),
             heard: all_lanes(alloc)?,
         })
     }
@@ -102,8 +100,8 @@ impl<M: Machine, B: vg_book::Naming, Q: vg_ring::Naming + OfQueue> Half<M, B, Q>
         self.end.next_head()
     }
 
-    /// Publishes the parcel of this request with a pass for it, and gives the client's number for it. For want of memory nothing
-    /// was published.
+    /// Publishes the parcel of this request with a pass for it, and gives the client's number for it and the place of its reply.
+    /// For want of memory nothing was published.
     pub(crate) fn send(
         &mut self,
         book: &Book<M, B>,
@@ -111,21 +109,20 @@ impl<M: Machine, B: vg_book::Naming, Q: vg_ring::Naming + OfQueue> Half<M, B, Q>
         shape: Shape,
         parcel: Parcel,
         request: Snapshot<M::Request>,
-    ) -> Result<u64, AllocError>
+    ) -> Result<(u64, usize), AllocError>
         requires tag { M.tagged request.value ≡ (parcel.lane, parcel.ordinal) }
         requires asked { M.asks request.value ≡ asked_of parcel }
         requires allowed { M.allows token.old.account.holds request.value ≡ true }
         requires used { token.old.account.used < 2 ^ 63 - 1 }
         requires parcel { IsOffered self.old shape parcel }
-        ensures { MatchResult result (λ call. IsSent M.Machine token.old request.value token.new call) (λ _. token.new ≡ token.old) }
+        ensures { MatchResult result (λ sent. IsSent M.Machine token.old request.value token.new sent.0) (λ _. token.new ≡ token.old) }
     {
-        let out = self.end.published() - self.end.reaped();
-        self.replies.reserve(out as usize + 1)?;
+        let place = self.replies.keep_place(self.end.next_head())?;
         let Tag { lane, ordinal } = parcel.tag();
         let pass = token.pass_of(book, request, (lane, ordinal));
         let call = pass.call();
         self.end.publish(shape, parcel.load(Carried::Wanted(pass)));
-        Ok(call)
+        Ok((call, place))
     }
 
     /// Takes the next reply from the ring. False where there is none.
@@ -134,11 +131,11 @@ impl<M: Machine, B: vg_book::Naming, Q: vg_ring::Naming + OfQueue> Half<M, B, Q>
     {
         match self.end.reap() {
             None => false,
-            Some(Reaped { len, cargo, .. }) => {
+            Some(Reaped { head, len, cargo }) => {
                 let Tag { lane, ordinal } = cargo.tag();
                 let mut reply = Back::of(cargo, len);
                 reply.tell(book, &mut self.heard[lane as usize], ordinal);
-                self.replies.push_back_reserved(reply);
+                self.replies.put(head, reply);
                 true
             }
         }
@@ -152,12 +149,18 @@ impl<M: Machine, B: vg_book::Naming, Q: vg_ring::Naming + OfQueue> Half<M, B, Q>
         while self.reap(book) {}
     }
 
-    /// Takes all replies from the ring, and the reply of a client's call out, if it came.
-    pub(crate) fn answer(&mut self, book: &Book<M, B>, client: u32, call: u64) -> Option<Back<M, B>>
+    /// Takes all replies from the ring, and the reply of a client's call out of its place, if it came.
+    pub(crate) fn answer(
+        &mut self,
+        book: &Book<M, B>,
+        place: usize,
+        client: u32,
+        call: u64,
+    ) -> Option<Back<M, B>>
         ensures { IfSome result (IsOf client call) }
     {
         self.reap_all(book);
-        take_out(&mut self.replies, client, call)
+        self.replies.take(place, client, call)
     }
 
     /// Whether the command of a fence of this queue is among what was taken from the ring.

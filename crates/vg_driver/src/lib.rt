@@ -7,6 +7,7 @@ mod driver;
 mod half;
 mod heard;
 mod offer;
+mod replies;
 mod request;
 mod threads;
 mod ticket;

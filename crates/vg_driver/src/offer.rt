@@ -54,8 +54,8 @@ fn send<B: vg_book::Naming, Q: vg_ring::Naming + OfQueue>(
     let fence = Fence::new(request.lane, request.ordinal);
     let shape = request.shape;
     let parcel = parcel_of(alloc, half.next_head(), request)?;
-    let call = half.send(book, token, shape, parcel, asked)?;
-    Ok(Ticket { fence, call })
+    let (call, place) = half.send(book, token, shape, parcel, asked)?;
+    Ok(Ticket { fence, call, place })
 }
 
 /// Publishes what is asked. None where there is no room for it now.

@@ -9,6 +9,8 @@ pub struct Ticket {
     pub fence: Fence,
     /// From 1.
     pub call: u64,
+    /// Where the driver keeps its reply.
+    pub(crate) place: usize,
 }
 
 /// What a command was answered, and the number of its entry in the history, from 1.

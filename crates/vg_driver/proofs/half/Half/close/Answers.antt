@@ -1,5 +1,4 @@
 use Rattle.std.proofs.Common.{◌≡◌, length, sym, subst}
-use Rattle.std.specs.VecDeque.{deque_len, deque_capacity}
 use Rattle.vg_ring.specs.Ends.{DriverLists}
 use Rattle.vg_driver.proofs.HalfLemmas.{back_by}
 use Rattle.vg_driver.proofs.half.Half.close.Goals as goal
@@ -8,4 +7,4 @@ pub returns-clause-back : goal.returns-clause-back
 returns-clause-back g c =
     let d = c.half.inside in
     let all = subst (λ (o : DriverLists). length o.reaped ≡ length o.published) (sym c.half.view_is) c.reap_rest.ensures in
-    back_by g.M.Machine g.Q.OfQueue.queue d.end (deque_len d.replies) (deque_capacity d.replies) d.heard.items c.args.root.now c.join_lanes.new.root c.half.invariant all c.in_ok-join_lanes.ensures.joined
+    back_by g.M.Machine g.Q.OfQueue.queue d.end d.heard.items c.args.root.now c.join_lanes.new.root c.half.invariant all c.in_ok-join_lanes.ensures.joined

@@ -1,5 +1,4 @@
 use Rattle.std.proofs.Common.{◌∙◌, sym, ap, arith}
-use Rattle.std.specs.VecDeque.{deque_len, deque_capacity}
 use Rattle.vg_book.specs.Outcomes as carried
 use Rattle.vg_driver.proofs.HalfLemmas.{at_lane, half_reaped, lane_small}
 use Rattle.vg_driver.proofs.half.Half.reap.Goals as goal
@@ -15,13 +14,12 @@ pub tell-requires : goal.tell-requires
 tell-requires g c =
     let d = c.self.inside in
     let small = lane_small c.in-Some.field-0.cargo.parcel.queue c.tag-lane.result.lane c.tag-lane.ensures.lane in
-    let at = at_lane g.M.Machine g.Q.OfQueue.queue d.end (deque_len d.replies) (deque_capacity d.replies) d.heard.items c.self.invariant c.tag-lane.result.lane c.index_mut.result.now small c.index_mut.ensures.value in
+    let at = at_lane g.M.Machine g.Q.OfQueue.queue d.end d.heard.items c.self.invariant c.tag-lane.result.lane c.index_mut.result.now small c.index_mut.ensures.value in
     ap (carried.tag_of g.M.Machine) c.of-reply.ensures.pass ∙ (c.tag-lane.ensures.pass ∙ ap (λ n. (n, c.tag-lane.result.ordinal)) (sym at.0))
 
 pub invariant_of-self-in-Some : goal.invariant_of-self-in-Some
 invariant_of-self-in-Some g c =
     let d = c.self.inside in
     let small = lane_small c.in-Some.field-0.cargo.parcel.queue c.tag-lane.result.lane c.tag-lane.ensures.lane in
-    half_reaped g.M.Machine g.Q.OfQueue.queue d.end (deque_len d.replies) (deque_capacity d.replies) d.heard.items c.self.invariant (carried.is_wanted_pass g.M.Machine) c.in-Some.field-0.head c.in-Some.field-0.len c.in-Some.field-0.cargo c.reap.new.self c.in-Some.ensures
+    half_reaped g.M.Machine g.Q.OfQueue.queue d.end d.heard.items c.self.invariant (carried.is_wanted_pass g.M.Machine) c.in-Some.field-0.head c.in-Some.field-0.len c.in-Some.field-0.cargo c.reap.new.self c.in-Some.ensures
     c.tag-lane.result.lane c.tag-lane.result.ordinal c.tag-lane.ensures.tag.0 c.tag-lane.ensures.tag.1 small c.index_mut.result.now c.tell.new.heard c.index_mut.ensures.value c.of-reply.result (ap (carried.tag_of g.M.Machine) c.of-reply.ensures.pass ∙ c.tag-lane.ensures.pass) c.of-reply.ensures.asked c.tell.ensures.hears
-    (deque_len c.push_back_reserved.new.self) (deque_capacity c.push_back_reserved.new.self) c.push_back_reserved.ensures.len (let more = c.push_back_reserved.ensures.capacity in omega (arith, more))
