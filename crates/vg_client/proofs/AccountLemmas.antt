@@ -1,5 +1,5 @@
 -- What a client's acts and commands change of what its token says.
-use Rattle.std.proofs.Common.{◌≡◌, ◌≢◌, inl, inr, ⊎_elim, ◌+◌, ◌<◌, ◌≤◌, ◌==◌, ◌∙◌, sym, ap, refl, subst, arith, eq-eqb, ne_eqb, true≢false, ℕ, Bool, true, false, nat_lt, cond, ◌&&◌, List, [], ◌∷◌, ◌++◌, drop, length, map, append_assoc, append-nil, length-append, Some, is_none, Result, Ok, Err}
+use Rattle.std.proofs.Common.{◌≡◌, ◌≢◌, inl, inr, ⊎_elim, ◌+◌, ◌<◌, ◌≤◌, ◌==◌, ◌∙◌, sym, ap, refl, subst, arith, eq-eqb, ne_eqb, true≢false, ℕ, Bool, true, false, nat_lt, cond, ◌&&◌, List, [], ◌∷◌, ◌++◌, length, map, append_assoc, append-nil, length-append, Some, is_none, Result, Ok, Err}
 use Rattle.std.specs.Prelude.{OnErr}
 use Rattle.std.specs.List.{AllByRecursion, list_all, range_with_len}
 use Rattle.std.proofs.lemmas.Bool.Decides.{nat_tests}
@@ -542,11 +542,6 @@ finished-all token token' left run is none ran active =
       },
       all.3,
     )
-
--- a list that stays as it is without its first is empty
-pub none-left : (left : List Ticket) → left ≡ drop 1 left → left ≡ []
-none-left [] same = refl
-none-left (ticket ∷ left) same = let longer : length (ticket ∷ left) ≡ length left = ap (λ (ts : List Ticket). length ts) same in absurd (omega (arith, longer))
 
 pub unrun-err : {T E : Type 0} (token token' : Token) (result : Result T E) → IsUnadded token token' → OnErr result (IsUnadded token token')
 unrun-err token token' (Ok answer) kept = tt

@@ -10,3 +10,4 @@ pub mod PlayLemmas
 pub mod NumberLemmas
 pub mod MeetLemmas
 pub mod StepLemmas
+pub mod TopLemmas

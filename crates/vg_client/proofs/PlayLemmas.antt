@@ -32,9 +32,9 @@ use Rattle.vg_tasks.specs.declared.task.Task.{Task}
 use Rattle.vg_driver.specs.declared.ask.Ask.{Ask}
 use Rattle.vg_fence.specs.Fences.{FenceData}
 use Rattle.vg_driver.specs.Asks.{denied_for, request_for}
-use Rattle.vg_client.specs.Calls.{Begins, BeginsTasks, Gives, GivesTasks, IsAsked, IsDenial, IsDone, IsEntryOf, IsFrontOf, Plays, contexts_after, learned, names_after, names_imported, names_reserved, shows_after}
+use Rattle.vg_client.specs.Calls.{BeginsTasks, Gives, GivesTasks, IsAsked, IsDenial, IsDone, IsEntryOf, IsFrontOf, Plays, contexts_after, learned, names_after, names_imported, names_reserved, shows_after}
 use Rattle.vg_tasks.specs.Tasks.{end_tasks, tasks_of}
-use Rattle.vg_client.specs.Callers.{BeginsEnd, HasAdded, HasDone, HasGoneOn, HasLeftBy, IsFewPages, IsReady, IsSmall, known}
+use Rattle.vg_client.specs.Callers.{HasAdded, HasDone, HasGoneOn, HasLeftBy, IsFewPages, IsReady, IsSmall, known}
 use Rattle.vg_tasks.specs.Plans.{IsFitPlan, IsPlanOf, weight_of, weights}
 use Rattle.vg_client.specs.Given.{follow_ups, given_of, goes_on, is_accepted, left_after, tells_denial}
 use Rattle.vg_tasks.specs.Known.{Known}
@@ -55,7 +55,6 @@ use Rattle.vg_book.specs.Views.{order_call}
 use Rattle.vg_client.specs.Own.{ArePlaced}
 use Rattle.vg_client.specs.Steps.{HasDenied, HasLeft, HasLeftOffBy, HasTickets}
 use Rattle.vg_driver.specs.declared.ticket.Ticket.{Ticket}
-use Rattle.vg_history.specs.Lists.{Has}
 use Rattle.vg_history.proofs.ListLemmas.{has_prefix, prefix_self, prefix_trans}
 
 -- one entry more, of the first task that was left

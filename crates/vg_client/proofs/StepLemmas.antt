@@ -1,13 +1,11 @@
 -- What comes of a call, from its steps: what it begins, what it finishes first, and what it does.
-use Rattle.std.proofs.Common.{◌≡◌, ◌⊎◌, ◌+◌, ◌<◌, ◌≤◌, ◌∙◌, ◌&&◌, sym, ap, refl, subst, arith, inl, inr, ⊎_elim, ℕ, Bool, true, false, List, [], ◌∷◌, ◌++◌, length, map, append_assoc, append-nil, Option, Some, None, Result, Ok, Err}
+use Rattle.std.proofs.Common.{◌≡◌, ◌⊎◌, ◌+◌, ◌≤◌, ◌∙◌, ◌&&◌, sym, ap, refl, subst, arith, inl, inr, ⊎_elim, ℕ, Bool, true, false, List, [], ◌∷◌, ◌++◌, length, map, append_assoc, append-nil, Option, Some, Result, Ok, Err}
 use Rattle.std.specs.Prelude.{IfOk, IsSome, OnErr, OnOk}
 use Rattle.std.specs.List.{AllByRecursion, range_with_len}
 use mathlib.Core.List.{IsPrefix}
 use Rattle.vg_history.specs.Lists.{Has}
 use Rattle.vg_history.proofs.ListLemmas.{prefix_self, prefix_trans}
 use Rattle.vg_machine.specs.Entries.{Entry}
-use Rattle.vg_client_holds.specs.declared.holds.Holds.{Holds}
-use Rattle.vg_client_holds.specs.declared.act.ActReply.{ActReply}
 use Rattle.vg_client_holds.specs.declared.act.What.{What}
 use Rattle.vg_book.specs.Views.{IsEntryOf}
 use Rattle.vg_calls.specs.declared.call.Call.{Call}
@@ -19,7 +17,6 @@ use Rattle.vg_driver.specs.declared.ticket.Ticket.{Ticket}
 use Rattle.vg_tasks.specs.Fits.{IsFit}
 use Rattle.vg_tasks.specs.Keeps.{plain_task}
 use Rattle.vg_tasks.specs.Known.{Known}
-use Rattle.vg_tasks.specs.Plans.{IsPlanOf}
 use Rattle.vg_tasks.specs.Tasks.{begins, finishes, gives_up, is_planned, tasks_of}
 use Rattle.vg_tasks.specs.declared.task.Task.{Task}
 use Rattle.vg_client.specs.declared.caller.Caller.{Caller}
@@ -28,17 +25,17 @@ use Rattle.vg_client.specs.declared.outcome.Last.TheVariants as lasts
 use Rattle.vg_client.specs.declared.outcome.Outcome.{Outcome}
 use Rattle.vg_client.specs.declared.outcome.Played.{Played}
 use Rattle.vg_client.specs.Accounts.{AreEntries, AreOfOut, AreOut, HasNothingOut, IsActive, IsBegun, IsIdle, mine_of}
-use Rattle.vg_client.specs.Callers.{BeginsEnd, FinishesFirst, HasAdded, HasBegun, HasCalled, HasEnded, HasFinished, HasGone, HasGoneOn, HasLeftOff, HasLeftOffAtEnd, IsReady, IsSmall, known}
+use Rattle.vg_client.specs.Callers.{BeginsEnd, FinishesFirst, HasAdded, HasCalled, HasEnded, HasFinished, HasGone, HasGoneOn, HasLeftOff, HasLeftOffAtEnd, IsReady, IsSmall, known}
 use Rattle.vg_client.specs.Calls.{BeginsTasks, GivesTasks, IsAsked, IsDenial, Plays}
-use Rattle.vg_client.specs.Outcomes.{EndsWith, HasPlayed, IsOutcome, last_of}
-use Rattle.vg_client.specs.Steps.{HasBegunAsk, HasBegunOr, HasBegunPlan, HasDenied, HasFollowed, HasFollowedPlan, HasGonePlan, HasLeft, HasLeftOffBy, HasStoppedAsk, HasStoppedPlan, HasTickets}
+use Rattle.vg_client.specs.Outcomes.{HasPlayed, last_of}
+use Rattle.vg_client.specs.Steps.{HasBegunOr, HasBegunPlan, HasDenied, HasFollowed, HasFollowedPlan, HasGonePlan, HasLeft, HasLeftOffBy, HasStoppedAsk, HasStoppedPlan, HasTickets}
 use Rattle.vg_client.proofs.OwnLemmas.{all-map}
 use Rattle.vg_client.proofs.OutcomeLemmas.{ends-some, outcome-is}
-use Rattle.vg_client.proofs.PlayLemmas.{Stood, begins-none, same-known, tickets-kept}
+use Rattle.vg_client.proofs.PlayLemmas.{Stood, begins-none, same-known}
 use Rattle.vg_history.specs.declared.entry.Entry.TheVariants.{Act, Command}
 use Rattle.vg_client_holds.specs.declared.act.Act.TheVariants.{Denied, Leave}
 use Rattle.vg_client_holds.specs.declared.act.ActReply.TheVariants as act_replies
-use Rattle.vg_machine.specs.Order.{call_of, is_leave}
+use Rattle.vg_machine.specs.Order.{call_of}
 use Rattle.vg_book.specs.Views.{ordered_of}
 use Rattle.vg_tasks.specs.Tasks.{end_tasks}
 use Rattle.vg_client.specs.Own.{ArePlaced}

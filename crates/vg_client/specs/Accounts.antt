@@ -1,5 +1,5 @@
 -- What a client's token says of its own calls.
-use Rattle.std.specs.Prelude.{◌≡◌, ◌≤◌, ◌<◌, ◌+◌, ◌==◌, ℕ, Bool, true, false, nat_lt, if◌then◌else◌, List, [], ◌∷◌, ◌++◌, length, Some}
+use Rattle.std.specs.Prelude.{◌≡◌, ◌≤◌, ◌<◌, ◌+◌, ◌==◌, ℕ, Bool, true, false, nat_lt, if◌then◌else◌, List, [], ◌∷◌, ◌++◌, length, get_or, Some}
 use Rattle.std.specs.List.{AllByRecursion}
 use mathlib.Core.List.{IsPrefix}
 use Rattle.vg_history.specs.Lists.{Has}
@@ -145,6 +145,15 @@ AreOut orders tickets = ⊥
 abbrev pub is_below : Ticket → Ticket → Bool
 is_below ticket other = if other.fence.lane == ticket.fence.lane then nat_lt other.fence.ordinal ticket.fence.ordinal else true
 
+-- The tickets of what is begun, in its order, and how many there is room for.
+pub record BegunTickets : Type 0 where
+  pub items : List Ticket
+  pub capacity : ℕ
+
+-- No ticket of these passes the ordinal that its lane has here.
+abbrev pub AreUnder : List ℕ → List Ticket → Type 0
+AreUnder tops tickets = (length tops ≡ 66) × AllByRecursion (λ t. t.fence.ordinal ≤ get_or tops t.fence.lane 0) tickets
+
 -- A ticket's call has come back, and was run, or wasn't.
 abbrev pub ComesBack : Token → Ticket → Bool → Token → Type 0
 ComesBack token ticket true token' = (answer : Answer) × Finished token ticket answer token'
@@ -189,7 +198,3 @@ pub record HasNothingOut (token token' : Token) : Type 0 where
   pub mine : mine_of token' ≡ mine_of token ++ back
   pub out : token'.account.out ≡ []
   pub more : IsPrefix token.seen token'.seen
-
--- No ticket of these passes the ordinal that its lane has here.
-abbrev pub AreUnder : List ℕ → List Ticket → Type 0
-AreUnder tops tickets = (length tops ≡ 66) × AllByRecursion (λ t. t.fence.ordinal ≤ get_or tops t.fence.lane 0) tickets

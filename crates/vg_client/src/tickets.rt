@@ -1,8 +1,7 @@
 //! The tickets of what a client has begun.
 
-ghost use Rattle.std.specs.Prelude.{◌≡◌, ◌+◌, ◌∷◌, ◌++◌, [], true, None, IfOk, IfSome, OnOk};
+ghost use Rattle.std.specs.Prelude.{◌≡◌, ◌<◌, ◌∷◌, ◌++◌, [], true, length, IfNone, IfOk, IfSome, OnOk};
 ghost use Rattle.std.specs.List.{list_all};
-ghost use Rattle.std.specs.VecDeque.{deque_len, deque_capacity};
 ghost use Rattle.vg_client.specs.Accounts.{is_below};
 
 use std::alloc::{AllocError, Global};
@@ -19,12 +18,12 @@ pub(crate) struct Tickets {
 }
 
 impl Model for Tickets {
-    ghost use Rattle.std.specs.VecDeque.{DequeData};
-    ghost use Rattle.vg_client.specs.Accounts.{AreUnder};
+    ghost use Rattle.std.specs.VecDeque.{deque_capacity};
+    ghost use Rattle.vg_client.specs.Accounts.{AreUnder, BegunTickets};
 
-    ghost Value = { VecDeque Ticket };
+    ghost Value = { BegunTickets };
 
-    ghost view = { λ t. t.tickets };
+    ghost view = { λ t. record { items = t.tickets.items; capacity = deque_capacity t.tickets } };
 
     ghost invariant = { λ t. AreUnder t.tops.items t.tickets.items };
 }
@@ -54,6 +53,7 @@ impl Tickets {
 
     /// There is room for one more.
     pub(crate) fn reserve(&mut self) -> Result<(), AllocError>
+        ensures room { OnOk result (length self.new.items < self.new.capacity) }
         ensures same { self.new.items ≡ self.old.items }
     {
         self.tickets.reserve(1)
@@ -61,15 +61,20 @@ impl Tickets {
 
     /// One more.
     pub(crate) fn push_reserved(&mut self, ticket: Ticket)
+        requires { length self.old.items < self.old.capacity }
         ensures { self.new.items ≡ self.old.items ++ ticket ∷ [] }
     {
-        let top = &mut self.tops[ticket.fence.lane() as usize];
-        *top = ticket.fence.ordinal().max(*top);
+        let lane = ticket.fence.lane() as usize;
+        self.tops[lane] = ticket.fence.ordinal().max(self.tops[lane]);
         self.tickets.push_back_reserved(ticket);
     }
 
-    /// The first of them.
-    pub(crate) fn pop_front(&mut self) -> Option<Ticket> {
+    /// The first of them is taken out.
+    pub(crate) fn pop_front(&mut self) -> Option<Ticket>
+        ensures first { IfSome result (λ ticket. self.old.items ≡ ticket ∷ self.new.items) }
+        ensures none { IfNone result (self.old.items ≡ []) }
+        ensures empty { IfNone result (self.new.items ≡ []) }
+    {
         self.tickets.pop_front()
     }
 }

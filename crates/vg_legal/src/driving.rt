@@ -48,8 +48,8 @@ pub struct Driven<B: Naming, N: Rings> {
     pub cursor: DeviceEnd<Carried<Display, B>, CursorOf<N>>,
 }
 
-/// Runs each client of a script on a thread of its own beside so many workers of the device, but no more than there are
-/// clients, and gives the journal.
+/// Runs each client of a script on a thread of its own beside so many workers of the device, and gives the journal. Where no line
+/// begins a command there are no more workers than clients.
 pub fn drive<G: Gate, R: Threads + Wait + Sync>(
     rt: &R,
     alloc: Global,

@@ -7,5 +7,5 @@ returns-in_err-played-clause-begun g c = on_err _ (added-none c.args.client.now)
 
 pub returns-clause-out : goal.returns-clause-out
 returns-clause-out g c =
-    tickets-begun c.args.ask.now c.args.client.now.token c.begin.new.token c.in_ok-ticket.ticket c.args.client.now.begun.items c.reserve.new.self.items c.push_back_reserved.new.self.items
-    c.requires.out c.in_ok-ticket.ensures.begun c.reserve.ensures.items c.push_back_reserved.ensures.items
+    tickets-begun c.args.ask.now c.args.client.now.token c.begin.new.token c.in_ok-ticket.ticket c.args.client.now.begun.items c.reserve.new.self.items c.push_reserved.new.self.items
+    c.requires.out c.in_ok-ticket.ensures.begun c.reserve.ensures.same c.push_reserved.ensures

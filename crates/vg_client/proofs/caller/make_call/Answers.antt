@@ -1,4 +1,4 @@
-use Rattle.std.proofs.Common.{◌≡◌, ◌∙◌, arith, refl, subst, sym}
+use Rattle.std.proofs.Common.{◌∙◌, arith, refl, subst, sym}
 use Rattle.vg_client.specs.Callers.{known}
 use Rattle.vg_tasks.specs.Keeps.{PlansToAskOnce, PlansToKeep}
 use Rattle.vg_tasks.specs.Plans.{IsPlanOf}

@@ -1,4 +1,4 @@
-use Rattle.std.proofs.Common.{◌≡◌, ◌⊎◌, ◌≤◌, arith, ap, subst, length}
+use Rattle.std.proofs.Common.{arith}
 use Rattle.vg_client.proofs.PlayLemmas.{err-then, map_ok, on_err, tickets-kept}
 use Rattle.vg_client.proofs.StepLemmas.{behind, behind-idle, either_way, followed-by, stopped-finishing, stopped-playing}
 use Rattle.vg_client.proofs.caller.play_behind.Goals as goal

@@ -1,4 +1,4 @@
-use Rattle.std.proofs.Common.{ap, refl, subst, sym}
+use Rattle.std.proofs.Common.{refl, subst, sym}
 use Rattle.vg_driver.specs.Tickets.{Account}
 use Rattle.vg_client.specs.Accounts.{AreOut}
 use Rattle.vg_client.proofs.MeetLemmas.{ready-met}
