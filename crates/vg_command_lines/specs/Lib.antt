@@ -1,0 +1,4 @@
+pub mod Shapes
+pub mod Words
+pub mod Ranges
+pub mod Read
