@@ -1,5 +1,5 @@
 -- What tests and numbers tell.
-use Rattle.std.proofs.Common.{◌≡◌, ℕ, ◌<◌, ◌≤◌, ◌^◌, ◌==◌, ◌&&◌, Bool, true, false, List, [], ◌∷◌, decimal, bytes_eq, codes, if◌then◌else◌, Option, Some, None, arith, refl, sym, ap, ◌∙◌, subst}
+use Rattle.std.proofs.Common.{◌≡◌, ℕ, ◌<◌, ◌≤◌, ◌^◌, ◌==◌, ◌&&◌, Bool, true, false, List, decimal, bytes_eq, if◌then◌else◌, Option, Some, None, arith, refl, ap, ◌∙◌, subst}
 use Rattle.std.proofs.lemmas.Bool.{and_parts, eq-eqb, eqb-true, eqb-false, ne_eqb, false≢true}
 use Rattle.vg_line_words.specs.Words.{number_of}
 use Rattle.vg_line_words.proofs.NumberLaws.{number_back, number_only, number_range}

@@ -5,13 +5,17 @@ ghost use Rattle.std.specs.List.{All};
 ghost use Rattle.std.specs.Prelude.{◌≡◌, ◌≤◌, ◌==◌, ◌++◌, [], ℕ, List, Some, true, bit_and, codes, decimal, if◌then◌else◌};
 ghost use Rattle.vg_client_holds.specs.Setup.{IsDisplay};
 ghost use Rattle.vg_scanout.specs.declared.scanout.Frame.{Frame};
-ghost use Rattle.vg_journal.specs.Text.{counts_text, display_line, frame_line, title_text, without_line};
-ghost use Rattle.vg_line_words.specs.Words.{is_plain};
+ghost use Rattle.vg_journal.specs.Text.{counts_text, display_line, entry_line, frame_line, title_text, without_line};
+ghost use Rattle.vg_line_words.specs.Words.{is_plain, lacks, parts_at};
 ghost use Rattle.vg_journal_lines.specs.declared.head.Feature.{Feature as Features};
 ghost use Rattle.vg_journal_lines.specs.declared.counts.FrameHead.{FrameHead as Heads};
-ghost use Rattle.vg_journal_lines.specs.Words.{clients_words, display_words, end_words, feature_name, frame_words, frames_words, head_of, line_of, memory_words, rings_words, title_words, without_words};
+ghost use Rattle.vg_journal_lines.specs.Words.{clients_words, display_words, end_words, feature_name, frame_words, frames_words, head_of, joined, line_of, memory_words, rings_words, title_words, without_words};
 ghost use Rattle.vg_journal_lines.specs.Read.{clients_of, display_of, frame_of, frames_of, is_end, is_title, memory_of, rings_of, without_of};
+ghost use Rattle.vg_machine.specs.Entries.{Entry};
+ghost use Rattle.vg_journal_lines.specs.Entries.{EntryInRange, entry_of, entry_words};
 ghost use Rattle.vg_journal_lines.specs.Ranges.{HeadInRange, IsCount};
+
+use vg_command_lines::{command_replies_and_their_text, requests_and_their_text};
 
 /// The first line and its words.
 pub fn title_and_its_words()
@@ -56,6 +60,25 @@ pub fn clients_and_their_words()
     ensures only { (clients : ℕ) (words : List (List ℕ)) → clients_of words ≡ Some clients
         → (words ≡ clients_words clients) × (clients ≤ 16) }
 {}
+
+/// The line of entry n of so many clients is its words; the entry is read from them, and from no other words. So two entries have
+/// the same line only where they are the same.
+pub fn entries_and_their_words()
+    ensures text { (n : ℕ) (entry : Entry) → entry_line n entry ≡ line_of (entry_words n entry) }
+    ensures parts { (n clients : ℕ) (entry : Entry) → clients ≤ 16 → IsCount n → EntryInRange clients entry
+        → parts_at 32 (joined (entry_words n entry)) ≡ entry_words n entry }
+    ensures line { (n clients : ℕ) (entry : Entry) → clients ≤ 16 → IsCount n → EntryInRange clients entry
+        → lacks 10 (joined (entry_words n entry)) ≡ true }
+    ensures back { (n clients : ℕ) (entry : Entry) → clients ≤ 16 → IsCount n → EntryInRange clients entry
+        → entry_of n clients (entry_words n entry) ≡ Some entry }
+    ensures only { (n clients : ℕ) (entry : Entry) (words : List (List ℕ)) → clients ≤ 16 → entry_of n clients words ≡ Some entry
+        → (words ≡ entry_words n entry) × IsCount n × EntryInRange clients entry }
+    ensures one { (n clients : ℕ) (a b : Entry) → clients ≤ 16 → IsCount n → EntryInRange clients a → EntryInRange clients b
+        → entry_line n a ≡ entry_line n b → a ≡ b }
+{
+    requests_and_their_text();
+    command_replies_and_their_text();
+}
 
 /// The text of the counts is the words of two lines.
 pub fn counts_and_their_lines()

@@ -4,14 +4,16 @@
 #![tactic(auto)]
 
 mod counts;
+mod entries;
 mod head;
 mod laws;
 mod numbers;
 
 pub use counts::{FrameHead, frame_of, frames_of, is_end, rings_of};
+pub use entries::read_entry;
 pub use head::{Feature, clients_of, display_of, is_title, memory_of, without_of};
 pub use laws::{
     clients_and_their_words, counts_and_their_lines, displays_and_their_words, end_and_its_words,
-    features_and_their_words, frame_heads_and_their_words, frames_and_their_words,
-    pages_and_their_words, rings_and_their_words, title_and_its_words,
+    entries_and_their_words, features_and_their_words, frame_heads_and_their_words,
+    frames_and_their_words, pages_and_their_words, rings_and_their_words, title_and_its_words,
 };
