@@ -4,3 +4,6 @@ pub mod CountLaws
 pub mod JoinLemmas
 pub mod EntryLaws
 pub mod SideLemmas
+pub mod CutLemmas
+pub mod TextLemmas
+pub mod RunLaws

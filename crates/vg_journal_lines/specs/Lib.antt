@@ -2,3 +2,5 @@ pub mod Words
 pub mod Read
 pub mod Ranges
 pub mod Entries
+pub mod States
+pub mod Pieces

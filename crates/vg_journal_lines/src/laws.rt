@@ -5,7 +5,7 @@ ghost use Rattle.std.specs.List.{All};
 ghost use Rattle.std.specs.Prelude.{◌≡◌, ◌≤◌, ◌==◌, ◌++◌, [], ℕ, List, Some, true, bit_and, codes, decimal, if◌then◌else◌};
 ghost use Rattle.vg_client_holds.specs.Setup.{IsDisplay};
 ghost use Rattle.vg_scanout.specs.declared.scanout.Frame.{Frame};
-ghost use Rattle.vg_journal.specs.Text.{counts_text, display_line, entry_line, frame_line, title_text, without_line};
+ghost use Rattle.vg_journal.specs.Text.{counts_text, display_line, entry_line, frame_line, text_of, title_text, without_line};
 ghost use Rattle.vg_line_words.specs.Words.{is_plain, lacks, parts_at};
 ghost use Rattle.vg_journal_lines.specs.declared.head.Feature.{Feature as Features};
 ghost use Rattle.vg_journal_lines.specs.declared.counts.FrameHead.{FrameHead as Heads};
@@ -13,6 +13,10 @@ ghost use Rattle.vg_journal_lines.specs.Words.{clients_words, display_words, end
 ghost use Rattle.vg_journal_lines.specs.Read.{clients_of, display_of, frame_of, frames_of, is_end, is_title, memory_of, rings_of, without_of};
 ghost use Rattle.vg_machine.specs.Entries.{Entry};
 ghost use Rattle.vg_journal_lines.specs.Entries.{EntryInRange, entry_of, entry_words};
+ghost use Rattle.vg_journal.specs.declared.journal.Journal.{Journal as Journals};
+ghost use Rattle.vg_journal_lines.specs.declared.state.State.{State as States};
+ghost use Rattle.vg_journal_lines.specs.States.{Item, run};
+ghost use Rattle.vg_journal_lines.specs.Pieces.{pieces_of, whole};
 ghost use Rattle.vg_journal_lines.specs.Ranges.{HeadInRange, IsCount};
 
 use vg_command_lines::{command_replies_and_their_text, requests_and_their_text};
@@ -117,4 +121,18 @@ pub fn end_and_its_words()
     ensures plain { All (λ word. is_plain word ≡ true) end_words }
     ensures back { is_end end_words ≡ true }
     ensures only { (words : List (List ℕ)) → is_end words ≡ true → words ≡ end_words }
+{}
+
+/// The text of a journal is its pieces with a line end behind each.
+pub fn journals_and_their_pieces()
+    ensures { (journal : Journals) → text_of journal ≡ whole (pieces_of journal) }
+{
+    requests_and_their_text();
+    command_replies_and_their_text();
+}
+
+/// Pieces that may come next one after another are told by the text that they make.
+pub fn pieces_and_their_text()
+    ensures { (state : States) (ps qs : List (List ℕ)) (a b : States × List Item) → run state ps ≡ Some a → run state qs ≡ Some b
+        → whole ps ≡ whole qs → ps ≡ qs }
 {}

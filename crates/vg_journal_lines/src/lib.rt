@@ -8,6 +8,7 @@ mod entries;
 mod head;
 mod laws;
 mod numbers;
+mod state;
 
 pub use counts::{FrameHead, frame_of, frames_of, is_end, rings_of};
 pub use entries::read_entry;
@@ -17,3 +18,4 @@ pub use laws::{
     entries_and_their_words, features_and_their_words, frame_heads_and_their_words,
     frames_and_their_words, pages_and_their_words, rings_and_their_words, title_and_its_words,
 };
+pub use state::{LeftOut, Stage, State};
