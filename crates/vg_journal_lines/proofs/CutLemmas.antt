@@ -1,7 +1,6 @@
 -- A text is cut into pieces in one way.
-use Rattle.std.proofs.Common.{◌≡◌, ℕ, ◌+◌, ◌==◌, ◌&&◌, Bool, true, false, not, List, [], ◌∷◌, ◌++◌, length, Option, Some, None, if◌then◌else◌, option_and_then, arith, refl, sym, ap, ◌∙◌, subst, length-append}
+use Rattle.std.proofs.Common.{◌≡◌, ℕ, ◌+◌, ◌==◌, true, not, List, [], ◌∷◌, ◌++◌, length, Option, Some, None, option_and_then, arith, refl, sym, ap, ◌∙◌, length-append}
 use Rattle.std.proofs.lemmas.Bool.{and_parts, eqb-true, eqb-false, not-true}
-use Rattle.std.specs.List.{list_all}
 use Rattle.vg_line_words.specs.Words.{lacks, parts_at}
 use Rattle.vg_act_lines.proofs.PartLaws.{no_more, some_is, then_parts}
 use Rattle.vg_journal_lines.specs.declared.state.Stage.{Stage}

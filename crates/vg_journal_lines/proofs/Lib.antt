@@ -7,3 +7,4 @@ pub mod SideLemmas
 pub mod CutLemmas
 pub mod TextLemmas
 pub mod RunLaws
+pub mod StepLemmas

@@ -3,14 +3,12 @@ use Rattle.std.proofs.Common.{◌≡◌, ℕ, ◌+◌, ◌==◌, Bool, true, fal
 use Rattle.vg_config.specs.Features.{EDID, RESOURCE_BLOB, RESOURCE_UUID, VIRGL}
 use Rattle.vg_text.specs.Text.{numbered}
 use Rattle.vg_client_holds.specs.declared.setup.Setup.{Setup}
-use Rattle.vg_machine.specs.Entries.{Entry}
 use Rattle.vg_scanout.specs.declared.scanout.Frame.{Frame}
 use Rattle.vg_journal.specs.declared.journal.Journal.{Journal}
-use Rattle.vg_journal.specs.Text.{counts_text, display_line, entry_line, frame_line, frame_text, head_text, text_of, title_text, without_line, without_text}
+use Rattle.vg_journal.specs.Text.{counts_text, display_line, entry_line, frame_text, head_text, text_of, title_text, without_line, without_text}
 use Rattle.vg_journal_lines.specs.declared.head.Feature.{Feature}
 use Rattle.vg_journal_lines.specs.declared.head.Feature.TheVariants.{Edid, Uuid, Blob, Context}
-use Rattle.vg_journal_lines.specs.Words.{clients_words, display_words, end_words, feature_name, frame_words, frames_words, head_of, joined, line_of, memory_words, rings_words, title_words, without_words}
-use Rattle.vg_journal_lines.specs.Entries.{entry_words}
+use Rattle.vg_journal_lines.specs.Words.{clients_words, end_words, feature_name, frame_words, frames_words, head_of, joined, line_of, memory_words, rings_words, title_words, without_words}
 use Rattle.vg_journal_lines.specs.Pieces.{count_pieces, display_pieces, entry_pieces, frame_pieces, head_pieces, numbered_pieces, pieces_of, whole, without_piece, without_pieces}
 use Rattle.vg_journal_lines.proofs.HeadLaws.{text_display, text_title, text_without}
 use Rattle.vg_journal_lines.proofs.CountLaws.{text_counts, text_frame}

@@ -1,5 +1,5 @@
 -- The pieces of a journal, and what is read of them.
-use Rattle.std.specs.Prelude.{◌≡◌, ℕ, ◌+◌, ◌≤◌, ◌==◌, if◌then◌else◌, List, [], ◌∷◌, ◌++◌, bit_and, length, map}
+use Rattle.std.specs.Prelude.{◌≡◌, ℕ, ◌+◌, ◌≤◌, ◌==◌, if◌then◌else◌, List, [], ◌∷◌, ◌++◌, bit_and, length, Some}
 use Rattle.std.specs.List.{All}
 use Rattle.vg_config.specs.Features.{EDID, RESOURCE_BLOB, RESOURCE_UUID, VIRGL}
 use Rattle.vg_client_holds.specs.declared.setup.Setup.{Setup}
@@ -18,7 +18,7 @@ use Rattle.vg_journal_lines.specs.Words.{clients_words, display_words, end_words
 use Rattle.vg_journal_lines.specs.Read.{pixels_of}
 use Rattle.vg_journal_lines.specs.Ranges.{HeadInRange, IsCount}
 use Rattle.vg_journal_lines.specs.Entries.{EntryInRange, entry_words}
-use Rattle.vg_journal_lines.specs.States.{AFrame, AnEntry, Item, Nothing}
+use Rattle.vg_journal_lines.specs.States.{AFrame, AnEntry, Item, Nothing, run, start}
 
 -- A frame of a journal: its pixels have four bytes each.
 pub record FrameInRange (frame : Frame) : Type 0 where
@@ -114,3 +114,11 @@ frames_in [] = []
 frames_in (Nothing ∷ items) = frames_in items
 frames_in (AnEntry entry ∷ items) = frames_in items
 frames_in (AFrame frame ∷ items) = frame ∷ frames_in items
+
+-- Pieces that are read as a journal: after the last one the state is that behind the journal's last line, and what they give are
+-- its entries and its frames.
+pub record IsReadAs (pieces : List (List ℕ)) (journal : Journal) : Type 0 where
+  pub items : List Item
+  pub run_is : run start pieces ≡ Some (done_of journal, items)
+  pub entries : entries_in items ≡ journal.entries
+  pub frames : frames_in items ≡ journal.frames

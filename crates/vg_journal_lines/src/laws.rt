@@ -16,7 +16,7 @@ ghost use Rattle.vg_journal_lines.specs.Entries.{EntryInRange, entry_of, entry_w
 ghost use Rattle.vg_journal.specs.declared.journal.Journal.{Journal as Journals};
 ghost use Rattle.vg_journal_lines.specs.declared.state.State.{State as States};
 ghost use Rattle.vg_journal_lines.specs.States.{Item, run};
-ghost use Rattle.vg_journal_lines.specs.Pieces.{pieces_of, whole};
+ghost use Rattle.vg_journal_lines.specs.Pieces.{IsReadAs, JournalInRange, pieces_of, whole};
 ghost use Rattle.vg_journal_lines.specs.Ranges.{HeadInRange, IsCount};
 
 use vg_command_lines::{command_replies_and_their_text, requests_and_their_text};
@@ -136,3 +136,14 @@ pub fn pieces_and_their_text()
     ensures { (state : States) (ps qs : List (List ℕ)) (a b : States × List Item) → run state ps ≡ Some a → run state qs ≡ Some b
         → whole ps ≡ whole qs → ps ≡ qs }
 {}
+
+/// A journal is read from its pieces, and from its text: two journals have the same text only where they are the same.
+pub fn journals_and_their_text()
+    ensures read { (journal : Journals) → JournalInRange journal → IsReadAs (pieces_of journal) journal }
+    ensures one_read { (pieces : List (List ℕ)) (a b : Journals) → JournalInRange a → JournalInRange b
+        → IsReadAs pieces a → IsReadAs pieces b → a ≡ b }
+    ensures one { (a b : Journals) → JournalInRange a → JournalInRange b → text_of a ≡ text_of b → a ≡ b }
+{
+    requests_and_their_text();
+    command_replies_and_their_text();
+}
