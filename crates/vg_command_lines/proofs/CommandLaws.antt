@@ -17,7 +17,7 @@ use Rattle.vg_command_lines.specs.Ranges.{CommandReplyInRange, RequestInRange}
 use Rattle.vg_command_lines.specs.Read.{command_reply_of, layout_of, request, request_of, ticket_of}
 use Rattle.vg_command_lines.specs.Shapes.{fault_of, shape_of}
 use Rattle.vg_command_lines.specs.Words.{command_reply_words, request_words}
-use Rattle.vg_command_lines.proofs.PartLemmas.{both_parts, last_plain, line_parts, map_parts, some_is, word_is}
+use Rattle.vg_act_lines.proofs.PartLaws.{both_parts, last_plain, line_parts, map_parts, some_is, word_is}
 use Rattle.vg_command_lines.proofs.ShapeLaws.{fault_back, fault_only, plain_fault, plain_shape, shape_back, shape_only}
 
 bytes_said : (most : ℕ) (bytes : List ℕ) → AreBelow 256 bytes → length bytes ≤ most → bytes_within most (hex_text bytes) ≡ Some bytes

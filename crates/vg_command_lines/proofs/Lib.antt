@@ -1,3 +1,3 @@
-mod PartLemmas
+mod FindLemmas
 mod ShapeLaws
 mod CommandLaws

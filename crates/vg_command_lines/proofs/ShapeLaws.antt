@@ -9,7 +9,8 @@ use Rattle.vg_chain.specs.declared.shape.Shape.TheVariants.{Plain, Pieces, Indir
 use Rattle.vg_journal_words.specs.Text.{fault_text, shape_text}
 use Rattle.vg_line_words.specs.Words.{is_plain}
 use Rattle.vg_command_lines.specs.Shapes.{ShapeInRange, count_of, fault_of, faults, shape_of}
-use Rattle.vg_command_lines.proofs.PartLemmas.{found, map_parts, or_parts, word_is}
+use Rattle.vg_act_lines.proofs.PartLaws.{map_parts, word_is}
+use Rattle.vg_command_lines.proofs.FindLemmas.{found, or_parts}
 
 pub plain_fault : (fault : ChainFault) → is_plain (fault_text fault) ≡ true
 unfolding is_plain
