@@ -8,3 +8,5 @@ pub mod CutLemmas
 pub mod TextLemmas
 pub mod RunLaws
 pub mod StepLemmas
+pub mod BackLemmas
+pub mod OnlyLaws

@@ -243,7 +243,7 @@ abbrev pub frame_items : List Frame → List Item
 frame_items [] = []
 frame_items (frame ∷ frames) = Nothing ∷ AFrame frame ∷ frame_items frames
 
-abbrev at_pixels : State → FrameHead → ℕ → ℕ → ℕ → State
+abbrev pub at_pixels : State → FrameHead → ℕ → ℕ → ℕ → State
 at_pixels state head left count bytes = record state { stage = stages.Pixels head left; frames = count; bytes = bytes }
 
 head_goes : (state : State) (more left count n bytes : ℕ) (frame : Frame) → more ≡ left + 1 → n ≡ count + 1 → IsCount n → FrameInRange frame → bytes + length frame.pixels ≤ 268435456

@@ -6,7 +6,7 @@ ghost use Rattle.std.specs.Prelude.{◌≡◌, ◌≤◌, ◌==◌, ◌++◌, []
 ghost use Rattle.vg_client_holds.specs.Setup.{IsDisplay};
 ghost use Rattle.vg_scanout.specs.declared.scanout.Frame.{Frame};
 ghost use Rattle.vg_journal.specs.Text.{counts_text, display_line, entry_line, frame_line, text_of, title_text, without_line};
-ghost use Rattle.vg_line_words.specs.Words.{is_plain, lacks, parts_at};
+ghost use Rattle.vg_line_words.specs.Words.{AreBelow, is_plain, lacks, parts_at};
 ghost use Rattle.vg_journal_lines.specs.declared.head.Feature.{Feature as Features};
 ghost use Rattle.vg_journal_lines.specs.declared.counts.FrameHead.{FrameHead as Heads};
 ghost use Rattle.vg_journal_lines.specs.Words.{clients_words, display_words, end_words, feature_name, frame_words, frames_words, head_of, joined, line_of, memory_words, rings_words, title_words, without_words};
@@ -15,7 +15,8 @@ ghost use Rattle.vg_machine.specs.Entries.{Entry};
 ghost use Rattle.vg_journal_lines.specs.Entries.{EntryInRange, entry_of, entry_words};
 ghost use Rattle.vg_journal.specs.declared.journal.Journal.{Journal as Journals};
 ghost use Rattle.vg_journal_lines.specs.declared.state.State.{State as States};
-ghost use Rattle.vg_journal_lines.specs.States.{Item, run};
+ghost use Rattle.vg_journal_lines.specs.declared.state.Stage.TheVariants as stages;
+ghost use Rattle.vg_journal_lines.specs.States.{Item, run, start};
 ghost use Rattle.vg_journal_lines.specs.Pieces.{IsReadAs, JournalInRange, pieces_of, whole};
 ghost use Rattle.vg_journal_lines.specs.Ranges.{HeadInRange, IsCount};
 
@@ -137,11 +138,15 @@ pub fn pieces_and_their_text()
         → whole ps ≡ whole qs → ps ≡ qs }
 {}
 
-/// A journal is read from its pieces, and from its text: two journals have the same text only where they are the same.
+/// A journal is read from its pieces, and from no others: what is read to its end are the pieces of a journal. Two journals have
+/// the same text only where they are the same.
 pub fn journals_and_their_text()
     ensures read { (journal : Journals) → JournalInRange journal → IsReadAs (pieces_of journal) journal }
     ensures one_read { (pieces : List (List ℕ)) (a b : Journals) → JournalInRange a → JournalInRange b
         → IsReadAs pieces a → IsReadAs pieces b → a ≡ b }
+    ensures only { (pieces : List (List ℕ)) (done : States × List Item) → All (λ piece. AreBelow 256 piece) pieces
+        → run start pieces ≡ Some done → done.0.stage ≡ stages.Done
+        → (journal : Journals) × JournalInRange journal × (pieces ≡ pieces_of journal) }
     ensures one { (a b : Journals) → JournalInRange a → JournalInRange b → text_of a ≡ text_of b → a ≡ b }
 {
     requests_and_their_text();

@@ -1,4 +1,5 @@
 use Rattle.vg_journal_lines.proofs.EntryLaws.{CommandsAreSaid}
+use Rattle.vg_journal_lines.proofs.OnlyLaws.{pieces_only}
 use Rattle.vg_journal_lines.proofs.RunLaws.{journal_read, one_read, one_text}
 use Rattle.vg_journal_lines.proofs.laws.journals_and_their_text.Goals as goal
 
@@ -16,4 +17,4 @@ returns c =
       request_only = requests.only;
       reply_only = replies.only;
     } in
-    record { read = journal_read commands; one_read = one_read; one = one_text commands }
+    record { read = journal_read commands; one_read = one_read; only = pieces_only commands; one = one_text commands }
