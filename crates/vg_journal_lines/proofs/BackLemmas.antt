@@ -1,31 +1,28 @@
 -- What is read to its end: the frames, the entries and the counts.
-use Rattle.std.proofs.Common.{◌≡◌, ◌⊎◌, inl, inr, ℕ, ◌+◌, ◌-◌, ◌<◌, ◌≤◌, ◌==◌, ◌^◌, Bool, true, false, nat_lt, nat_le, List, [], ◌∷◌, ◌++◌, length, if◌then◌else◌, Option, Some, None, option_map, option_and_then, arith, refl, sym, ap, ◌∙◌, subst, append_assoc}
+use Rattle.std.proofs.Common.{◌≡◌, ◌⊎◌, inl, inr, ℕ, ◌+◌, ◌-◌, ◌≤◌, ◌==◌, Bool, true, false, nat_le, List, [], ◌∷◌, ◌++◌, length, if◌then◌else◌, Option, Some, None, arith, refl, sym, ap, ◌∙◌}
 use Rattle.std.proofs.lemmas.Bool.{eqb-true, eqb-false, leb-true}
 use Rattle.std.proofs.lemmas.List.Elements.{All-head, All-tail, All-cons, All-nil}
 use Rattle.std.proofs.lemmas.List.Sums.{sum_by-cons}
 use Rattle.std.specs.List.{All}
 use Rattle.std.specs.Option.{option_or}
-use Rattle.vg_machine.specs.Entries.{Entry}
 use Rattle.vg_scanout.specs.declared.scanout.Frame.{Frame}
 use Rattle.vg_scanout.specs.Scanout.{frame_bytes}
 use Rattle.vg_line_words.specs.Words.{AreBelow, lacks, parts_at}
 use Rattle.vg_line_words.proofs.PartLemmas.{joined-parts}
-use Rattle.vg_act_lines.proofs.PartLaws.{map_parts, no_more, some_is, then_parts}
+use Rattle.vg_act_lines.proofs.PartLaws.{some_is, then_parts}
 use Rattle.vg_journal_lines.specs.declared.counts.FrameHead.{FrameHead}
 use Rattle.vg_journal_lines.specs.declared.state.Stage.{Stage}
 use Rattle.vg_journal_lines.specs.declared.state.Stage.TheVariants as stages
 use Rattle.vg_journal_lines.specs.declared.state.State.{State}
-use Rattle.vg_journal_lines.specs.Words.{end_words, frame_words, frames_words, head_of, joined, rings_words}
-use Rattle.vg_journal_lines.specs.Read.{frame_of, frames_of, is_end, pixels_of, rings_of}
-use Rattle.vg_journal_lines.specs.Ranges.{HeadInRange, IsCount}
-use Rattle.vg_journal_lines.specs.Entries.{EntryInRange, entry_of, entry_words}
-use Rattle.vg_journal_lines.specs.States.{AFrame, AnEntry, Item, Next, Nothing, end_step, entry_step, frame_with, head_step, piece_step, rings_step, run, step, with_counts, with_entry, with_frames, with_head, words_step}
-use Rattle.vg_journal_lines.specs.Pieces.{FrameInRange, count_pieces, entry_pieces, frame_pieces, numbered_pieces}
+use Rattle.vg_journal_lines.specs.Words.{end_words, frame_words, joined}
+use Rattle.vg_journal_lines.specs.Read.{frame_of, is_end, pixels_of}
+use Rattle.vg_journal_lines.specs.Ranges.{HeadInRange}
+use Rattle.vg_journal_lines.specs.States.{AFrame, Item, Next, Nothing, end_step, frame_with, head_step, piece_step, run, step, with_head, words_step}
+use Rattle.vg_journal_lines.specs.Pieces.{FrameInRange, frame_pieces, numbered_pieces}
 use Rattle.vg_journal_lines.proofs.TestLaws.{passes}
-use Rattle.vg_journal_lines.proofs.CountLaws.{end_only, frame_only, frames_only, rings_only}
-use Rattle.vg_journal_lines.proofs.EntryLaws.{CommandsAreSaid, entry_only}
+use Rattle.vg_journal_lines.proofs.CountLaws.{end_only, frame_only}
 use Rattle.vg_journal_lines.proofs.CutLemmas.{ran}
-use Rattle.vg_journal_lines.proofs.StepLemmas.{HasLine, at_end, at_entries, at_frame, at_frames, at_pixels}
+use Rattle.vg_journal_lines.proofs.StepLemmas.{HasLine, at_end, at_frame, at_pixels}
 
 -- The words of a line that came.
 pub words_of : (stage : Stage) (state : State) (piece : List ℕ) (next : Next) → HasLine stage → piece_step stage state piece ≡ Some next → words_step stage state (parts_at 32 piece) ≡ Some next
@@ -126,7 +123,7 @@ pub record FramesLeft (left count bytes : ℕ) (pieces : List (List ℕ)) : Type
   pub fit : All FrameInRange frames
   pub few : bytes + frame_bytes frames ≤ 268435456
 
-over_none : (state : State) (piece : List ℕ) (pieces : List (List ℕ)) (all : State × List Item) → state.stage ≡ stages.Done → run state (piece ∷ pieces) ≡ Some all → ⊥
+pub over_none : (state : State) (piece : List ℕ) (pieces : List (List ℕ)) (all : State × List Item) → state.stage ≡ stages.Done → run state (piece ∷ pieces) ≡ Some all → ⊥
 over_none state piece pieces all over is =
     let first = first_step state piece pieces all is in
     let none : None ≡ Some first.0 = ap (λ stage. piece_step stage state piece) (sym over) ∙ first.1 in

@@ -10,3 +10,5 @@ pub mod RunLaws
 pub mod StepLemmas
 pub mod BackLemmas
 pub mod OnlyLaws
+pub mod EndLemmas
+pub mod RefusalLaws

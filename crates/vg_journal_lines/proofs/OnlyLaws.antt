@@ -1,17 +1,16 @@
 -- What is read to its end is a journal's pieces.
-use Rattle.std.proofs.Common.{◌≡◌, ◌⊎◌, inl, inr, ℕ, ◌+◌, ◌<◌, ◌≤◌, ◌==◌, ◌||◌, ◌^◌, Bool, true, false, not, nat_lt, List, [], ◌∷◌, ◌++◌, length, if◌then◌else◌, Option, Some, None, option_map, option_and_then, arith, refl, sym, ap, ◌∙◌, subst, append_assoc, append-nil, length-append}
+use Rattle.std.proofs.Common.{◌≡◌, ◌⊎◌, inl, inr, ℕ, ◌+◌, ◌<◌, ◌≤◌, Bool, true, false, nat_lt, List, [], ◌∷◌, ◌++◌, length, if◌then◌else◌, Some, option_map, arith, refl, sym, ap, ◌∙◌, subst, append_assoc, length-append}
 use Rattle.std.proofs.lemmas.Bool.{false≢true, ltb-true}
-use Rattle.std.proofs.lemmas.List.Elements.{All-head, All-tail, All-cons, All-nil}
+use Rattle.std.proofs.lemmas.List.Elements.{All-tail, All-cons, All-nil}
 use Rattle.std.specs.List.{All}
-use Rattle.std.specs.Option.{option_or}
 use Rattle.vg_client_holds.specs.declared.setup.Setup.{Setup}
-use Rattle.vg_client_holds.specs.Setup.{AreDisplays, IsDisplay, features_without}
+use Rattle.vg_client_holds.specs.Setup.{AreDisplays, features_without}
 use Rattle.vg_machine.specs.Entries.{Entry}
 use Rattle.vg_scanout.specs.declared.scanout.Frame.{Frame}
 use Rattle.vg_scanout.specs.Scanout.{frame_bytes}
 use Rattle.vg_journal.specs.declared.journal.Journal.{Journal}
 use Rattle.vg_line_words.specs.Words.{AreBelow, parts_at}
-use Rattle.vg_act_lines.proofs.PartLaws.{map_parts, no_more, some_is, then_parts}
+use Rattle.vg_act_lines.proofs.PartLaws.{map_parts, then_parts}
 use Rattle.vg_journal_lines.specs.declared.head.Feature.{Feature}
 use Rattle.vg_journal_lines.specs.declared.head.Feature.TheVariants.{Edid, Uuid, Blob, Context}
 use Rattle.vg_journal_lines.specs.declared.state.LeftOut.{LeftOut}
@@ -28,7 +27,7 @@ use Rattle.vg_journal_lines.proofs.HeadLaws.{clients_only, display_only, memory_
 use Rattle.vg_journal_lines.proofs.CountLaws.{frames_only, rings_only}
 use Rattle.vg_journal_lines.proofs.EntryLaws.{CommandsAreSaid, entry_only}
 use Rattle.vg_journal_lines.proofs.StepLemmas.{at_displays, at_entries, at_features, at_frame, at_frames, features_but}
-use Rattle.vg_journal_lines.proofs.BackLemmas.{Bytes, FramesLeft, IsOver, at_start, either, first_step, frames_left, left_behind, line_is, words_of}
+use Rattle.vg_journal_lines.proofs.BackLemmas.{Bytes, IsOver, at_start, either, first_step, frames_left, left_behind, line_is, words_of}
 
 -- The count of frames, and all behind it.
 record CountLeft (pieces : List (List ℕ)) : Type 0 where

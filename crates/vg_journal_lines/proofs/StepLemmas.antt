@@ -220,7 +220,7 @@ rings_go state clients count control cursor first second =
     said stages.Entries before (rings_words (control, cursor)) tt words
     ∙ ap (λ o. option_or (option_map (with_counts before) o) (entry_step before (rings_words (control, cursor)))) (rings_back (control, cursor) first second)
 
-frame_count_goes : (state : State) (control cursor frames : ℕ) → IsCount frames
+pub frame_count_goes : (state : State) (control cursor frames : ℕ) → IsCount frames
     → step (at_frames state control cursor) (joined (frames_words frames)) ≡ Some (at_frame (at_frames state control cursor) frames state.frames state.bytes, Nothing)
 frame_count_goes state control cursor frames small =
     let before = at_frames state control cursor in

@@ -4,3 +4,4 @@ pub mod Ranges
 pub mod Entries
 pub mod States
 pub mod Pieces
+pub mod Refusals

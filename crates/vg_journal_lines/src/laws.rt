@@ -2,7 +2,7 @@
 //! work.
 
 ghost use Rattle.std.specs.List.{All};
-ghost use Rattle.std.specs.Prelude.{◌≡◌, ◌≤◌, ◌==◌, ◌++◌, [], ℕ, List, Some, true, bit_and, codes, decimal, if◌then◌else◌};
+ghost use Rattle.std.specs.Prelude.{◌≡◌, ◌≤◌, ◌+◌, ◌==◌, ◌++◌, [], length, ℕ, List, Some, true, bit_and, codes, decimal, if◌then◌else◌};
 ghost use Rattle.vg_client_holds.specs.Setup.{IsDisplay};
 ghost use Rattle.vg_scanout.specs.declared.scanout.Frame.{Frame};
 ghost use Rattle.vg_journal.specs.Text.{counts_text, display_line, entry_line, frame_line, text_of, title_text, without_line};
@@ -17,6 +17,7 @@ ghost use Rattle.vg_journal.specs.declared.journal.Journal.{Journal as Journals}
 ghost use Rattle.vg_journal_lines.specs.declared.state.State.{State as States};
 ghost use Rattle.vg_journal_lines.specs.declared.state.Stage.TheVariants as stages;
 ghost use Rattle.vg_journal_lines.specs.States.{Item, run, start};
+ghost use Rattle.vg_journal_lines.specs.Refusals.{GoesNoMore, IsJournal, IsRefusedAt};
 ghost use Rattle.vg_journal_lines.specs.Pieces.{IsReadAs, JournalInRange, pieces_of, whole};
 ghost use Rattle.vg_journal_lines.specs.Ranges.{HeadInRange, IsCount};
 
@@ -148,6 +149,20 @@ pub fn journals_and_their_text()
         → run start pieces ≡ Some done → done.0.stage ≡ stages.Done
         → (journal : Journals) × JournalInRange journal × (pieces ≡ pieces_of journal) }
     ensures one { (a b : Journals) → JournalInRange a → JournalInRange b → text_of a ≡ text_of b → a ≡ b }
+{
+    requests_and_their_text();
+    command_replies_and_their_text();
+}
+
+/// A text that is read to its end is a journal's. Where no piece goes on any more the text is refused at that piece, and at no other.
+pub fn journals_and_their_refusals()
+    ensures ended { (bytes : List ℕ) (front : List (List ℕ)) (read : States × List Item) → AreBelow 256 bytes → run start front ≡ Some read
+        → bytes ≡ whole front → read.0.stage ≡ stages.Done
+        → (journal : Journals) × IsJournal bytes journal × IsReadAs front journal }
+    ensures refused { (bytes : List ℕ) (front : List (List ℕ)) (rest : List ℕ) (read : States × List Item) → AreBelow 256 bytes
+        → run start front ≡ Some read → bytes ≡ whole front ++ rest → GoesNoMore read.0 rest
+        → (read.0.stage ≡ stages.Done → rest ≡ [] → ⊥) → IsRefusedAt bytes (length front + 1) }
+    ensures one { (bytes : List ℕ) (m n : ℕ) → IsRefusedAt bytes m → IsRefusedAt bytes n → m ≡ n }
 {
     requests_and_their_text();
     command_replies_and_their_text();
