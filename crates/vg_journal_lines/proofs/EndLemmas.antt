@@ -9,17 +9,20 @@ use Rattle.std.specs.Char.{is_ascii_digit}
 use Rattle.std.specs.List.{All, list_all}
 use Rattle.vg_scanout.specs.declared.scanout.Frame.{Frame}
 use Rattle.vg_scanout.specs.Scanout.{frame_bytes}
-use Rattle.vg_line_words.specs.Words.{AreBelow, parts_at}
+use Rattle.vg_line_words.specs.Words.{AreBelow, number_of, parts_at}
 use Rattle.vg_line_words.proofs.NumberLaws.{all_weaker, digits-decimal}
 use Rattle.vg_line_words.proofs.ListLaws.{joined_all}
-use Rattle.vg_act_lines.proofs.PartLaws.{last_plain, map_parts, no_more, some_is, then_parts}
+use Rattle.vg_act_lines.proofs.PartLaws.{both_parts, last_plain, map_parts, no_more, some_is, then_parts}
 use Rattle.vg_journal_lines.specs.declared.counts.FrameHead.{FrameHead}
 use Rattle.vg_journal_lines.specs.declared.state.Stage.{Stage}
 use Rattle.vg_journal_lines.specs.declared.state.Stage.TheVariants as stages
 use Rattle.vg_journal_lines.specs.declared.state.State.{State}
 use Rattle.vg_journal_lines.specs.Words.{clients_words, display_words, end_words, frame_words, frames_words, head_of, joined, memory_words, rings_words, title_words}
-use Rattle.vg_journal_lines.specs.Read.{clients_of, display_of, frame_of, frames_of, is_end, is_title, memory_of, pixels_of, rings_of, without_of}
-use Rattle.vg_journal_lines.specs.Entries.{entry_of}
+use Rattle.vg_journal_lines.specs.Read.{clients_of, display_of, frame_of, frames_of, from_one, is_end, is_this, is_title, memory_of, pixels_of, rings_of, without_of}
+use Rattle.vg_machine.specs.Entries.{Entry}
+use Rattle.vg_act_lines.specs.Read.{both}
+use Rattle.vg_journal_lines.specs.Entries.{entry_by, entry_of, sides, who_of}
+use Rattle.vg_journal_lines.specs.Moves.{IsKept}
 use Rattle.vg_journal_lines.specs.Ranges.{IsCount}
 use Rattle.vg_journal_lines.specs.States.{AFrame, Item, Next, Nothing, and_out, clients_step, display_step, end_step, entry_step, frame_with, frames_step, head_step, is_behind, memory_step, piece_step, pixels_step, rings_step, run, start, step, title_step, with_clients, with_counts, with_display, with_entry, with_frames, with_head, with_pages, without_feature, without_step}
 use Rattle.vg_journal_lines.specs.Pieces.{FrameInRange, count_pieces, frame_pieces, numbered_pieces}
@@ -27,7 +30,7 @@ use Rattle.vg_journal_lines.proofs.CutLemmas.{goes_on, goes_one, ran}
 use Rattle.vg_journal_lines.proofs.StepLemmas.{at_displays, at_end, at_entries, at_features, at_frame, at_frames, at_pixels, clients_go, counts_go, displays_go, end_goes, frame_items, frames_go, frame_count_goes, pages_go, title_goes}
 use Rattle.vg_journal_lines.proofs.BackLemmas.{Bytes, IsOver, at_start, either, words_of}
 use Rattle.vg_journal_lines.proofs.CountLaws.{frames_only}
-use Rattle.vg_journal_lines.proofs.TestLaws.{passes}
+use Rattle.vg_journal_lines.proofs.TestLaws.{passes, this_only}
 
 -- Bytes of lines.
 abbrev are_bytes : List ℕ → Bool
@@ -195,10 +198,11 @@ Fits stages.Entries state = Zero state
 Fits stages.Frames state = Zero state
 Fits (stages.Frame left) state = IsCount (state.frames + left) × (state.bytes ≤ 268435456)
 Fits (stages.Pixels head left) state = IsCount (state.frames + 1 + left) × (state.bytes ≤ 268435456)
-Fits stages.Done state = Unit {0}
+Fits stages.Done state = IsCount state.frames × (state.bytes ≤ 268435456)
 
-abbrev pub IsFit : State → Type 0
-IsFit state = Fits state.stage state
+pub record IsFit (state : State) : Type 0 where
+  pub entries : IsCount state.entries
+  pub fits : Fits state.stage state
 
 -- One that stands at a stage is so.
 at_stage : (state : State) (stage : Stage) → state.stage ≡ stage → state ≡ (let s : State = record state { stage = stage } in s)
@@ -218,93 +222,129 @@ fit_end stages.Done state at fits = record { pieces = []; all = (state, []); run
 abbrev NextFits : Next → Type 0
 NextFits next = IsFit next.0
 
-title_fits : (state : State) (words : List (List ℕ)) (next : Next) → state ≡ start → title_step state words ≡ Some next → NextFits next
-title_fits state words next fits is =
-    let told = passes (is_title words) (Some (let s : State = record state { stage = stages.Displays } in s, Nothing)) next is in
-    subst NextFits (some_is _ next told.1) (ap (λ (s : State). s.frames) fits, ap (λ (s : State). s.bytes) fits)
+abbrev fit : (state : State) → IsCount state.entries → Fits state.stage state → IsFit state
+fit state counted fits = record { entries = counted; fits = fits }
 
-displays_fit : (state : State) (words : List (List ℕ)) (next : Next) → state.stage ≡ stages.Displays → Zero state
+title_fits : (state : State) (words : List (List ℕ)) (next : Next) → IsCount state.entries → state ≡ start → title_step state words ≡ Some next → NextFits next
+title_fits state words next counted fits is =
+    let after : State = record state { stage = stages.Displays } in
+    let told = passes (is_title words) (Some (after, Nothing)) next is in
+    subst NextFits (some_is (after, Nothing) next told.1) (fit after counted (ap (λ (s : State). s.frames) fits, ap (λ (s : State). s.bytes) fits))
+
+displays_fit : (state : State) (words : List (List ℕ)) (next : Next) → IsCount state.entries → state.stage ≡ stages.Displays → Zero state
     → (display_step state words ≡ Some next) ⊎ (memory_step state words ≡ Some next) → NextFits next
-displays_fit state words next at fits (inl is) =
+displays_fit state words next counted at fits (inl is) =
     let told = passes (nat_lt (length state.displays) 16) (option_map (with_display state) (display_of (length state.displays) words)) next is in
     let m = map_parts (with_display state) (display_of (length state.displays) words) next told.1 in
-    subst NextFits m.2 (subst (λ stage. Fits stage (with_display state m.0).0) (sym at) fits)
-displays_fit state words next at fits (inr is) =
+    let after : State = (with_display state m.0).0 in
+    subst NextFits m.2 (fit after counted (subst (λ stage. Fits stage after) (sym at) fits))
+displays_fit state words next counted at fits (inr is) =
     let told = passes (nat_lt 0 (length state.displays)) (option_map (with_pages state) (memory_of words)) next is in
     let m = map_parts (with_pages state) (memory_of words) next told.1 in
-    subst NextFits m.2 fits
+    subst NextFits m.2 (fit (with_pages state m.0).0 counted fits)
 
-features_fit : (state : State) (words : List (List ℕ)) (next : Next) → state.stage ≡ stages.Features → Zero state
+features_fit : (state : State) (words : List (List ℕ)) (next : Next) → IsCount state.entries → state.stage ≡ stages.Features → Zero state
     → (without_step state words ≡ Some next) ⊎ (clients_step state words ≡ Some next) → NextFits next
-features_fit state words next at fits (inl is) =
+features_fit state words next counted at fits (inl is) =
     let m = then_parts (without_feature state) (without_of words) next is in
     let after : State = record state { left_out = and_out m.0 state.left_out } in
     let told = passes (is_behind m.0 state.left_out) (Some (after, Nothing)) next m.2 in
-    subst NextFits (some_is (after, Nothing) next told.1) (subst (λ stage. Fits stage after) (sym at) fits)
-features_fit state words next at fits (inr is) =
+    subst NextFits (some_is (after, Nothing) next told.1) (fit after counted (subst (λ stage. Fits stage after) (sym at) fits))
+features_fit state words next counted at fits (inr is) =
     let m = map_parts (with_clients state) (clients_of words) next is in
-    subst NextFits m.2 fits
+    subst NextFits m.2 (fit (with_clients state m.0).0 counted fits)
 
-entries_fit : (state : State) (words : List (List ℕ)) (next : Next) → state.stage ≡ stages.Entries → Zero state
+-- The number of an entry that is read is below 2 ^ 63.
+numbered_entry : (n clients : ℕ) (words : List (List ℕ)) (entry : Entry) → entry_of n clients words ≡ Some entry → IsCount n
+unfolding entry_of
+numbered_entry n clients (number ∷ client ∷ call ∷ kind ∷ words) entry is =
+    let m = then_parts (entry_by kind) (both (who_of n clients number client call) (sides words)) entry is in
+    let parts = both_parts (who_of n clients number client call) (sides words) m.0 m.1 in
+    (this_only n number (passes (is_this n number) (both (from_one (clients + 1) client) (number_of (2 ^ 63) call)) m.0.0 parts.0).0).1
+numbered_entry n clients words entry is = no_more entry is
+
+entries_fit : (state : State) (words : List (List ℕ)) (next : Next) → IsCount state.entries → state.stage ≡ stages.Entries → Zero state
     → (rings_step state words ≡ Some next) ⊎ (entry_step state words ≡ Some next) → NextFits next
-entries_fit state words next at fits (inl is) =
+entries_fit state words next counted at fits (inl is) =
     let m = map_parts (with_counts state) (rings_of words) next is in
-    subst NextFits m.2 fits
-entries_fit state words next at fits (inr is) =
+    subst NextFits m.2 (fit (with_counts state m.0).0 counted fits)
+entries_fit state words next counted at fits (inr is) =
     let m = map_parts (with_entry state) (entry_of (state.entries + 1) state.clients words) next is in
-    subst NextFits m.2 (subst (λ stage. Fits stage (with_entry state m.0).0) (sym at) fits)
+    let after : State = (with_entry state m.0).0 in
+    subst NextFits m.2 (fit after (numbered_entry (state.entries + 1) state.clients words m.0 m.1) (subst (λ stage. Fits stage after) (sym at) fits))
 
-frames_fit : (state : State) (words : List (List ℕ)) (next : Next) → Zero state → frames_step state words ≡ Some next → NextFits next
-frames_fit state words next fits is =
+frames_fit : (state : State) (words : List (List ℕ)) (next : Next) → IsCount state.entries → Zero state → frames_step state words ≡ Some next → NextFits next
+frames_fit state words next counted fits is =
     let m = map_parts (with_frames state) (frames_of words) next is in
     let read = frames_only m.0 words m.1 in
     let small = read.1 in
     let none = fits.0 in
     let none' = fits.1 in
-    subst NextFits m.2 (omega (arith, small, none), omega (arith, none'))
+    subst NextFits m.2 (fit (with_frames state m.0).0 counted (omega (arith, small, none), omega (arith, none')))
 
-frame_fits : (b : Bool) (left : ℕ) (state : State) (words : List (List ℕ)) (next : Next) → (left == 0) ≡ b → IsCount (state.frames + left) → state.bytes ≤ 268435456
+frame_fits : (b : Bool) (left : ℕ) (state : State) (words : List (List ℕ)) (next : Next) → IsCount state.entries → (left == 0) ≡ b → IsCount (state.frames + left) → state.bytes ≤ 268435456
     → (if b then end_step state words else head_step (left - 1) state words) ≡ Some next → NextFits next
-frame_fits true left state words next none small few is =
-    let told = passes (is_end words) (Some (let s : State = record state { stage = stages.Done } in s, Nothing)) next is in
-    subst NextFits (some_is _ next told.1) tt
-frame_fits false left state words next some small few is =
+frame_fits true left state words next counted none small few is =
+    let after : State = record state { stage = stages.Done } in
+    let told = passes (is_end words) (Some (after, Nothing)) next is in
+    subst NextFits (some_is (after, Nothing) next told.1) (fit after counted (omega (arith, small), few))
+frame_fits false left state words next counted some small few is =
     let m = then_parts (with_head (left - 1) state) (frame_of (state.frames + 1) words) next is in
     let after : State = record state { stage = stages.Pixels m.0 (left - 1); bytes = state.bytes + pixels_of m.0 } in
     let told = passes (nat_le (state.bytes + pixels_of m.0) 268435456) (Some (after, Nothing)) next m.2 in
     let other = eqb-false left 0 some in
-    subst NextFits (some_is (after, Nothing) next told.1) (omega (arith, small, other), leb-true _ _ told.0)
+    subst NextFits (some_is (after, Nothing) next told.1) (fit after counted (omega (arith, small, other), leb-true _ _ told.0))
 
-pixels_fit : (head : FrameHead) (left : ℕ) (state : State) (piece : List ℕ) (next : Next) → IsCount (state.frames + 1 + left) → state.bytes ≤ 268435456 → pixels_step head left state piece ≡ Some next → NextFits next
-pixels_fit head left state piece next small few is =
+pixels_fit : (head : FrameHead) (left : ℕ) (state : State) (piece : List ℕ) (next : Next) → IsCount state.entries → IsCount (state.frames + 1 + left) → state.bytes ≤ 268435456 → pixels_step head left state piece ≡ Some next → NextFits next
+pixels_fit head left state piece next counted small few is =
     let after : State = record state { stage = stages.Frame left; frames = state.frames + 1 } in
     let told = passes (length piece == pixels_of head) (Some (after, AFrame (frame_with head piece))) next is in
-    subst NextFits (some_is (after, AFrame (frame_with head piece)) next told.1) (small, few)
+    subst NextFits (some_is (after, AFrame (frame_with head piece)) next told.1) (fit after counted (small, few))
 
-step_fits : (stage : Stage) (state : State) (piece : List ℕ) (next : Next) → state.stage ≡ stage → Fits stage state → piece_step stage state piece ≡ Some next → NextFits next
-step_fits stages.Title state piece next at fits is = title_fits state (parts_at 32 piece) next fits (words_of stages.Title state piece next tt is)
-step_fits stages.Displays state piece next at fits is =
+step_fits : (stage : Stage) (state : State) (piece : List ℕ) (next : Next) → IsCount state.entries → state.stage ≡ stage → Fits stage state → piece_step stage state piece ≡ Some next → NextFits next
+step_fits stages.Title state piece next counted at fits is = title_fits state (parts_at 32 piece) next counted fits (words_of stages.Title state piece next tt is)
+step_fits stages.Displays state piece next counted at fits is =
     let words = parts_at 32 piece in
-    displays_fit state words next at fits (either (display_step state words) (memory_step state words) next (words_of stages.Displays state piece next tt is))
-step_fits stages.Features state piece next at fits is =
+    displays_fit state words next counted at fits (either (display_step state words) (memory_step state words) next (words_of stages.Displays state piece next tt is))
+step_fits stages.Features state piece next counted at fits is =
     let words = parts_at 32 piece in
-    features_fit state words next at fits (either (without_step state words) (clients_step state words) next (words_of stages.Features state piece next tt is))
-step_fits stages.Entries state piece next at fits is =
+    features_fit state words next counted at fits (either (without_step state words) (clients_step state words) next (words_of stages.Features state piece next tt is))
+step_fits stages.Entries state piece next counted at fits is =
     let words = parts_at 32 piece in
-    entries_fit state words next at fits (either (rings_step state words) (entry_step state words) next (words_of stages.Entries state piece next tt is))
-step_fits stages.Frames state piece next at fits is = frames_fit state (parts_at 32 piece) next fits (words_of stages.Frames state piece next tt is)
-step_fits (stages.Frame left) state piece next at fits is =
-    frame_fits (left == 0) left state (parts_at 32 piece) next refl fits.0 fits.1 (words_of (stages.Frame left) state piece next tt is)
-step_fits (stages.Pixels head left) state piece next at fits is = pixels_fit head left state piece next fits.0 fits.1 is
-step_fits stages.Done state piece next at fits is = no_more next is
+    entries_fit state words next counted at fits (either (rings_step state words) (entry_step state words) next (words_of stages.Entries state piece next tt is))
+step_fits stages.Frames state piece next counted at fits is = frames_fit state (parts_at 32 piece) next counted fits (words_of stages.Frames state piece next tt is)
+step_fits (stages.Frame left) state piece next counted at fits is =
+    frame_fits (left == 0) left state (parts_at 32 piece) next counted refl fits.0 fits.1 (words_of (stages.Frame left) state piece next tt is)
+step_fits (stages.Pixels head left) state piece next counted at fits is = pixels_fit head left state piece next counted fits.0 fits.1 is
+step_fits stages.Done state piece next counted at fits is = no_more next is
 
 run_fits : (pieces : List (List ℕ)) (state : State) (all : State × List Item) → IsFit state → run state pieces ≡ Some all → IsFit all.0
 run_fits [] state all fits is = subst IsFit (at_start state all is) fits
 run_fits (piece ∷ pieces) state all fits is =
     let r = ran state piece pieces all is in
-    let next = step_fits state.stage state piece r.next refl fits r.first in
+    let next = step_fits state.stage state piece r.next fits.entries refl fits.fits r.first in
     subst IsFit (ap (λ a. a.0) r.is) (run_fits pieces r.next.0 r.more next r.rest)
+
+start_fits : IsFit start
+start_fits = record { entries = omega arith; fits = refl }
 
 -- Whatever was read can be brought to an end.
 pub can_end : (pieces : List (List ℕ)) (all : State × List Item) → run start pieces ≡ Some all → CanEnd all.0
-can_end pieces all is = fit_end all.0.stage all.0 refl (run_fits pieces start all refl is)
+can_end pieces all is = fit_end all.0.stage all.0 refl (run_fits pieces start all start_fits is).fits
+
+-- Whatever was read has small counts.
+kept_by : (stage : Stage) (state : State) → IsCount state.entries → Fits stage state → IsKept state
+kept_by stages.Title state counted fits =
+    let none : state.frames ≡ 0 = ap (λ (s : State). s.frames) fits in
+    let none' : state.bytes ≡ 0 = ap (λ (s : State). s.bytes) fits in
+    (counted, omega (arith, none), omega (arith, none'))
+kept_by stages.Displays state counted fits = let none = fits.0 in let none' = fits.1 in (counted, omega (arith, none), omega (arith, none'))
+kept_by stages.Features state counted fits = let none = fits.0 in let none' = fits.1 in (counted, omega (arith, none), omega (arith, none'))
+kept_by stages.Entries state counted fits = let none = fits.0 in let none' = fits.1 in (counted, omega (arith, none), omega (arith, none'))
+kept_by stages.Frames state counted fits = let none = fits.0 in let none' = fits.1 in (counted, omega (arith, none), omega (arith, none'))
+kept_by (stages.Frame left) state counted fits = let small = fits.0 in (counted, omega (arith, small), fits.1)
+kept_by (stages.Pixels head left) state counted fits = let small = fits.0 in (counted, omega (arith, small), fits.1)
+kept_by stages.Done state counted fits = (counted, fits.0, fits.1)
+
+pub run_kept : (pieces : List (List ℕ)) (all : State × List Item) → run start pieces ≡ Some all → IsKept all.0
+run_kept pieces all is = let fits = run_fits pieces start all start_fits is in kept_by all.0.stage all.0 fits.entries fits.fits

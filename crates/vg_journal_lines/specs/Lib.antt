@@ -5,3 +5,4 @@ pub mod Entries
 pub mod States
 pub mod Pieces
 pub mod Refusals
+pub mod Moves

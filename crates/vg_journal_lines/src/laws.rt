@@ -17,6 +17,7 @@ ghost use Rattle.vg_journal.specs.declared.journal.Journal.{Journal as Journals}
 ghost use Rattle.vg_journal_lines.specs.declared.state.State.{State as States};
 ghost use Rattle.vg_journal_lines.specs.declared.state.Stage.TheVariants as stages;
 ghost use Rattle.vg_journal_lines.specs.States.{Item, run, start};
+ghost use Rattle.vg_journal_lines.specs.Moves.{IsKept};
 ghost use Rattle.vg_journal_lines.specs.Refusals.{GoesNoMore, IsJournal, IsRefusedAt};
 ghost use Rattle.vg_journal_lines.specs.Pieces.{IsReadAs, JournalInRange, pieces_of, whole};
 ghost use Rattle.vg_journal_lines.specs.Ranges.{HeadInRange, IsCount};
@@ -154,7 +155,8 @@ pub fn journals_and_their_text()
     command_replies_and_their_text();
 }
 
-/// A text that is read to its end is a journal's. Where no piece goes on any more the text is refused at that piece, and at no other.
+/// A text that is read to its end is a journal's. Where no piece goes on any more the text is refused at that piece, and at no other. The counts
+/// of a state on the way are small.
 pub fn journals_and_their_refusals()
     ensures ended { (bytes : List ℕ) (front : List (List ℕ)) (read : States × List Item) → AreBelow 256 bytes → run start front ≡ Some read
         → bytes ≡ whole front → read.0.stage ≡ stages.Done
@@ -162,6 +164,7 @@ pub fn journals_and_their_refusals()
     ensures refused { (bytes : List ℕ) (front : List (List ℕ)) (rest : List ℕ) (read : States × List Item) → AreBelow 256 bytes
         → run start front ≡ Some read → bytes ≡ whole front ++ rest → GoesNoMore read.0 rest
         → (read.0.stage ≡ stages.Done → rest ≡ [] → ⊥) → IsRefusedAt bytes (length front + 1) }
+    ensures kept { (front : List (List ℕ)) (read : States × List Item) → run start front ≡ Some read → IsKept read.0 }
     ensures one { (bytes : List ℕ) (m n : ℕ) → IsRefusedAt bytes m → IsRefusedAt bytes n → m ≡ n }
 {
     requests_and_their_text();

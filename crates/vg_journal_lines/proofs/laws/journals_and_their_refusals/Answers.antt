@@ -1,4 +1,5 @@
 use Rattle.vg_journal_lines.proofs.EntryLaws.{CommandsAreSaid}
+use Rattle.vg_journal_lines.proofs.EndLemmas.{run_kept}
 use Rattle.vg_journal_lines.proofs.RefusalLaws.{ended, one_refusal, refused}
 use Rattle.vg_journal_lines.proofs.laws.journals_and_their_refusals.Goals as goal
 
@@ -19,5 +20,6 @@ returns c =
     record {
       ended = ended commands;
       refused = λ bytes front rest read below is text no_more unended. refused commands bytes front rest read is text no_more below unended;
+      kept = run_kept;
       one = one_refusal;
     }
