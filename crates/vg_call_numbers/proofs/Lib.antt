@@ -1,0 +1,3 @@
+mod GapLemmas
+mod NumberLemmas
+mod TakenLemmas
