@@ -1,0 +1,4 @@
+//! Whether each entry of a journal stands rightly behind those before it.
+#![tactic(auto)]
+
+mod same;
