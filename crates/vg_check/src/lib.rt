@@ -1,4 +1,8 @@
 //! Whether each entry of a journal stands rightly behind those before it.
 #![tactic(auto)]
 
+mod counts;
+mod deniable;
 mod same;
+mod seen;
+mod step;
