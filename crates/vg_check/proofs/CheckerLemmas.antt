@@ -71,7 +71,7 @@ checked-none setup checker none display control cursor lanes clients new = recor
 
 -- ---- the client of an entry
 
-its : (setup : Setup) (H : List Entry) (checker : Checker) (client : ℕ) (seen : Seen) → HasChecked setup H checker → 1 ≤ client → IsSeenOf checker client seen → HasSeen setup client H seen
+pub its : (setup : Setup) (H : List Entry) (checker : Checker) (client : ℕ) (seen : Seen) → HasChecked setup H checker → 1 ≤ client → IsSeenOf checker client seen → HasSeen setup client H seen
 its setup H checker client seen is some at =
     let number : (client - 1) + 1 ≡ client = omega (arith, some) in
     subst (λ (n : ℕ). HasSeen setup n H seen) number (is.seen (client - 1) seen at)
@@ -113,7 +113,7 @@ act-goes laws setup H old client call act reply new some is kept =
       };
     }
 
-some-client : (client count clients : ℕ) → 1 ≤ client → client ≤ count → clients ≡ count → client - 1 < clients
+pub some-client : (client count clients : ℕ) → 1 ≤ client → client ≤ count → clients ≡ count → client - 1 < clients
 some-client client count clients some most is = omega (arith, some, most, is)
 
 pub act-fails : NumberLaws → (setup : Setup) (H : List Entry) (old : Checker) (client call : ℕ) (act : Act) (reply : ActReply) → 1 ≤ client → HasChecked setup H old

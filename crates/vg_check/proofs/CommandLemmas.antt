@@ -60,7 +60,7 @@ none-denied (Some what) is = absurd (false≢true is)
 
 -- ---- all of it
 
-not-zero : (n : ℕ) → (n == 0) ≡ false → n ≢ 0
+pub not-zero : (n : ℕ) → (n == 0) ≡ false → n ≢ 0
 not-zero n is e = false≢true (sym is ∙ eq-eqb n 0 e)
 
 module _ (laws : NumberLaws) (setup : Setup) (H : List Entry) (seen : Seen) (client call : ℕ) (request : Request) (reply : Reply) (is : HasSeen setup client H seen) where

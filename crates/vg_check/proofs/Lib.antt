@@ -5,3 +5,6 @@ pub mod SeenLemmas
 pub mod ActLemmas
 pub mod CommandLemmas
 pub mod CheckerLemmas
+pub mod FrameLemmas
+pub mod RightLemmas
+pub mod LeftLemmas

@@ -1,5 +1,5 @@
 -- What is kept of all entries, and one entry more.
-use Rattle.std.specs.Prelude.{◌≡◌, ◌+◌, ◌-◌, ◌^◌, ℕ, Bool, true, false, List, slice_get, set, min, if◌then◌else◌, Some}
+use Rattle.std.specs.Prelude.{◌≡◌, ◌+◌, ◌-◌, ◌^◌, ◌==◌, ◌||◌, ℕ, Bool, true, false, List, slice_get, set, min, if◌then◌else◌, Some}
 use Rattle.vg_client_holds.specs.declared.act.Act.{Act}
 use Rattle.vg_client_holds.specs.declared.act.ActReply.{ActReply}
 use Rattle.vg_client_holds.specs.declared.setup.Setup.{Setup}
@@ -51,3 +51,7 @@ FailsCommand old client call request reply =
 -- Nothing is kept yet of each of so many clients.
 abbrev pub AreNew : Setup → List Seen → Type 0
 AreNew setup all = (place : ℕ) (seen : Seen) → slice_get all place ≡ Some seen → IsNew setup (place + 1) seen
+
+-- The client has left, or has no entry.
+abbrev pub is_gone : Seen → Bool
+is_gone seen = seen.left || (seen.numbers.top == 0)

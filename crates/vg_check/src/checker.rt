@@ -1,10 +1,16 @@
 //! The entries of a journal, gone over one after another.
 
-ghost use Rattle.std.specs.Prelude.{◌≡◌, ◌≤◌, ◌<◌, ◌-◌, ◌^◌, ◌↔◌, [], true, false, IfOk, length};
+ghost use Rattle.std.specs.Prelude.{◌≡◌, ◌≤◌, ◌<◌, ◌-◌, ◌^◌, ◌↔◌, List, [], true, false, count_by, length, IfOk, IsTrue};
+ghost use Rattle.std.specs.List.{list_all};
 ghost use Rattle.vg_check.specs.Checked.{HasChecked, TellsRight, TellsWrong, entries_of};
-ghost use Rattle.vg_check.specs.StepWithin.{AreNew, FailsAct, FailsCommand, KeepsAct, KeepsCommand};
+ghost use Rattle.vg_check.specs.Right.{HasLeftAll, frames_after};
+ghost use Rattle.vg_check.specs.StepWithin.{AreNew, FailsAct, FailsCommand, KeepsAct, KeepsCommand, is_gone};
+ghost use Rattle.vg_client_holds.specs.declared.setup.Setup.{Setup};
 ghost use Rattle.vg_client_holds.specs.Setup.{IsSetup};
+ghost use Rattle.vg_history.specs.Lines.{is_on_first, is_on_second};
+ghost use Rattle.vg_machine.specs.Entries.{Entry};
 ghost use Rattle.vg_machine.specs.Order.{call_of, client_of};
+ghost use Rattle.vg_machine.specs.Replay.{display};
 
 use crate::counts::{put_number, zeros};
 use crate::seen::Seen;
@@ -47,6 +53,34 @@ impl Checker {
         ensures { result ≡ entries_of self.now }
     {
         self.display.entries()
+    }
+
+    /// The frames that the display has made, in the order in which they were made.
+    pub fn frames(&self) -> &[Frame]
+        ensures { (setup : Setup) (H : List Entry) → HasChecked setup H self.now → result.now ≡ frames_after setup H }
+    {
+        self.display.frames()
+    }
+
+    /// How many commands came on the control queue.
+    pub fn control(&self) -> u64
+        ensures { (setup : Setup) (H : List Entry) → HasChecked setup H self.now → result ≡ count_by (is_on_first display) H }
+    {
+        self.control
+    }
+
+    /// How many commands came on the cursor queue.
+    pub fn cursor(&self) -> u64
+        ensures { (setup : Setup) (H : List Entry) → HasChecked setup H self.now → result ≡ count_by (is_on_second display) H }
+    {
+        self.cursor
+    }
+
+    /// Whether each client that has an entry has left.
+    pub fn have_left(&self) -> bool
+        ensures { (setup : Setup) (H : List Entry) → HasChecked setup H self.now → IsTrue result ↔ HasLeftAll setup.clients H }
+    {
+        are_gone(self.clients.as_slice())
     }
 
     /// Goes over the next entry, and says whether it stands rightly behind those before it.
@@ -128,6 +162,13 @@ impl Checker {
         }
         Ok(true)
     }
+}
+
+/// Whether each client has left or has no entry.
+fn are_gone(clients: &[Seen]) -> bool
+    ensures { result ≡ list_all is_gone clients.now }
+{
+    clients.iter().all(|seen| seen.is_gone())
 }
 
 /// Nothing is kept yet of each client.

@@ -3,6 +3,7 @@
 ghost use Rattle.std.specs.Prelude.{◌≡◌, ◌↔◌, [], false, replicate, IfOk, IsTrue};
 ghost use Rattle.vg_client_holds.specs.Holds.{first_holds, gives_up};
 ghost use Rattle.vg_client_holds.specs.Setup.{IsSetup};
+ghost use Rattle.vg_check.specs.StepWithin.{is_gone};
 ghost use Rattle.vg_check.specs.TestsWithin.{IsNew, MayAct, MayAsk, MayGiveUp, is_first, is_known, is_leaving, is_next_act, is_next_command, is_next_on_lane};
 
 use crate::counts::{number_at, zeros};
@@ -35,6 +36,13 @@ impl Seen {
             left: false,
             holds: Holds::new(alloc, setup, client),
         })
+    }
+
+    /// Whether the client has left, or has no entry.
+    pub(crate) fn is_gone(&self) -> bool
+        ensures { result ≡ is_gone self.now }
+    {
+        self.left || self.numbers.top() == 0
     }
 
     /// Whether the client may act so next.
