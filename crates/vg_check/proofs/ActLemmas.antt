@@ -1,26 +1,24 @@
 -- An act that passes the tests is right, and one that is right passes them.
-use Rattle.std.proofs.Common.{◌≡◌, ◌≢◌, ◌≤◌, ◌<◌, ◌+◌, ◌-◌, ◌==◌, ◌&&◌, ◌||◌, ℕ, Bool, true, false, cond, not, nat_le, nat_lt, List, [], ◌∷◌, ◌++◌, map, get_or, refl, ap, sym, subst, ◌∙◌, ◌↔◌, arith, eq-eqb, append-nil}
-use Rattle.std.specs.List.{AllByRecursion, count_by, list_any, range_with_len}
+use Rattle.std.proofs.Common.{◌≡◌, ◌≢◌, ◌≤◌, ◌<◌, ◌-◌, ◌==◌, ◌&&◌, ◌||◌, ℕ, Bool, true, false, not, nat_le, nat_lt, List, [], map, get_or, refl, ap, sym, subst, ◌∙◌, arith, eq-eqb}
+use Rattle.std.specs.List.{count_by}
 use Rattle.std.proofs.lemmas.Bool.{and_from, and_parts, eqb-true, false≢true, not-true, not_from_false}
 use Rattle.std.proofs.lemmas.Bool.Decides.{nat_tests}
 use Rattle.vg_call_numbers.specs.Numbers.{UsedNumbers, is_in_gap, is_used}
 use Rattle.vg_client_holds.specs.declared.act.Act.{Act}
 use Rattle.vg_client_holds.specs.declared.act.Act.TheVariants as acts
 use Rattle.vg_client_holds.specs.declared.act.ActReply.{ActReply}
-use Rattle.vg_client_holds.specs.declared.act.What.{What}
 use Rattle.vg_client_holds.specs.declared.holds.Holds.{Holds}
 use Rattle.vg_client_holds.specs.declared.setup.Setup.{Setup}
-use Rattle.vg_client_holds.specs.Holds.{Deniable, gives_up}
 use Rattle.vg_history.specs.declared.entry.Entry.TheVariants as entries
 use Rattle.vg_machine.specs.ActStep.{act_step}
 use Rattle.vg_machine.specs.Entries.{Entry}
-use Rattle.vg_machine.specs.Order.{AreInOrder, CallOrder, FenceOrder, GiveUp, IsAllowed, IsFirst, IsInOrder, by_call, call_of, holds_of, is_leave, is_of_lane, of_client}
-use Rattle.vg_machine.specs.Replay.{HasReply, replay}
+use Rattle.vg_machine.specs.Order.{AreInOrder, CallOrder, FenceOrder, GiveUp, IsAllowed, IsFirst, call_of, is_of_lane, of_client}
+use Rattle.vg_machine.specs.Replay.{replay}
 use Rattle.vg_machine.specs.State.{State}
 use Rattle.vg_check.specs.declared.seen.Seen.{Seen}
 use Rattle.vg_check.specs.Checked.{HasSeen}
 use Rattle.vg_check.specs.Right.{IsRightly}
-use Rattle.vg_check.specs.TestsWithin.{MayAct, MayBeDenied, MayGiveUp, PassesAct, is_first, is_known, is_next_act}
+use Rattle.vg_check.specs.TestsWithin.{MayBeDenied, MayGiveUp, PassesAct, is_first, is_known, is_next_act}
 use Rattle.vg_check.proofs.EntryLemmas.{all-map, leaves-none, map-all, map-by_call, none-leaves}
 use Rattle.vg_check.proofs.FenceLemmas.{fence-there, there-fence}
 use Rattle.vg_check.proofs.SeenLemmas.{NumberLaws, has-none, none-has}

@@ -1,5 +1,5 @@
 -- The checker over whole histories.
-use Rattle.std.proofs.Common.{◌≡◌, ◌≢◌, ◌≤◌, ◌<◌, ◌+◌, ◌-◌, ◌^◌, ℕ, Bool, true, false, cond, not, min, List, [], ◌∷◌, ◌++◌, inl, inr, length, get_or, set, replicate, refl, ap, sym, subst, ◌∙◌, arith, length-append, length-set}
+use Rattle.std.proofs.Common.{◌≡◌, ◌≢◌, ◌≤◌, ◌<◌, ◌+◌, ◌-◌, ◌^◌, ℕ, Bool, true, false, cond, not, List, [], ◌∷◌, ◌++◌, inl, inr, length, get_or, set, replicate, refl, ap, sym, subst, ◌∙◌, arith, length-append, length-set}
 use Rattle.std.specs.Prelude.{Some, Result, Ok, Err, IfOk}
 use Rattle.std.specs.declared.alloc.AllocError.{AllocError}
 use Rattle.std.specs.List.{count_by, slice_get}
@@ -127,13 +127,18 @@ act-fails laws setup H old client call act reply some is most fails right =
 entries-are : (setup : Setup) (H : List Entry) → (replay setup H).entries ≡ 0 + length H
 entries-are setup H = count_replay machine.display act-counts request-counts (start setup) H
 
+pub entries-all : (setup : Setup) (H : List Entry) (checker : Checker) → HasChecked setup H checker → entries_of checker ≡ length H
+entries-all setup H checker is =
+    let all = entries-are setup H in
+    let same : entries_of checker ≡ (replay setup H).entries = ap (λ (s : State). s.entries) is.display in
+    omega (arith, all, same)
+
 -- a count stays below the number of all entries
 few : (setup : Setup) (H : List Entry) (old : Checker) (p : Entry → Bool) → HasChecked setup H old → entries_of old < 2 ^ 31 - 1 → count_by p H < 2 ^ 31
 few setup H old p is low =
     let count = count_by-le-length p H in
-    let all = entries-are setup H in
-    let same : entries_of old ≡ (replay setup H).entries = ap (λ (s : State). s.entries) is.display in
-    omega (arith, low, count, all, same)
+    let all = entries-all setup H old is in
+    omega (arith, low, count, all)
 
 up : (b : Bool) (old new : ℕ) → old < 2 ^ 31 → new ≡ cond b (counted_up old) old → new ≡ old + cond b 1 0
 up true old new low is = omega (arith, low, is)

@@ -1,13 +1,12 @@
 -- A command that passes the tests is right, and one that is right passes them.
-use Rattle.std.proofs.Common.{◌≡◌, ◌≢◌, ◌≤◌, ◌<◌, ◌+◌, ◌-◌, ◌==◌, ◌&&◌, ◌||◌, ◌↔◌, ℕ, Bool, true, false, cond, not, is_none, nat_le, nat_lt, List, [], ◌∷◌, ◌++◌, length, map, filter, get_or, refl, ap, sym, subst, ◌∙◌, arith, eq-eqb, bit_and}
+use Rattle.std.proofs.Common.{◌≡◌, ◌≢◌, ◌≤◌, ◌<◌, ◌+◌, ◌==◌, ◌&&◌, ℕ, Bool, true, false, cond, not, is_none, nat_le, List, length, map, filter, get_or, refl, ap, sym, subst, ◌∙◌, arith, eq-eqb, bit_and}
 use Rattle.std.specs.Prelude.{Option, Some, None}
-use Rattle.std.specs.List.{AllByRecursion, count_by, list_any}
+use Rattle.std.specs.List.{count_by}
 use Rattle.std.proofs.lemmas.Bool.{and_from, and_parts, eqb-true, false≢true, not-true, not_from_false, ne_eqb}
 use Rattle.vg_call_numbers.specs.Numbers.{is_used}
 use Rattle.vg_client_holds.specs.declared.act.What.{What}
-use Rattle.vg_client_holds.specs.declared.holds.Holds.{Holds}
 use Rattle.vg_client_holds.specs.declared.setup.Setup.{Setup}
-use Rattle.vg_client_holds.specs.Holds.{Allowed, denied_of}
+use Rattle.vg_client_holds.specs.Holds.{denied_of}
 use Rattle.vg_history.specs.declared.entry.Entry.TheVariants as entries
 use Rattle.vg_wire.specs.declared.header.Header.{Header}
 use Rattle.vg_wire.specs.declared.request.Queue.{Queue}
@@ -15,16 +14,16 @@ use Rattle.vg_wire.specs.declared.request.Queue.TheVariants.{Control, Cursor}
 use Rattle.vg_wire.specs.Header.{header_of}
 use Rattle.vg_machine.specs.Entries.{Entry}
 use Rattle.vg_machine.specs.Lane.{lane_of, lane_of_header}
-use Rattle.vg_machine.specs.Order.{CallOrder, IsAllowed, LaneOrder, call_of, holds_of, is_of_lane, of_client}
-use Rattle.vg_machine.specs.Replay.{HasReply, replay, request_step}
+use Rattle.vg_machine.specs.Order.{CallOrder, IsAllowed, LaneOrder, call_of, is_of_lane, of_client}
+use Rattle.vg_machine.specs.Replay.{replay, request_step}
 use Rattle.vg_machine.specs.State.{State}
 use Rattle.vg_machine.specs.declared.history.Request.{Request}
 use Rattle.vg_machine.specs.declared.history.Reply.{Reply}
 use Rattle.vg_check.specs.declared.seen.Seen.{Seen}
-use Rattle.vg_check.specs.Checked.{HasSeen, calls_on, greatest}
+use Rattle.vg_check.specs.Checked.{HasSeen, calls_on}
 use Rattle.vg_check.specs.Right.{IsRightly}
-use Rattle.vg_check.specs.TestsWithin.{MayAsk, PassesCommand, is_next_command, is_next_on_lane}
-use Rattle.vg_check.proofs.ActLemmas.{below-test, most-test, test-below, test-most, zero-test}
+use Rattle.vg_check.specs.TestsWithin.{PassesCommand, is_next_command, is_next_on_lane}
+use Rattle.vg_check.proofs.ActLemmas.{below-test, most-test, test-below, test-most}
 use Rattle.vg_check.proofs.EntryLemmas.{all-below, all-map, below-all, leaves-none, map-all, none-leaves}
 use Rattle.vg_check.proofs.SeenLemmas.{NumberLaws, has-none, none-has}
 

@@ -1,10 +1,9 @@
 -- A history and one entry more.
-use Rattle.std.proofs.Common.{◌≡◌, ◌≢◌, ◌≤◌, ◌<◌, ◌+◌, ◌==◌, ◌&&◌, ◌||◌, ℕ, Bool, true, false, cond, nat_le, List, [], ◌∷◌, ◌++◌, map, filter, max, refl, ap, sym, subst, ◌∙◌, arith, eq-eqb, ne_eqb, append_assoc, append-nil}
-use Rattle.std.specs.List.{AllByRecursion, count_by, list_any, sum_by}
+use Rattle.std.proofs.Common.{◌≡◌, ◌≢◌, ◌≤◌, ◌<◌, ◌+◌, ◌==◌, ℕ, Bool, true, false, cond, nat_le, List, [], ◌∷◌, ◌++◌, map, filter, max, refl, ap, subst, ◌∙◌, arith, eq-eqb, ne_eqb, append_assoc, append-nil}
+use Rattle.std.specs.List.{AllByRecursion, count_by, list_any}
 use Rattle.std.proofs.lemmas.Bool.{or_from, or_parts}
 use Rattle.std.proofs.lemmas.List.{map-append}
 use Rattle.std.proofs.lemmas.List.Elements.{filter-append}
-use Rattle.std.proofs.lemmas.List.Folds.{list_any-append}
 use Rattle.std.proofs.lemmas.List.Sums.{sum_by-append}
 use Rattle.vg_call_numbers.specs.Taken as taken
 use Rattle.vg_call_numbers.specs.Taken.{by_number}
@@ -13,10 +12,10 @@ use Rattle.vg_client_holds.specs.Holds.{first_holds}
 use Rattle.vg_history.proofs.HistoryLemmas.{holds_append, replay_append, updated_other}
 use Rattle.vg_history.specs.History as history
 use Rattle.vg_machine.specs.Entries.{Entry}
-use Rattle.vg_machine.specs.Order.{AreInOrder, IsInOrder, by_call, call_of, client_of, holds_of, is_leave, is_of_lane, of_client, placed}
+use Rattle.vg_machine.specs.Order.{AreInOrder, IsInOrder, by_call, call_of, client_of, holds_of, is_leave, of_client, placed}
 use Rattle.vg_machine.specs.Replay.{after, display, replay}
 use Rattle.vg_machine.specs.State.{start}
-use Rattle.vg_check.specs.Checked.{calls_on, greatest}
+use Rattle.vg_check.specs.Checked.{greatest}
 
 -- ---- counts and filters
 

@@ -1,8 +1,8 @@
 -- Whether all clients have left.
-use Rattle.std.proofs.Common.{◌≡◌, ◌≢◌, ◌≤◌, ◌<◌, ◌+◌, ◌-◌, ◌==◌, ◌||◌, ◌↔◌, ℕ, zero, suc, Bool, true, false, List, [], ◌∷◌, inl, inr, length, refl, sym, subst, ◌∙◌, arith, eq-eqb}
+use Rattle.std.proofs.Common.{◌≡◌, ◌≢◌, ◌+◌, ◌-◌, ◌==◌, ℕ, zero, suc, Bool, true, false, List, [], ◌∷◌, inl, inr, length, refl, sym, subst, ◌∙◌, arith}
 use Rattle.std.specs.Prelude.{Some}
 use Rattle.std.specs.List.{list_all, list_any, slice_get}
-use Rattle.std.proofs.lemmas.Bool.{and_from, and_parts, false≢true, or_cases, or_left, or_right}
+use Rattle.std.proofs.lemmas.Bool.{and_from, and_parts, or_cases, or_left, or_right}
 use Rattle.std.proofs.lemmas.Option.{slice_get_within}
 use Rattle.vg_client_holds.specs.declared.setup.Setup.{Setup}
 use Rattle.vg_machine.specs.Entries.{Entry}
@@ -30,7 +30,7 @@ module _ {X : Type 0} (test : X → Bool) where
 
 gone-left : (setup : Setup) (client : ℕ) (H : List Entry) (seen : Seen) → HasSeen setup client H seen → is_gone seen ≡ true → of_client client H ≢ [] → list_any is_leave (of_client client H) ≡ true
 gone-left setup client H seen is gone some = elim (or_cases seen.left (seen.numbers.top == 0) gone) [
-    inl left ↦ sym is.left ∙ left
+  | inl left ↦ sym is.left ∙ left
   | inr none ↦ absurd (some (has-none setup client H seen is (zero-test seen.numbers.top none)))
 ]
 

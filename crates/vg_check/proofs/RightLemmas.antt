@@ -1,13 +1,12 @@
 -- All entries of a history are right exactly where it is sound and its frames are the display's.
-use Rattle.std.proofs.Common.{◌≡◌, ◌≤◌, ◌+◌, ◌↔◌, ℕ, List, [], ◌∷◌, ◌++◌, length, refl, ap, sym, subst, ◌∙◌, arith, append_assoc, append-nil}
+use Rattle.std.proofs.Common.{◌≡◌, ◌≤◌, ℕ, List, [], ◌∷◌, ◌++◌, length, ap, sym, subst, ◌∙◌, arith, append_assoc, append-nil}
 use mathlib.Core.List.{IsPrefix}
 use Rattle.vg_client_holds.specs.declared.setup.Setup.{Setup}
-use Rattle.vg_history.proofs.HistoryLemmas.{replay_append}
 use Rattle.vg_scanout.specs.declared.scanout.Frame.{Frame}
 use Rattle.vg_machine.specs.Entries.{Entry}
 use Rattle.vg_machine.specs.Order.{AreAllowed, AreInOrder, Sound}
-use Rattle.vg_machine.specs.Replay.{AgreesFrom, display, replay, replay_from}
-use Rattle.vg_machine.specs.State.{State, start}
+use Rattle.vg_machine.specs.Replay.{AgreesFrom, replay, replay_from}
+use Rattle.vg_machine.specs.State.{State}
 use Rattle.vg_check.specs.Right.{AreRight, IsRight, IsWrongAt, frames_after}
 use Rattle.vg_check.proofs.EntryLemmas.{replay-more}
 use Rattle.vg_check.proofs.FrameLemmas.{frames-grow}
@@ -42,7 +41,7 @@ stand-right setup frames before (entry ∷ more) stand are =
         made = subst (λ (fs : List Frame). IsPrefix (frames_after setup (before ++ entry ∷ [])) fs) next (frames-grow setup (before ++ entry ∷ []) more);
       },
       stand-right setup frames (before ++ entry ∷ []) more
-      (record { agrees = subst (λ (s : State). AgreesFrom s more) (sym (replay-more setup before entry)) stand.agrees.1; order = stand.order.1; allowed = stand.allowed.1 }) next,
+          (record { agrees = subst (λ (s : State). AgreesFrom s more) (sym (replay-more setup before entry)) stand.agrees.1; order = stand.order.1; allowed = stand.allowed.1 }) next,
     )
 
 pub right-sound : (setup : Setup) (frames : List Frame) (H : List Entry) → AreRight setup frames [] H → Sound setup H

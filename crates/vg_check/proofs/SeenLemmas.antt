@@ -1,5 +1,5 @@
 -- What is kept of a client's entries against these entries, and one entry more.
-use Rattle.std.proofs.Common.{◌≡◌, ◌≢◌, ◌≤◌, ◌<◌, ◌+◌, ◌-◌, ◌==◌, ◌&&◌, ◌||◌, ℕ, Bool, true, false, cond, not, nat_le, nat_lt, List, [], ◌∷◌, ◌++◌, length, map, filter, max, get_or, set, refl, ap, sym, subst, ◌∙◌, ◌↔◌, arith, eq-eqb, ne_eqb, append-nil, length-set}
+use Rattle.std.proofs.Common.{◌≡◌, ◌≢◌, ◌≤◌, ◌<◌, ◌==◌, ◌||◌, ℕ, Bool, true, false, List, [], ◌∷◌, ◌++◌, length, map, filter, max, get_or, set, refl, ap, sym, subst, ◌∙◌, ◌↔◌, arith, eq-eqb, ne_eqb, length-set}
 use mathlib.Core.Logic.{dite}
 use native.Mathlib.Decide.{ℕ_discrete}
 use Rattle.std.specs.List.{AllByRecursion, list_any, range_with_len}
@@ -16,7 +16,7 @@ use Rattle.vg_client_holds.specs.Holds.{update}
 use Rattle.vg_history.specs.declared.entry.Entry.TheVariants as entries
 use Rattle.vg_history.proofs.HistoryLemmas.{updated_own}
 use Rattle.vg_machine.specs.Entries.{Entry}
-use Rattle.vg_machine.specs.Order.{AreInOrder, call_of, client_of, holds_of, is_leave, is_of_lane, of_client}
+use Rattle.vg_machine.specs.Order.{call_of, client_of, holds_of, is_leave, is_of_lane, of_client}
 use Rattle.vg_machine.specs.Replay.{display}
 use Rattle.vg_machine.specs.declared.history.Request.{Request}
 use Rattle.vg_machine.specs.declared.history.Reply.{Reply}

@@ -1,5 +1,5 @@
 -- What a checker has kept of the entries that it went over.
-use Rattle.std.specs.Prelude.{◌≡◌, ◌≤◌, ◌+◌, ℕ, true, false, List, [], ◌∷◌, ◌++◌, length, map, filter, max, count_by, get_or, slice_get, Some}
+use Rattle.std.specs.Prelude.{◌≡◌, ◌≤◌, ◌+◌, ℕ, List, [], ◌∷◌, ◌++◌, length, map, filter, max, count_by, get_or, slice_get, Some}
 use Rattle.std.specs.List.{list_any}
 use Rattle.vg_call_numbers.specs.Taken.{IsUsedBy}
 use Rattle.vg_client_holds.specs.declared.setup.Setup.{Setup}

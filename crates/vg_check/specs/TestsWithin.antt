@@ -1,10 +1,9 @@
 -- The tests of an entry, over what is kept of those before it.
-use Rattle.std.specs.Prelude.{◌≡◌, ◌+◌, ◌-◌, ◌==◌, ◌&&◌, ◌||◌, ℕ, Bool, true, false, not, is_none, nat_le, nat_lt, List, [], get_or, replicate, set, if◌then◌else◌}
+use Rattle.std.specs.Prelude.{◌≡◌, ◌+◌, ◌-◌, ◌==◌, ◌&&◌, ◌||◌, ℕ, Bool, true, false, not, is_none, nat_le, nat_lt, List, [], get_or, replicate, set}
 use Rattle.vg_call_numbers.specs.Numbers.{AreAllUsed, IsAdded, UsedNumbers, is_used}
 use Rattle.vg_client_holds.specs.declared.act.Act.{Act}
 use Rattle.vg_client_holds.specs.declared.act.Act.TheVariants as acts
 use Rattle.vg_client_holds.specs.declared.act.ActReply.{ActReply}
-use Rattle.vg_client_holds.specs.declared.act.What.{What}
 use Rattle.vg_client_holds.specs.declared.holds.Holds.{Holds}
 use Rattle.vg_client_holds.specs.declared.setup.Setup.{Setup}
 use Rattle.vg_client_holds.specs.Holds.{Deniable, denied_of, first_holds, gives_up, update}

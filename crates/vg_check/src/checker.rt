@@ -50,7 +50,8 @@ impl Checker {
 
     /// How many entries were gone over.
     pub fn entries(&self) -> u64
-        ensures { result ≡ entries_of self.now }
+        ensures value { result ≡ entries_of self.now }
+        ensures all { (setup : Setup) (H : List Entry) → HasChecked setup H self.now → result ≡ length H }
     {
         self.display.entries()
     }

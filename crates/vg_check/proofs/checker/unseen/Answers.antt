@@ -1,5 +1,5 @@
 use Rattle.std.proofs.Common.{◌+◌, arith, subst, sym}
-use Rattle.vg_check.proofs.CheckerLemmas.{IsMaking, making-more, making-none}
+use Rattle.vg_check.proofs.CheckerLemmas.{IsMaking, making-more}
 use Rattle.vg_check.proofs.checker.unseen.Goals as goal
 
 pub returns-clause-count : goal.returns-clause-count

@@ -1,4 +1,3 @@
-use Rattle.std.proofs.Common.{◌≡◌, length}
 use Rattle.vg_check.proofs.CheckerLemmas.{IsMaking}
 use Rattle.vg_check.proofs.checker.unseen.Given as goal
 

@@ -1,6 +1,5 @@
 use Rattle.std.proofs.Common.{◌≡◌, ◌≤◌, true, false, subst, sym}
 use Rattle.std.specs.Prelude.{IfOk}
-use Rattle.vg_machine.specs.Entries.{Entry}
 use Rattle.vg_machine.specs.Order.{client_of}
 use Rattle.vg_check.specs.Checked.{TellsRight, TellsWrong}
 use Rattle.vg_check.proofs.CheckerLemmas.{act-refutes, act-tells, command-refutes, command-tells}
