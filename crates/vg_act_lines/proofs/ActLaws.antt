@@ -89,7 +89,7 @@ act_said (Release key) r = ap (option_and_then (numbered_act (codes "release")))
 act_said (Free key) r = ap (option_and_then (numbered_act (codes "free"))) (short_back key r)
 act_said (Take scanout) r = ap (option_and_then (numbered_act (codes "take"))) (short_back scanout r)
 act_said (Drop scanout) r = ap (option_and_then (numbered_act (codes "drop"))) (short_back scanout r)
-act_said (Await lane ordinal) r = λ i. option_map await (both (number_back 66 lane r.0 (omega arith) i) (number_back (2 ^ 63) ordinal r.1 (omega arith) i))
+act_said (Await lane ordinal) r = λ i. option_map await (both (number_back (2 ^ 32) lane r.0 (omega arith) i) (number_back (2 ^ 63) ordinal r.1 (omega arith) i))
 act_said (Denied what) r = ap (option_map Denied) (what_said what r)
 act_said Leave r = refl
 
@@ -199,11 +199,11 @@ load_only args act is = no_more act is
 await_only : (args : List (List ℕ)) (act : Act) → await_of args ≡ Some act → IsAct (codes "await" ∷ args) act
 unfolding await_of
 await_only (a ∷ b ∷ []) act is =
-    let m = map_parts await (both (number_of 66 a) (number_of (2 ^ 63) b)) act is in
-    let parts = both_parts (number_of 66 a) (number_of (2 ^ 63) b) m.0 m.1 in
-    let lane = number_only 66 m.0.0 a (omega arith) parts.0 in
+    let m = map_parts await (both (number_of (2 ^ 32) a) (number_of (2 ^ 63) b)) act is in
+    let parts = both_parts (number_of (2 ^ 32) a) (number_of (2 ^ 63) b) m.0 m.1 in
+    let lane = number_only (2 ^ 32) m.0.0 a (omega arith) parts.0 in
     let ordinal = number_only (2 ^ 63) m.0.1 b (omega arith) parts.1 in
-    subst (IsAct (codes "await" ∷ a ∷ b ∷ [])) m.2 (λ i. codes "await" ∷ lane i ∷ ordinal i ∷ [], (number_range 66 m.0.0 a parts.0, number_range (2 ^ 63) m.0.1 b parts.1))
+    subst (IsAct (codes "await" ∷ a ∷ b ∷ [])) m.2 (λ i. codes "await" ∷ lane i ∷ ordinal i ∷ [], (number_range (2 ^ 32) m.0.0 a parts.0, number_range (2 ^ 63) m.0.1 b parts.1))
 await_only args act is = no_more act is
 
 denied_only : (args : List (List ℕ)) (act : Act) → option_map Denied (what_of args) ≡ Some act → IsAct (codes "denied" ∷ args) act

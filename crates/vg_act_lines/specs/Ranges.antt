@@ -33,8 +33,8 @@ ActInRange (Release key) = IsShort key
 ActInRange (Free key) = IsShort key
 ActInRange (Take scanout) = IsShort scanout
 ActInRange (Drop scanout) = IsShort scanout
--- lanes 0 to 65
-ActInRange (Await lane ordinal) = (lane < 66) × (ordinal < 2 ^ 63)
+-- any lane: what isn't one has no command
+ActInRange (Await lane ordinal) = IsShort lane × (ordinal < 2 ^ 63)
 ActInRange (Denied what) = WhatInRange what
 ActInRange Leave = ⊤
 

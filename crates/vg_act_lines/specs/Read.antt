@@ -91,7 +91,7 @@ abbrev pub await : ℕ × ℕ → Act
 await n = Await n.0 n.1
 
 unfoldable pub await_of : List (List ℕ) → Option Act
-await_of (lane ∷ ordinal ∷ []) = option_map await (both (number_of 66 lane) (number_of (2 ^ 63) ordinal))
+await_of (lane ∷ ordinal ∷ []) = option_map await (both (short lane) (number_of (2 ^ 63) ordinal))
 await_of words = None
 
 -- An act by its first word.

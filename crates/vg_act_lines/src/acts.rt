@@ -7,7 +7,7 @@ ghost use Rattle.vg_act_lines.specs.Read.{act_by, act_of, alone, await, await_of
 use crate::numbers::{four, one_number, two};
 use std::alloc::{AllocError, Global};
 use vg_client_holds::{Act, What};
-use vg_line_words::{any_bytes, number, number32, short_number};
+use vg_line_words::{any_bytes, number, number32};
 use vg_script_words::is;
 
 /// The act that some words are, if they are one.
@@ -197,9 +197,9 @@ fn await_of(args: &[&[u8]]) -> Option<Act>
 }
 
 fn fence(lane: &[u8], ordinal: &[u8]) -> Option<Act>
-    ensures { result ≡ option_map await (both (number_of 66 lane.now) (number_of (2 ^ 63) ordinal.now)) }
+    ensures { result ≡ option_map await (both (short lane.now) (number_of (2 ^ 63) ordinal.now)) }
 {
-    let lane = short_number(lane, 66)?;
+    let lane = number32(lane)?;
     let ordinal = number(ordinal, 1 << 63)?;
     Some(Act::Await { lane, ordinal })
 }
