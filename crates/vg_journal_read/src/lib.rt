@@ -1,0 +1,5 @@
+//! A journal read from its bytes.
+#![tactic(auto)]
+
+mod pieces;
+mod start;
