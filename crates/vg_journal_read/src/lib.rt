@@ -4,5 +4,7 @@
 mod lines;
 mod pieces;
 mod start;
+mod whole;
 
 pub use lines::{Scanned, scan};
+pub use whole::read;
