@@ -1,5 +1,5 @@
 -- A journal from what its lines say.
-use Rattle.std.specs.Prelude.{ℕ, List, ◌++◌, [], ◌∷◌}
+use Rattle.std.specs.Prelude.{ℕ, List}
 use Rattle.vg_client_holds.specs.Setup.{features_without}
 use Rattle.vg_machine.specs.Entries.{Entry}
 use Rattle.vg_scanout.specs.declared.scanout.Frame.{Frame}

@@ -14,7 +14,9 @@ use crate::start::start;
 use std::alloc::{AllocError, Global};
 use vg_config::features::{CONTEXT_INIT, EDID, OFFERED, RESOURCE_BLOB, RESOURCE_UUID, VIRGL};
 use vg_journal::Journal;
-use vg_journal_lines::{FrameHead, LeftOut, State, journals_and_their_refusals, journals_and_their_text};
+use vg_journal_lines::{
+    FrameHead, LeftOut, State, journals_and_their_refusals, journals_and_their_text,
+};
 use vg_list::Seq;
 use vg_machine::{Frame, History, Setup};
 use vg_shared_bytes::Strips;

@@ -1,9 +1,9 @@
-use Rattle.std.proofs.Common.{◌≡◌, ◌+◌, [], false, true, arith, sym, ap, subst, ◌∙◌}
+use Rattle.std.proofs.Common.{◌≡◌, ◌+◌, false, true, arith, sym, ap, subst, ◌∙◌}
 use Rattle.vg_journal_lines.specs.declared.state.State.{State}
 use Rattle.vg_journal_lines.specs.Refusals.{IsJournal, IsRefusedAt}
 use Rattle.vg_journal_read.specs.JournalsWithin.{journal_of}
 use Rattle.vg_journal_read.specs.ScansWithin.{is_over}
-use Rattle.vg_journal_read.proofs.ReadLemmas.{IsReading, passed, read_is, reading_more, reading_start}
+use Rattle.vg_journal_read.proofs.ReadLemmas.{passed, read_is, reading_more, reading_start}
 use Rattle.vg_journal_read.proofs.RunLemmas.{bytes_below, few_pieces, not_over, over_is, passed_shorter, read_whole}
 use Rattle.vg_journal_read.proofs.whole.read_pieces.Goals as goal
 
@@ -45,8 +45,8 @@ returns-clause-ok c =
     let is : is_over c.loop-frames.state.stage c.loop-frames.rest.now ≡ true = ap (λ (s : State). is_over s.stage c.loop-frames.rest.now) (sym same) ∙ sym c.is_over.ensures ∙ c.if-not-is_over.false in
     let over = over_is c.loop-frames.state.stage c.loop-frames.rest.now is in
     let ended =
-        c.journals_and_their_refusals.ensures.ended c.args.bytes.now at.front (c.loop-frames.state, at.items) (bytes_below c.args.bytes.now c.type_inv.bytes) at.run_is
-        (read_whole c.args.bytes.now at.front c.loop-frames.rest.now at.begins over.none) over.last in
+    c.journals_and_their_refusals.ensures.ended c.args.bytes.now at.front (c.loop-frames.state, at.items) (bytes_below c.args.bytes.now c.type_inv.bytes) at.run_is
+    (read_whole c.args.bytes.now at.front c.loop-frames.rest.now at.begins over.none) over.last in
     let known =
-        read_is c.args.bytes.now c.loop-frames.state c.loop-frames.pieces c.loop-frames.rest.now c.loop-frames.entries c.loop-frames.frames.items c.loop-frames.invariant ended.0 ended.1 ended.2 in
+    read_is c.args.bytes.now c.loop-frames.state c.loop-frames.pieces c.loop-frames.rest.now c.loop-frames.entries c.loop-frames.frames.items c.loop-frames.invariant ended.0 ended.1 ended.2 in
     subst (IsJournal c.args.bytes.now) (ap (λ (s : State). journal_of s c.loop-frames.entries c.loop-frames.frames.items) (sym same) ∙ sym c.journal_of.ensures) known
