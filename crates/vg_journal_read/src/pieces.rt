@@ -23,7 +23,7 @@ pub(crate) enum Part {
 }
 
 /// Goes on by the next piece of some bytes, if one may come next: what it gives, the piece, and the bytes behind its line end. The
-/// words of a line are put in place of others. Where none may come next, and for want of memory, the state stays as it is.
+/// words of a line are put in place of others. Where none may come next the state stays as it is.
 pub(crate) fn go_on<'a>(
     alloc: Global,
     words: &mut Vec<&'a [u8]>,
