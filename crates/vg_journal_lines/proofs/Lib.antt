@@ -1,0 +1,14 @@
+pub mod TestLaws
+pub mod HeadLaws
+pub mod CountLaws
+pub mod JoinLemmas
+pub mod EntryLaws
+pub mod SideLemmas
+pub mod CutLemmas
+pub mod TextLemmas
+pub mod RunLaws
+pub mod StepLemmas
+pub mod BackLemmas
+pub mod OnlyLaws
+pub mod EndLemmas
+pub mod RefusalLaws
