@@ -1,0 +1,10 @@
+pub mod PlaceLemmas
+pub mod EntryLemmas
+pub mod FenceLemmas
+pub mod SeenLemmas
+pub mod ActLemmas
+pub mod CommandLemmas
+pub mod CheckerLemmas
+pub mod FrameLemmas
+pub mod RightLemmas
+pub mod LeftLemmas

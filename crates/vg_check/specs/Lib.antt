@@ -1,0 +1,4 @@
+pub mod Right
+pub mod Checked
+pub mod TestsWithin
+pub mod StepWithin
