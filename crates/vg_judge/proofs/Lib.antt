@@ -1,3 +1,4 @@
 pub mod PieceLemmas
 pub mod LineLemmas
 pub mod FrameLemmas
+pub mod MeetLemmas
