@@ -2,3 +2,4 @@ pub mod PieceLemmas
 pub mod LineLemmas
 pub mod FrameLemmas
 pub mod MeetLemmas
+pub mod EntryLemmas
