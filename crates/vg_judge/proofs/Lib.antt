@@ -3,3 +3,4 @@ pub mod LineLemmas
 pub mod FrameLemmas
 pub mod MeetLemmas
 pub mod EntryLemmas
+pub mod TurnLemmas
