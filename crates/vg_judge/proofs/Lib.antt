@@ -4,3 +4,4 @@ pub mod FrameLemmas
 pub mod MeetLemmas
 pub mod EntryLemmas
 pub mod TurnLemmas
+pub mod VerdictLemmas
