@@ -1,0 +1,5 @@
+mod PieceLemmas
+mod SizeLemmas
+mod PlaceLemmas
+mod RunLemmas
+mod ScanLemmas

@@ -1,0 +1,3 @@
+pub mod PiecesWithin
+pub mod Scans
+pub mod ScansWithin
