@@ -2,5 +2,6 @@
 #![tactic(auto)]
 
 mod checking;
+mod outlining;
 
 pub use checking::{Checked, check};
