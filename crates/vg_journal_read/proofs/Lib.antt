@@ -3,3 +3,4 @@ mod SizeLemmas
 mod PlaceLemmas
 mod RunLemmas
 mod ScanLemmas
+mod ReadLemmas

@@ -1,8 +1,8 @@
 -- Where a piece ends.
-use Rattle.std.proofs.Common.{◌≡◌, ℕ, ◌+◌, ◌-◌, ◌<◌, ◌==◌, true, false, not, List, [], ◌∷◌, ◌++◌, length, take, drop, get_or, Option, Some, None, arith, refl, sym, ap, ◌∙◌, add-one, drop-cons, length-append, length-take-le}
+use Rattle.std.proofs.Common.{◌≡◌, ℕ, ◌+◌, ◌-◌, ◌<◌, ◌==◌, true, not, List, [], ◌∷◌, ◌++◌, length, take, drop, get_or, Option, Some, None, arith, refl, sym, ap, ◌∙◌, length-append, length-take-le}
 use Rattle.std.proofs.lemmas.Bool.{eqb-true, eq-eqb}
 use Rattle.std.proofs.lemmas.Grind.{common_steps}
-use Rattle.std.proofs.lemmas.List.{get_or-take, take-append-drop}
+use Rattle.std.proofs.lemmas.List.{get_or-take}
 use Rattle.std.proofs.lemmas.List.Sums.{fails_before_first, list_all-from_AllPass}
 use Rattle.std.specs.List.{position_or_len}
 use Rattle.memchr.specs.Find.{IsFirstByte, is_byte}
@@ -34,11 +34,11 @@ no_line bytes none piece after lacking same =
 front_lacks : (bytes : List ℕ) (place : ℕ) → place ≡ position_or_len (λ b. b == 10) bytes → lacks 10 (take place bytes) ≡ true
 front_lacks bytes place is =
     list_all-from_AllPass (λ b. not (b == 10)) (take place bytes) (
-      λ k d within.
-          let size = length-take-le place bytes in
-          let before : k < place = grind (arith, common_steps) in
-          let other = fails_before_first (λ b. b == 10) bytes k d (omega (arith, before, is)) in
-          ap (λ b. not (b == 10)) (get_or-take place bytes k d before) ∙ ap not other)
+    λ k d within.
+    let size = length-take-le place bytes in
+    let before : k < place = grind (arith, common_steps) in
+    let other = fails_before_first (λ b. b == 10) bytes k d (omega (arith, before, is)) in
+    ap (λ b. not (b == 10)) (get_or-take place bytes k d before) ∙ ap not other)
 
 pub cut_text : (bytes : List ℕ) (place : ℕ) → place < length bytes → get_or bytes place 0 ≡ 10
     → bytes ≡ take place bytes ++ 10 ∷ take (length bytes - (place + 1)) (drop (place + 1) bytes)

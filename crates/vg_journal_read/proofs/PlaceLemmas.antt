@@ -98,29 +98,29 @@ places_more h e f r h' e' f' r' front piece at entries_at frames_at grew p is =
       entries = λ behind.
           pick (r' == 3 && e' == 0) at entries_at (length (whole (take (3 + h') (front ++ piece ∷ []))))
           (λ here.
-              let parts = and_parts (r' == 3) (e' == 0) here in
-              let third = eqb-true r' 3 parts.0 in
-              let none = eqb-true e' 0 parts.1 in
-              let none' = no_frames (omega (arith, third)) in
-              let size = counted (omega (arith, third)) in
-              all_of (3 + h') at (front ++ piece ∷ []) (omega (arith, third, none, none', size)) is)
+          let parts = and_parts (r' == 3) (e' == 0) here in
+          let third = eqb-true r' 3 parts.0 in
+          let none = eqb-true e' 0 parts.1 in
+          let none' = no_frames (omega (arith, third)) in
+          let size = counted (omega (arith, third)) in
+          all_of (3 + h') at (front ++ piece ∷ []) (omega (arith, third, none, none', size)) is)
           (λ other.
-              let kept = entries_kept h e f r h' e' f' r' grew p.no_entries behind other in
-              let same = kept.1 in
-              let third = kept.0 in
-              p.entries third ∙ still (3 + h') (3 + h) front piece (omega (arith, same)) (omega (arith, before, third)));
+          let kept = entries_kept h e f r h' e' f' r' grew p.no_entries behind other in
+          let same = kept.1 in
+          let third = kept.0 in
+          p.entries third ∙ still (3 + h') (3 + h) front piece (omega (arith, same)) (omega (arith, before, third)));
       frames = λ behind.
           pick (r' == 5 && f' == 0) at frames_at (length (whole (take (5 + h' + e') (front ++ piece ∷ []))))
           (λ here.
-              let parts = and_parts (r' == 5) (f' == 0) here in
-              let fifth = eqb-true r' 5 parts.0 in
-              let none = eqb-true f' 0 parts.1 in
-              let size = counted (omega (arith, fifth)) in
-              all_of (5 + h' + e') at (front ++ piece ∷ []) (omega (arith, fifth, none, size)) is)
+          let parts = and_parts (r' == 5) (f' == 0) here in
+          let fifth = eqb-true r' 5 parts.0 in
+          let none = eqb-true f' 0 parts.1 in
+          let size = counted (omega (arith, fifth)) in
+          all_of (5 + h' + e') at (front ++ piece ∷ []) (omega (arith, fifth, none, size)) is)
           (λ other.
-              let kept = frames_kept h e f r h' e' f' r' grew p.no_frames behind other in
-              let same = kept.1 in
-              let same' = kept.2 in
-              let fifth = kept.0 in
-              p.frames fifth ∙ still (5 + h' + e') (5 + h + e) front piece (omega (arith, same, same')) (omega (arith, before, fifth)));
+          let kept = frames_kept h e f r h' e' f' r' grew p.no_frames behind other in
+          let same = kept.1 in
+          let same' = kept.2 in
+          let fifth = kept.0 in
+          p.frames fifth ∙ still (5 + h' + e') (5 + h + e) front piece (omega (arith, same, same')) (omega (arith, before, fifth)));
     }

@@ -1,11 +1,9 @@
 -- A text whose lines are read once.
-use Rattle.std.proofs.Common.{◌≡◌, ℕ, ◌+◌, ◌-◌, ◌≤◌, ◌==◌, Bool, true, false, if◌then◌else◌, List, [], ◌∷◌, ◌++◌, bit_and, length, take, Some, arith, refl, sym, ap, ◌∙◌, subst, append_assoc, length-append}
+use Rattle.std.proofs.Common.{◌≡◌, ℕ, ◌+◌, ◌-◌, ◌==◌, Bool, true, false, if◌then◌else◌, List, [], ◌∷◌, ◌++◌, bit_and, length, take, Some, arith, refl, sym, ap, ◌∙◌, append_assoc, length-append}
 use Rattle.std.proofs.lemmas.List.{take-append-le, take_all}
 use Rattle.vg_config.specs.Features.{EDID, RESOURCE_BLOB, RESOURCE_UUID, VIRGL}
 use Rattle.vg_client_holds.specs.declared.setup.Setup.{Setup}
 use Rattle.vg_journal.specs.declared.journal.Journal.{Journal}
-use Rattle.vg_journal_lines.specs.declared.state.Stage.{Stage}
-use Rattle.vg_journal_lines.specs.declared.state.Stage.TheVariants as stages
 use Rattle.vg_journal_lines.specs.declared.state.State.{State}
 use Rattle.vg_act_lines.proofs.PartLaws.{some_is}
 use Rattle.vg_journal.specs.Text.{text_of}
@@ -16,7 +14,6 @@ use Rattle.vg_journal_lines.specs.States.{Item, run, start}
 use Rattle.vg_journal_lines.specs.Pieces.{IsReadAs, JournalInRange, count_pieces, display_pieces, done_of, entry_pieces, frame_pieces, head_pieces, left_out_of, numbered_pieces, pieces_of, whole, without_piece, without_pieces}
 use Rattle.vg_journal_lines.specs.Refusals.{IsJournal}
 use Rattle.vg_journal_lines.proofs.TextLemmas.{whole_append}
-use Rattle.vg_journal_read.specs.declared.lines.Scanned.{Scanned}
 use Rattle.vg_journal_read.specs.Scans.{IsScanned, StandsAt}
 use Rattle.vg_journal_read.specs.ScansWithin.{Passed, is_at_entries, is_at_frames, rank}
 use Rattle.vg_journal_read.proofs.SizeLemmas.{as_one, heads, outs, step_grows}
@@ -83,7 +80,7 @@ outs_count accepted =
 head_count : (setup : Setup) → length (head_pieces setup) ≡ 3 + (length setup.displays + outs (left_out_of setup.accepted))
 head_count setup =
     let sum =
-        five_lengths (joined title_words ∷ []) (numbered_pieces display_pieces 0 setup.displays) (joined (memory_words setup.pages) ∷ []) (without_pieces setup.accepted) (joined (clients_words setup.clients) ∷ []) in
+    five_lengths (joined title_words ∷ []) (numbered_pieces display_pieces 0 setup.displays) (joined (memory_words setup.pages) ∷ []) (without_pieces setup.accepted) (joined (clients_words setup.clients) ∷ []) in
     let displays = numbered_ones display_pieces (λ n x. refl) 0 setup.displays in
     let without = outs_count setup.accepted in
     omega (arith, sum, displays, without)

@@ -1,7 +1,6 @@
 -- How far a reader is, and how far one piece more brings it.
-use Rattle.std.proofs.Common.{◌≡◌, ◌⊎◌, inl, inr, ℕ, ◌+◌, ◌-◌, ◌*◌, ◌<◌, ◌≤◌, ◌==◌, ◌||◌, not, nat_lt, nat_le, Bool, true, false, if◌then◌else◌, List, [], ◌∷◌, ◌++◌, length, Some, None, option_map, arith, refl, sym, ap, subst, length-append}
-use Rattle.std.proofs.lemmas.Bool.{not-true}
-use Rattle.vg_line_words.specs.Words.{lacks, parts_at}
+use Rattle.std.proofs.Common.{◌≡◌, ◌⊎◌, inl, inr, ℕ, ◌+◌, ◌-◌, ◌≤◌, ◌==◌, ◌||◌, not, nat_lt, nat_le, Bool, true, false, if◌then◌else◌, List, [], ◌∷◌, length, Some, option_map, arith, refl, ap, subst, length-append}
+use Rattle.vg_line_words.specs.Words.{parts_at}
 use Rattle.vg_act_lines.proofs.PartLaws.{map_parts, no_more, some_is, then_parts}
 use Rattle.vg_journal_lines.specs.declared.head.Feature.{Feature}
 use Rattle.vg_journal_lines.specs.declared.head.Feature.TheVariants.{Edid, Uuid, Blob, Context}

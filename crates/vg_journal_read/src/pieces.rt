@@ -17,13 +17,9 @@ use vg_machine::Entry;
 #[derive(Drop)]
 pub(crate) enum Part {
     Nothing,
-    Entry {
-        entry: Entry,
-    },
+    Entry { entry: Entry },
     /// The piece is the pixels of this frame.
-    Frame {
-        head: FrameHead,
-    },
+    Frame { head: FrameHead },
 }
 
 /// Goes on by the next piece of some bytes, if one may come next: what it gives, the piece, and the bytes behind its line end. The

@@ -46,9 +46,9 @@ returns-clause-ok c =
     let is : is_over c.loop-words.state.stage c.loop-words.rest.now ≡ true = ap (λ (s : State). is_over s.stage c.loop-words.rest.now) (sym same) ∙ sym c.is_over.ensures ∙ c.if-not-is_over.false in
     let over = over_is c.loop-words.state.stage c.loop-words.rest.now is in
     let ended =
-        c.journals_and_their_refusals.ensures.ended c.args.bytes.now at.front (c.loop-words.state, at.items) (bytes_below c.args.bytes.now c.type_inv.bytes) at.run_is
-        (read_whole c.args.bytes.now at.front c.loop-words.rest.now at.begins over.none) over.last in
+    c.journals_and_their_refusals.ensures.ended c.args.bytes.now at.front (c.loop-words.state, at.items) (bytes_below c.args.bytes.now c.type_inv.bytes) at.run_is
+    (read_whole c.args.bytes.now at.front c.loop-words.rest.now at.begins over.none) over.last in
     let known =
-        scanned c.args.bytes.now c.loop-words.state c.loop-words.pieces c.loop-words.rest.now c.loop-words.entries_at c.loop-words.frames_at c.loop-words.invariant ended.0 over.none over.ranked ended.1 ended.2
-        c.journals_and_their_pieces.ensures (c.pieces_and_their_text.ensures start) c.journals_and_their_text.ensures.read in
+    scanned c.args.bytes.now c.loop-words.state c.loop-words.pieces c.loop-words.rest.now c.loop-words.entries_at c.loop-words.frames_at c.loop-words.invariant ended.0 over.none over.ranked ended.1 ended.2
+    c.journals_and_their_pieces.ensures (c.pieces_and_their_text.ensures start) c.journals_and_their_text.ensures.read in
     subst (λ state. IsScanned c.args.bytes.now (record { state = state; entries_at = c.loop-words.entries_at; frames_at = c.loop-words.frames_at })) (sym same) known
