@@ -70,7 +70,10 @@ impl<'a> Judging<'a> {
         if !self.checker.next(alloc, &entry)? {
             return Ok(false);
         }
-        self.frames.meet_all(&mut self.words, self.checker.frames())
+        let met = self
+            .frames
+            .meet_all(&mut self.words, self.checker.frames())?;
+        Ok(met)
     }
 
     /// Whether what the journal says beside its entries is what these make, once they were all gone over.
@@ -78,10 +81,16 @@ impl<'a> Judging<'a> {
         ensures { (bytes : List ℕ) (journal : Journal) → IsOutline bytes journal outline.now → IsJudging journal journal.entries self.now
             → IsTrue result ↔ FitsEntries journal }
     {
+        if self.checker.control() != outline.control {
+            return false;
+        }
+        if self.checker.cursor() != outline.cursor {
+            return false;
+        }
+        if !self.checker.have_left() {
+            return false;
+        }
         self.frames.are_all_met()
-            && self.checker.control() == outline.control
-            && self.checker.cursor() == outline.cursor
-            && self.checker.have_left()
     }
 }
 
