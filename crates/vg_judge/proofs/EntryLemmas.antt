@@ -1,12 +1,12 @@
 -- An entry's line read.
-use Rattle.std.proofs.Common.{◌≡◌, ℕ, ◌==◌, ◌≤◌, true, List, [], ◌∷◌, ◌++◌, Option, Some, None, refl, sym, ap, ◌∙◌, append_assoc}
+use Rattle.std.proofs.Common.{◌≡◌, ℕ, ◌==◌, ◌≤◌, true, List, [], ◌∷◌, ◌++◌, Option, Some, ap, ◌∙◌, append_assoc}
 use Rattle.std.specs.List.{after_first, before_first}
 use Rattle.vg_machine.specs.Entries.{Entry}
 use Rattle.vg_line_words.specs.Words.{lacks, parts_at}
 use Rattle.vg_journal_lines.specs.Entries.{EntryInRange, entry_of, entry_words}
 use Rattle.vg_journal_lines.specs.Ranges.{IsCount}
 use Rattle.vg_journal_lines.specs.Words.{joined}
-use Rattle.vg_journal_lines.specs.Pieces.{entry_pieces, whole}
+use Rattle.vg_journal_lines.specs.Pieces.{whole}
 use Rattle.vg_judge.specs.JudgingWithin.{StandsNext}
 use Rattle.vg_judge.proofs.LineLemmas.{before_end, behind_end}
 

@@ -1,5 +1,5 @@
 -- A frame's line read, and its pixels compared.
-use Rattle.std.proofs.Common.{◌≡◌, ℕ, ◌+◌, ◌==◌, true, List, [], ◌∷◌, ◌++◌, length, Option, Some, None, arith, refl, sym, ap, ◌∙◌, append_assoc}
+use Rattle.std.proofs.Common.{◌≡◌, ℕ, ◌==◌, true, List, [], ◌∷◌, ◌++◌, length, Option, Some, None, sym, ap, ◌∙◌, append_assoc}
 use Rattle.std.proofs.Common.{Bor, MatchOption}
 use Rattle.std.specs.List.{All, after_first, before_first}
 use Rattle.vg_scanout.specs.declared.scanout.Frame.{Frame}
@@ -8,7 +8,7 @@ use Rattle.vg_journal_lines.specs.declared.counts.FrameHead.{FrameHead}
 use Rattle.vg_journal_lines.specs.Words.{frame_words, head_of, joined}
 use Rattle.vg_journal_lines.specs.Read.{frame_of, pixels_of}
 use Rattle.vg_journal_lines.specs.Ranges.{HeadInRange, IsCount}
-use Rattle.vg_journal_lines.specs.Pieces.{FrameInRange, frame_pieces, whole}
+use Rattle.vg_journal_lines.specs.Pieces.{whole}
 use Rattle.vg_judge.specs.FramesWithin.{AreOthers, ArePixels, BeginsWith, IsMet, IsOther}
 use Rattle.vg_judge.proofs.LineLemmas.{before_end, behind_end}
 

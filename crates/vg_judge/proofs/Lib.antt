@@ -5,3 +5,4 @@ pub mod MeetLemmas
 pub mod EntryLemmas
 pub mod TurnLemmas
 pub mod VerdictLemmas
+pub mod JudgeLemmas

@@ -1,5 +1,5 @@
 -- Pixels that are compared piece by piece.
-use Rattle.std.proofs.Common.{◌≡◌, ℕ, ◌+◌, ◌-◌, ◌≤◌, List, [], ◌∷◌, ◌++◌, length, take, drop, arith, refl, sym, ap, ◌∙◌, take-add}
+use Rattle.std.proofs.Common.{◌≡◌, ℕ, ◌+◌, ◌-◌, List, ◌++◌, length, take, drop, arith, sym, ap, ◌∙◌, take-add}
 
 -- A piece more that is the same.
 pub one_piece_more : (at : ℕ) (xs ys p : List ℕ) → take at xs ≡ take at ys → take (at + length p - at) (drop at xs) ≡ p → p ≡ take (length p) (drop at ys) → take (at + length p) xs ≡ take (at + length p) ys

@@ -1,5 +1,5 @@
 -- One entry more of a journal is gone over.
-use Rattle.std.proofs.Common.{◌≡◌, ℕ, ◌+◌, ◌<◌, ◌≤◌, ◌^◌, List, [], ◌∷◌, ◌++◌, length, arith, refl, sym, ap, subst, ◌∙◌, append_assoc, append-nil, length-append}
+use Rattle.std.proofs.Common.{◌≡◌, ℕ, ◌+◌, ◌<◌, ◌≤◌, ◌^◌, List, [], ◌∷◌, ◌++◌, length, arith, refl, sym, ap, subst, ◌∙◌, append_assoc, length-append}
 use Rattle.std.proofs.lemmas.List.Elements.{All-head, All-tail}
 use Rattle.std.specs.List.{All}
 use mathlib.Core.List.{IsPrefix}
@@ -11,10 +11,9 @@ use Rattle.vg_machine.specs.Order.{call_of, client_of}
 use Rattle.vg_journal.specs.declared.journal.Journal.{Journal}
 use Rattle.vg_journal_lines.specs.Entries.{EntryInRange, entry_words}
 use Rattle.vg_journal_lines.specs.Words.{joined}
-use Rattle.vg_journal_lines.specs.Pieces.{JournalInRange, entry_pieces, numbered_pieces, whole}
-use Rattle.vg_check.specs.declared.checker.Checker.{Checker}
-use Rattle.vg_check.specs.Checked.{HasChecked, HasGoneOn, TellsRight, TellsWrong}
-use Rattle.vg_check.specs.Right.{AreRight, IsRight, IsRightly, IsWrongAt, frames_after}
+use Rattle.vg_journal_lines.specs.Pieces.{entry_pieces, numbered_pieces, whole}
+use Rattle.vg_check.specs.Checked.{HasGoneOn, TellsWrong}
+use Rattle.vg_check.specs.Right.{AreRight, IsRight, IsWrongAt, frames_after}
 use Rattle.vg_judge.specs.declared.judging.Judging.{Judging}
 use Rattle.vg_judge.specs.FramesWithin.{AreMet}
 use Rattle.vg_judge.specs.JudgingWithin.{IsJudging, IsNext, StandsNext}

@@ -1,5 +1,5 @@
 -- A journal has one verdict.
-use Rattle.std.proofs.Common.{◌≡◌, ◌↔◌, ℕ, zero, suc, ◌+◌, ◌<◌, ◌≤◌, ◌-◌, ◌^◌, List, [], ◌∷◌, ◌++◌, length, arith, refl, sym, ap, subst, ◌∙◌, append_assoc, append-nil, length-append}
+use Rattle.std.proofs.Common.{◌≡◌, ◌↔◌, ℕ, zero, suc, ◌+◌, List, [], ◌∷◌, ◌++◌, length, arith, refl, sym, subst, append_assoc, append-nil}
 use Rattle.vg_client_holds.specs.declared.setup.Setup.{Setup}
 use Rattle.vg_scanout.specs.declared.scanout.Frame.{Frame}
 use Rattle.vg_machine.specs.Entries.{Entry}
@@ -29,8 +29,11 @@ one_wrong journal (suc n) (suc m) laws first second = laws.once journal.setup jo
 pub are_right : (journal : Journal) → LawsOfWrong → IsLegal journal → AreRight journal.setup journal.frames [] journal.entries
 are_right journal laws legal = ((laws.sound journal.setup journal.frames journal.entries).1 (legal.sound, legal.fits.frames)).0
 
-pub is_legal : (journal : Journal) → LawsOfWrong → AreRight journal.setup journal.frames [] journal.entries → FitsEntries journal → IsLegal journal
-is_legal journal laws right fits = record { sound = ((laws.sound journal.setup journal.frames journal.entries).0 (right, fits.frames)).0; fits = fits }
+abbrev pub SaysSound : Type 0
+SaysSound = (setup : Setup) (frames : List Frame) (H : List Entry) → (AreRight setup frames [] H × (frames_after setup H ≡ frames)) ↔ (Sound setup H × (frames_after setup H ≡ frames))
+
+pub is_legal : (journal : Journal) → SaysSound → AreRight journal.setup journal.frames [] journal.entries → FitsEntries journal → IsLegal journal
+is_legal journal sound right fits = record { sound = ((sound journal.setup journal.frames journal.entries).0 (right, fits.frames)).0; fits = fits }
 
 pub not_both : (journal : Journal) (n : ℕ) → LawsOfWrong → IsLegal journal → IsWrong journal n → ⊥
 not_both journal zero laws legal wrong = wrong.wrong legal.fits
@@ -49,4 +52,4 @@ neither setup frames H (entry ∷ more) laws right free all =
 pub some_verdict : (journal : Journal) → LawsOfWrong → (IsLegal journal → ⊥) → ((n : ℕ) → IsWrong journal n → ⊥) → ⊥
 some_verdict journal laws illegal free =
     neither journal.setup journal.frames [] journal.entries laws tt (λ n wrong. free n (wrong_at journal n wrong)) (λ right.
-      free 0 (record { right = right; wrong = λ fits. illegal (is_legal journal laws right fits) }))
+      free 0 (record { right = right; wrong = λ fits. illegal (is_legal journal laws.sound right fits) }))

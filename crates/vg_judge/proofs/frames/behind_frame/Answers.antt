@@ -1,5 +1,5 @@
-use Rattle.std.proofs.Common.{◌∙◌, ap, refl, Some, None, map, sym}
-use Rattle.vg_judge.proofs.FrameLemmas.{HeadsAreSaid, is_met, not_read, other_head, other_pixels, found_or_not}
+use Rattle.std.proofs.Common.{◌∙◌, ap, refl, map, sym}
+use Rattle.vg_judge.proofs.FrameLemmas.{HeadsAreSaid, not_read, other_head, found_or_not}
 use Rattle.vg_judge.proofs.frames.behind_frame.Goals as goal
 
 pub returns-in_default : goal.returns-in_default

@@ -1,4 +1,4 @@
-use Rattle.std.proofs.Common.{◌∙◌, ap, map, sym, refl, rules}
+use Rattle.std.proofs.Common.{◌∙◌, ap, map, sym, rules}
 use Rattle.vg_act_lines.proofs.PartLaws.{some_is}
 use Rattle.vg_judge.proofs.EntryLemmas.{EntriesAreSaid, is_read, is_some}
 use Rattle.vg_judge.proofs.judging.entry_in_front.Goals as goal

@@ -1,4 +1,3 @@
-use Rattle.std.proofs.Common.{arith}
 use Rattle.vg_judge.proofs.MeetLemmas.{begins_less}
 use Rattle.vg_judge.proofs.frames.Frames.meet_all.Goals as goal
 

@@ -1,4 +1,4 @@
-use Rattle.std.proofs.Common.{◌≡◌, List, length, take, ◌-◌}
+use Rattle.std.proofs.Common.{List, length, take, ◌-◌}
 use mathlib.Core.List.{IsPrefix}
 use Rattle.vg_scanout.specs.declared.scanout.Frame.{Frame}
 use Rattle.vg_judge.specs.FramesWithin.{AreMet}

@@ -1,4 +1,4 @@
-use Rattle.std.proofs.Common.{◌∙◌, ap, sym, refl, subst}
+use Rattle.std.proofs.Common.{refl}
 use Rattle.vg_judge.proofs.TurnLemmas.{LawsOfRight, goes_on, not_rightly, other_frames, stands_next, turn}
 use Rattle.vg_judge.proofs.judging.Judging.next_is_right.Goals as goal
 
