@@ -24,6 +24,8 @@ written-ends NoMemory script journal held held' faults faults' (H, legal, is) (t
     let P : Journal → Type 0 = λ j. TakesPart held held' (text_of j) in
     ((H, legal, subst P is takes), same)
 written-ends Usage script journal held held' faults faults' legal written = written
+written-ends (statuses.Wrong entry) script journal held held' faults faults' legal written = written
+written-ends (statuses.Journal line) script journal held held' faults faults' legal written = written
 written-ends (statuses.Script line kind) script journal held held' faults faults' legal written = written
 written-ends ReadFault script journal held held' faults faults' legal written = written
 written-ends TooLong script journal held held' faults faults' legal written = written

@@ -16,6 +16,8 @@ Unread (statuses.Script line kind) left faults faults' = IfSome left (λ bytes. 
 Unread ReadFault left faults faults' = Rose faults faults'
 Unread TooLong left faults faults' = IfSome left (λ bytes. 16777216 < length bytes) × (faults' ≡ faults)
 Unread NoMemory left faults faults' = faults' ≡ faults
+Unread (statuses.Wrong entry) left faults faults' = ⊥
+Unread (statuses.Journal line) left faults faults' = ⊥
 Unread Done left faults faults' = ⊥
 Unread Usage left faults faults' = ⊥
 Unread WriteFault left faults faults' = ⊥
@@ -36,6 +38,8 @@ Ended Done script held held' faults faults' = Wrote script held held' × (faults
 Ended WriteFault script held held' faults faults' = Rose faults faults' × WroteSome script held held'
 Ended NoMemory script held held' faults faults' = WrotePart script held held' × (faults' ≡ faults)
 Ended (statuses.Script line kind) script held held' faults faults' = ⊥
+Ended (statuses.Wrong entry) script held held' faults faults' = ⊥
+Ended (statuses.Journal line) script held held' faults faults' = ⊥
 Ended TooLong script held held' faults faults' = ⊥
 Ended ReadFault script held held' faults faults' = ⊥
 Ended Usage script held held' faults faults' = ⊥
@@ -45,3 +49,15 @@ abbrev pub IsFaultless : Status → Type 0
 IsFaultless ReadFault = ⊥
 IsFaultless WriteFault = ⊥
 IsFaultless status = Unit {0}
+
+-- How `run` can end, and how `check` can.
+abbrev pub EndsRun : Status → Type 0
+EndsRun Usage = ⊥
+EndsRun (statuses.Wrong entry) = ⊥
+EndsRun (statuses.Journal line) = ⊥
+EndsRun status = Unit {0}
+
+abbrev pub EndsCheck : Status → Type 0
+EndsCheck Usage = ⊥
+EndsCheck (statuses.Script line kind) = ⊥
+EndsCheck status = Unit {0}

@@ -9,10 +9,12 @@ use thiserror::Error;
 /// Why a call didn't end well.
 #[derive(Clone, Copy, Debug, PartialEq, Eq, Error)]
 pub enum Fault {
-    #[error("usage: vgpu run | run --workers N")]
+    #[error("usage: vgpu run | run --workers N | check")]
     Usage,
     #[error("script line {line}: {kind}")]
     Script { line: u32, kind: Kind },
+    #[error("journal line {line}")]
+    Journal { line: u32 },
     #[error("read fault")]
     ReadFault,
     #[error("write fault")]
@@ -54,17 +56,19 @@ fn kind_of(number: u8) -> Kind
     }
 }
 
-/// What is said of a status; nothing where all is done.
+/// What is said of a status on standard error: nothing where all is done, or a journal is wrong, which is said on standard output.
 pub fn fault_of(status: Status) -> Option<Fault>
     ensures { result ≡ fault_told status }
 {
     match status {
         Status::Done => None,
+        Status::Wrong { .. } => None,
         Status::Usage => Some(Fault::Usage),
         Status::Script { line, kind } => Some(Fault::Script {
             line,
             kind: kind_of(kind),
         }),
+        Status::Journal { line } => Some(Fault::Journal { line }),
         Status::ReadFault => Some(Fault::ReadFault),
         Status::WriteFault => Some(Fault::WriteFault),
         Status::TooLong => Some(Fault::TooLong),
@@ -78,8 +82,10 @@ pub fn code_of(status: Status) -> u8
 {
     match status {
         Status::Done => 0,
+        Status::Wrong { .. } => 1,
         Status::Usage => 2,
         Status::Script { .. } => 3,
+        Status::Journal { .. } => 3,
         Status::ReadFault => 4,
         Status::WriteFault => 5,
         Status::TooLong => 6,

@@ -1,7 +1,10 @@
-//! The program's one call: a script is read, its clients run, and the journal is written.
+//! The program's one call: a script is read, its clients run, and the journal is written; or a journal is read, and it is said
+//! whether it is that of a legal history.
 #![tactic(auto)]
 
+mod check_command;
 mod fault;
+mod run_command;
 mod top;
 mod words;
 

@@ -1,52 +1,52 @@
 //! The program's one call.
 
-ghost use Rattle.std.specs.Prelude.{◌≡◌, ◌≤◌, ◌↔◌, ◌<◌, ◌⊎◌, ℕ, length, map, string_bytes, Err, IfOk, IfErr, OnOk, IfSome};
-ghost use Rattle.vg_io.specs.Streams.{GivesUpTo, IsAtEnd, Rose};
-ghost use Rattle.vg_script.specs.Grammar.{Faulty, Parses};
-ghost use Rattle.vg_script.specs.Limits.{ScriptInLimits};
+ghost use Rattle.std.specs.Prelude.{◌≡◌, ◌≤◌, ◌↔◌, ◌<◌, ◌⊎◌, ◌+◌, ℕ, length, map, string_bytes, IfSome};
+ghost use Rattle.vg_io.specs.Streams.{GivesUpTo, Rose};
+ghost use Rattle.vg_script.specs.Grammar.{Faulty};
+ghost use Rattle.vg_journal_lines.specs.Refusals.{IsRefusedAt};
 ghost use Rattle.vg_run.specs.Headline.{IsRun, IsWithin, Runs, RunsNotToItsEnd, RunsPartly};
-ghost use Rattle.vg_run.specs.PrintingWithin.{Written};
-ghost use Rattle.vg_run.specs.Status.{Ended, IsFaultless, Unread};
-ghost use Rattle.vg_journal.specs.Text.{text_of};
+ghost use Rattle.vg_run.specs.Checks.{Checks, ChecksPartly, ChecksWrong, IsCheck, IsCheckable, IsCommand};
+ghost use Rattle.vg_run.specs.Status.{IsFaultless};
 
-use crate::words::workers_of;
+use crate::check_command::check_from;
+use crate::run_command::run_from;
+use crate::words::{Command, command_of};
 use std::alloc::Global;
 use std::marker::Sync;
 use std::sync::Wait;
 use std::thread::Threads;
-use vg_io::{ReadError, Sink, Source, read_all};
-use vg_journal::{Journal, print};
-use vg_legal::drive;
-use vg_script::{Script, parse};
+use vg_io::{Sink, Source};
 use vg_worker::Gate;
 
 /// How a call of the program ended.
 #[derive(Clone, Copy, Debug, PartialEq, Eq)]
 pub enum Status {
-    /// The journal is written.
+    /// The journal is written, or that it is one of a legal history.
     Done,
+    /// The journal isn't that of a legal history: this entry, counted from 1, is the first that isn't right, or with 0 something
+    /// behind the entries. That is written.
+    Wrong { entry: u64 },
     /// The words after the program's name aren't known.
     Usage,
     /// The text is no script: its first fault is on this line, from 1, and of this kind, as `ScriptFault` has them.
     Script { line: u32, kind: u8 },
+    /// The text is no journal: no journal begins with its lines up to this one, from 1. A frame's pixels are one line.
+    Journal { line: u32 },
     /// A read failed.
     ReadFault,
     /// A write failed.
     WriteFault,
-    /// The source has more bytes than a script may have.
+    /// The source has more bytes than a script, or a journal, may have.
     TooLong,
     /// Memory ran out.
     NoMemory,
 }
 
-/// How many bytes a script has at most.
-const LIMIT: usize = 16_777_216;
-
 /// Runs the program: `words` are those after its name. `run` reads a script from `source`, runs its clients on threads beside
 /// two workers of the device, or as many as `--workers` says, and writes the journal to `sink`. Workers pass the gate with each
-/// command that they take.
+/// command that they take. `check` reads a journal from `source`, and writes to `sink` whether it is that of a legal history.
 ///
-/// At most one byte past the longest script is taken from the source. After want of memory nothing, or
+/// At most one byte past the longest script, or journal, is taken from the source. After want of memory nothing, or
 /// a front of the journal that isn't all of it, is written.
 pub fn vgpu<R: Threads + Wait + Sync, S: Source, K: Sink, G: Gate>(
     rt: &R,
@@ -58,97 +58,53 @@ pub fn vgpu<R: Threads + Wait + Sync, S: Source, K: Sink, G: Gate>(
 ) -> Status
     // The source was read to its end; its bytes are a script, within the limit; and what the sink took is the journal and
     // the frames of one history that is legal for that script.
-    ensures done { result ≡ Status.Done
+    ensures done { IsRun (map string_bytes words.now) → result ≡ Status.Done
         → Runs (S.left source.old) (S.left source.new) (K.held sink.old) (K.held sink.new) }
 
-    ensures usage { (result ≡ Status.Usage) ↔ ¬ IsRun (map string_bytes words.now) }
+    // The source was read to its end; its bytes are the journal of a legal history, within the limit; and what the sink took is
+    // the line that says so, with the numbers of its entries and frames.
+    ensures done_check { IsCheck (map string_bytes words.now) → result ≡ Status.Done
+        → Checks (S.left source.old) (S.left source.new) (K.held sink.old) (K.held sink.new) }
+    ensures wrong { (entry : ℕ) → result ≡ Status.Wrong entry → IsCheck (map string_bytes words.now)
+        × ChecksWrong entry (S.left source.old) (S.left source.new) (K.held sink.old) (K.held sink.new) }
+
+    ensures usage { (result ≡ Status.Usage) ↔ ¬ IsCommand (map string_bytes words.now) }
     ensures usage_same { result ≡ Status.Usage → (source.new ≡ source.old) × (sink.new ≡ sink.old) }
-    ensures script { (line kind : ℕ) → result ≡ Status.Script line kind
-        → IfSome (S.left source.old) (λ bytes. IsWithin bytes × Faulty bytes line kind) × (sink.new ≡ sink.old) }
+    ensures script { (line kind : ℕ) → result ≡ Status.Script line kind → IsRun (map string_bytes words.now)
+        × IfSome (S.left source.old) (λ bytes. IsWithin bytes × Faulty bytes line kind) × (sink.new ≡ sink.old) }
+    ensures journal { (line : ℕ) → result ≡ Status.Journal line → IsCheck (map string_bytes words.now)
+        × IfSome (S.left source.old) (λ bytes. IsCheckable bytes × IsRefusedAt bytes line) × (sink.new ≡ sink.old) }
     ensures read_fault { result ≡ Status.ReadFault
         → Rose (S.faults source.old) (S.faults source.new) × (sink.new ≡ sink.old) }
-    ensures read_early { result ≡ Status.ReadFault → GivesUpTo (S.left source.old) (S.left source.new) 16777216 }
-    ensures too_long { result ≡ Status.TooLong
+    ensures read_early { IsRun (map string_bytes words.now) → result ≡ Status.ReadFault
+        → GivesUpTo (S.left source.old) (S.left source.new) 16777216 }
+    ensures read_early_check { IsCheck (map string_bytes words.now) → result ≡ Status.ReadFault
+        → GivesUpTo (S.left source.old) (S.left source.new) 1073741824 }
+    ensures too_long { IsRun (map string_bytes words.now) → result ≡ Status.TooLong
         → IfSome (S.left source.old) (λ bytes. 16777216 < length bytes) × (sink.new ≡ sink.old) }
-    ensures write_fault { result ≡ Status.WriteFault → Rose (K.faults sink.old) (K.faults sink.new)
+    ensures too_long_check { IsCheck (map string_bytes words.now) → result ≡ Status.TooLong
+        → IfSome (S.left source.old) (λ bytes. 1073741824 < length bytes) × (sink.new ≡ sink.old) }
+    ensures write_fault { IsRun (map string_bytes words.now) → result ≡ Status.WriteFault → Rose (K.faults sink.old) (K.faults sink.new)
         × RunsPartly (S.left source.old) (S.left source.new) (K.held sink.old) (K.held sink.new) }
-    ensures no_memory { result ≡ Status.NoMemory → (sink.new ≡ sink.old)
+    ensures write_fault_check { IsCheck (map string_bytes words.now) → result ≡ Status.WriteFault → Rose (K.faults sink.old) (K.faults sink.new)
+        × ChecksPartly (S.left source.old) (S.left source.new) (K.held sink.old) (K.held sink.new) }
+    ensures no_memory { IsRun (map string_bytes words.now) → result ≡ Status.NoMemory → (sink.new ≡ sink.old)
         ⊎ RunsNotToItsEnd (S.left source.old) (S.left source.new) (K.held sink.old) (K.held sink.new) }
+    ensures no_memory_check { IsCheck (map string_bytes words.now) → result ≡ Status.NoMemory → sink.new ≡ sink.old }
 
     // No read or write fails unless that is the answer.
     ensures faultless { IsFaultless result
         → (S.faults source.new ≡ S.faults source.old) × (K.faults sink.new ≡ K.faults sink.old) }
     ensures read_before { result ≡ Status.WriteFault → S.faults source.new ≡ S.faults source.old }
 
-    ensures taken { GivesUpTo (S.left source.old) (S.left source.new) 16777217 }
+    ensures taken { IsRun (map string_bytes words.now) → GivesUpTo (S.left source.old) (S.left source.new) 16777217 }
+    ensures taken_check { IsCheck (map string_bytes words.now) → GivesUpTo (S.left source.old) (S.left source.new) 1073741825 }
     ensures read_count { S.faults source.old ≤ S.faults source.new }
     ensures write_count { K.faults sink.old ≤ K.faults sink.new }
 {
-    let Some(workers) = workers_of(words) else {
-        return Status::Usage;
-    };
-    match read_script(alloc, source) {
-        Ok(script) => write_run(rt, alloc, script, workers, sink, gate),
-        Err(status) => status,
-    }
-}
-
-/// The script that a source gives, or why it can't be had.
-fn read_script<S: Source>(alloc: Global, source: &mut S) -> Result<Script, Status>
-    ensures end { IfOk result (λ script. IsAtEnd (S.left source.new)) }
-    ensures parses { IfOk result (λ script. IfSome (S.left source.old) (λ bytes. IsWithin bytes × Parses bytes script)) }
-    ensures runnable { IfOk result ScriptInLimits }
-    ensures err { IfErr result (λ status. Unread status (S.left source.old) (S.faults source.old) (S.faults source.new)) }
-    ensures same { OnOk result (S.faults source.new ≡ S.faults source.old) }
-    ensures taken { GivesUpTo (S.left source.old) (S.left source.new) 16777217 }
-    ensures early { result ≡ Err Status.ReadFault → GivesUpTo (S.left source.old) (S.left source.new) 16777216 }
-    ensures count { S.faults source.old ≤ S.faults source.new }
-{
-    let bytes = match read_all(alloc, source, LIMIT) {
-        Ok(bytes) => bytes,
-        Err(ReadError::Memory) => return Err(Status::NoMemory),
-        Err(ReadError::Fault) => return Err(Status::ReadFault),
-        Err(ReadError::TooLong) => return Err(Status::TooLong),
-    };
-    match parse(alloc, bytes.as_slice()) {
-        Ok(Ok(script)) => Ok(script),
-        Ok(Err(fault)) => Err(Status::Script {
-            line: fault.line,
-            kind: fault.kind,
-        }),
-        Err(_) => Err(Status::NoMemory),
-    }
-}
-
-/// Runs a script, and writes its journal.
-fn write_run<R: Threads + Wait + Sync, K: Sink, G: Gate>(
-    rt: &R,
-    alloc: Global,
-    script: Script,
-    workers: u32,
-    sink: &mut K,
-    gate: &G,
-) -> Status
-    requires limits { ScriptInLimits script }
-    requires workers { (1 ≤ workers) × (workers ≤ 8) }
-    ensures ended { (Ended result script (K.held sink.old) (K.held sink.new) (K.faults sink.old) (K.faults sink.new))
-        ⊎ ((result ≡ Status.NoMemory) × (sink.new ≡ sink.old)) }
-    ensures count { K.faults sink.old ≤ K.faults sink.new }
-{
-    match drive(rt, alloc, script, workers, gate) {
-        Ok(journal) => write(alloc, &journal, sink),
-        Err(_) => Status::NoMemory,
-    }
-}
-
-/// Writes a journal.
-fn write<K: Sink>(alloc: Global, journal: &Journal, sink: &mut K) -> Status
-    ensures written { Written result (text_of journal.now) (K.held sink.old) (K.held sink.new) (K.faults sink.old) (K.faults sink.new) }
-    ensures count { K.faults sink.old ≤ K.faults sink.new }
-{
-    match print(alloc, journal, sink) {
-        Ok(Ok(())) => Status::Done,
-        Ok(Err(_)) => Status::WriteFault,
-        Err(_) => Status::NoMemory,
+    match command_of(words) {
+        Some(Command::Run { workers }) => run_from(rt, alloc, workers, source, sink, gate),
+        Some(Command::Check) => check_from(alloc, source, sink),
+        None => Status::Usage,
     }
 }

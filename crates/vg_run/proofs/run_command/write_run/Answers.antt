@@ -1,6 +1,6 @@
 use Rattle.std.proofs.Common.{inl}
 use Rattle.vg_run.proofs.EndLemmas.{written-ends}
-use Rattle.vg_run.proofs.top.write_run.Goals as goal
+use Rattle.vg_run.proofs.run_command.write_run.Goals as goal
 
 pub returns-in-Ok-clause-ended : goal.returns-in-Ok-clause-ended
 returns-in-Ok-clause-ended g c =

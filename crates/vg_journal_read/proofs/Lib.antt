@@ -1,0 +1,6 @@
+mod PieceLemmas
+mod SizeLemmas
+mod PlaceLemmas
+mod RunLemmas
+mod ScanLemmas
+mod ReadLemmas

@@ -1,0 +1,4 @@
+pub mod PiecesWithin
+pub mod Scans
+pub mod ScansWithin
+pub mod JournalsWithin

@@ -1,0 +1,24 @@
+use Rattle.std.proofs.Common.{◌∙◌, ap, map, sym, rules}
+use Rattle.vg_act_lines.proofs.PartLaws.{some_is}
+use Rattle.vg_judge.proofs.EntryLemmas.{EntriesAreSaid, is_read, is_some}
+use Rattle.vg_judge.proofs.judging.entry_in_front.Goals as goal
+
+pub unwrap-entry-requires : goal.unwrap-entry-requires
+unwrap-entry-requires c =
+    let laws : EntriesAreSaid = record {
+      parts = c.entries_and_their_words.ensures.parts;
+      line = c.entries_and_their_words.ensures.line;
+      back = c.entries_and_their_words.ensures.back;
+    } in
+    let some = is_some _ _ _ _ _ _ _ _ laws c.requires.2 c.cut.ensures.before (ap (map (λ word. word.now)) c.as_slice.ensures.value ∙ c.in_ok-put_parts.ensures) c.in_ok-read_entry.ensures in
+    rw some (search rules)
+
+pub returns : goal.returns
+returns c = λ entry more stands.
+    let laws : EntriesAreSaid = record {
+      parts = c.entries_and_their_words.ensures.parts;
+      line = c.entries_and_their_words.ensures.line;
+      back = c.entries_and_their_words.ensures.back;
+    } in
+    let some = is_some _ _ _ _ _ _ _ _ laws stands c.cut.ensures.before (ap (map (λ word. word.now)) c.as_slice.ensures.value ∙ c.in_ok-put_parts.ensures) c.in_ok-read_entry.ensures in
+    (some_is _ _ (sym c.unwrap-entry.ensures ∙ some), c.cut.ensures.after ∙ (is_read _ _ _ _ _ laws stands).behind)

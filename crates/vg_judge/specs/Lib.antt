@@ -1,0 +1,4 @@
+pub mod Outline
+pub mod Verdicts
+pub mod FramesWithin
+pub mod JudgingWithin

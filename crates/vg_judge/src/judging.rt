@@ -1,0 +1,114 @@
+//! The entries of a journal, gone over one after another beside its frames.
+
+ghost use Rattle.std.specs.Prelude.{◌≡◌, ◌↔◌, ◌+◌, ℕ, List, [], ◌∷◌, ◌++◌, length, true, false, IfOk, IsTrue};
+ghost use Rattle.vg_machine.specs.Entries.{Entry as AnyEntry};
+ghost use Rattle.vg_journal.specs.declared.journal.Journal.{Journal};
+ghost use Rattle.vg_journal_lines.specs.Pieces.{JournalInRange};
+ghost use Rattle.vg_check.specs.Right.{IsWrongAt};
+ghost use Rattle.vg_judge.specs.JudgingWithin.{IsJudging, IsNext, StandsNext};
+ghost use Rattle.vg_judge.specs.Outline.{IsOutline};
+ghost use Rattle.vg_judge.specs.Verdicts.{FitsEntries};
+
+use crate::frames::Frames;
+use crate::verdicts::Outline;
+use std::alloc::{AllocError, Global};
+use vg_check::{Checker, frames_stay, right_entries_go_on};
+use vg_journal_lines::{entries_and_their_words, read_entry};
+use vg_line_words::put_parts;
+use vg_machine::Entry;
+use vg_script_words::cut;
+
+/// The entries of a journal, gone over one after another beside its frames.
+#[derive(Drop)]
+pub(crate) struct Judging<'a> {
+    /// How many clients there are.
+    pub(crate) clients: u32,
+    /// What stands behind the entries that were gone over.
+    pub(crate) rest: &'a [u8],
+    pub(crate) checker: Checker,
+    pub(crate) frames: Frames<'a>,
+    pub(crate) words: Vec<&'a [u8]>,
+}
+
+impl<'a> Judging<'a> {
+    /// Before the first entry.
+    pub(crate) fn new(
+        alloc: Global,
+        bytes: &'a [u8],
+        outline: &Outline,
+    ) -> Result<Judging<'a>, AllocError>
+        requires { (journal : Journal) × JournalInRange journal × IsOutline bytes.now journal outline.now }
+        ensures { IfOk result (λ judging. (journal : Journal) → JournalInRange journal → IsOutline bytes.now journal outline.now
+            → IsJudging journal [] judging) }
+    {
+        Ok(Judging {
+            checker: Checker::new(alloc, &outline.setup)?,
+            clients: outline.setup.clients,
+            rest: &bytes[outline.entries_at..],
+            frames: Frames {
+                rest: &bytes[outline.frames_at..],
+                met: 0,
+                count: outline.frames,
+            },
+            words: Vec::new(alloc),
+        })
+    }
+
+    /// Whether the next entry is right. Behind one that isn't, none is gone over.
+    pub(crate) fn next_is_right(&mut self, alloc: Global) -> Result<bool, AllocError>
+        requires { (journal : Journal) × (done : List AnyEntry) × IsNext journal done self.old }
+        ensures right { IfOk result (λ right. right ≡ true → (journal : Journal) (done : List AnyEntry) → IsNext journal done self.old
+            → (entry : AnyEntry) × IsJudging journal (done ++ entry ∷ []) self.new) }
+        ensures wrong { IfOk result (λ right. right ≡ false → (journal : Journal) (done : List AnyEntry) → IsNext journal done self.old
+            → IsWrongAt journal.setup journal.frames journal.entries (length done + 1)) }
+    {
+        right_entries_go_on();
+        frames_stay();
+        let n = self.checker.entries() + 1;
+        let (entry, after) = entry_in_front(alloc, n, self.clients, &mut self.words, self.rest)?;
+        self.rest = after;
+        if !self.checker.next(alloc, &entry)? {
+            return Ok(false);
+        }
+        let met = self
+            .frames
+            .meet_all(&mut self.words, self.checker.frames())?;
+        Ok(met)
+    }
+
+    /// Whether what the journal says beside its entries is what these make, once they were all gone over.
+    pub(crate) fn fits(&self, outline: &Outline) -> bool
+        ensures { (bytes : List ℕ) (journal : Journal) → IsOutline bytes journal outline.now → IsJudging journal journal.entries self.now
+            → IsTrue result ↔ FitsEntries journal }
+    {
+        if self.checker.control() != outline.control {
+            return false;
+        }
+        if self.checker.cursor() != outline.cursor {
+            return false;
+        }
+        if !self.checker.have_left() {
+            return false;
+        }
+        self.frames.are_all_met()
+    }
+}
+
+/// Entry n, whose line stands in front of some bytes, and what stands behind it.
+fn entry_in_front<'a>(
+    alloc: Global,
+    n: u64,
+    clients: u32,
+    words: &mut Vec<&'a [u8]>,
+    bytes: &'a [u8],
+) -> Result<(Entry, &'a [u8]), AllocError>
+    requires { (entry : AnyEntry) × (more : List ℕ) × StandsNext n clients bytes.now entry more }
+    ensures { IfOk result (λ read. (entry : AnyEntry) (more : List ℕ) → StandsNext n clients bytes.now entry more
+        → (read.0 ≡ entry) × (read.1.now ≡ more)) }
+{
+    entries_and_their_words();
+    let (line, after) = cut(bytes, b'\n');
+    put_parts(words, line)?;
+    let entry = read_entry(alloc, n, clients, words.as_slice())?.unwrap();
+    Ok((entry, after))
+}
