@@ -64,15 +64,15 @@ pub fits_if : (bytes : List ℕ) (journal : Journal) (outline : Outline) (contro
     → IsTrue ((control == outline.control) && (cursor == outline.cursor) && left && met) ↔ FitsEntries journal
 fits_if bytes journal outline control cursor left met is first second third last = (
   (λ all.
-    let four = four_hold (control == outline.control) (cursor == outline.cursor) left met all in
-    record {
-      frames = last.0 four.3;
-      control = sym is.control ∙ sym (eqb-true control outline.control four.0) ∙ first;
-      cursor = sym is.cursor ∙ sym (eqb-true cursor outline.cursor four.1) ∙ second;
-      left = third.0 four.2;
-    }),
+      let four = four_hold (control == outline.control) (cursor == outline.cursor) left met all in
+      record {
+        frames = last.0 four.3;
+        control = sym is.control ∙ sym (eqb-true control outline.control four.0) ∙ first;
+        cursor = sym is.cursor ∙ sym (eqb-true cursor outline.cursor four.1) ∙ second;
+        left = third.0 four.2;
+      }),
   (λ fits.
-    four_give (control == outline.control) (cursor == outline.cursor) left met
-    (eq-eqb control outline.control (first ∙ sym fits.control ∙ sym is.control)) (eq-eqb cursor outline.cursor (second ∙ sym fits.cursor ∙ sym is.cursor))
-    (third.1 fits.left) (last.1 fits.frames)),
+      four_give (control == outline.control) (cursor == outline.cursor) left met
+      (eq-eqb control outline.control (first ∙ sym fits.control ∙ sym is.control)) (eq-eqb cursor outline.cursor (second ∙ sym fits.cursor ∙ sym is.cursor))
+      (third.1 fits.left) (last.1 fits.frames)),
 )
