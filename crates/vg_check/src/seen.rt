@@ -1,7 +1,7 @@
 //! What is kept of a client's entries, and the tests of its next one.
 
 ghost use Rattle.std.specs.Prelude.{◌≡◌, ◌↔◌, [], false, replicate, IfOk, IsTrue};
-ghost use Rattle.vg_client_holds.specs.Holds.{first_holds, gives_up};
+ghost use Rattle.vg_client_holds.specs.Holds.{first_holds};
 ghost use Rattle.vg_client_holds.specs.Setup.{IsSetup};
 ghost use Rattle.vg_check.specs.StepWithin.{is_gone};
 ghost use Rattle.vg_check.specs.TestsWithin.{IsNew, MayAct, MayAsk, MayGiveUp, is_first, is_known, is_leaving, is_next_act, is_next_command, is_next_on_lane};
@@ -10,7 +10,8 @@ use crate::counts::{number_at, zeros};
 use crate::deniable::is_deniable_act;
 use std::alloc::{AllocError, Global};
 use vg_call_numbers::CallNumbers;
-use vg_machine::{Act, Holds, Request, Setup, denied, lane_of};
+use vg_history::Machine;
+use vg_machine::{Act, Display, Holds, Request, Setup, denied, lane_of};
 
 /// What is kept of a client's entries.
 #[derive(Drop)]
@@ -75,7 +76,8 @@ impl Seen {
     fn may_give_up(&self, call: u64, act: &Act) -> bool
         ensures { IsTrue result ↔ MayGiveUp self.now.numbers call act.now }
     {
-        !gives_up(act) || (self.numbers.are_all() && self.numbers.top() == call.saturating_sub(1))
+        !Display::gives_up(act)
+            || (self.numbers.are_all() && self.numbers.top() == call.saturating_sub(1))
     }
 
     /// Whether the client may ask this next.
@@ -120,15 +122,6 @@ pub(crate) fn is_leaving(act: &Act) -> bool
 {
     match act {
         Act::Leave => true,
-        _ => false,
-    }
-}
-
-fn gives_up(act: &Act) -> bool
-    ensures { result ≡ gives_up act.now }
-{
-    match act {
-        Act::Release { .. } | Act::Free { .. } | Act::Drop { .. } | Act::Leave => true,
         _ => false,
     }
 }
