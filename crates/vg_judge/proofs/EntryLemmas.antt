@@ -41,3 +41,6 @@ pub is_some : (n clients : ℕ) (bytes line more : List ℕ) (words : List (List
     → found ≡ entry_of n clients words → found ≡ Some entry
 is_some n clients bytes line more words entry found laws stands first parts is =
     is ∙ ap (entry_of n clients) parts ∙ ap (λ l. entry_of n clients (parts_at 32 l)) first ∙ (is_read n clients bytes entry more laws stands).entry_is
+
+pub the_same : (one other : Entry) → Some one ≡ Some other → one ≡ other
+the_same one other is = cc

@@ -78,12 +78,11 @@ other_next all before frames frame are other begins =
 -- Frames that stand in front of others do so one by one.
 pub begins_less : (frames all : List Frame) (at : ℕ) (frame : Frame) → at < length frames → frame ≡ get_or frames at frame → IsPrefix frames all → IsPrefix (take at frames ++ frame ∷ []) all
 begins_less frames all at frame within is begins =
-    let rest : drop at frames ≡ frame ∷ drop (suc at) frames = drop-cons frames at frame within ∙ ap (λ f. f ∷ drop (suc at) frames) (sym is) in
-    (
+    let rest : drop at frames ≡ frame ∷ drop (suc at) frames = drop-cons frames at frame within ∙ ap (λ f. f ∷ drop (suc at) frames) (sym is) in (
       drop (suc at) frames ++ begins.0,
       append_assoc (take at frames) (frame ∷ []) (drop (suc at) frames ++ begins.0)
-      ∙ sym (append_assoc (take at frames) (frame ∷ drop (suc at) frames) begins.0)
-      ∙ ap (λ left. (take at frames ++ left) ++ begins.0) (sym rest)
-      ∙ ap (λ fs. fs ++ begins.0) (take-append-drop at frames)
-      ∙ begins.1,
+          ∙ sym (append_assoc (take at frames) (frame ∷ drop (suc at) frames) begins.0)
+          ∙ ap (λ left. (take at frames ++ left) ++ begins.0) (sym rest)
+          ∙ ap (λ fs. fs ++ begins.0) (take-append-drop at frames)
+          ∙ begins.1,
     )

@@ -109,9 +109,9 @@ pub other_frames : (journal : Journal) (done : List Entry) (judging : Judging) (
     → IsWrongAt journal.setup journal.frames journal.entries (length done + 1)
 other_frames journal done judging entry frames laws next t is are other =
     is_wrong journal done judging entry laws next t is (λ right.
-        other journal.frames (frames_after journal.setup done) next.going.frames
-        (subst (IsPrefix (frames_after journal.setup done)) (sym are) (laws.stay journal.setup done entry))
-        (subst (λ fs. IsPrefix fs journal.frames) (sym are) right.made))
+    other journal.frames (frames_after journal.setup done) next.going.frames
+    (subst (IsPrefix (frames_after journal.setup done)) (sym are) (laws.stay journal.setup done entry))
+    (subst (λ fs. IsPrefix fs journal.frames) (sym are) right.made))
 
 -- It is right.
 pub goes_on : (journal : Journal) (done : List Entry) (judging new : Judging) (entry : Entry) (frames : List Frame) → LawsOfRight → (next : IsNext journal done judging) (t : Turn journal done judging) → entry ≡ t.entry

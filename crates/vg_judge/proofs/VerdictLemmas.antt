@@ -44,12 +44,12 @@ neither : (setup : Setup) (frames : List Frame) (H rest : List Entry) → LawsOf
 neither setup frames H [] laws right free all = all (subst (λ es. AreRight setup frames [] es) (sym (append-nil H)) right)
 neither setup frames H (entry ∷ more) laws right free all =
     free (length H + 1) (
-      laws.wrong setup frames H entry more right (λ is.
-        neither setup frames (H ++ entry ∷ []) more laws (laws.right setup frames H entry right is)
-        (λ n wrong. free n (subst (λ es. IsWrongAt setup frames es n) (append_assoc H (entry ∷ []) more) wrong))
-        (λ are. all (subst (λ es. AreRight setup frames [] es) (append_assoc H (entry ∷ []) more) are))))
+    laws.wrong setup frames H entry more right (λ is.
+    neither setup frames (H ++ entry ∷ []) more laws (laws.right setup frames H entry right is)
+    (λ n wrong. free n (subst (λ es. IsWrongAt setup frames es n) (append_assoc H (entry ∷ []) more) wrong))
+    (λ are. all (subst (λ es. AreRight setup frames [] es) (append_assoc H (entry ∷ []) more) are))))
 
 pub some_verdict : (journal : Journal) → LawsOfWrong → (IsLegal journal → ⊥) → ((n : ℕ) → IsWrong journal n → ⊥) → ⊥
 some_verdict journal laws illegal free =
     neither journal.setup journal.frames [] journal.entries laws tt (λ n wrong. free n (wrong_at journal n wrong)) (λ right.
-      free 0 (record { right = right; wrong = λ fits. illegal (is_legal journal laws.sound right fits) }))
+    free 0 (record { right = right; wrong = λ fits. illegal (is_legal journal laws.sound right fits) }))

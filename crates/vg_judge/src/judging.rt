@@ -81,16 +81,11 @@ impl<'a> Judging<'a> {
         ensures { (bytes : List ℕ) (journal : Journal) → IsOutline bytes journal outline.now → IsJudging journal journal.entries self.now
             → IsTrue result ↔ FitsEntries journal }
     {
-        if self.checker.control() != outline.control {
-            return false;
-        }
-        if self.checker.cursor() != outline.cursor {
-            return false;
-        }
-        if !self.checker.have_left() {
-            return false;
-        }
-        self.frames.are_all_met()
+        let control = self.checker.control() == outline.control;
+        let cursor = self.checker.cursor() == outline.cursor;
+        let left = self.checker.have_left();
+        let met = self.frames.are_all_met();
+        control & cursor & left & met
     }
 }
 

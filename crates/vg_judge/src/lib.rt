@@ -7,5 +7,5 @@ mod judging;
 mod laws;
 mod verdicts;
 
-pub use verdicts::{Outline, Verdict, judge};
 pub use laws::each_journal_has_one_verdict;
+pub use verdicts::{Outline, Verdict, judge};

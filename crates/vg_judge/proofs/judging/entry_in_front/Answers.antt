@@ -1,6 +1,5 @@
 use Rattle.std.proofs.Common.{◌∙◌, ap, map, sym, rules}
-use Rattle.vg_act_lines.proofs.PartLaws.{some_is}
-use Rattle.vg_judge.proofs.EntryLemmas.{EntriesAreSaid, is_read, is_some}
+use Rattle.vg_judge.proofs.EntryLemmas.{EntriesAreSaid, is_read, is_some, the_same}
 use Rattle.vg_judge.proofs.judging.entry_in_front.Goals as goal
 
 pub unwrap-entry-requires : goal.unwrap-entry-requires
@@ -21,4 +20,4 @@ returns c = λ entry more stands.
       back = c.entries_and_their_words.ensures.back;
     } in
     let some = is_some _ _ _ _ _ _ _ _ laws stands c.cut.ensures.before (ap (map (λ word. word.now)) c.as_slice.ensures.value ∙ c.in_ok-put_parts.ensures) c.in_ok-read_entry.ensures in
-    (some_is _ _ (sym c.unwrap-entry.ensures ∙ some), c.cut.ensures.after ∙ (is_read _ _ _ _ _ laws stands).behind)
+    (the_same _ _ (sym c.unwrap-entry.ensures ∙ some), c.cut.ensures.after ∙ (is_read _ _ _ _ _ laws stands).behind)
