@@ -10,7 +10,7 @@ use std::alloc::{AllocError, Global};
 use vg_judge::{Outline, Verdict, judge};
 
 /// What is found of a journal.
-#[derive(Clone, Copy, Debug, PartialEq, Eq)]
+#[derive(Clone, Copy)]
 pub enum Checked {
     /// It is that of a legal history, with so many entries and frames.
     Legal { entries: u64, frames: u64 },
