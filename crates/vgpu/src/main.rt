@@ -1,4 +1,5 @@
-//! The program `vgpu`: runs a script from standard input, and writes its journal to standard output.
+//! The program `vgpu`: runs a script from standard input, and writes its journal to standard output, or says of a journal whether it is
+//! that of a legal history.
 #![tactic(auto)]
 
 use std::io;
