@@ -1,0 +1,5 @@
+//! Tests of the reader of journals.
+#![tactic(auto)]
+
+#[cfg(test)]
+mod reading;
