@@ -8,6 +8,7 @@ use Rattle.vg_checking.specs.declared.checking.Checked.{Checked}
 use Rattle.vg_checking.specs.declared.checking.Checked.TheVariants as checkeds
 use Rattle.vg_checking.specs.Checking.{IsFound}
 use Rattle.vg_run.specs.Headline.{IsRun}
+use Rattle.vg_run.specs.Generates.{IsGenOfSome}
 
 -- The words after the program's name are `check`.
 abbrev pub IsCheck : List (List ℕ) → Type 0
@@ -15,7 +16,7 @@ IsCheck words = words ≡ codes "check" ∷ []
 
 -- They are those of a command.
 abbrev pub IsCommand : List (List ℕ) → Type 0
-IsCommand words = IsRun words ⊎ IsCheck words
+IsCommand words = IsRun words ⊎ IsCheck words ⊎ IsGenOfSome words
 
 -- No more bytes than a journal may have that is checked.
 abbrev pub IsCheckable : List ℕ → Type 0

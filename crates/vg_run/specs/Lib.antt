@@ -1,7 +1,9 @@
 pub mod Headline
 pub mod Checks
+pub mod Generates
 pub mod Status
 pub mod AskedWithin
 pub mod CheckingWithin
 pub mod PrintingWithin
+pub mod SummingWithin
 pub mod Codes

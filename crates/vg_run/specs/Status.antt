@@ -50,7 +50,7 @@ IsFaultless ReadFault = ⊥
 IsFaultless WriteFault = ⊥
 IsFaultless status = Unit {0}
 
--- How `run` can end, and how `check` can.
+-- How `run` can end, and how `check` and `gen` can.
 abbrev pub EndsRun : Status → Type 0
 EndsRun Usage = ⊥
 EndsRun (statuses.Wrong entry) = ⊥
@@ -61,3 +61,9 @@ abbrev pub EndsCheck : Status → Type 0
 EndsCheck Usage = ⊥
 EndsCheck (statuses.Script line kind) = ⊥
 EndsCheck status = Unit {0}
+
+abbrev pub EndsGen : Status → Type 0
+EndsGen Done = Unit {0}
+EndsGen WriteFault = Unit {0}
+EndsGen NoMemory = Unit {0}
+EndsGen status = ⊥

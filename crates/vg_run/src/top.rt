@@ -6,9 +6,11 @@ ghost use Rattle.vg_script.specs.Grammar.{Faulty};
 ghost use Rattle.vg_journal_lines.specs.Refusals.{IsRefusedAt};
 ghost use Rattle.vg_run.specs.Headline.{IsRun, IsWithin, Runs, RunsNotToItsEnd, RunsPartly};
 ghost use Rattle.vg_run.specs.Checks.{Checks, ChecksPartly, ChecksWrong, IsCheck, IsCheckable, IsCommand};
-ghost use Rattle.vg_run.specs.Status.{IsFaultless};
+ghost use Rattle.vg_run.specs.Generates.{IsGen, IsGenOfSome, Sums, SumsPartly};
+ghost use Rattle.vg_run.specs.Status.{EndsGen, IsFaultless};
 
 use crate::check_command::check_from;
+use crate::gen_command::gen_from;
 use crate::run_command::run_from;
 use crate::words::{Command, command_of};
 use std::alloc::Global;
@@ -44,7 +46,8 @@ pub enum Status {
 
 /// Runs the program: `words` are those after its name. `run` reads a script from `source`, runs its clients on threads beside
 /// two workers of the device, or as many as `--workers` says, and writes the journal to `sink`. Workers pass the gate with each
-/// command that they take. `check` reads a journal from `source`, and writes to `sink` whether it is that of a legal history.
+/// command that they take. `check` reads a journal from `source`, and writes to `sink` whether it is that of a legal history. `gen`
+/// makes a workload (vg_gen), runs it beside two workers, and writes its summary to `sink`: six lines, of a name and a number each.
 ///
 /// At most one byte past the longest script, or journal, is taken from the source. After want of memory nothing, or
 /// a front of the journal that isn't all of it, is written.
@@ -68,6 +71,10 @@ pub fn vgpu<R: Threads + Wait + Sync, S: Source, K: Sink, G: Gate>(
     ensures wrong { (entry : ℕ) → result ≡ Status.Wrong entry → IsCheck (map string_bytes words.now)
         × ChecksWrong entry (S.left source.old) (S.left source.new) (K.held sink.old) (K.held sink.new) }
 
+    // What the sink took is the summary of one history that is legal for the workload's script, with the numbers that the words say.
+    ensures done_gen { (number clients : ℕ) → IsGen (map string_bytes words.now) number clients → result ≡ Status.Done
+        → Sums number clients (K.held sink.old) (K.held sink.new) }
+
     ensures usage { (result ≡ Status.Usage) ↔ ¬ IsCommand (map string_bytes words.now) }
     ensures usage_same { result ≡ Status.Usage → (source.new ≡ source.old) × (sink.new ≡ sink.old) }
     ensures script { (line kind : ℕ) → result ≡ Status.Script line kind → IsRun (map string_bytes words.now)
@@ -88,9 +95,16 @@ pub fn vgpu<R: Threads + Wait + Sync, S: Source, K: Sink, G: Gate>(
         × RunsPartly (S.left source.old) (S.left source.new) (K.held sink.old) (K.held sink.new) }
     ensures write_fault_check { IsCheck (map string_bytes words.now) → result ≡ Status.WriteFault → Rose (K.faults sink.old) (K.faults sink.new)
         × ChecksPartly (S.left source.old) (S.left source.new) (K.held sink.old) (K.held sink.new) }
+    ensures write_fault_gen { (number clients : ℕ) → IsGen (map string_bytes words.now) number clients → result ≡ Status.WriteFault
+        → Rose (K.faults sink.old) (K.faults sink.new) × SumsPartly number clients (K.held sink.old) (K.held sink.new) }
     ensures no_memory { IsRun (map string_bytes words.now) → result ≡ Status.NoMemory → (sink.new ≡ sink.old)
         ⊎ RunsNotToItsEnd (S.left source.old) (S.left source.new) (K.held sink.old) (K.held sink.new) }
     ensures no_memory_check { IsCheck (map string_bytes words.now) → result ≡ Status.NoMemory → sink.new ≡ sink.old }
+
+    ensures no_memory_gen { IsGenOfSome (map string_bytes words.now) → result ≡ Status.NoMemory → sink.new ≡ sink.old }
+
+    // `gen` ends in no other way than these, and reads nothing.
+    ensures ends_gen { IsGenOfSome (map string_bytes words.now) → EndsGen result }
 
     // No read or write fails unless that is the answer.
     ensures faultless { IsFaultless result
@@ -99,12 +113,14 @@ pub fn vgpu<R: Threads + Wait + Sync, S: Source, K: Sink, G: Gate>(
 
     ensures taken { IsRun (map string_bytes words.now) → GivesUpTo (S.left source.old) (S.left source.new) 16777217 }
     ensures taken_check { IsCheck (map string_bytes words.now) → GivesUpTo (S.left source.old) (S.left source.new) 1073741825 }
+    ensures taken_gen { IsGenOfSome (map string_bytes words.now) → source.new ≡ source.old }
     ensures read_count { S.faults source.old ≤ S.faults source.new }
     ensures write_count { K.faults sink.old ≤ K.faults sink.new }
 {
     match command_of(words) {
         Some(Command::Run { workers }) => run_from(rt, alloc, workers, source, sink, gate),
         Some(Command::Check) => check_from(alloc, source, sink),
+        Some(Command::Gen { number, clients }) => gen_from(rt, alloc, number, clients, sink, gate),
         None => Status::Usage,
     }
 }

@@ -1,9 +1,12 @@
 //! The words that the program is called with.
 
-ghost use Rattle.std.specs.Prelude.{◌≡◌, ◌≤◌, ◌+◌, ◌↔◌, ℕ, [], ◌∷◌, map, string_bytes, IsTrue, MatchOption};
+ghost use Rattle.std.specs.Prelude.{◌≡◌, ◌≤◌, ◌<◌, ◌+◌, ◌^◌, ◌↔◌, ℕ, [], ◌∷◌, map, string_bytes, decimal, IsTrue, MatchOption};
 ghost use Rattle.vg_run.specs.AskedWithin.{IsAsked};
 ghost use Rattle.vg_run.specs.Headline.{IsRun};
 ghost use Rattle.vg_run.specs.Checks.{IsCheck, IsCommand};
+ghost use Rattle.vg_run.specs.Generates.{IsGen, IsGenOfSome};
+
+use vg_script_words::is_number;
 
 /// What the words ask for.
 #[derive(Clone, Copy)]
@@ -12,6 +15,8 @@ pub(crate) enum Command {
     Run { workers: u32 },
     /// To check a journal.
     Check,
+    /// To run the workload of a number with so many clients.
+    Gen { number: u64, clients: u32 },
 }
 
 /// What the words ask for, which are those of one of the commands. None where they are others.
@@ -21,9 +26,54 @@ pub(crate) fn command_of(words: &[String]) -> Option<Command>
     if is_check(words) {
         return Some(Command::Check);
     }
+    if let Some((number, clients)) = numbers_of(words) {
+        return Some(Command::Gen { number, clients });
+    }
     match workers_of(words) {
         Some(workers) => Some(Command::Run { workers }),
         None => None,
+    }
+}
+
+/// The number and how many clients the words ask for, which are `gen --number N --clients C`: C is from 1 to 16. None where the words
+/// are others.
+fn numbers_of(words: &[String]) -> Option<(u64, u32)>
+    ensures { MatchOption result (¬ IsGenOfSome (map string_bytes words.now)) (λ both. IsGen (map string_bytes words.now) both.0 both.1) }
+{
+    match words {
+        [word, flag, number, other, clients] => {
+            if word.as_str() != "gen" || flag.as_str() != "--number" || other.as_str() != "--clients" {
+                return None;
+            }
+            in_two(number.as_str(), clients.as_str())
+        }
+        _ => None,
+    }
+}
+
+/// The number and the clients of two words.
+fn in_two(number: &str, clients: &str) -> Option<(u64, u32)>
+    ensures { MatchOption result
+        ((n c : ℕ) → n < 2 ^ 64 → 1 ≤ c → c ≤ 16 → number.now ≡ decimal n → clients.now ≡ decimal c → ⊥)
+        (λ both. (number.now ≡ decimal both.0) × (clients.now ≡ decimal both.1) × (1 ≤ both.1) × (both.1 ≤ 16)) }
+{
+    let number = number_of(number)?;
+    let clients = number_of(clients)?;
+    if 1 <= clients && clients <= 16 {
+        Some((number, clients as u32))
+    } else {
+        None
+    }
+}
+
+/// The number that decimal digits say, without a sign and without a leading zero.
+fn number_of(word: &str) -> Option<u64>
+    ensures { MatchOption result ((n : ℕ) → n < 2 ^ 64 → word.now ≡ decimal n → ⊥) (λ n. word.now ≡ decimal n) }
+{
+    if is_number(word.as_bytes()) {
+        word.parse::<u64>().ok()
+    } else {
+        None
     }
 }
 

@@ -1,0 +1,9 @@
+//! Large scripts, made from a number: a workload of many clients that draw, share buffers and wait for each other.
+#![tactic(auto)]
+
+mod draws;
+mod generate;
+mod laws;
+
+pub use generate::generate;
+pub use laws::workloads_are_scripts;
