@@ -1,0 +1,9 @@
+pub mod LineLemmas
+pub mod TextLemmas
+pub mod WordLemmas
+pub mod StepLemmas
+pub mod RowLemmas
+pub mod CycleLemmas
+pub mod LabelLemmas
+pub mod ClientLemmas
+pub mod ScriptLemmas

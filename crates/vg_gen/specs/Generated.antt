@@ -1,6 +1,7 @@
 -- The workload of a number: a script in which so many clients, each with a display of its own, draw, share a buffer with the next one, wait for
 -- each other and move their cursors.
 use Rattle.std.specs.Prelude.{ℕ, zero, suc, ◌+◌, ◌*◌, ◌-◌, ◌%◌, ◌==◌, nat_lt, if◌then◌else◌, List, [], ◌∷◌, ◌++◌, replicate, codes, decimal}
+use Rattle.std.specs.List.{join_with_byte}
 use Rattle.hex.specs.Hex.{encode_lower}
 use Rattle.vg_numbers.specs.Numbers.{le}
 use Rattle.vg_gen.specs.Draws.{draw}
@@ -9,16 +10,10 @@ use Rattle.vg_gen.specs.Draws.{draw}
 abbrev pub Words : Type 0
 Words = List (List ℕ)
 
--- Words with a space between them and the end of the line, the byte 10, behind them, in front of more text.
-abbrev pub line_before : Words → List ℕ → List ℕ
-line_before [] more = 10 ∷ more
-line_before (word ∷ []) more = word ++ 10 ∷ more
-line_before (word ∷ next ∷ words) more = word ++ 32 ∷ line_before (next ∷ words) more
-
--- The text of lines.
+-- The text of lines: their words with a space between two, and the end of the line, the byte 10, behind each.
 abbrev pub text_of : List Words → List ℕ
 text_of [] = []
-text_of (line ∷ lines) = line_before line (text_of lines)
+text_of (line ∷ lines) = join_with_byte 32 line ++ 10 ∷ text_of lines
 
 -- The 4 bytes of a number, the lowest first, as digits.
 abbrev pub hex_of : ℕ → List ℕ
@@ -30,7 +25,7 @@ buffer_of n = if n % 2 == 1 then codes "A" else codes "B"
 
 -- A client begins: it makes its two buffers, leases the scanout of its display, makes a context, exports a buffer, and begins a transfer of it on
 -- a timeline of the context.
-abbrev pub opening : (number client : ℕ) → List Words
+unfoldable pub opening : (number client : ℕ) → List Words
 opening number client =
     (codes "client" ∷ [])
     ∷ (codes "buffer" ∷ codes "A" ∷ codes "64" ∷ codes "48" ∷ codes "1" ∷ [])
@@ -39,12 +34,12 @@ opening number client =
     ∷ (codes "context" ∷ codes "K" ∷ [])
     ∷ (codes "export" ∷ codes "A" ∷ (codes "X" ++ decimal client) ∷ [])
     ∷ (codes "begin" ∷ (codes "F" ++ decimal client) ∷ (codes "K:" ++ decimal (draw number client 1 % 64))
-        ∷ codes "send" ∷ codes "A" ∷ codes "0" ∷ codes "0" ∷ codes "64" ∷ codes "48" ∷ [])
+    ∷ codes "send" ∷ codes "A" ∷ codes "0" ∷ codes "0" ∷ codes "64" ∷ codes "48" ∷ [])
     ∷ []
 
 -- A client takes part in what the one before it shares: it imports that one's buffer, waits for its transfer, looks at the first pixel, and begins a
 -- command for which that one waits in turn.
-abbrev pub joining : (client : ℕ) → List Words
+unfoldable pub joining : (client : ℕ) → List Words
 joining client =
     (codes "import" ∷ (codes "X" ++ decimal (client - 1)) ∷ codes "P" ∷ [])
     ∷ (codes "await" ∷ (codes "F" ++ decimal (client - 1)) ∷ [])
@@ -53,7 +48,7 @@ joining client =
     ∷ []
 
 -- The nth picture, from 1: a buffer is filled with one pixel, and shown.
-abbrev pub picture : (number client n : ℕ) → List Words
+unfoldable pub picture : (number client n : ℕ) → List Words
 picture number client n =
     (codes "store" ∷ buffer_of n ∷ codes "0" ∷ hex_of (draw number client (n + 1)) ∷ codes "3072" ∷ [])
     ∷ (codes "flip" ∷ decimal (client - 1) ∷ buffer_of n ∷ [])
@@ -65,7 +60,7 @@ pictures number client zero = []
 pictures number client (suc n) = pictures number client n ++ picture number client (suc n)
 
 -- The cursor gets an image of one pixel.
-abbrev pub cursor : (number client : ℕ) → List Words
+unfoldable pub cursor : (number client : ℕ) → List Words
 cursor number client =
     (codes "buffer" ∷ codes "C" ∷ codes "64" ∷ codes "64" ∷ codes "1" ∷ [])
     ∷ (codes "store" ∷ codes "C" ∷ codes "0" ∷ hex_of (draw number client 22) ∷ codes "4096" ∷ [])
@@ -74,7 +69,7 @@ cursor number client =
     ∷ []
 
 -- The nth move of the cursor, from 1.
-abbrev pub move : (number client n : ℕ) → List Words
+unfoldable pub move : (number client n : ℕ) → List Words
 move number client n =
     (codes "move" ∷ decimal (client - 1) ∷ decimal (draw number client (21 + 2 * n) % 64) ∷ decimal (draw number client (22 + 2 * n) % 64) ∷ [])
     ∷ []
@@ -85,7 +80,7 @@ moves number client zero = []
 moves number client (suc n) = moves number client n ++ move number client (suc n)
 
 -- A client waits for the next one.
-abbrev pub closing : (client : ℕ) → List Words
+unfoldable pub closing : (client : ℕ) → List Words
 closing client = (codes "await" ∷ (codes "G" ++ decimal (client + 1)) ∷ []) ∷ []
 
 -- The lines of a client: all but the first take part in what the one before them shares, and all but the last wait for the next.

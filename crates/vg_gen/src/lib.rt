@@ -2,8 +2,8 @@
 #![tactic(auto)]
 
 mod draws;
-mod generate;
 mod laws;
+mod text;
 
-pub use generate::generate;
 pub use laws::workloads_are_scripts;
+pub use text::generate;

@@ -1,6 +1,6 @@
 //! The text of a workload.
 
-ghost use Rattle.std.specs.Prelude.{◌≡◌, ◌≤◌, ◌<◌, ◌++◌, ℕ, string_bytes, IfOk, OnOk};
+ghost use Rattle.std.specs.Prelude.{◌≡◌, ◌≤◌, ◌<◌, ◌++◌, ℕ, [], nat_lt, if◌then◌else◌, string_bytes, replicate, IfOk, OnOk};
 ghost use Rattle.vg_script.specs.declared.types.Script.{Script};
 ghost use Rattle.vg_script.specs.Grammar.{Parses};
 ghost use Rattle.vg_gen.specs.Generated as lines;
@@ -11,10 +11,6 @@ use crate::laws::workloads_are_scripts;
 use std::alloc::{AllocError, Global};
 use vg_numbers::put_u32;
 
-/// How many pictures a client shows, and how often it moves its cursor.
-const PICTURES: u32 = 20;
-const MOVES: u32 = 10;
-
 /// The script of a workload by its number, with 1 to 16 clients. Each has a display of 64 by 48 pixels, shows 20 pictures and moves a cursor ten
 /// times; all but the first import a buffer of the client before, and all but the last wait for the next. What is drawn comes from the number.
 pub fn generate(alloc: Global, number: u64, clients: u32) -> Result<String, AllocError>
@@ -24,14 +20,36 @@ pub fn generate(alloc: Global, number: u64, clients: u32) -> Result<String, Allo
 {
     workloads_are_scripts();
     let mut text = String::new(alloc);
+    put_displays(&mut text, clients)?;
+    text.push_str("memory 4096\n")?;
+    put_clients(alloc, &mut text, number, clients)?;
+    Ok(text)
+}
+
+/// Adds a display for each client.
+fn put_displays(text: &mut String, clients: u32) -> Result<(), AllocError>
+    ensures { OnOk result (string_bytes text.new ≡ string_bytes text.old ++ text_of (replicate clients lines.display)) }
+{
     for _ in 0..clients {
         text.push_str("display 64 48\n")?;
     }
-    text.push_str("memory 4096\n")?;
+    Ok(())
+}
+
+/// Adds the lines of each client.
+fn put_clients(
+    alloc: Global,
+    text: &mut String,
+    number: u64,
+    clients: u32,
+) -> Result<(), AllocError>
+    requires clients { clients ≤ 16 }
+    ensures { OnOk result (string_bytes text.new ≡ string_bytes text.old ++ text_of (lines.all_lines number clients clients)) }
+{
     for client in 0..clients {
-        put_client(alloc, &mut text, number, clients, client + 1)?;
+        put_client(alloc, text, number, clients, client + 1)?;
     }
-    Ok(text)
+    Ok(())
 }
 
 /// Adds the lines of a client.
@@ -46,36 +64,40 @@ fn put_client(
     ensures { OnOk result (string_bytes text.new ≡ string_bytes text.old ++ text_of (lines.client_lines number clients client)) }
 {
     put_opening(text, number, client)?;
-    if client > 1 {
-        put_joining(text, client)?;
-    }
-    for n in 0..PICTURES {
-        put_picture(alloc, text, number, client, n + 1)?;
-    }
+    put_joining(text, client)?;
+    put_pictures(alloc, text, number, client)?;
     put_cursor(alloc, text, number, client)?;
-    for n in 0..MOVES {
-        put_move(text, number, client, n + 1)?;
-    }
-    if client < clients {
-        put_closing(text, client)?;
-    }
-    Ok(())
+    put_moves(text, number, client)?;
+    put_closing(text, clients, client)
 }
 
+#[tactic(auto, using(crate::proofs::TextLemmas::opening_is))]
 fn put_opening(text: &mut String, number: u64, client: u32) -> Result<(), AllocError>
     requires client { (1 ≤ client) × (client ≤ 16) }
     ensures { OnOk result (string_bytes text.new ≡ string_bytes text.old ++ text_of (lines.opening number client)) }
 {
     let scanout = client - 1;
     let ring = draw(number, client, 1) % 64;
-    text.push_str("client\nbuffer A 64 48 1\nbuffer B 64 48 1\n")?;
     write!(
         text,
-        "take {scanout}\ncontext K\nexport A X{client}\nbegin F{client} K:{ring} send A 0 0 64 48\n"
+        "client\nbuffer A 64 48 1\nbuffer B 64 48 1\ntake {scanout}\ncontext K\nexport A X{client}\nbegin F{client} K:{ring} send A 0 0 64 48\n"
     )
 }
 
+/// The first client has no one before it.
 fn put_joining(text: &mut String, client: u32) -> Result<(), AllocError>
+    requires client { (1 ≤ client) × (client ≤ 16) }
+    ensures { OnOk result (string_bytes text.new ≡ string_bytes text.old ++ text_of (if nat_lt 1 client then lines.joining client else [])) }
+{
+    if 1 < client {
+        put_import(text, client)
+    } else {
+        Ok(())
+    }
+}
+
+#[tactic(auto, using(crate::proofs::TextLemmas::joining_is))]
+fn put_import(text: &mut String, client: u32) -> Result<(), AllocError>
     requires client { (1 ≤ client) × (client ≤ 16) }
     ensures { OnOk result (string_bytes text.new ≡ string_bytes text.old ++ text_of (lines.joining client)) }
 {
@@ -86,6 +108,22 @@ fn put_joining(text: &mut String, client: u32) -> Result<(), AllocError>
     )
 }
 
+fn put_pictures(
+    alloc: Global,
+    text: &mut String,
+    number: u64,
+    client: u32,
+) -> Result<(), AllocError>
+    requires client { (1 ≤ client) × (client ≤ 16) }
+    ensures { OnOk result (string_bytes text.new ≡ string_bytes text.old ++ text_of (lines.pictures number client 20)) }
+{
+    for n in 0..20 {
+        put_picture(alloc, text, number, client, n + 1)?;
+    }
+    Ok(())
+}
+
+#[tactic(auto, using(crate::proofs::TextLemmas::picture_is))]
 fn put_picture(
     alloc: Global,
     text: &mut String,
@@ -94,21 +132,20 @@ fn put_picture(
     n: u32,
 ) -> Result<(), AllocError>
     requires client { (1 ≤ client) × (client ≤ 16) }
-    requires n { (1 ≤ n) × (n ≤ 20) }
+    requires n { n ≤ 20 }
     ensures { OnOk result (string_bytes text.new ≡ string_bytes text.old ++ text_of (lines.picture number client n)) }
 {
     let scanout = client - 1;
     let buffer = if n % 2 == 1 { "A" } else { "B" };
     let pixel = hex_of(alloc, draw(number, client, n + 1))?;
-    write!(text, "store {buffer} 0 {pixel} 3072\nflip {scanout} {buffer}\n")
+    write!(
+        text,
+        "store {buffer} 0 {pixel} 3072\nflip {scanout} {buffer}\n"
+    )
 }
 
-fn put_cursor(
-    alloc: Global,
-    text: &mut String,
-    number: u64,
-    client: u32,
-) -> Result<(), AllocError>
+#[tactic(auto, using(crate::proofs::TextLemmas::cursor_is))]
+fn put_cursor(alloc: Global, text: &mut String, number: u64, client: u32) -> Result<(), AllocError>
     requires client { (1 ≤ client) × (client ≤ 16) }
     ensures { OnOk result (string_bytes text.new ≡ string_bytes text.old ++ text_of (lines.cursor number client)) }
 {
@@ -120,9 +157,20 @@ fn put_cursor(
     )
 }
 
+fn put_moves(text: &mut String, number: u64, client: u32) -> Result<(), AllocError>
+    requires client { (1 ≤ client) × (client ≤ 16) }
+    ensures { OnOk result (string_bytes text.new ≡ string_bytes text.old ++ text_of (lines.moves number client 10)) }
+{
+    for n in 0..10 {
+        put_move(text, number, client, n + 1)?;
+    }
+    Ok(())
+}
+
+#[tactic(auto, using(crate::proofs::TextLemmas::move_is))]
 fn put_move(text: &mut String, number: u64, client: u32, n: u32) -> Result<(), AllocError>
     requires client { (1 ≤ client) × (client ≤ 16) }
-    requires n { (1 ≤ n) × (n ≤ 10) }
+    requires n { n ≤ 10 }
     ensures { OnOk result (string_bytes text.new ≡ string_bytes text.old ++ text_of (lines.move number client n)) }
 {
     let scanout = client - 1;
@@ -131,7 +179,20 @@ fn put_move(text: &mut String, number: u64, client: u32, n: u32) -> Result<(), A
     write!(text, "move {scanout} {x} {y}\n")
 }
 
-fn put_closing(text: &mut String, client: u32) -> Result<(), AllocError>
+/// The last client has no one behind it.
+fn put_closing(text: &mut String, clients: u32, client: u32) -> Result<(), AllocError>
+    requires client { (1 ≤ client) × (client ≤ 16) }
+    ensures { OnOk result (string_bytes text.new ≡ string_bytes text.old ++ text_of (if nat_lt client clients then lines.closing client else [])) }
+{
+    if client < clients {
+        put_await(text, client)
+    } else {
+        Ok(())
+    }
+}
+
+#[tactic(auto, using(crate::proofs::TextLemmas::closing_is))]
+fn put_await(text: &mut String, client: u32) -> Result<(), AllocError>
     requires client { (1 ≤ client) × (client ≤ 16) }
     ensures { OnOk result (string_bytes text.new ≡ string_bytes text.old ++ text_of (lines.closing client)) }
 {
