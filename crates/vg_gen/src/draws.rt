@@ -17,7 +17,7 @@ fn state(number: u64, client: u32, draws: u32) -> u64
 {
     let step = u64::from(client).wrapping_mul(0x9e37_79b9_7f4a_7c15);
     let mut state = number.wrapping_add(step);
-    for _ in 0..draws {
+    for _draw in 0..draws {
         state = state
             .wrapping_mul(6_364_136_223_846_793_005)
             .wrapping_add(1_442_695_040_888_963_407);

@@ -13,6 +13,7 @@ use vg_numbers::put_u32;
 
 /// The script of a workload by its number, with 1 to 16 clients. Each has a display of 64 by 48 pixels, shows 20 pictures and moves a cursor ten
 /// times; all but the first import a buffer of the client before, and all but the last wait for the next. What is drawn comes from the number.
+#[tactic(auto, using(crate::proofs::TextLemmas::generated_is))]
 pub fn generate(alloc: Global, number: u64, clients: u32) -> Result<String, AllocError>
     requires clients { (1 ≤ clients) × (clients ≤ 16) }
     ensures text { IfOk result (λ text. string_bytes text ≡ generated number clients) }
@@ -27,16 +28,18 @@ pub fn generate(alloc: Global, number: u64, clients: u32) -> Result<String, Allo
 }
 
 /// Adds a display for each client.
+#[tactic(auto, using(crate::proofs::TextLemmas::displays_more))]
 fn put_displays(text: &mut String, clients: u32) -> Result<(), AllocError>
     ensures { OnOk result (string_bytes text.new ≡ string_bytes text.old ++ text_of (replicate clients lines.display)) }
 {
-    for _ in 0..clients {
+    for _display in 0..clients {
         text.push_str("display 64 48\n")?;
     }
     Ok(())
 }
 
 /// Adds the lines of each client.
+#[tactic(auto, using(crate::proofs::TextLemmas::clients_more))]
 fn put_clients(
     alloc: Global,
     text: &mut String,
@@ -53,6 +56,7 @@ fn put_clients(
 }
 
 /// Adds the lines of a client.
+#[tactic(auto, using(crate::proofs::TextLemmas::client_is))]
 fn put_client(
     alloc: Global,
     text: &mut String,
@@ -78,10 +82,9 @@ fn put_opening(text: &mut String, number: u64, client: u32) -> Result<(), AllocE
 {
     let scanout = client - 1;
     let ring = draw(number, client, 1) % 64;
-    write!(
-        text,
-        "client\nbuffer A 64 48 1\nbuffer B 64 48 1\ntake {scanout}\ncontext K\nexport A X{client}\nbegin F{client} K:{ring} send A 0 0 64 48\n"
-    )
+    text.push_str("client\nbuffer A 64 48 1\nbuffer B 64 48 1\n")?;
+    write!(text, "take {scanout}\ncontext K\nexport A X{client}\n")?;
+    write!(text, "begin F{client} K:{ring} send A 0 0 64 48\n")
 }
 
 /// The first client has no one before it.
@@ -102,12 +105,11 @@ fn put_import(text: &mut String, client: u32) -> Result<(), AllocError>
     ensures { OnOk result (string_bytes text.new ≡ string_bytes text.old ++ text_of (lines.joining client)) }
 {
     let before = client - 1;
-    write!(
-        text,
-        "import X{before} P\nawait F{before}\nload P 0 4\nbegin G{client} - info\n"
-    )
+    write!(text, "import X{before} P\nawait F{before}\n")?;
+    write!(text, "load P 0 4\nbegin G{client} - info\n")
 }
 
+#[tactic(auto, using(crate::proofs::TextLemmas::pictures_more))]
 fn put_pictures(
     alloc: Global,
     text: &mut String,
@@ -157,6 +159,7 @@ fn put_cursor(alloc: Global, text: &mut String, number: u64, client: u32) -> Res
     )
 }
 
+#[tactic(auto, using(crate::proofs::TextLemmas::moves_more))]
 fn put_moves(text: &mut String, number: u64, client: u32) -> Result<(), AllocError>
     requires client { (1 ≤ client) × (client ≤ 16) }
     ensures { OnOk result (string_bytes text.new ≡ string_bytes text.old ++ text_of (lines.moves number client 10)) }
