@@ -41,39 +41,77 @@ fn numbers_of(words: &[String]) -> Option<(u64, u32)>
     ensures { MatchOption result (¬ IsGenOfSome (map string_bytes words.now)) (λ both. IsGen (map string_bytes words.now) both.0 both.1) }
 {
     match words {
-        [word, flag, number, other, clients] => {
-            if word.as_str() != "gen" || flag.as_str() != "--number" || other.as_str() != "--clients" {
-                return None;
-            }
-            in_two(number.as_str(), clients.as_str())
-        }
+        [word, flag, number, other, clients] => in_five(
+            word.as_str(),
+            flag.as_str(),
+            number.as_str(),
+            other.as_str(),
+            clients.as_str(),
+        ),
         _ => None,
     }
 }
 
-/// The number and the clients of two words.
+fn in_five(
+    word: &str,
+    flag: &str,
+    number: &str,
+    other: &str,
+    clients: &str,
+) -> Option<(u64, u32)>
+    ensures { MatchOption result (¬ IsGenOfSome (word.now ∷ flag.now ∷ number.now ∷ other.now ∷ clients.now ∷ []))
+        (λ both. IsGen (word.now ∷ flag.now ∷ number.now ∷ other.now ∷ clients.now ∷ []) both.0 both.1) }
+{
+    if word != "gen" {
+        return None;
+    }
+    if flag != "--number" {
+        return None;
+    }
+    if other != "--clients" {
+        return None;
+    }
+    in_two(number, clients)
+}
+
 fn in_two(number: &str, clients: &str) -> Option<(u64, u32)>
     ensures { MatchOption result
         ((n c : ℕ) → n < 2 ^ 64 → 1 ≤ c → c ≤ 16 → number.now ≡ decimal n → clients.now ≡ decimal c → ⊥)
-        (λ both. (number.now ≡ decimal both.0) × (clients.now ≡ decimal both.1) × (1 ≤ both.1) × (both.1 ≤ 16)) }
+        (λ both. (both.0 < 2 ^ 64) × (1 ≤ both.1) × (both.1 ≤ 16) × (number.now ≡ decimal both.0) × (clients.now ≡ decimal both.1)) }
 {
     let number = number_of(number)?;
-    let clients = number_of(clients)?;
-    if 1 <= clients && clients <= 16 {
-        Some((number, clients as u32))
+    let clients = count_of(clients)?;
+    Some((number, clients))
+}
+
+/// The number from 1 to 16 that decimal digits say.
+fn count_of(word: &str) -> Option<u32>
+    ensures { MatchOption result ((n : ℕ) → 1 ≤ n → n ≤ 16 → word.now ≡ decimal n → ⊥) (λ n. (1 ≤ n) × (n ≤ 16) × (word.now ≡ decimal n)) }
+{
+    let count = number_of(word)?;
+    if is_few(count) {
+        Some(count as u32)
     } else {
         None
     }
 }
 
+fn is_few(count: u64) -> bool
+    ensures { IsTrue result ↔ ((1 ≤ count) × (count ≤ 16)) }
+{
+    1 <= count && count <= 16
+}
+
 /// The number that decimal digits say, without a sign and without a leading zero.
 fn number_of(word: &str) -> Option<u64>
-    ensures { MatchOption result ((n : ℕ) → n < 2 ^ 64 → word.now ≡ decimal n → ⊥) (λ n. word.now ≡ decimal n) }
+    ensures { MatchOption result ((n : ℕ) → n < 2 ^ 64 → word.now ≡ decimal n → ⊥) (λ n. (n < 2 ^ 64) × (word.now ≡ decimal n)) }
 {
-    if is_number(word.as_bytes()) {
-        word.parse::<u64>().ok()
-    } else {
-        None
+    if !is_number(word.as_bytes()) {
+        return None;
+    }
+    match word.parse::<u64>() {
+        Ok(number) => Some(number),
+        Err(_) => None,
     }
 }
 
