@@ -1,3 +1,4 @@
 pub mod EndLemmas
 pub mod TextLemmas
 pub mod WordLemmas
+pub mod SumLemmas

@@ -1,7 +1,7 @@
 -- The words that the program is called with.
 use Rattle.std.proofs.Common.{◌≡◌, inl, inr, ◌+◌, ◌≤◌, ◌∙◌, sym, ap, refl, subst, arith, ℕ, Bool, true, false, not, List, [], ◌∷◌, length, map, get_or, bytes_eq, codes, Option, Some, None}
 use Rattle.std.proofs.lemmas.Slice.Eq.{bytes_eq-Decides}
-use Rattle.std.specs.Prelude.{MatchOption, OkIff, Result, Ok, Err, ◌<◌, ◌^◌, ◌==◌, ◌&&◌, ◌||◌, nat_lt, if◌then◌else◌, decimal, slice_index}
+use Rattle.std.specs.Prelude.{MatchOption, IsTrue, ◌↔◌, OkIff, Result, Ok, Err, ◌<◌, ◌^◌, ◌==◌, ◌&&◌, ◌||◌, nat_lt, if◌then◌else◌, decimal, slice_index}
 use Rattle.std.proofs.lemmas.Bool.{and_parts, and_from, lt-ltb}
 use Rattle.std.proofs.lemmas.Bool.Decides.{nat_tests}
 use Rattle.std.proofs.lemmas.Fmt.{decimal_injective, parse-decimal}
@@ -77,7 +77,7 @@ no_plus (c ∷ cs) are =
 digits_of : (word : List ℕ) → is_number word ≡ true → list_all is_ascii_digit word ≡ true
 digits_of word is =
     (and_parts (nat_lt 0 (length word)) (list_all is_ascii_digit word)
-        (and_parts (nat_lt 0 (length word) && list_all is_ascii_digit word) (length word == 1 || not (slice_index word 0 == 48)) is).0).1
+    (and_parts (nat_lt 0 (length word) && list_all is_ascii_digit word) (length word == 1 || not (slice_index word 0 == 48)) is).0).1
 
 -- a number that is read is the one that is spelled, and a number that is spelled is read
 pub number-is : {E : Type 0} (word : List ℕ) (r : Result ℕ E) (n : ℕ) → is_number word ≡ true → ParsesUnsigned 64 10 word r → r ≡ Ok n → (n < 2 ^ 64) × (word ≡ decimal n)
@@ -86,7 +86,7 @@ number-is word (Err e) n is parses same = absurd (cc same)
 number-is {E} word (Ok x) n is parses same =
     let plain = no_plus word (digits_of word is) in
     let told : OkIff {E = E} (Ok x) (IsNumeral 10 word × (digits_value 10 word < 2 ^ 64)) (digits_value 10 word) =
-        subst (λ w. OkIff {E = E} (Ok x) (IsNumeral 10 w × (digits_value 10 w < 2 ^ 64)) (digits_value 10 w)) plain parses in
+    subst (λ w. OkIff {E = E} (Ok x) (IsNumeral 10 w × (digits_value 10 w < 2 ^ 64)) (digits_value 10 w)) plain parses in
     let small = told.0.1 in
     let both : (is_number word && nat_lt (value word) (2 ^ 64)) ≡ true = and_from _ _ is (lt-ltb _ _ small) in
     let is-x : x ≡ n = cc same in
@@ -103,6 +103,15 @@ read-number word r e parses is n small same = let ok = parse-decimal 64 n word r
 -- of a number there is one word
 pub one-number : (m n : ℕ) (word : List ℕ) → m < 2 ^ 64 → n < 2 ^ 64 → word ≡ decimal m → word ≡ decimal n → m ≡ n
 one-number m n word small few a b = decimal_injective m n small few (sym a ∙ b)
+
+-- a number that isn't from 1 to 16 has no word of one that is
+pub few-counted : (word : List ℕ) (count : ℕ) (few : Bool) → count < 2 ^ 64 → word ≡ decimal count → (IsTrue few ↔ ((1 ≤ count) × (count ≤ 16))) → false ≡ few
+    → (n : ℕ) → 1 ≤ n → n ≤ 16 → word ≡ decimal n → ⊥
+few-counted word count few small spelled test fails n low high same =
+    let one = one-number count n word small (omega (arith, high)) spelled same in
+    let yes : few ≡ true = test.1 (omega (arith, one, low), omega (arith, one, high)) in
+    let both : false ≡ true = fails ∙ yes in
+    cc both
 
 -- five words are those of `gen`
 pub is-five : (a b c d e : List ℕ) (number clients : ℕ) → IsGen (a ∷ b ∷ c ∷ d ∷ e ∷ []) number clients

@@ -29,17 +29,20 @@ is_act (entries.Command client call request reply) = false
 abbrev pub frame_bytes : List Frame → ℕ
 frame_bytes frames = sum_by (λ frame. length frame.pixels) frames
 
+-- A line of a name and a number.
+abbrev pub summary_line : (name : List ℕ) → (number : ℕ) → List ℕ
+summary_line name number = name ++ codes " " ++ decimal number ++ codes "\n"
+
 -- The summary of a journal of so many clients: how many there were, how many entries of its history are acts, how many commands on the control
--- queue and on the cursor queue, how many frames it has and how many bytes of pixels these have, a line for each.
+-- queue and on the cursor queue, how many frames it has and how many bytes of pixels these have.
 unfoldable pub summary_text : (clients : ℕ) → Journal → List ℕ
 summary_text clients journal =
-    codes "clients " ++ decimal clients
-    ++ codes "\nacts " ++ decimal (count_by is_act journal.entries)
-    ++ codes "\ncontrol " ++ decimal journal.control
-    ++ codes "\ncursor " ++ decimal journal.cursor
-    ++ codes "\nframes " ++ decimal (length journal.frames)
-    ++ codes "\nbytes " ++ decimal (frame_bytes journal.frames)
-    ++ codes "\n"
+    summary_line (codes "clients") clients
+    ++ summary_line (codes "acts") (count_by is_act journal.entries)
+    ++ summary_line (codes "control") journal.control
+    ++ summary_line (codes "cursor") journal.cursor
+    ++ summary_line (codes "frames") (length journal.frames)
+    ++ summary_line (codes "bytes") (frame_bytes journal.frames)
 
 -- The workload is a script, and the sink took the summary of one history that is legal for it.
 abbrev pub Sums : (number clients : ℕ) → Option (List ℕ) → Option (List ℕ) → Type 0

@@ -1,9 +1,9 @@
 //! The command `gen`: a workload is made and run, and it is said what came of it.
 
-ghost use Rattle.std.specs.Prelude.{◌≡◌, ◌≤◌, ◌<◌, ◌⊎◌, ◌^◌, ◌*◌, ◌+◌, ℕ, length, count_by, string_bytes, IfOk};
+ghost use Rattle.std.specs.Prelude.{◌≡◌, ◌≤◌, ◌<◌, ◌⊎◌, ◌^◌, ◌*◌, ◌+◌, ◌++◌, ℕ, length, count_by, string_bytes, IfOk, OnOk};
 ghost use Rattle.vg_io.specs.Streams.{Rose};
 ghost use Rattle.vg_legal.specs.Legal.{IsLegalJournal, is_on_control, is_on_cursor};
-ghost use Rattle.vg_run.specs.Generates.{Sums, SumsPartly, frame_bytes, is_act, summary_text};
+ghost use Rattle.vg_run.specs.Generates.{Sums, SumsPartly, frame_bytes, is_act, summary_line, summary_text};
 ghost use Rattle.vg_run.specs.Status.{EndsGen, IsFaultless};
 ghost use Rattle.vg_run.specs.SummingWithin.{IsJournalOf, IsSummaryOf, Summed};
 
@@ -95,18 +95,27 @@ fn run_workload<R: Threads + Wait + Sync, G: Gate>(
 }
 
 /// The summary of a journal.
-#[tactic(auto, using(crate::proofs::TextLemmas::summary_is))]
+#[tactic(auto, unfolding(crate::specs::Generates::summary_text))]
 fn summary_of(alloc: Global, clients: u32, journal: &Journal) -> Result<String, AllocError>
     requires control { journal.now.control ≡ count_by is_on_control journal.now.entries }
     requires cursor { journal.now.cursor ≡ count_by is_on_cursor journal.now.entries }
     ensures { IfOk result (λ text. string_bytes text ≡ summary_text clients journal.now) }
 {
-    let acts = acts_of(journal);
-    let control = journal.control;
-    let cursor = journal.cursor;
-    let frames = journal.frames.len();
-    let bytes = bytes_of(journal.frames.as_slice());
-    format!(in alloc; "clients {clients}\nacts {acts}\ncontrol {control}\ncursor {cursor}\nframes {frames}\nbytes {bytes}\n")
+    let mut text = String::new(alloc);
+    put_line(&mut text, "clients", u128::from(clients))?;
+    put_line(&mut text, "acts", u128::from(acts_of(journal)))?;
+    put_line(&mut text, "control", u128::from(journal.control))?;
+    put_line(&mut text, "cursor", u128::from(journal.cursor))?;
+    put_line(&mut text, "frames", journal.frames.len() as u128)?;
+    put_line(&mut text, "bytes", bytes_of(journal.frames.as_slice()))?;
+    Ok(text)
+}
+
+#[tactic(auto, using(crate::proofs::TextLemmas::line_is))]
+fn put_line(text: &mut String, name: &str, number: u128) -> Result<(), AllocError>
+    ensures { OnOk result (string_bytes text.new ≡ string_bytes text.old ++ summary_line name.now number) }
+{
+    write!(text, "{name} {number}\n")
 }
 
 /// How many entries of a journal are acts.

@@ -52,13 +52,7 @@ fn numbers_of(words: &[String]) -> Option<(u64, u32)>
     }
 }
 
-fn in_five(
-    word: &str,
-    flag: &str,
-    number: &str,
-    other: &str,
-    clients: &str,
-) -> Option<(u64, u32)>
+fn in_five(word: &str, flag: &str, number: &str, other: &str, clients: &str) -> Option<(u64, u32)>
     ensures { MatchOption result (¬ IsGenOfSome (word.now ∷ flag.now ∷ number.now ∷ other.now ∷ clients.now ∷ []))
         (λ both. IsGen (word.now ∷ flag.now ∷ number.now ∷ other.now ∷ clients.now ∷ []) both.0 both.1) }
 {

@@ -1,6 +1,8 @@
-use Rattle.std.proofs.Common.{rules, map, string_bytes}
+use Rattle.std.proofs.Common.{rules, map, string_bytes, subst}
 use Rattle.vg_run.specs.Headline.{IsRun}
 use Rattle.vg_run.specs.Checks.{IsCheck}
+use Rattle.vg_run.specs.Generates.{IsGen, Sums, SumsPartly}
+use Rattle.vg_run.proofs.WordLemmas.{gen-once}
 use Rattle.vg_run.proofs.top.vgpu.Goals as goal
 
 pub returns-in-Some-Run-clause-script : goal.returns-in-Some-Run-clause-script
@@ -19,3 +21,20 @@ returns-in-Some-Check-clause-journal g c = λ line is.
     let asked : IsCheck (map string_bytes c.args.words.now) = search rules in
     let told = c.check_from.ensures.journal line is in
     (asked, told.0, told.1)
+
+pub returns-in-Some-Gen-clause-done_gen : goal.returns-in-Some-Gen-clause-done_gen
+returns-in-Some-Gen-clause-done_gen g c = λ number clients is done.
+    let asked : IsGen (map string_bytes c.args.words.now) c.in-Some-Gen.number c.in-Some-Gen.clients = search rules in
+    let same = gen-once (map string_bytes c.args.words.now) c.in-Some-Gen.number c.in-Some-Gen.clients number clients asked is in
+    subst (λ k. Sums number k (g.K.Sink.held c.args.sink.now) (g.K.Sink.held c.gen_from.new.sink)) same.1
+    (subst (λ n. Sums n c.in-Some-Gen.clients (g.K.Sink.held c.args.sink.now) (g.K.Sink.held c.gen_from.new.sink)) same.0 (c.gen_from.ensures.done done))
+
+pub returns-in-Some-Gen-clause-write_fault_gen : goal.returns-in-Some-Gen-clause-write_fault_gen
+returns-in-Some-Gen-clause-write_fault_gen g c = λ number clients is fault.
+    let asked : IsGen (map string_bytes c.args.words.now) c.in-Some-Gen.number c.in-Some-Gen.clients = search rules in
+    let same = gen-once (map string_bytes c.args.words.now) c.in-Some-Gen.number c.in-Some-Gen.clients number clients asked is in
+    let told = c.gen_from.ensures.write_fault fault in (
+      told.0,
+      subst (λ k. SumsPartly number k (g.K.Sink.held c.args.sink.now) (g.K.Sink.held c.gen_from.new.sink)) same.1
+          (subst (λ n. SumsPartly n c.in-Some-Gen.clients (g.K.Sink.held c.args.sink.now) (g.K.Sink.held c.gen_from.new.sink)) same.0 told.1),
+    )
