@@ -11,3 +11,5 @@ mod machine;
 mod run;
 #[cfg(test)]
 mod workers;
+#[cfg(test)]
+mod workload;
