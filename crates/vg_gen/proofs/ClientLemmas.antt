@@ -1,8 +1,7 @@
 -- The lines of one client of a workload are read without a fault.
-use Rattle.std.proofs.Common.{◌≡◌, ℕ, zero, suc, ◌+◌, ◌-◌, ◌*◌, ◌%◌, ◌<◌, ◌≤◌, ◌==◌, ◌&&◌, Bool, true, false, nat_lt, if◌then◌else◌, List, [], ◌∷◌, ◌++◌, length, map, codes, decimal, Option, Some, None, arith, refl, sym, ap, ◌∙◌, subst, append_assoc, append-nil, length-append, inl, inr}
+use Rattle.std.proofs.Common.{◌≡◌, ℕ, zero, suc, ◌+◌, ◌-◌, ◌*◌, ◌%◌, ◌<◌, ◌==◌, Bool, true, false, if◌then◌else◌, List, [], ◌∷◌, ◌++◌, length, codes, decimal, Option, Some, None, arith, refl, sym, subst, append_assoc, append-nil, length-append}
 use Rattle.std.specs.Prelude.{is_none}
-use Rattle.std.proofs.lemmas.Bool.{lt-ltb, eq-eqb}
-use Rattle.vg_script_words.specs.Words.{is_number, value, is_within, is_name}
+use Rattle.vg_script_words.specs.Words.{is_number, is_name}
 use Rattle.vg_call_lines.specs.declared.names.NameKind.TheVariants as kinds
 use Rattle.vg_call_lines.specs.declared.names.LabelKind.TheVariants as labels
 use Rattle.vg_call_lines.specs.declared.names.Label.{Label}
@@ -11,9 +10,9 @@ use Rattle.vg_call_lines.specs.Rows.{is_scanout}
 use Rattle.vg_script.specs.declared.types.Line.{Line}
 use Rattle.vg_script.specs.Seen.{Seen}
 use Rattle.vg_gen.specs.Draws.{draw}
-use Rattle.vg_gen.specs.Generated.{Words, hex_of, buffer_of, joining, picture, pictures, cursor, move, moves, closing}
-use Rattle.vg_gen.proofs.WordLemmas.{IsSaid, IsPixel, said, pixel}
-use Rattle.vg_gen.proofs.StepLemmas.{Mark, mark_of, Stands, Goes, IsOfClient, goes, goes_on, Runs}
+use Rattle.vg_gen.specs.Generated.{Words, hex_of, buffer_of, picture, pictures, cursor, move, moves}
+use Rattle.vg_gen.proofs.WordLemmas.{IsSaid, said, pixel}
+use Rattle.vg_gen.proofs.StepLemmas.{Mark, Stands, Goes, IsOfClient, goes, goes_on}
 use Rattle.vg_gen.proofs.RowLemmas as rows
 use Rattle.vg_gen.proofs.RowLemmas.{Reads, silent}
 use Rattle.vg_gen.proofs.CycleLemmas.{AreQuiet}

@@ -3,7 +3,7 @@ use Rattle.std.proofs.Common.{◌≡◌, ℕ, zero, suc, ◌+◌, ◌-◌, ◌*�
 use Rattle.std.specs.Prelude.{slice_get, option_and_then}
 use Rattle.std.proofs.lemmas.Bool.{cases_lt}
 use Rattle.vg_script.specs.declared.types.Line.{Line}
-use Rattle.vg_script.specs.Waits.{gives, waits, gives_at, waits_at, WaitsFor, AreSteps, WaitsBySteps, HasNoCycle}
+use Rattle.vg_script.specs.Waits.{gives, waits, gives_at, waits_at, WaitsFor, AreSteps, HasNoCycle}
 use Rattle.vg_gen.proofs.StepLemmas.{Mark, mark_of}
 use Rattle.vg_gen.proofs.RowLemmas.{silent}
 

@@ -1,8 +1,8 @@
 -- The labels of a workload, and what each is by its text.
-use Rattle.std.proofs.Common.{◌≡◌, ℕ, zero, suc, ◌+◌, ◌-◌, ◌*◌, ◌<◌, ◌≤◌, ◌==◌, ◌&&◌, Bool, true, false, nat_lt, if◌then◌else◌, List, [], ◌∷◌, ◌++◌, length, map, codes, bytes_eq, decimal, replicate, Option, Some, None, arith, refl, sym, ap, ◌∙◌, subst, append-nil, inl, inr}
+use Rattle.std.proofs.Common.{◌≡◌, ℕ, zero, suc, ◌+◌, ◌<◌, ◌≤◌, ◌==◌, ◌&&◌, Bool, true, false, nat_lt, if◌then◌else◌, List, [], ◌∷◌, ◌++◌, map, codes, bytes_eq, decimal, replicate, Option, Some, None, arith, refl, sym, ap, ◌∙◌, subst, append-nil, inl, inr}
 use Rattle.std.proofs.lemmas.Bool.{and_parts, eqb-true, lt-ltb, cases_lt}
 use Rattle.std.specs.List.{list_all, join_with_byte}
-use Rattle.vg_script_words.specs.Words.{words_of, is_text, is_name}
+use Rattle.vg_script_words.specs.Words.{is_name}
 use Rattle.vg_call_lines.specs.declared.names.LabelKind.{LabelKind}
 use Rattle.vg_call_lines.specs.declared.names.LabelKind.TheVariants as labels
 use Rattle.vg_call_lines.specs.declared.names.Label.{Label}

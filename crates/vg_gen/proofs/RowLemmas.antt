@@ -1,7 +1,7 @@
 -- What each line of a workload says, by its row.
-use Rattle.std.proofs.Common.{◌≡◌, ℕ, ◌+◌, ◌*◌, ◌/◌, ◌<◌, ◌==◌, ◌&&◌, Bool, true, false, nat_lt, if◌then◌else◌, List, [], ◌∷◌, ◌++◌, length, codes, Option, Some, None, Result, Ok, Err, refl, ap, ◌∙◌}
+use Rattle.std.proofs.Common.{◌≡◌, ℕ, ◌+◌, true, nat_lt, List, [], ◌∷◌, ◌++◌, codes, Some, None, Ok, refl, ap, ◌∙◌}
 use Rattle.std.specs.Prelude.{is_none}
-use Rattle.vg_script_words.specs.Words.{is_number, value, is_within, is_hex, is_name, is_signed, is_position}
+use Rattle.vg_script_words.specs.Words.{is_number, is_within, is_name}
 use Rattle.vg_calls.specs.declared.call.Call.{Call}
 use Rattle.vg_call_lines.specs.declared.names.NameKind.TheVariants as kinds
 use Rattle.vg_call_lines.specs.declared.names.LabelKind.TheVariants as labels

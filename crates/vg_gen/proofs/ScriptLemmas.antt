@@ -1,7 +1,7 @@
 -- The text of a workload is a script.
-use Rattle.std.proofs.Common.{◌≡◌, ℕ, zero, suc, ◌+◌, ◌-◌, ◌*◌, ◌<◌, ◌≤◌, ◌==◌, ◌&&◌, ◌^◌, ◌%◌, Bool, true, false, not, nat_lt, nat_le, if◌then◌else◌, List, [], ◌∷◌, ◌++◌, length, map, codes, decimal, replicate, Option, Some, None, Result, Ok, Err, arith, refl, sym, ap, ◌∙◌, subst, append-nil, append_assoc, length-append, inl, inr}
+use Rattle.std.proofs.Common.{◌≡◌, ℕ, zero, suc, ◌+◌, ◌-◌, ◌*◌, ◌<◌, ◌≤◌, ◌==◌, ◌^◌, ◌%◌, Bool, true, false, nat_lt, if◌then◌else◌, List, [], ◌∷◌, ◌++◌, length, map, codes, decimal, replicate, Option, Some, None, Ok, arith, refl, sym, ap, ◌∙◌, subst, append-nil, append_assoc, length-append}
 use Rattle.std.specs.Prelude.{sum_by}
-use Rattle.std.proofs.lemmas.Bool.{and_parts, and_from, lt-ltb, ltb-true, eq-eqb, ne_eqb, cases_lt, not_from_false}
+use Rattle.std.proofs.lemmas.Bool.{and_parts, and_from, lt-ltb, ltb-true, eq-eqb, ne_eqb}
 use Rattle.std.proofs.lemmas.List.Sums.{sum_by-cons}
 use Rattle.std.specs.List.{list_all, join_with_byte}
 use Rattle.vg_call_lines.specs.declared.names.Label.{Label}
@@ -11,18 +11,18 @@ use Rattle.vg_script.specs.declared.types.Line.{Line}
 use Rattle.vg_script.specs.declared.types.Script.{Script}
 use Rattle.vg_script.specs.Lines.{lines_of}
 use Rattle.vg_script.specs.Seen.{Seen, nothing_seen}
-use Rattle.vg_script.specs.Labels.{labels_of, label_in, start_of}
-use Rattle.vg_script.specs.Grammar.{Parses, read_script, scan, script_of, one_more, form_of, worded_form, display_form, memory_form, client_form, settled_form}
+use Rattle.vg_script.specs.Labels.{label_in, start_of}
+use Rattle.vg_script.specs.Grammar.{Parses, read_script, scan, script_of, one_more, form_of, worded_form, display_form, memory_form, client_form}
 use Rattle.vg_gen.specs.Draws.{draw}
-use Rattle.vg_gen.specs.Generated.{Words, text_of, hex_of, buffer_of, opening, joining, picture, pictures, cursor, move, moves, closing, client_lines, all_lines, display, memory, generated_lines, generated}
+use Rattle.vg_gen.specs.Generated.{Words, text_of, opening, joining, picture, pictures, cursor, move, moves, closing, client_lines, all_lines, display, memory, generated_lines, generated}
 use Rattle.vg_gen.proofs.LineLemmas.{is_word, is_line, lines_back, text_length}
-use Rattle.vg_gen.proofs.WordLemmas.{IsSaid, said, pixel}
-use Rattle.vg_gen.proofs.StepLemmas.{Mark, mark_of, step, Runs, runs_on, scan_runs, Stands, Goes, goes_on}
+use Rattle.vg_gen.proofs.WordLemmas.{said, pixel}
+use Rattle.vg_gen.proofs.StepLemmas.{Mark, step, Runs, runs_on, scan_runs, Stands, Goes, goes_on}
 use Rattle.vg_gen.proofs.RowLemmas as rows
 use Rattle.vg_gen.proofs.RowLemmas.{silent}
 use Rattle.vg_gen.proofs.CycleLemmas.{given_before, front, AreQuiet, GiveNothing, IsShaped, AreShaped, shaped_more, no_cycle}
-use Rattle.vg_gen.proofs.LabelLemmas.{AreSpelled, are_spelled, AreLabelled, are_labelled, upto, labels_are, all_found}
-use Rattle.vg_gen.proofs.ClientLemmas.{fresh, opened, joined, HasScanout, CanOpen, CanJoin, opening_lines, opening_marks, opens, joining_lines, joining_marks, joins, Quietly, no_lines, HasBuffers, shows, sets_cursor, moves_cursor, goes_by, as_many, as_lines}
+use Rattle.vg_gen.proofs.LabelLemmas.{are_spelled, AreLabelled, are_labelled, upto, labels_are, all_found}
+use Rattle.vg_gen.proofs.ClientLemmas.{fresh, opened, joined, HasScanout, CanOpen, CanJoin, opening_lines, opens, joining_lines, joining_marks, joins, Quietly, no_lines, HasBuffers, shows, sets_cursor, moves_cursor, goes_by, as_many, as_lines}
 
 -- ---- each line is one
 

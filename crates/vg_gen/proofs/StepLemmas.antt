@@ -1,16 +1,16 @@
 -- Lines that are read one after another, and what they leave.
-use Rattle.std.proofs.Common.{◌≡◌, ℕ, suc, ◌+◌, ◌*◌, ◌/◌, ◌<◌, ◌≤◌, ◌==◌, ◌&&◌, Bool, true, false, nat_lt, if◌then◌else◌, List, [], ◌∷◌, ◌++◌, length, map, codes, bytes_eq, slice_index, Option, Some, None, Result, Ok, Err, arith, refl, sym, ap, ◌∙◌, subst, length-append}
-use Rattle.std.specs.Prelude.{sum_by, is_none}
+use Rattle.std.proofs.Common.{◌≡◌, ℕ, ◌+◌, ◌<◌, ◌≤◌, ◌==◌, true, false, List, [], ◌∷◌, ◌++◌, length, map, codes, bytes_eq, slice_index, Option, Result, Ok, arith, refl, sym, ap, ◌∙◌, subst, length-append}
+use Rattle.std.specs.Prelude.{sum_by}
 use Rattle.std.proofs.lemmas.Bool.{and_parts, ne_eqb}
 use Rattle.std.specs.List.{list_all, join_with_byte}
 use Rattle.vg_script_words.specs.declared.kind.Kind.{Kind}
 use Rattle.vg_calls.specs.declared.call.Call.{Call}
-use Rattle.vg_call_lines.specs.Tables.{NameTable, without_names}
+use Rattle.vg_call_lines.specs.Tables.{NameTable}
 use Rattle.vg_call_lines.specs.Rows.{judged_row, row_of}
 use Rattle.vg_script.specs.declared.types.Line.{Line}
 use Rattle.vg_script.specs.Seen.{Seen, add_line}
 use Rattle.vg_script.specs.Waits.{gives, waits}
-use Rattle.vg_script.specs.Grammar.{one_more, form_of, worded_form, called_form, display_form, memory_form, client_form, line_form, settled_form, after_line, scan}
+use Rattle.vg_script.specs.Grammar.{one_more, form_of, worded_form, called_form, line_form, settled_form, after_line, scan}
 use Rattle.vg_script.proofs.ClientLists.{lines-add_line}
 use Rattle.vg_script.proofs.CallForms.{goes_ok}
 use Rattle.vg_script.proofs.Forms.{with_call}

@@ -1,5 +1,5 @@
 -- The text of a workload's lines, piece by piece.
-use Rattle.std.proofs.Common.{◌≡◌, ◌++◌, ◌+◌, ◌-◌, ◌*◌, ◌%◌, ◌==◌, ℕ, zero, suc, nat_lt, if◌then◌else◌, List, [], ◌∷◌, codes, decimal, append_assoc, replicate, arith, refl, ap, ◌∙◌, sym}
+use Rattle.std.proofs.Common.{◌≡◌, ◌++◌, ◌+◌, ◌-◌, ◌*◌, ◌%◌, ℕ, zero, suc, nat_lt, if◌then◌else◌, List, [], ◌∷◌, codes, decimal, append_assoc, replicate, arith, refl, ap, ◌∙◌, sym}
 use Rattle.std.specs.List.{join_with_byte}
 use Rattle.vg_gen.specs.Draws.{draw}
 use Rattle.vg_gen.specs.Generated.{Words, text_of, hex_of, buffer_of, opening, joining, picture, pictures, cursor, move, moves, closing, client_lines, all_lines, display, memory, generated_lines, generated}

@@ -1,15 +1,14 @@
 -- The words of a workload: numbers and digits are spelled as the grammar has them.
-use Rattle.std.proofs.Common.{◌≡◌, ℕ, zero, suc, ◌+◌, ◌*◌, ◌/◌, ◌%◌, ◌^◌, ◌<◌, ◌≤◌, ◌==◌, ◌&&◌, ◌++◌, Bool, true, false, nat_lt, nat_le, if◌then◌else◌, List, [], ◌∷◌, length, codes, decimal, arith, refl, sym, ap, ◌∙◌, subst, inl, inr}
-use Rattle.std.proofs.lemmas.Bool.{and_parts, and_from, cases_eq, cases_lt, eqb-true, lt-ltb, le-ltb, lt-leb, le-leb}
+use Rattle.std.proofs.Common.{◌≡◌, ℕ, zero, suc, ◌+◌, ◌/◌, ◌%◌, ◌^◌, ◌<◌, ◌==◌, ◌&&◌, ◌++◌, Bool, true, nat_lt, nat_le, if◌then◌else◌, List, [], ◌∷◌, length, codes, decimal, arith, refl, sym, ap, ◌∙◌, subst, inl, inr}
+use Rattle.std.proofs.lemmas.Bool.{and_parts, and_from, cases_eq, cases_lt, eqb-true, lt-ltb, le-ltb}
 use Rattle.std.proofs.lemmas.Bool.Decides.{nat_tests}
 use Rattle.std.proofs.lemmas.Fmt.{decimal_digit, decimal_step}
 use Rattle.std.proofs.lemmas.List.Elements.{All-cons, All-nil}
 use Rattle.std.proofs.lemmas.Nat.{mod_below}
 use Rattle.std.specs.Int.{is_in_range, byte_at, bytes_low_first}
-use Rattle.std.specs.List.{All, list_all}
-use Rattle.hex.specs.Hex.{encode_lower}
+use Rattle.std.specs.List.{list_all}
 use Rattle.vg_numbers.specs.Numbers.{le}
-use Rattle.vg_script_words.specs.Words.{is_number, value, is_within, is_signed, is_position, is_hex, is_hex_digit, is_name}
+use Rattle.vg_script_words.specs.Words.{is_number, value, is_within, is_signed, is_position, is_hex, is_hex_digit}
 use Rattle.vg_line_words.specs.Words.{AreBelow}
 use Rattle.vg_line_words.proofs.HexLaws.{digits_hex, length_hex}
 use Rattle.vg_line_words.proofs.NumberLaws.{all_weaker}

@@ -2,7 +2,7 @@ pub mod Headline
 pub mod Checks
 pub mod Generates
 pub mod Status
-pub mod AskedWithin
+pub mod Asked
 pub mod CheckingWithin
 pub mod PrintingWithin
 pub mod SummingWithin

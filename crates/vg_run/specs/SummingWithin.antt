@@ -1,6 +1,6 @@
 -- How the running of a workload ended, and the writing of its summary.
 use Rattle.std.specs.Prelude.{◌≡◌, ℕ, List, Option}
-use Rattle.vg_io.specs.Streams.{Rose, Takes, TakesSome}
+use Rattle.vg_io.specs.Streams.{Rose}
 use Rattle.vg_machine.specs.Entries.{Entry}
 use Rattle.vg_script.specs.declared.types.Script.{Script}
 use Rattle.vg_script.specs.Grammar.{Parses}
@@ -8,7 +8,7 @@ use Rattle.vg_journal.specs.declared.journal.Journal.{Journal}
 use Rattle.vg_legal.specs.Legal.{IsLegalJournal, Legal, journal_of}
 use Rattle.vg_gen.specs.Generated.{generated}
 use Rattle.vg_run.specs.declared.top.Status.{Status}
-use Rattle.vg_run.specs.declared.top.Status.TheVariants.{Done, WriteFault, NoMemory}
+use Rattle.vg_run.specs.declared.top.Status.TheVariants.{Done, WriteFault}
 use Rattle.vg_run.specs.Generates.{Sums, SumsPartly, summary_text}
 
 -- The journal is that of a history that is legal for the workload.

@@ -16,3 +16,4 @@ pub use vg_legal::{
     nothing_without_clients,
 };
 pub use vg_script_part::{Performed, perform};
+pub use words::{Command, command_of};

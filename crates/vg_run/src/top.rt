@@ -23,7 +23,7 @@ use vg_worker::Gate;
 /// How a call of the program ended.
 #[derive(Clone, Copy, Debug, PartialEq, Eq)]
 pub enum Status {
-    /// The journal is written, or that it is one of a legal history.
+    /// The journal is written, or that it is one of a legal history, or the sums of a workload.
     Done,
     /// The journal isn't that of a legal history: this entry, counted from 1, is the first that isn't right, or with 0 something
     /// behind the entries. That is written.

@@ -1,7 +1,7 @@
 //! The words that the program is called with.
 
 ghost use Rattle.std.specs.Prelude.{◌≡◌, ◌≤◌, ◌<◌, ◌+◌, ◌^◌, ◌↔◌, ℕ, [], ◌∷◌, map, string_bytes, decimal, IsTrue, MatchOption};
-ghost use Rattle.vg_run.specs.AskedWithin.{IsAsked};
+ghost use Rattle.vg_run.specs.Asked.{IsAsked};
 ghost use Rattle.vg_run.specs.Headline.{IsRun};
 ghost use Rattle.vg_run.specs.Checks.{IsCheck, IsCommand};
 ghost use Rattle.vg_run.specs.Generates.{IsGen, IsGenOfSome};
@@ -9,18 +9,20 @@ ghost use Rattle.vg_run.specs.Generates.{IsGen, IsGenOfSome};
 use vg_script_words::is_number;
 
 /// What the words ask for.
-#[derive(Clone, Copy)]
-pub(crate) enum Command {
-    /// To run a script beside so many workers.
+#[derive(Clone, Copy, Debug, PartialEq, Eq)]
+pub enum Command {
+    /// To run a script beside so many workers, from 1 to 8.
     Run { workers: u32 },
     /// To check a journal.
     Check,
-    /// To run the workload of a number with so many clients.
+    /// To run the workload of a number with so many clients, from 1 to 16.
     Gen { number: u64, clients: u32 },
 }
 
-/// What the words ask for, which are those of one of the commands. None where they are others.
-pub(crate) fn command_of(words: &[String]) -> Option<Command>
+/// What the words after the program's name ask for: `run`, `run --workers N` (2 where the words don't say), `check`, or
+/// `gen --number N --clients C`, in this order. Numbers are decimal digits without a sign and without a leading zero. None where the
+/// words are others.
+pub fn command_of(words: &[String]) -> Option<Command>
     ensures { MatchOption result (¬ IsCommand (map string_bytes words.now)) (IsAsked (map string_bytes words.now)) }
 {
     if is_check(words) {

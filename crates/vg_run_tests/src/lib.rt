@@ -10,6 +10,8 @@ mod machine;
 #[cfg(test)]
 mod run;
 #[cfg(test)]
+mod words;
+#[cfg(test)]
 mod workers;
 #[cfg(test)]
 mod workload;

@@ -1,5 +1,5 @@
 //! The program `vgpu`: runs a script from standard input, and writes its journal to standard output, or says of a journal whether it is
-//! that of a legal history.
+//! that of a legal history, or runs a workload and sums it up.
 #![tactic(auto)]
 
 use std::io;
