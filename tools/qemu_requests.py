@@ -1,0 +1,2 @@
+def scripts(count, seed):
+    return []
