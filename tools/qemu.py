@@ -6,9 +6,11 @@ accelerator of that protocol, as Debian's is, the machine's processor stands sti
 """
 import base64
 import collections
+import ctypes
 import json
 import os
 import shutil
+import signal
 import socket
 import struct
 import subprocess
@@ -16,8 +18,8 @@ import tempfile
 import time
 
 PROGRAM = "qemu-system-x86_64"
-SECONDS = 20  # until a start, a reply over a socket or a picture is given up
-PATIENCE = 2  # until a request counts as unanswered
+SECONDS = 60  # until a start, a reply over a socket or a picture is given up
+PATIENCE = 10  # until a request counts as unanswered
 
 # Where things stand in guest memory, which has 128 MiB: above the 16,384 pages that a script may have, from 1 MiB on.
 MEMORY = 128
@@ -51,6 +53,11 @@ class Gone(Exception):
 
 class Silent(Exception):
     """A request isn't answered."""
+
+
+def end_with_parent():
+    """In QEMU's process, before it starts: it is killed where its parent ends without a word (PR_SET_PDEATHSIG)."""
+    ctypes.CDLL(None).prctl(1, signal.SIGKILL)
 
 
 def is_installed():
@@ -102,7 +109,7 @@ class Board:
         words += ["-device", device, "-qtest", f"unix:{path}/qtest,server=on,wait=off", "-qtest-log", "/dev/null"]
         words += ["-qmp", f"unix:{path}/qmp,server=on,wait=off"]
         self.said = open(f"{path}/said", "wb+")
-        self.process = subprocess.Popen(words, stdin=subprocess.DEVNULL, stdout=self.said, stderr=self.said)
+        self.process = subprocess.Popen(words, stdin=subprocess.DEVNULL, stdout=self.said, stderr=self.said, preexec_fn=end_with_parent)
         try:
             self.qtest, self.qmp = Line(f"{path}/qtest", self.process), Line(f"{path}/qmp", self.process)
             version = json.loads(self.qmp.read())["QMP"]["version"]["qemu"]
@@ -113,16 +120,20 @@ class Board:
             raise
 
     def close(self):
-        """Ends it, and says how it had ended by itself, if it had."""
-        ended = self.process.poll()
-        if ended is None:
+        if self.process.poll() is None:
             self.process.kill()
         self.process.wait()
-        self.said.seek(0)
-        said = [line for line in self.said.read().decode(errors="replace").split("\n") if line and "invalid accelerator qtest" not in line]
         self.said.close()
         self.folder.cleanup()
-        return None if ended is None else f"status {ended}{', ' + said[-1] if said else ''}"
+
+    def ended(self):
+        """How it has ended by itself, with the last line that it said; None where it runs."""
+        try:
+            status = self.process.wait(0.5)
+        except subprocess.TimeoutExpired:
+            return None
+        self.said.seek(0)
+        return f"QEMU ended with status {status}: {self.said.read().decode(errors='replace').strip().split(chr(10))[-1]}"
 
     def __enter__(self):
         return self
@@ -165,8 +176,12 @@ class Board:
         with open(path, "rb") as file:
             kind, size, depth, pixels = file.read().split(b"\n", 3)
         width, height = map(int, size.split())
-        if (kind, depth, len(pixels)) != (b"P6", b"255", 3 * width * height):
+        # Behind each row there may be bytes that fill it up to a multiple of four.
+        row = len(pixels) // height
+        if (kind, depth) != (b"P6", b"255") or len(pixels) != row * height or row not in (3 * width, -(-3 * width // 4) * 4):
             raise Gone("a picture is in another form")
+        if row > 3 * width:
+            pixels = b"".join(pixels[at : at + 3 * width] for at in range(0, len(pixels), row))
         return Picture(width, height, pixels)
 
 

@@ -111,8 +111,18 @@ class Device:
 
     def change(self, row, it, code, why):
         """After an answer that is no refusal. `why` is the kind of the difference from this side's answer, or None."""
-        if row is not None and it is not None and row.name in CHANGES and code == OK_NODATA:
+        if row is not None and it is not None and row.name in CHANGES and code == OK_NODATA and self.can_change(row.name, it):
             CHANGES[row.name](self, it, why)
+
+    def can_change(self, name, it):
+        """Whether there is what would change. Behind an answer that wasn't foreseen there may be nothing."""
+        if name == "RESOURCE_CREATE_2D":
+            return it.resource not in self.resources and 4 * it.width * it.height < WORD
+        if name == "SET_SCANOUT" and it.resource == 0:
+            return True
+        if name in ("SET_SCANOUT", "TRANSFER_TO_HOST_2D") and it.resource in self.resources:
+            return self.is_inside(it) and (name == "SET_SCANOUT" or self.resources[it.resource].backing is not None)
+        return it.resource in self.resources
 
     def make(self, it, why):
         resource = histories.Resource(it.width, it.height, it.format)
@@ -145,12 +155,10 @@ class Device:
         source = self.machine.bytes_of(resource.backing)
         stride = 4 * resource.width
         if self.is_whole(it):
-            before = bytes(resource.pixels)
             size = min(len(source), len(resource.pixels))
+            asked = min(stride * it.height, size)
+            why = why or ("whole-transfer" if resource.pixels[asked:size] != source[asked:size] else None)
             resource.pixels[:size] = source[:size]
-            asked = bytearray(before)
-            asked[: min(stride * it.height, size)] = source[: min(stride * it.height, size)]
-            why = why or ("whole-transfer" if asked != resource.pixels else None)
         else:
             for j in range(it.height):
                 at, to = (it.offset + stride * j) % WORD, stride * (it.y + j) + 4 * it.x
