@@ -57,6 +57,8 @@ class Device:
             return NO_RESOURCE
         if it.format not in histories.FORMATS:
             return PARAMETER
+        if 0 in (it.width, it.height):
+            return OK_NODATA
         if it.width >= MOST_SIDE or it.height >= WORD // 2 or self.bytes + 4 * it.width * it.height % WORD >= self.most_bytes:
             return OUT_OF_MEMORY
         return OK_NODATA
