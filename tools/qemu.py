@@ -25,6 +25,7 @@ PATIENCE = 10  # until a request counts as unanswered
 MEMORY = 128
 RINGS = 96 << 20
 REQUEST, RESPONSE, TABLE = RINGS + 0x10000, RINGS + 0x20000, RINGS + 0x30000
+BEHIND, ASKED_BEHIND = 32, RINGS + 0x40000  # the place and the bytes of a request that shows whether the one before it is answered
 BAR = 0xE0000000  # an address in the hole for PCI, which has nothing else
 
 # VIRTIO 1.2, 4.1.4: the PCI device, its capabilities, and the fields of the common configuration.
@@ -227,7 +228,7 @@ class Gpu:
         if not self.get("device_status") & FEATURES_OK:
             raise Gone("it doesn't accept its own features")
         self.queues = {"control": self.queue(0, 64), "cursor": self.queue(1, 16)}
-        self.published = {"control": 0, "cursor": 0}
+        self.published, self.back = {"control": 0, "cursor": 0}, {"control": 0, "cursor": 0}
         self.set("device_status", ACKNOWLEDGE | DRIVER | FEATURES_OK | DRIVER_OK)
 
     # PCI
@@ -305,34 +306,55 @@ class Gpu:
 
     def publish(self, name, request, room, shape):
         """Lays a request out, and puts it on a ring."""
-        queue, count = self.queues[name], self.published[name]
         chain, table = layout(shape, len(request), room)
         commands = [stored(REQUEST, request)] if request else []
-        commands += [stored(queue.descriptors, described(chain))]
+        commands += [stored(self.queues[name].descriptors, described(chain))]
         commands += [stored(TABLE, described(table))] if table else []
-        self.published[name] = (count + 1) % 65536
-        commands.append(f"writew {queue.available + 4 + 2 * (count % queue.size):#x} 0x0")
-        commands.append(f"writew {queue.available + 2:#x} {self.published[name]:#x}")
-        commands.append(f"writew {queue.notify:#x} {queue.number:#x}")
-        self.board.does(*commands)
-        return queue, count
+        self.board.does(*commands, *self.offered_at(name, 0))
 
-    def command(self, name, request, room, shape="plain"):
-        """The response to a request: as many bytes as the ring says that were written."""
-        queue, count = self.publish(name, request, room, shape)
+    def offered_at(self, name, head):
+        """The commands that put a head on a ring and tell the device."""
+        queue, count = self.queues[name], self.published[name]
+        self.published[name] = (count + 1) % 65536
+        yield f"writew {queue.available + 4 + 2 * (count % queue.size):#x} {head:#x}"
+        yield f"writew {queue.available + 2:#x} {self.published[name]:#x}"
+        yield f"writew {queue.notify:#x} {queue.number:#x}"
+
+    def returned(self, name, room):
+        """The next head that comes back on a ring, with as many bytes of the response's room as the ring says that were written."""
+        queue, count = self.queues[name], self.back[name]
         element = queue.used + 4 + 8 * (count % queue.size)
         look = [f"readw {queue.used + 2:#x}", f"read {element:#x} 0x8"] + [f"read {RESPONSE:#x} {room:#x}"] * (room > 0)
         end = time.monotonic() + PATIENCE
         while True:
             index, used, *response = self.board.does(*look)
-            if index == self.published[name]:
+            if index != count:
                 break
             if time.monotonic() > end:
                 raise Silent("the device is broken" if self.is_broken() else "no answer")
+        self.back[name] = (count + 1) % 65536
         head, length = struct.unpack("<II", used)
-        if head != 0 or length > room:
+        if head not in (0, BEHIND) or (head == 0 and length > room):
             raise Gone(f"the used element is {head}, {length}")
-        return response[0][:length] if room else b""
+        return head, response[0][:length] if room else b""
+
+    def command(self, name, request, room, shape="plain"):
+        """The response to a request."""
+        self.publish(name, request, room, shape)
+        return self.returned(name, room)[1]
+
+    def command_or_none(self, name, request, room, shape="plain"):
+        """The response to a request that may never have one: None where a request behind it on the control queue is answered first."""
+        self.publish(name, request, room, shape)
+        queue = self.queues[name]
+        chain = [(ASKED_BEHIND, 24, NEXT, BEHIND + 1), (ASKED_BEHIND + 24, 24, WRITE, 0)]
+        info = struct.pack("<I20x", 0x100)
+        self.board.does(stored(ASKED_BEHIND, info), stored(queue.descriptors + 16 * BEHIND, described(chain)), *self.offered_at(name, BEHIND))
+        head, response = self.returned(name, room)
+        if head == BEHIND:
+            return None
+        self.returned(name, room)
+        return response
 
     def picture(self, scanout):
         return self.board.picture("gpu", scanout)

@@ -280,6 +280,11 @@ def mixed(it):
 
 
 @kind("different")
+def short_header(it):
+    return it.queue == "control" and it.size < HEADER.size and it.theirs is None
+
+
+@kind("different")
 def cursor_unanswered(it):
     return it.queue == "cursor" and it.theirs is None
 
