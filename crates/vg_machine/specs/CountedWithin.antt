@@ -18,19 +18,19 @@ use Rattle.vg_client_holds.specs.declared.act.Act.TheVariants.{Enter, Reserve, S
 use Rattle.vg_client_holds.specs.declared.act.ActReply.{ActReply}
 use Rattle.vg_share.specs.declared.share.ShareRefusal.{ShareRefusal}
 use Rattle.vg_resource.specs.declared.resource.Resource.{Resource}
-use Rattle.vg_machine.specs.ActStep.{act_step, effect_of, is_in_use, replied_by, shown_at}
+use Rattle.vg_device.specs.ActStep.{act_step, effect_of, is_in_use, replied_by, shown_at}
 use Rattle.vg_formats.specs.declared.format.Format.{Format}
 use Rattle.vg_formats.specs.Formats.{format_of}
 use Rattle.vg_resource.specs.Resource.{resource_at}
 use Rattle.vg_share.specs.Share.{drop_refusal, export_refusal, free_refusal, import_refusal, place_refusal, release_refusal, reserve_refusal, take_refusal}
-use Rattle.vg_machine.specs.declared.history.Request.{Request}
-use Rattle.vg_machine.specs.declared.blobs.Layout.{Layout}
-use Rattle.vg_machine.specs.Answered.{answered_by, answered_with}
-use Rattle.vg_machine.specs.BlobStep.{with_shown_blob}
-use Rattle.vg_machine.specs.State.{State, counted, has_resource, is_blob}
+use Rattle.vg_device.specs.declared.request.Request.{Request}
+use Rattle.vg_device.specs.declared.blobs.Layout.{Layout}
+use Rattle.vg_device.specs.Answered.{answered_by, answered_with}
+use Rattle.vg_device.specs.BlobStep.{with_shown_blob}
+use Rattle.vg_device.specs.State.{State, counted, has_resource, is_blob}
 use Rattle.vg_refusals.specs.Refusals.{refusal_of}
-use Rattle.vg_machine.specs.Step.{answer_of, command_step, ran, refused_or_ran, request_refusals, two_d_step, with_shown}
-use Rattle.vg_machine.specs.Replay.{request_step, shaped_step}
+use Rattle.vg_device.specs.Step.{answer_of, command_step, ran, refused_or_ran, request_refusals, two_d_step, with_shown}
+use Rattle.vg_device.specs.RequestStep.{request_step, shaped_step}
 
 -- the same setup, and as many entries
 pub record IsLike (old new : State) : Type 0 where

@@ -4,9 +4,9 @@ use Rattle.vg_text.specs.Text.{hex_text}
 use Rattle.vg_journal_words.specs.Text.{act_text, act_reply_text, fault_text, shape_text}
 use Rattle.vg_client_holds.specs.declared.act.Act.{Act}
 use Rattle.vg_client_holds.specs.declared.act.ActReply.{ActReply}
-use Rattle.vg_machine.specs.declared.history.Request.{Request}
-use Rattle.vg_machine.specs.declared.history.Reply.{Reply}
-use Rattle.vg_machine.specs.declared.history.Reply.TheVariants.{Fault, Response}
+use Rattle.vg_device.specs.declared.request.Request.{Request}
+use Rattle.vg_device.specs.declared.request.Reply.{Reply}
+use Rattle.vg_device.specs.declared.request.Reply.TheVariants.{Fault, Response}
 
 abbrev pub reply_text : Reply → List ℕ
 reply_text (Response bytes) = hex_text bytes

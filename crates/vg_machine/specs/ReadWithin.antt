@@ -5,13 +5,13 @@ use Rattle.std.proofs.Math.Seq.{take-length}
 use Rattle.std.proofs.lemmas.List.{length-take}
 use Rattle.vg_chain.specs.declared.shape.Shape.{Shape}
 use Rattle.vg_chain.specs.declared.shape.Shape.TheVariants.{Plain, Pieces, Indirect, Mixed, Bad}
-use Rattle.vg_machine.specs.declared.history.Request.{Request}
-use Rattle.vg_machine.specs.declared.history.Reply.{Reply}
-use Rattle.vg_machine.specs.declared.history.Reply.TheVariants.{Response}
-use Rattle.vg_machine.specs.State.{State, counted}
+use Rattle.vg_device.specs.declared.request.Request.{Request}
+use Rattle.vg_device.specs.declared.request.Reply.{Reply}
+use Rattle.vg_device.specs.declared.request.Reply.TheVariants.{Response}
+use Rattle.vg_device.specs.State.{State, counted}
 use Rattle.vg_wire_ext.specs.Response.{response_bytes, response_kind}
-use Rattle.vg_machine.specs.Step.{answer_header, answer_of, step}
-use Rattle.vg_machine.specs.Replay.{plain_step, request_step, shaped_step}
+use Rattle.vg_device.specs.Step.{answer_header, answer_of, step}
+use Rattle.vg_device.specs.RequestStep.{plain_step, request_step, shaped_step}
 use Rattle.vg_machine.specs.Written.{read_by, within, written_in}
 
 -- what is cut to the room is within it

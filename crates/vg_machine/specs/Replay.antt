@@ -2,42 +2,26 @@ use Rattle.std.specs.Prelude.{List, [], false, is_none}
 use Rattle.vg_history.specs.History as history
 use Rattle.vg_history.specs.declared.machine.Machine.{Ghosts}
 use Rattle.vg_client_holds.specs.declared.setup.Setup.{Setup}
-use Rattle.vg_chain.specs.declared.shape.Shape.TheVariants.{Bad}
-use Rattle.vg_chain.specs.declared.shape.Shape.{Shape}
 use Rattle.vg_machine.specs.Entries.{Entry}
 use Rattle.vg_client_holds.specs.declared.act.Act.{Act}
 use Rattle.vg_client_holds.specs.declared.act.ActReply.{ActReply}
 use Rattle.vg_client_holds.specs.declared.holds.Holds.{Holds}
-use Rattle.vg_machine.specs.declared.history.Request.{Request}
-use Rattle.vg_machine.specs.declared.history.Reply.{Reply}
-use Rattle.vg_machine.specs.declared.history.Reply.TheVariants as replies
-use Rattle.vg_machine.specs.State.{State, counted, start}
-use Rattle.vg_machine.specs.ActStep.{act_step}
+use Rattle.vg_device.specs.declared.request.Request.{Request}
+use Rattle.vg_device.specs.declared.request.Reply.{Reply}
+use Rattle.vg_device.specs.State.{State, start}
+use Rattle.vg_device.specs.ActStep.{act_step}
 use Rattle.vg_client_holds.specs.Holds.{denied_of, gives_up, update}
-use Rattle.vg_machine.specs.Step.{step}
+use Rattle.vg_device.specs.RequestStep.{request_step}
+use Rattle.vg_machine.specs.Jobs.{Job}
+use Rattle.vg_machine.specs.Lender.{Lender}
 use Rattle.vg_machine.specs.Written.{asks_of, read_by, written_in}
 use Rattle.vg_wire.specs.Queues.{is_control}
 use Rattle.vg_machine.specs.Lines.{rest_of_act, rest_of_command}
 
--- A request as its bytes say: the display after it, and the reply.
-abbrev pub plain_step : State → Request → State × Reply
-plain_step state request =
-    let done = step state request.queue request.bytes request.room in
-    (done.0, replies.Response done.1)
-
--- A request of this shape: its bytes come whole in each but Bad, whose fault is the reply and which does nothing.
-abbrev pub shaped_step : Shape → State → Request → State × Reply
-shaped_step (Bad fault) state request = (counted state, replies.Fault fault)
-shaped_step _ state request = plain_step state request
-
--- A request: the display after it, and the reply.
-abbrev pub request_step : State → Request → State × Reply
-request_step state request = shaped_step request.shape state request
-
 -- The display as a machine of which a history is kept.
-abbrev pub display : Ghosts State State Act ActReply Request Reply Holds Request
+abbrev pub display : Ghosts Lender State Act ActReply Request Reply Holds Job
 display = record {
-  state = λ d. d;
+  state = λ d. d.state;
   count = λ s. s.entries;
   acted = λ s client act. (act_step s client act).0;
   replied = λ s client act. (act_step s client act).1;
@@ -50,8 +34,8 @@ display = record {
   asks = asks_of;
   written = λ request reply. written_in request.room reply;
   read = λ request bytes. read_by request.shape bytes;
-  lent = λ d. [];
-  asked = λ job. job;
+  lent = λ d. d.lent;
+  asked = λ job. job.asked;
   worked = λ job. job;
   blocks = λ d request. false;
   blocks_act = λ d act. false;

@@ -4,9 +4,9 @@ use Rattle.vg_asks.specs.declared.asked.Asked.{Asked}
 use Rattle.vg_asks.specs.Asks.{asked}
 use Rattle.vg_chain.specs.declared.shape.Shape.{Shape}
 use Rattle.vg_chain.specs.declared.shape.Shape.TheVariants.{Bad}
-use Rattle.vg_machine.specs.declared.history.Request.{Request}
-use Rattle.vg_machine.specs.declared.history.Reply.{Reply}
-use Rattle.vg_machine.specs.declared.history.Reply.TheVariants.{Response, Fault}
+use Rattle.vg_device.specs.declared.request.Request.{Request}
+use Rattle.vg_device.specs.declared.request.Reply.{Reply}
+use Rattle.vg_device.specs.declared.request.Reply.TheVariants.{Response, Fault}
 
 abbrev pub asks_of : Request → Asked
 asks_of request = asked request.queue request.bytes request.room request.shape

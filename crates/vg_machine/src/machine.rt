@@ -1,11 +1,12 @@
 //! The display as a machine of which a history is kept.
 
 use crate::display::Display;
-use crate::history::{Reply, Request};
+use crate::job::Job;
 use crate::spelled::{put_rest_of_act, put_rest_of_command};
 use std::alloc::{AllocError, Global};
 use vg_chain::ChainFault;
 use vg_client_holds::{Act, ActReply, Holds};
+use vg_device::{Device, Reply, Request};
 use vg_history::{Begun, Machine};
 use vg_text::Packed;
 
@@ -16,7 +17,7 @@ pub type Entry = vg_history::Entry<Display>;
 pub type History = vg_history::History<Display>;
 
 impl Machine for Display {
-    type State = Display;
+    type State = Device;
 
     type Act = Act;
 
@@ -28,13 +29,13 @@ impl Machine for Display {
 
     type Holds = Holds;
 
-    type Job = Request;
+    type Job = Job;
 
-    ghost use Rattle.std.specs.Prelude.{[], false, is_none};
-    ghost use Rattle.vg_machine.specs.ActStep.{act_step};
+    ghost use Rattle.std.specs.Prelude.{false, is_none};
+    ghost use Rattle.vg_device.specs.ActStep.{act_step};
     ghost use Rattle.vg_client_holds.specs.Holds as holding;
     ghost use Rattle.vg_client_holds.specs.Holds.{denied_of};
-    ghost use Rattle.vg_machine.specs.Replay.{request_step};
+    ghost use Rattle.vg_device.specs.RequestStep.{request_step};
     ghost use Rattle.vg_wire.specs.Queues.{is_control};
     ghost use Rattle.vg_machine.specs.Lines.{rest_of_act, rest_of_command};
     ghost use Rattle.vg_machine.specs.CountedWithin.{act-counts, request-counts};
@@ -43,7 +44,7 @@ impl Machine for Display {
     ghost use Rattle.vg_machine.specs.ReadWithin.{reads-request};
     ghost use Rattle.std.proofs.Common.{refl};
 
-    ghost state = { λ d. d };
+    ghost state = { λ d. d.state };
 
     ghost count = { λ s. s.entries };
 
@@ -69,9 +70,9 @@ impl Machine for Display {
 
     ghost read = { λ q bytes. read_by q.shape bytes };
 
-    ghost lent = { λ d. [] };
+    ghost lent = { λ d. d.lent };
 
-    ghost asked = { λ j. j };
+    ghost asked = { λ j. j.asked };
 
     ghost worked = { λ j. j };
 
@@ -92,7 +93,7 @@ impl Machine for Display {
         holds: &mut Holds,
         act: &Act,
     ) -> Result<(ActReply, ActReply), AllocError> {
-        self.act_as(alloc, client, holds, act)
+        self.device.act_as(alloc, client, holds, act)
     }
 
     /// It runs each request as a whole.
@@ -100,14 +101,14 @@ impl Machine for Display {
         &mut self,
         alloc: Global,
         request: &Request,
-    ) -> Result<Begun<Request, (Reply, Reply)>, AllocError> {
-        Ok(Begun::Whole(self.request(alloc, request)?))
+    ) -> Result<Begun<Job, (Reply, Reply)>, AllocError> {
+        Ok(Begun::Whole(self.device.request(alloc, request)?))
     }
 
-    fn work(_job: &mut Request) {}
+    fn work(_job: &mut Job) {}
 
     /// Nothing was lent, so what this answers says nothing.
-    fn end(&mut self, _job: Request) -> (Reply, Reply) {
+    fn end(&mut self, _job: Job) -> (Reply, Reply) {
         let fault = ChainFault::Index;
         (Reply::Fault { fault }, Reply::Fault { fault })
     }

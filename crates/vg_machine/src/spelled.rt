@@ -5,10 +5,10 @@ ghost use Rattle.vg_text.specs.Text.{hex_text};
 ghost use Rattle.vg_journal_words.specs.Text.{act_text, act_reply_text, fault_text, shape_text};
 ghost use Rattle.vg_machine.specs.Lines.{reply_text, request_text, rest_of_act, rest_of_command};
 
-use crate::history::{Reply, Request};
 use std::alloc::AllocError;
 use vg_chain::ChainFault;
 use vg_client_holds::{Act, ActReply};
+use vg_device::{Reply, Request};
 use vg_journal_words::{put_act, put_act_reply, put_fault, put_shape};
 use vg_text::Packed;
 

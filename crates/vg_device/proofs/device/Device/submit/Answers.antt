@@ -1,0 +1,9 @@
+use Rattle.std.proofs.Common.{}
+use Rattle.vg_device.proofs.ContextLemmas.{lifted-submitted}
+use Rattle.vg_device.proofs.device.Device.submit.Goals as goal
+
+pub returns : goal.returns
+returns c =
+    let s = c.self.inside in
+    rw (← c.self.view_is)
+    (lifted-submitted (λ contexts. record { setup = s.setup; entries = s.entries; memory = s.pages; resources = s.resources; backings = s.backings; blobs = s.blobs; contexts = contexts; uuids = s.uuids; cursors = s.cursors; scanouts = s.scanouts; share = s.share }) c.args.context c.args.size s.contexts c.submit.result c.submit.ensures)

@@ -1,0 +1,34 @@
+use Rattle.std.proofs.Common.{◌≡◌, false, rules}
+use Rattle.std.specs.Prelude.{is_some}
+use Rattle.vg_blob.specs.Blobs.{blob_at}
+use Rattle.vg_device.proofs.KeepLemmas.{lifted-receive}
+use Rattle.vg_device.proofs.ShowingLemmas.{all-showing, keeping-receive}
+use Rattle.vg_device.proofs.device.Device.transfer.Goals as goal
+
+pub invariant_of-self : goal.invariant_of-self
+invariant_of-self c =
+    let was = c.self.invariant in
+    let s = c.self.inside in
+    let keeping = keeping-receive s.pages c.args.resource c.args.rect.now c.args.offset s.backings s.resources c.receive.new.resources c.receive.result c.receive.ensures in
+    record {
+      setup = was.setup;
+      pages = was.pages;
+      backings = was.backings;
+      blobs = was.blobs;
+      screens = was.screens;
+      showing = all-showing s.blobs s.resources c.receive.new.resources s.scanouts.screens keeping was.showing;
+      leases = was.leases;
+      share = was.share;
+      reserved = was.reserved;
+      exports = was.exports;
+      given = was.given;
+      cursors = was.cursors;
+    }
+
+pub returns : goal.returns
+returns c =
+    let s = c.self.inside in
+    let apart : is_some (blob_at c.args.resource s.blobs) ≡ false = search rules in
+    rw (← c.self.view_is, apart)
+    (lifted-receive (λ resources. record { setup = s.setup; entries = s.entries; memory = s.pages; resources = resources; backings = s.backings; blobs = s.blobs; contexts = s.contexts; uuids = s.uuids; cursors = s.cursors; scanouts = s.scanouts; share = s.share })
+    s.pages c.args.resource c.args.rect.now c.args.offset s.backings s.resources c.receive.new.resources c.receive.result c.receive.ensures)

@@ -1,0 +1,12 @@
+pub mod Features
+pub mod Receive
+pub mod FitsWithin
+pub mod State
+pub mod Answered
+pub mod BlobStep
+pub mod ContextStep
+pub mod Step
+pub mod RequestStep
+pub mod ChangeWithin
+pub mod Pixels
+pub mod ActStep

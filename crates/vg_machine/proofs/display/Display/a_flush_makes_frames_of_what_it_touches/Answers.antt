@@ -1,6 +1,0 @@
-use Rattle.vg_machine.specs.State.{counted}
-use Rattle.vg_machine.proofs.FrameLemmas.{makes-touched}
-use Rattle.vg_machine.proofs.display.Display.a_flush_makes_frames_of_what_it_touches.Goals as goal
-
-pub returns : goal.returns
-returns c = makes-touched (counted c.args.self.now) c.a_flush_makes_frames_of_what_it_touches.ensures

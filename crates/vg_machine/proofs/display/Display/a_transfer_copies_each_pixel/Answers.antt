@@ -1,5 +1,0 @@
-use Rattle.vg_machine.proofs.PixelLemmas.{copies-each-pixel}
-use Rattle.vg_machine.proofs.display.Display.a_transfer_copies_each_pixel.Goals as goal
-
-pub returns : goal.returns
-returns c rect offset id = rw (← c.self.view_is) (copies-each-pixel rect offset id _ c.are_whole.ensures c.a_transfer_copies_each_pixel.ensures)

@@ -1,5 +1,0 @@
-use Rattle.vg_machine.proofs.ActLemmas.{refused-kept}
-use Rattle.vg_machine.proofs.display.Display.act_as.Goals as goal
-
-pub returns-else-is_err-clause-refused : goal.returns-else-is_err-clause-refused
-returns-else-is_err-clause-refused c = rw (← c.self.view_is) (refused-kept c.perform-done.result (λ twice. twice.0) _ _ c.args.client c.args.act.now c.perform-done.ensures.step)

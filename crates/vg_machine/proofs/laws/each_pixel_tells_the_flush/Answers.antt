@@ -1,5 +1,0 @@
-use Rattle.vg_machine.proofs.TellLemmas.{one-screen}
-use Rattle.vg_machine.proofs.laws.each_pixel_tells_the_flush.Goals as goal
-
-pub returns : goal.returns
-returns c = one-screen
