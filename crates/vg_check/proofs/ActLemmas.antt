@@ -10,11 +10,11 @@ use Rattle.vg_client_holds.specs.declared.act.ActReply.{ActReply}
 use Rattle.vg_client_holds.specs.declared.holds.Holds.{Holds}
 use Rattle.vg_client_holds.specs.declared.setup.Setup.{Setup}
 use Rattle.vg_history.specs.declared.entry.Entry.TheVariants as entries
-use Rattle.vg_machine.specs.ActStep.{act_step}
+use Rattle.vg_device.specs.ActStep.{act_step}
 use Rattle.vg_machine.specs.Entries.{Entry}
 use Rattle.vg_machine.specs.Order.{AreInOrder, CallOrder, FenceOrder, GiveUp, IsAllowed, IsFirst, call_of, is_of_lane, of_client}
 use Rattle.vg_machine.specs.Replay.{replay}
-use Rattle.vg_machine.specs.State.{State}
+use Rattle.vg_device.specs.State.{State}
 use Rattle.vg_check.specs.declared.seen.Seen.{Seen}
 use Rattle.vg_check.specs.Checked.{HasSeen}
 use Rattle.vg_check.specs.Right.{IsRightly}

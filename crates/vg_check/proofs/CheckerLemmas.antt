@@ -19,9 +19,9 @@ use Rattle.vg_machine.specs.Entries.{Entry}
 use Rattle.vg_machine.specs.Order.{client_of, is_of_lane}
 use Rattle.vg_machine.specs.Replay as machine
 use Rattle.vg_machine.specs.Replay.{after, replay}
-use Rattle.vg_machine.specs.State.{State, start}
-use Rattle.vg_machine.specs.declared.history.Request.{Request}
-use Rattle.vg_machine.specs.declared.history.Reply.{Reply}
+use Rattle.vg_device.specs.State.{State, start}
+use Rattle.vg_device.specs.declared.request.Request.{Request}
+use Rattle.vg_device.specs.declared.request.Reply.{Reply}
 use Rattle.vg_wire.specs.Queues.{is_control}
 use Rattle.vg_check.specs.declared.checker.Checker.{Checker}
 use Rattle.vg_check.specs.declared.seen.Seen.{Seen}

@@ -15,10 +15,11 @@ use Rattle.vg_wire.specs.Header.{header_of}
 use Rattle.vg_machine.specs.Entries.{Entry}
 use Rattle.vg_machine.specs.Lane.{lane_of, lane_of_header}
 use Rattle.vg_machine.specs.Order.{CallOrder, IsAllowed, LaneOrder, call_of, is_of_lane, of_client}
-use Rattle.vg_machine.specs.Replay.{replay, request_step}
-use Rattle.vg_machine.specs.State.{State}
-use Rattle.vg_machine.specs.declared.history.Request.{Request}
-use Rattle.vg_machine.specs.declared.history.Reply.{Reply}
+use Rattle.vg_machine.specs.Replay.{replay}
+use Rattle.vg_device.specs.RequestStep.{request_step}
+use Rattle.vg_device.specs.State.{State}
+use Rattle.vg_device.specs.declared.request.Request.{Request}
+use Rattle.vg_device.specs.declared.request.Reply.{Reply}
 use Rattle.vg_check.specs.declared.seen.Seen.{Seen}
 use Rattle.vg_check.specs.Checked.{HasSeen, calls_on}
 use Rattle.vg_check.specs.Right.{IsRightly}

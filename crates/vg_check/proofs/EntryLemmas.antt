@@ -14,7 +14,7 @@ use Rattle.vg_history.specs.History as history
 use Rattle.vg_machine.specs.Entries.{Entry}
 use Rattle.vg_machine.specs.Order.{AreInOrder, IsInOrder, by_call, call_of, client_of, holds_of, is_leave, of_client, placed}
 use Rattle.vg_machine.specs.Replay.{after, display, replay}
-use Rattle.vg_machine.specs.State.{start}
+use Rattle.vg_device.specs.State.{start}
 use Rattle.vg_check.specs.Checked.{greatest}
 
 -- ---- counts and filters

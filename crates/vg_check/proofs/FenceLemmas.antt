@@ -10,8 +10,8 @@ use Rattle.vg_history.specs.declared.entry.Entry.TheVariants as entries
 use Rattle.vg_machine.specs.Entries.{Entry}
 use Rattle.vg_machine.specs.Order.{AreInOrder, LaneOrder, is_of_lane}
 use Rattle.vg_machine.specs.Replay.{display}
-use Rattle.vg_machine.specs.declared.history.Request.{Request}
-use Rattle.vg_machine.specs.declared.history.Reply.{Reply}
+use Rattle.vg_device.specs.declared.request.Request.{Request}
+use Rattle.vg_device.specs.declared.request.Reply.{Reply}
 use Rattle.vg_check.proofs.EntryLemmas.{counted-no, counted-yes}
 
 abbrev count_of : ℕ → List Entry → ℕ

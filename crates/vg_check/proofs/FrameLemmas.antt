@@ -27,15 +27,16 @@ use Rattle.vg_resource.specs.Resource.{resource_at}
 use Rattle.vg_scanout.specs.declared.scanout.Frame.{Frame}
 use Rattle.vg_share.specs.declared.share.ShareRefusal.{ShareRefusal}
 use Rattle.vg_share.specs.Share.{drop_refusal, export_refusal, free_refusal, import_refusal, place_refusal, release_refusal, reserve_refusal, take_refusal}
-use Rattle.vg_machine.specs.ActStep.{effect_of, is_in_use, replied_by, shown_at}
-use Rattle.vg_machine.specs.Answered.{answered_with}
-use Rattle.vg_machine.specs.BlobStep.{with_shown_blob}
+use Rattle.vg_device.specs.ActStep.{effect_of, is_in_use, replied_by, shown_at}
+use Rattle.vg_device.specs.Answered.{answered_with}
+use Rattle.vg_device.specs.BlobStep.{with_shown_blob}
 use Rattle.vg_machine.specs.Entries.{Entry}
-use Rattle.vg_machine.specs.Replay.{after, replay, replay_from, shaped_step}
-use Rattle.vg_machine.specs.State.{State, counted, has_resource, is_blob}
-use Rattle.vg_machine.specs.Step.{answer_of, command_step, cursor_change, cursor_refusals, flush_refusals, flushed_by, move_refusals, ran, refused_or_ran, request_refusals, transfer_2d_step, two_d_step, with_cursor, with_shown}
-use Rattle.vg_machine.specs.declared.blobs.Layout.{Layout}
-use Rattle.vg_machine.specs.declared.history.Request.{Request}
+use Rattle.vg_machine.specs.Replay.{after, replay, replay_from}
+use Rattle.vg_device.specs.RequestStep.{shaped_step}
+use Rattle.vg_device.specs.State.{State, counted, has_resource, is_blob}
+use Rattle.vg_device.specs.Step.{answer_of, command_step, cursor_change, cursor_refusals, flush_refusals, flushed_by, move_refusals, ran, refused_or_ran, request_refusals, transfer_2d_step, two_d_step, with_cursor, with_shown}
+use Rattle.vg_device.specs.declared.blobs.Layout.{Layout}
+use Rattle.vg_device.specs.declared.request.Request.{Request}
 use Rattle.vg_refusals.specs.Refusals.{refusal_of}
 use Rattle.vg_check.specs.Right.{frames_after}
 use Rattle.vg_check.proofs.EntryLemmas.{replay-more}

@@ -6,7 +6,7 @@ use Rattle.vg_scanout.specs.declared.scanout.Frame.{Frame}
 use Rattle.vg_machine.specs.Entries.{Entry}
 use Rattle.vg_machine.specs.Order.{AreAllowed, AreInOrder, Sound}
 use Rattle.vg_machine.specs.Replay.{AgreesFrom, replay, replay_from}
-use Rattle.vg_machine.specs.State.{State}
+use Rattle.vg_device.specs.State.{State}
 use Rattle.vg_check.specs.Right.{AreRight, IsRight, IsWrongAt, frames_after}
 use Rattle.vg_check.proofs.EntryLemmas.{replay-more}
 use Rattle.vg_check.proofs.FrameLemmas.{frames-grow}

@@ -18,8 +18,8 @@ use Rattle.vg_history.proofs.HistoryLemmas.{updated_own}
 use Rattle.vg_machine.specs.Entries.{Entry}
 use Rattle.vg_machine.specs.Order.{call_of, client_of, holds_of, is_leave, is_of_lane, of_client}
 use Rattle.vg_machine.specs.Replay.{display}
-use Rattle.vg_machine.specs.declared.history.Request.{Request}
-use Rattle.vg_machine.specs.declared.history.Reply.{Reply}
+use Rattle.vg_device.specs.declared.request.Request.{Request}
+use Rattle.vg_device.specs.declared.request.Reply.{Reply}
 use Rattle.vg_check.specs.declared.seen.Seen.{Seen}
 use Rattle.vg_check.specs.Checked.{HasSeen, calls_on, greatest}
 use Rattle.vg_check.specs.TestsWithin.{HasSeenAct, HasSeenCommand, IsNew, is_leaving}

@@ -7,12 +7,12 @@ use Rattle.vg_client_holds.specs.declared.act.ActReply.{ActReply}
 use Rattle.vg_client_holds.specs.declared.holds.Holds.{Holds}
 use Rattle.vg_client_holds.specs.declared.setup.Setup.{Setup}
 use Rattle.vg_client_holds.specs.Holds.{Deniable, denied_of, first_holds, gives_up, update}
-use Rattle.vg_machine.specs.ActStep.{act_step}
+use Rattle.vg_device.specs.ActStep.{act_step}
 use Rattle.vg_machine.specs.Lane.{lane_of}
-use Rattle.vg_machine.specs.Replay.{request_step}
-use Rattle.vg_machine.specs.State.{State}
-use Rattle.vg_machine.specs.declared.history.Request.{Request}
-use Rattle.vg_machine.specs.declared.history.Reply.{Reply}
+use Rattle.vg_device.specs.RequestStep.{request_step}
+use Rattle.vg_device.specs.State.{State}
+use Rattle.vg_device.specs.declared.request.Request.{Request}
+use Rattle.vg_device.specs.declared.request.Reply.{Reply}
 use Rattle.vg_check.specs.declared.seen.Seen.{Seen}
 
 -- Enter with number 1.

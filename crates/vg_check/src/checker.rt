@@ -17,12 +17,12 @@ use crate::seen::Seen;
 use crate::step::{check_act, check_command};
 use std::alloc::{AllocError, Global};
 use vg_call_numbers::{entries_have_all_numbers, entries_have_no_such_number, entries_use_numbers};
-use vg_machine::{Act, ActReply, Display, Entry, Frame, Reply, Request, Setup};
+use vg_machine::{Act, ActReply, Device, Entry, Frame, Reply, Request, Setup};
 
 /// What is kept of the entries of a journal that were gone over. An entry that isn't right, or want of memory, is the end of it.
 #[derive(Drop)]
 pub struct Checker {
-    display: Display,
+    display: Device,
     /// How many commands came on the control queue, and how many on the cursor queue.
     control: u64,
     cursor: u64,
@@ -40,7 +40,7 @@ impl Checker {
     {
         entries_use_numbers();
         Ok(Checker {
-            display: Display::new(alloc, setup)?,
+            display: Device::new(alloc, setup)?,
             lanes: zeros(alloc)?,
             clients: unseen(alloc, setup)?,
             control: 0,

@@ -7,13 +7,12 @@ use crate::counts::put_number;
 use crate::same::{same_act_reply, same_reply};
 use crate::seen::{Seen, is_leaving};
 use std::alloc::{AllocError, Global};
-use vg_history::Machine;
-use vg_machine::{Act, ActReply, Display, Reply, Request};
+use vg_machine::{Act, ActReply, Device, Reply, Request};
 
 /// Whether the act is right, with its reply. Where it is, the display does it, and it is kept.
 pub(crate) fn check_act(
     alloc: Global,
-    display: &mut Display,
+    display: &mut Device,
     lanes: &[u64],
     seen: &mut Seen,
     client: u32,
@@ -29,7 +28,7 @@ pub(crate) fn check_act(
     if !seen.may_act(alloc, lanes, call, act)? {
         return Ok(false);
     }
-    let (given, _copy) = Machine::act(display, alloc, client, &mut seen.holds, act)?;
+    let (given, _copy) = display.act_as(alloc, client, &mut seen.holds, act)?;
     if !same_act_reply(reply, &given) {
         return Ok(false);
     }
@@ -41,7 +40,7 @@ pub(crate) fn check_act(
 /// The same of a command.
 pub(crate) fn check_command(
     alloc: Global,
-    display: &mut Display,
+    display: &mut Device,
     lanes: &[u64],
     seen: &mut Seen,
     call: u64,

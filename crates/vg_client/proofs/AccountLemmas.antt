@@ -15,8 +15,8 @@ use Rattle.vg_machine.specs.Entries.{Entry}
 use Rattle.vg_history.specs.declared.entry.Entry.TheVariants.{Act, Command}
 use Rattle.vg_history.specs.Lists.{Has, bit, times}
 use Rattle.vg_history.proofs.ListLemmas.{has_map, has_prefix, has_right, has_snoc, prefix_more, prefix_self, prefix_trans, times_append, times_has, upto_one}
-use Rattle.vg_machine.specs.declared.history.Request.{Request}
-use Rattle.vg_machine.specs.State.{State, start}
+use Rattle.vg_device.specs.declared.request.Request.{Request}
+use Rattle.vg_device.specs.State.{State, start}
 use Rattle.vg_machine.specs.Replay.{AgreesFrom, display}
 use Rattle.vg_machine.specs.Order.{by_call, call_of, client_of, is_leave, of_client, updated}
 use Rattle.vg_book.specs.Places.{HasCall, IsCurrent, IsPlaced, begun_of}

@@ -2,7 +2,7 @@
 use Rattle.std.proofs.Common.{◌≡◌, ◌+◌, refl, ℕ, Bool, cond, List, [], ◌∷◌, ◌++◌, count_by}
 use Rattle.std.specs.List.{fold}
 use Rattle.vg_machine.specs.Entries.{Entry}
-use Rattle.vg_machine.specs.State.{State}
+use Rattle.vg_device.specs.State.{State}
 use Rattle.vg_machine.specs.Replay.{AgreesFrom, HasReply, after, replay_from}
 
 -- its reply is the machine's there

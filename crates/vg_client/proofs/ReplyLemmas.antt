@@ -6,10 +6,10 @@ use Rattle.vg_client_holds.specs.declared.act.Act.TheVariants as acts
 use Rattle.vg_client_holds.specs.declared.act.ActReply.{ActReply}
 use Rattle.vg_client_holds.specs.declared.act.ActReply.TheVariants as act_replies
 use Rattle.vg_share.specs.declared.share.ShareRefusal.{ShareRefusal}
-use Rattle.vg_machine.specs.ActStep.{act_step, effect_of, replied_by}
+use Rattle.vg_device.specs.ActStep.{act_step, effect_of, replied_by}
 use Rattle.vg_share.specs.Cells.{pages_of}
 use Rattle.vg_share.specs.Share.{has_holder, released, reserve_refusal}
-use Rattle.vg_machine.specs.State.{State, counted}
+use Rattle.vg_device.specs.State.{State, counted}
 use Rattle.vg_pages.specs.Memory.{free_pages}
 use Rattle.vg_client.specs.declared.given.Given.{Given}
 use Rattle.vg_client.specs.declared.given.Given.TheVariants as givens

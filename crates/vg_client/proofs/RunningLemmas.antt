@@ -24,8 +24,8 @@ use Rattle.vg_client_holds.specs.declared.holds.Holds.{Holds}
 use Rattle.vg_client_holds.specs.declared.setup.Setup.{Setup}
 use Rattle.vg_client_holds.specs.Holds.{denied_of, first_holds, update}
 use Rattle.vg_machine.specs.Entries.{Entry}
-use Rattle.vg_machine.specs.declared.history.Reply.{Reply}
-use Rattle.vg_machine.specs.declared.history.Request.{Request}
+use Rattle.vg_device.specs.declared.request.Reply.{Reply}
+use Rattle.vg_device.specs.declared.request.Request.{Request}
 use Rattle.vg_machine.specs.Lane.{lane_of}
 use Rattle.vg_machine.specs.Order.{FenceOrder, IsAllowed, IsFirst, call_of, client_of, holds_of, is_leave, is_of_lane, of_client}
 use Rattle.vg_machine.specs.Replay.{display}

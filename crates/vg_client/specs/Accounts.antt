@@ -11,15 +11,15 @@ use Rattle.vg_client_holds.specs.declared.act.Act as the_act
 use Rattle.vg_client_holds.specs.declared.act.Act.TheVariants.{Enter, Await, Leave, Denied}
 use Rattle.vg_client_holds.specs.declared.act.ActReply.{ActReply}
 use Rattle.vg_machine.specs.Entries.{Entry}
-use Rattle.vg_machine.specs.declared.history.Request.{Request}
-use Rattle.vg_machine.specs.declared.history.Reply.{Reply}
+use Rattle.vg_device.specs.declared.request.Request.{Request}
+use Rattle.vg_device.specs.declared.request.Reply.{Reply}
 use Rattle.vg_history.specs.declared.entry.Entry.TheVariants.{Act, Command}
 use Rattle.vg_client_holds.specs.declared.holds.Holds.{Holds}
-use Rattle.vg_machine.specs.ActStep.{act_step}
+use Rattle.vg_device.specs.ActStep.{act_step}
 use Rattle.vg_client_holds.specs.Holds.{Deniable, first_holds, gives_up}
 use Rattle.vg_machine.specs.Lane.{lane_of}
 use Rattle.vg_machine.specs.Replay.{display}
-use Rattle.vg_machine.specs.State.{State, start}
+use Rattle.vg_device.specs.State.{State, start}
 use Rattle.vg_machine.specs.Order.{call_of, client_of, is_leave, updated}
 use Rattle.vg_driver.specs.declared.ticket.Answer.{Answer}
 use Rattle.vg_driver.specs.declared.ticket.Ticket.{Ticket}

@@ -6,8 +6,8 @@ use Rattle.vg_client_holds.specs.declared.act.ActReply.TheVariants as act_replie
 use Rattle.vg_client_holds.specs.declared.act.What.{What}
 use Rattle.vg_machine.specs.Entries.{Entry}
 use Rattle.vg_history.specs.declared.entry.Entry.TheVariants as entries
-use Rattle.vg_machine.specs.declared.history.Reply.{Reply}
-use Rattle.vg_machine.specs.declared.history.Request.{Request}
+use Rattle.vg_device.specs.declared.request.Reply.{Reply}
+use Rattle.vg_device.specs.declared.request.Request.{Request}
 use Rattle.vg_client_holds.specs.declared.holds.Holds.{Holds}
 use Rattle.vg_machine.specs.Order.{updated}
 use Rattle.vg_calls.specs.declared.call.Call.{Call}

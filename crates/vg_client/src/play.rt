@@ -6,7 +6,7 @@ ghost use Rattle.vg_history.specs.declared.entry.Entry.TheVariants as entries;
 ghost use Rattle.vg_client_holds.specs.declared.act.Act.TheVariants as acts;
 ghost use Rattle.vg_client_holds.specs.declared.act.ActReply.{ActReply as ActReplies};
 ghost use Rattle.vg_client_holds.specs.declared.act.ActReply.TheVariants as act_replies;
-ghost use Rattle.vg_machine.specs.declared.history.Reply.{Reply as Replies};
+ghost use Rattle.vg_device.specs.declared.request.Reply.{Reply as Replies};
 ghost use Rattle.vg_machine.specs.Entries.{Entry as Entries};
 ghost use Rattle.vg_client_holds.specs.Holds.{Deniable};
 ghost use Rattle.vg_driver.specs.Asks.{IsAsk, denied_for, request_for};

@@ -4,9 +4,9 @@ use Rattle.std.proofs.lemmas.Bool.{and_from}
 use Rattle.std.proofs.lemmas.List.Sums.{AllPass-from_list_all}
 use Rattle.std.specs.List.{All, list_all, join_with_byte}
 use Rattle.vg_chain.specs.declared.shape.Shape.{Shape}
-use Rattle.vg_machine.specs.declared.history.Request.{Request}
-use Rattle.vg_machine.specs.declared.history.Reply.{Reply}
-use Rattle.vg_machine.specs.declared.history.Reply.TheVariants.{Fault, Response}
+use Rattle.vg_device.specs.declared.request.Request.{Request}
+use Rattle.vg_device.specs.declared.request.Reply.{Reply}
+use Rattle.vg_device.specs.declared.request.Reply.TheVariants.{Fault, Response}
 use Rattle.vg_machine.specs.Lines.{reply_text, request_text}
 use Rattle.vg_text.specs.Text.{hex_text}
 use Rattle.vg_line_words.specs.Words.{AreBelow, bytes_of, bytes_within, is_plain, number_of, parts_at}

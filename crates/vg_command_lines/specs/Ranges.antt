@@ -3,9 +3,9 @@ use Rattle.std.specs.Prelude.{◌≡◌, ℕ, ◌<◌, ◌≤◌, ◌^◌, ◌==
 use Rattle.std.specs.Bool.{⊤}
 use Rattle.vg_wire.specs.declared.request.Queue.{Queue}
 use Rattle.vg_wire.specs.declared.request.Queue.TheVariants.{Control, Cursor}
-use Rattle.vg_machine.specs.declared.history.Request.{Request}
-use Rattle.vg_machine.specs.declared.history.Reply.{Reply}
-use Rattle.vg_machine.specs.declared.history.Reply.TheVariants.{Fault, Response}
+use Rattle.vg_device.specs.declared.request.Request.{Request}
+use Rattle.vg_device.specs.declared.request.Reply.{Reply}
+use Rattle.vg_device.specs.declared.request.Reply.TheVariants.{Fault, Response}
 use Rattle.vg_line_words.specs.Words.{AreBelow}
 use Rattle.vg_command_lines.specs.Shapes.{ShapeInRange}
 

@@ -1,9 +1,9 @@
 -- Which request, or which reply to a command, some words are; or none, where they are no such words.
 use Rattle.std.specs.Prelude.{ℕ, ◌^◌, if◌then◌else◌, List, [], ◌∷◌, Option, None, option_map, bytes_eq, codes}
 use Rattle.vg_chain.specs.declared.shape.Shape.{Shape}
-use Rattle.vg_machine.specs.declared.history.Request.{Request}
-use Rattle.vg_machine.specs.declared.history.Reply.{Reply}
-use Rattle.vg_machine.specs.declared.history.Reply.TheVariants.{Fault, Response}
+use Rattle.vg_device.specs.declared.request.Request.{Request}
+use Rattle.vg_device.specs.declared.request.Reply.{Reply}
+use Rattle.vg_device.specs.declared.request.Reply.TheVariants.{Fault, Response}
 use Rattle.vg_line_words.specs.Words.{bytes_within, number_of}
 use Rattle.vg_act_lines.specs.Read.{both}
 use Rattle.vg_command_lines.specs.Shapes.{fault_of, shape_of}

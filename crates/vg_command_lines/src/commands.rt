@@ -1,7 +1,7 @@
 //! Requests and replies.
 
 ghost use Rattle.std.specs.Prelude.{◌≡◌, map, option_map, bytes_eq, codes, if◌then◌else◌, None, IfOk};
-ghost use Rattle.vg_machine.specs.declared.history.Reply.TheVariants.{Fault, Response};
+ghost use Rattle.vg_device.specs.declared.request.Reply.TheVariants.{Fault, Response};
 ghost use Rattle.vg_line_words.specs.Words.{bytes_within};
 ghost use Rattle.vg_act_lines.specs.Read.{both};
 ghost use Rattle.vg_command_lines.specs.Shapes.{fault_of};

@@ -19,7 +19,7 @@ use Rattle.vg_ring.specs.Cargo.{IsLane}
 use Rattle.vg_ring.specs.Ends.{DriverLists, HasRoom}
 use Rattle.vg_ring.specs.declared.views.Entry as ring
 use Rattle.vg_ring.specs.Entries.{lane_count}
-use Rattle.vg_machine.specs.declared.history.Request.{Request}
+use Rattle.vg_device.specs.declared.request.Request.{Request}
 use Rattle.vg_client_holds.specs.declared.holds.Holds.{Holds}
 use Rattle.vg_client_holds.specs.Holds.{denied_of, denied_request}
 use Rattle.vg_machine.specs.Lane.{lane_of, lane_of_header}

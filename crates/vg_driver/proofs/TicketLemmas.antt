@@ -12,10 +12,12 @@ use Rattle.vg_book.specs.Views.{calls, entry_of, given_up, order_call, settled, 
 use Rattle.vg_fence.specs.Fences.{FenceData}
 use Rattle.vg_client_holds.specs.declared.act.Act.{Act}
 use Rattle.vg_client_holds.specs.declared.act.ActReply.{ActReply}
-use Rattle.vg_machine.specs.declared.history.Reply.{Reply}
-use Rattle.vg_machine.specs.declared.history.Request.{Request}
+use Rattle.vg_device.specs.declared.request.Reply.{Reply}
+use Rattle.vg_device.specs.declared.request.Request.{Request}
 use Rattle.vg_client_holds.specs.declared.holds.Holds.{Holds}
-use Rattle.vg_machine.specs.State.{State}
+use Rattle.vg_device.specs.State.{State}
+use Rattle.vg_machine.specs.Jobs.{Job}
+use Rattle.vg_machine.specs.Lender.{Lender}
 use Rattle.vg_machine.specs.Replay.{display}
 use Rattle.vg_driver.specs.declared.ticket.Ticket.{Ticket}
 use Rattle.vg_chain.specs.declared.shape.Shape.{Shape}
@@ -28,10 +30,10 @@ use Rattle.vg_driver.specs.Halves.{Signals}
 use Rattle.vg_driver.specs.Tickets.{Account, Awaited, DonePass, IsOf, IsOut, IsTold, Order, Pass, Token}
 
 abbrev Back : Type 0 → Type 0
-Back B = Carried State B State Act ActReply Request Reply Holds Request
+Back B = Carried Lender B State Act ActReply Request Reply Holds Job
 
 abbrev En : Type 0
-En = Entry State State Act ActReply Request Reply Holds Request
+En = Entry Lender State Act ActReply Request Reply Holds Job
 
 -- an order stands alone among those with its number, where none is left without the first of them
 alone : (n : ℕ) (os : List Order) (o p : Order) → Has os o → Has os p → o.call ≡ n → p.call ≡ n → times n (map order_call (without n os)) ≡ 0 → o ≡ p

@@ -7,7 +7,7 @@ use Rattle.vg_ring.specs.Cargo.{IsLane}
 use Rattle.vg_client_holds.specs.declared.act.What.{What}
 use Rattle.vg_client_holds.specs.declared.holds.Holds.{Holds}
 use Rattle.vg_client_holds.specs.Holds.{denied_of}
-use Rattle.vg_machine.specs.declared.history.Request.{Request}
+use Rattle.vg_device.specs.declared.request.Request.{Request}
 use Rattle.vg_machine.specs.Lane.{lane_of}
 use Rattle.vg_driver.specs.declared.ask.Ask.{Ask}
 use Rattle.vg_driver.specs.declared.ask.Ask.TheVariants.{Command, Raw}

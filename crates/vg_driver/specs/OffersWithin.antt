@@ -5,7 +5,7 @@ use Rattle.vg_chain.specs.Made.{IsCount, IsNeeded}
 use Rattle.vg_ring.specs.Cargo.{IsLane, ParcelData}
 use Rattle.vg_ring.specs.Ends.{DriverLists, HasRoom}
 use Rattle.vg_ring.specs.Entries.{lane_count}
-use Rattle.vg_machine.specs.declared.history.Request.{Request}
+use Rattle.vg_device.specs.declared.request.Request.{Request}
 use Rattle.vg_client_holds.specs.declared.holds.Holds.{Holds}
 use Rattle.vg_client_holds.specs.Holds.{Allowed}
 use Rattle.vg_machine.specs.Lane.{lane_of}

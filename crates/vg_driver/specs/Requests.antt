@@ -11,7 +11,7 @@ use Rattle.vg_wire_ext.specs.Request.{queue_of, request_bytes}
 use Rattle.vg_chain.specs.declared.shape.Shape.{Shape}
 use Rattle.vg_chain.specs.declared.shape.Shape.TheVariants.{Plain, Indirect}
 use Rattle.vg_client_holds.specs.declared.act.What.{What}
-use Rattle.vg_machine.specs.declared.history.Request.{Request}
+use Rattle.vg_device.specs.declared.request.Request.{Request}
 use Rattle.vg_client_holds.specs.declared.holds.Holds.{Holds}
 use Rattle.vg_client_holds.specs.Holds.{denied_request}
 use Rattle.vg_machine.specs.Lane.{lane_of}

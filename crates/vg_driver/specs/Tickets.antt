@@ -10,31 +10,33 @@ use Rattle.vg_fence.specs.Fences.{FenceData}
 use Rattle.vg_client_holds.specs.declared.act.Act.{Act}
 use Rattle.vg_client_holds.specs.declared.act.Act.TheVariants.{Await}
 use Rattle.vg_client_holds.specs.declared.act.ActReply.{ActReply}
-use Rattle.vg_machine.specs.declared.history.Reply.{Reply}
-use Rattle.vg_machine.specs.declared.history.Request.{Request}
+use Rattle.vg_device.specs.declared.request.Reply.{Reply}
+use Rattle.vg_device.specs.declared.request.Request.{Request}
 use Rattle.vg_client_holds.specs.declared.holds.Holds.{Holds}
 use Rattle.vg_client_holds.specs.Holds.{Allowed}
 use Rattle.vg_machine.specs.Lane.{lane_of}
-use Rattle.vg_machine.specs.State.{State}
+use Rattle.vg_device.specs.State.{State}
+use Rattle.vg_machine.specs.Jobs.{Job}
+use Rattle.vg_machine.specs.Lender.{Lender}
 use Rattle.vg_machine.specs.Replay.{display}
 use Rattle.vg_driver.specs.declared.ticket.Answer.{Answer}
 use Rattle.vg_driver.specs.declared.ticket.Ticket.{Ticket}
 
 -- The tokens of a book whose machine is a display.
 abbrev pub Account : Type 0
-Account = books.Account State State Act ActReply Request Reply Holds Request
+Account = books.Account Lender State Act ActReply Request Reply Holds Job
 
 abbrev pub Order : Type 0
-Order = orders.Order State State Act ActReply Request Reply Holds Request
+Order = orders.Order Lender State Act ActReply Request Reply Holds Job
 
 abbrev pub Token : Type 0
-Token = tokens.Client State State Act ActReply Request Reply Holds Request
+Token = tokens.Client Lender State Act ActReply Request Reply Holds Job
 
 abbrev pub Pass : Type 0
-Pass = tokens.Passed State State Act ActReply Request Reply Holds Request
+Pass = tokens.Passed Lender State Act ActReply Request Reply Holds Job
 
 abbrev pub DonePass : Type 0
-DonePass = tokens.Done State State Act ActReply Request Reply Holds Request
+DonePass = tokens.Done Lender State Act ActReply Request Reply Holds Job
 
 -- The ticket's call, with the lane and the ordinal of its fence.
 pub record IsOf (ticket : Ticket) (order : Order) : Type 0 where

@@ -13,14 +13,16 @@ use Rattle.vg_book.specs.Tokens.{IsClosed}
 use Rattle.vg_front.specs.Desks as desks
 use Rattle.vg_client_holds.specs.declared.act.Act.{Act}
 use Rattle.vg_client_holds.specs.declared.act.ActReply.{ActReply}
-use Rattle.vg_machine.specs.declared.history.Reply.{Reply}
-use Rattle.vg_machine.specs.declared.history.Request.{Request}
+use Rattle.vg_device.specs.declared.request.Reply.{Reply}
+use Rattle.vg_device.specs.declared.request.Request.{Request}
 use Rattle.vg_client_holds.specs.declared.holds.Holds.{Holds}
 use Rattle.vg_client_holds.specs.declared.setup.Setup.{Setup}
 use Rattle.vg_machine.specs.Entries.{Entry}
 use Rattle.vg_machine.specs.Order.{Sound, of_client}
 use Rattle.vg_machine.specs.Replay.{Agrees, display}
-use Rattle.vg_machine.specs.State.{State, start}
+use Rattle.vg_device.specs.State.{State, start}
+use Rattle.vg_machine.specs.Jobs.{Job}
+use Rattle.vg_machine.specs.Lender.{Lender}
 use Rattle.vg_scanout.specs.declared.scanout.Frame.{Frame}
 use Rattle.vg_script.specs.declared.types.Line.{Line}
 use Rattle.vg_script.specs.declared.types.Script.{Script}
@@ -39,13 +41,13 @@ use Rattle.vg_legal.proofs.LegalLemmas.{legal-journal}
 -- the lanes of a book that was just opened are those that a front begins with
 pub lanes-new : (first : Option State) (n : ℕ) (lanes : List Lane) → n ≡ 66 → lanes ≡ first_lanes first n → (length lanes ≡ 66) × desks.AreNew (λ (l : Lane). l.lane) (λ (l : Lane). l.count) 0 lanes
 lanes-new first n lanes is are = subst (λ (ls : List Lane). (length ls ≡ 66) × desks.AreNew (λ (l : Lane). l.lane) (λ (l : Lane). l.count) 0 ls) (sym are) (
-  lanes_long State State Act ActReply Request Reply Holds Request first n ∙ is,
-  lanes_are_new State State Act ActReply Request Reply Holds Request first n,
+  lanes_long Lender State Act ActReply Request Reply Holds Job first n ∙ is,
+  lanes_are_new Lender State Act ActReply Request Reply Holds Job first n,
 )
 
 -- the laws of the book and of clients' own entries
 abbrev pub Closed : Type 0
-Closed = (r : Root) (machine : State) (es : List Entry) (c : Token) → IsClosed display r machine es → Has r.accounts c.account → IsPrefix c.seen r.seen → IsCurrent display c → own c.account.number es ≡ own c.account.number c.seen
+Closed = (r : Root) (machine : Lender) (es : List Entry) (c : Token) → IsClosed display r machine es → Has r.accounts c.account → IsPrefix c.seen r.seen → IsCurrent display c → own c.account.number es ≡ own c.account.number c.seen
 
 abbrev pub OneHistory : Type 0
 OneHistory = (setup : Setup) (values : Values) (clients : List (List Line)) (H : List Entry) → Agrees setup H → Ordered display H → AllByRecursion (IsOwned (length clients)) H → KeptAll setup values 1 clients H

@@ -14,12 +14,13 @@ use Rattle.vg_client_holds.specs.declared.act.ActReply.TheVariants as act_replie
 use Rattle.vg_client_holds.specs.declared.act.What.{What}
 use Rattle.vg_machine.specs.Entries.{Entry}
 use Rattle.vg_history.specs.declared.entry.Entry.TheVariants as entries
-use Rattle.vg_machine.specs.declared.history.Reply.{Reply}
-use Rattle.vg_machine.specs.declared.history.Request.{Request}
+use Rattle.vg_device.specs.declared.request.Reply.{Reply}
+use Rattle.vg_device.specs.declared.request.Request.{Request}
 use Rattle.vg_client_holds.specs.declared.holds.Holds.{Holds}
 use Rattle.vg_client_holds.specs.Holds.{denied_of}
-use Rattle.vg_machine.specs.State.{State, start}
-use Rattle.vg_machine.specs.Replay.{AgreesFrom, HasReply, after, request_step}
+use Rattle.vg_device.specs.State.{State, start}
+use Rattle.vg_machine.specs.Replay.{AgreesFrom, HasReply, after}
+use Rattle.vg_device.specs.RequestStep.{request_step}
 use Rattle.vg_machine.specs.Order.{AreInOrder, LaneOrder, Sound, by_call, call_of, client_of, is_of_lane, of_client}
 use Rattle.vg_script.specs.declared.types.Line.{Line}
 use Rattle.vg_tasks.specs.declared.task.Deed.{Deed}

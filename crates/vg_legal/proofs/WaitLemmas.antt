@@ -16,8 +16,8 @@ use Rattle.vg_labels.specs.Labels.{Names, NamesBy, Values}
 use Rattle.vg_machine.specs.Entries.{Entry}
 use Rattle.vg_machine.specs.Order.{call_of, client_of}
 use Rattle.vg_machine.specs.Replay.{display}
-use Rattle.vg_machine.specs.declared.history.Reply.{Reply}
-use Rattle.vg_machine.specs.declared.history.Request.{Request}
+use Rattle.vg_device.specs.declared.request.Reply.{Reply}
+use Rattle.vg_device.specs.declared.request.Request.{Request}
 use Rattle.vg_script_part.specs.Values.{HasGiven, HasHeard, gift_in, gift_of, value_of}
 use Rattle.vg_legal.specs.Legal.{IsGivenBehind}
 

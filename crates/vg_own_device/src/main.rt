@@ -1,9 +1,9 @@
-//! A device of one's own: the display machine alone, without scripts, threads and rings, is asked for its display information.
+//! A device of one's own: the display device alone, without scripts, threads and rings, is asked for its display information.
 #![tactic(auto)]
 
 use std::io;
+use vg_device::{Device, Setup};
 use vg_list::Seq;
-use vg_machine::{Display, Setup};
 use vg_wire::Queue;
 
 /// GET_DISPLAY_INFO: its kind, and the rest of a header of 24 bytes (VIRTIO 1.2, 5.7.6.7).
@@ -23,8 +23,8 @@ fn main(rt: HostRuntime) -> io::Result<()> {
         accepted: FEATURES,
         clients: 0,
     };
-    let mut display = Display::new(rt.alloc(), &setup)?;
+    let mut device = Device::new(rt.alloc(), &setup)?;
     // The room for a response is 48 bytes: its header, and what is told of scanout 0.
-    let response = display.command(rt.alloc(), Queue::Control, &REQUEST, 48)?;
+    let response = device.command(rt.alloc(), Queue::Control, &REQUEST, 48)?;
     println!(rt; "{:?}", response.as_slice())
 }

@@ -12,8 +12,8 @@ use Rattle.vg_ring.specs.declared.views.Entry as ring
 use Rattle.vg_ring.specs.Entries as ring_entries
 use Rattle.vg_ring.specs.Entries.{weigh}
 use Rattle.vg_front.specs.Lanes.{of_lane}
-use Rattle.vg_machine.specs.declared.history.Reply.{Reply}
-use Rattle.vg_machine.specs.declared.history.Request.{Request}
+use Rattle.vg_device.specs.declared.request.Reply.{Reply}
+use Rattle.vg_device.specs.declared.request.Request.{Request}
 use Rattle.vg_machine.specs.Entries.{Entry}
 use Rattle.vg_machine.specs.Replay.{display}
 use Rattle.vg_driver.specs.Halves.{HasAsked}

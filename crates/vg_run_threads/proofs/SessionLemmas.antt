@@ -24,7 +24,8 @@ use Rattle.vg_client_holds.specs.declared.setup.Setup.{Setup}
 use Rattle.vg_machine.specs.Entries.{Entry}
 use Rattle.vg_client_holds.specs.Holds.{first_holds}
 use Rattle.vg_machine.specs.Replay.{display}
-use Rattle.vg_machine.specs.State.{State, start}
+use Rattle.vg_device.specs.State.{State, start}
+use Rattle.vg_machine.specs.Lender.{Lender}
 use Rattle.vg_scanout.specs.declared.scanout.Frame.{Frame}
 use Rattle.vg_script.specs.declared.types.Line.{Line}
 use Rattle.vg_script.specs.declared.types.Script.{Script}
@@ -357,7 +358,7 @@ module _ {P : Type 0} where
   lane-completed front lists H lane token on ran is all =
       completed-lane lane token.count H lists.completed (ran.ordinals on ∙ sym (upto-range token.count)) (ap (λ (l : ℕ). ordinals display l H) (sym ran.lane_is) ∙ is) all
 
-  pub all-completed : (script : Script) (root heard root' : Root) (front : FrontData P Lane) (lanes : List Lane) (control cursor control' cursor' : DeviceLists) (machine : State) (H : List Entry) → HaveAllJoined script root → front.control.halted ≡ false
+  pub all-completed : (script : Script) (root heard root' : Root) (front : FrontData P Lane) (lanes : List Lane) (control cursor control' cursor' : DeviceLists) (machine : Lender) (H : List Entry) → HaveAllJoined script root → front.control.halted ≡ false
       → Closing front lanes control cursor → HasHeard root heard → HasTakenLanes heard lanes root' → IsClosed display root' machine H → (control' ≡ control) × (cursor' ≡ cursor) → AreAsked control'.completed heard.seen × AreAsked cursor'.completed heard.seen
       → HaveCompleted H control' cursor'
   all-completed script root heard root' front lanes control cursor control' cursor' machine H joined on closes hears taken closed same asked =
@@ -377,7 +378,7 @@ module _ {P : Type 0} where
       } in
       subst₂ (λ (over pointed : DeviceLists). HaveCompleted H over pointed) (sym same.0) (sym same.1) whole
 
-pub is-end : (root last : Root) (lanes : List Lane) (machine : State) (H : List Entry) (frames : List Frame) → HasTakenLanes root lanes last → IsClosed display last machine H → frames ≡ machine.scanouts.frames → IsEnd root H frames
+pub is-end : (root last : Root) (lanes : List Lane) (machine : Lender) (H : List Entry) (frames : List Frame) → HasTakenLanes root lanes last → IsClosed display last machine H → frames ≡ machine.state.scanouts.frames → IsEnd root H frames
 is-end root last lanes machine H frames taken closed are = record {
   last = last;
   machine = machine;

@@ -18,13 +18,15 @@ use Rattle.vg_front.specs.Fronts.{FrontData}
 use Rattle.vg_front.specs.Lanes.{of_lane}
 use Rattle.vg_client_holds.specs.declared.act.Act.{Act}
 use Rattle.vg_client_holds.specs.declared.act.ActReply.{ActReply}
-use Rattle.vg_machine.specs.declared.history.Reply.{Reply}
-use Rattle.vg_machine.specs.declared.history.Request.{Request}
+use Rattle.vg_device.specs.declared.request.Reply.{Reply}
+use Rattle.vg_device.specs.declared.request.Request.{Request}
 use Rattle.vg_client_holds.specs.declared.holds.Holds.{Holds}
 use Rattle.vg_client_holds.specs.declared.setup.Setup.{Setup}
 use Rattle.vg_machine.specs.Entries.{Entry}
 use Rattle.vg_machine.specs.Replay.{display}
-use Rattle.vg_machine.specs.State.{State, start}
+use Rattle.vg_device.specs.State.{State, start}
+use Rattle.vg_machine.specs.Jobs.{Job}
+use Rattle.vg_machine.specs.Lender.{Lender}
 use Rattle.vg_scanout.specs.declared.scanout.Frame.{Frame}
 use Rattle.vg_script.specs.declared.types.Line.{Line}
 use Rattle.vg_script.specs.declared.types.Script.{Script}
@@ -48,10 +50,10 @@ begins_any clients = list_any begins_one clients
 
 -- The root and the lanes' tokens of a book whose machine is a display.
 abbrev pub Root : Type 0
-Root = Rooted State State Act ActReply Request Reply Holds Request
+Root = Rooted Lender State Act ActReply Request Reply Holds Job
 
 abbrev pub Lane : Type 0
-Lane = tokens.Lane State State Act ActReply Request Reply Holds Request
+Lane = tokens.Lane Lender State Act ActReply Request Reply Holds Job
 
 abbrev pub account_of : Token → Account
 account_of token = token.account
@@ -168,10 +170,10 @@ pub record HasTakenLanes (old : Root) (lanes : List Lane) (new : Root) : Type 0 
 -- The book was closed when the lanes had joined this root, whose clients had: its history, and the display's frames.
 pub record IsEnd (root : Root) (H : List Entry) (frames : List Frame) : Type 0 where
   pub last : Root
-  pub machine : State
+  pub machine : Lender
   pub closed : IsClosed display last machine H
   pub given : last.given ≡ root.given
   pub accounts : last.accounts ≡ root.accounts
   pub start : last.start ≡ root.start
   pub more : IsPrefix root.seen last.seen
-  pub frames_are : frames ≡ machine.scanouts.frames
+  pub frames_are : frames ≡ machine.state.scanouts.frames

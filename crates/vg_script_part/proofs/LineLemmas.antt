@@ -18,7 +18,7 @@ use Rattle.vg_client_holds.specs.declared.act.Act.TheVariants.{Enter, Leave}
 use Rattle.vg_client_holds.specs.declared.act.ActReply.TheVariants as act_replies
 use Rattle.vg_machine.specs.Entries.{Entry}
 use Rattle.vg_machine.specs.Order.{by_call, call_of, of_client, placed}
-use Rattle.vg_machine.specs.State.{State, start}
+use Rattle.vg_device.specs.State.{State, start}
 use Rattle.vg_script.specs.declared.types.Line.{Line}
 use Rattle.vg_script.specs.Limits.{BodyInLimits, CallInLimits, IsBetween, ShapeInLimits}
 use Rattle.vg_chain.specs.declared.shape.Shape.{Shape}

@@ -22,9 +22,11 @@ use Rattle.vg_client_holds.specs.declared.holds.Holds.{Holds}
 use Rattle.vg_client_holds.specs.declared.setup.Setup.{Setup}
 use Rattle.vg_fence.specs.Fences.{FenceData}
 use Rattle.vg_machine.specs.Entries.{Entry}
-use Rattle.vg_machine.specs.State.{State}
-use Rattle.vg_machine.specs.declared.history.Reply.{Reply}
-use Rattle.vg_machine.specs.declared.history.Request.{Request}
+use Rattle.vg_device.specs.State.{State}
+use Rattle.vg_machine.specs.Jobs.{Job}
+use Rattle.vg_machine.specs.Lender.{Lender}
+use Rattle.vg_device.specs.declared.request.Reply.{Reply}
+use Rattle.vg_device.specs.declared.request.Request.{Request}
 use Rattle.vg_machine.specs.Order.{call_of, client_of, of_client}
 use Rattle.vg_machine.specs.Replay.{display}
 use Rattle.vg_names.specs.declared.names.Held.{Held}
@@ -558,7 +560,7 @@ noted-there given (gifts.Fence lane ordinal) noted seen p here = tt
 noted-there given (gifts.Token token) noted seen p here = (here.0, has_prefix noted seen here.0 p here.1, here.2, here.3)
 noted-there given gifts.Nothing noted seen p here = (here.0, has_prefix noted seen here.0 p here.1, here.2, here.3)
 
-pub noted-here : (given : Given) (gift : Gift) (note : Noted State State Act ActReply Request Reply Holds Request) → IsNotedBy gift given.client given.call (Some note) → IsHere note.seen given gift
+pub noted-here : (given : Given) (gift : Gift) (note : Noted Lender State Act ActReply Request Reply Holds Job) → IsNotedBy gift given.client given.call (Some note) → IsHere note.seen given gift
 noted-here given (gifts.Fence lane ordinal) note noted = tt
 noted-here given (gifts.Token token) note noted = noted
 noted-here given gifts.Nothing note noted = noted

@@ -13,7 +13,7 @@ use Rattle.vg_machine.specs.Entries.{Entry}
 use Rattle.vg_machine.specs.Order.{call_of}
 use Rattle.vg_machine.specs.Replay.{display}
 use Rattle.vg_history.specs.declared.entry.Entry.TheVariants as entries
-use Rattle.vg_machine.specs.State.{start}
+use Rattle.vg_device.specs.State.{start}
 use Rattle.vg_calls.specs.declared.call.Call.{Call}
 use Rattle.vg_calls.specs.declared.call.Call.TheVariants as calls
 use Rattle.vg_script.specs.declared.types.Line.{Line}

@@ -2,7 +2,7 @@
 
 ghost use Rattle.std.specs.Prelude.{◌≡◌, ◌⊎◌, ◌≤◌, ◌<◌, ◌+◌, ◌-◌, ◌^◌, [], true, false, Some, length, IfOk, OnErr, OnOk};
 ghost use Rattle.vg_client_holds.specs.declared.setup.Setup.{Setup};
-ghost use Rattle.vg_machine.specs.State.{start};
+ghost use Rattle.vg_device.specs.State.{start};
 ghost use Rattle.vg_client.specs.Accounts.{IsNew};
 ghost use Rattle.vg_client.specs.Callers.{IsReady};
 ghost use Rattle.vg_labels.specs.Labels.{AreOf};

@@ -26,10 +26,13 @@ use Rattle.vg_machine.specs.contracts.machine.DisplayMachine.TheImpl as machine
 use Rattle.vg_worker.specs.contracts.worker.Worker as worker
 use Rattle.vg_machine.specs.contracts.display.Display as display
 use Rattle.vg_machine.specs.contracts.display.Display.TheInside as display_in
+use Rattle.vg_machine.specs.contracts.job.Job as job
+use Rattle.vg_device.specs.contracts.device.Device as device
+use Rattle.vg_device.specs.contracts.device.Device.TheInside as device_in
 use Rattle.vg_client_holds.specs.contracts.act.Act as act
 use Rattle.vg_client_holds.specs.contracts.act.ActReply as act_reply
-use Rattle.vg_machine.specs.contracts.history.Request as request
-use Rattle.vg_machine.specs.contracts.history.Reply as reply
+use Rattle.vg_device.specs.contracts.request.Request as request
+use Rattle.vg_device.specs.contracts.request.Reply as reply
 use Rattle.vg_client_holds.specs.contracts.holds.Holds as holds
 
 seq_send : (X : RattleType) → IsSend X → IsSend (seq.the_row X)
@@ -45,9 +48,12 @@ scanouts_send : IsSend scanouts.the_row
 scanouts_send = let S = scanouts_in.the_type in
     view_send _ _ _ _ _ (recorded_send _ _ _ S.to_one (struct_send (shape S) (search (sendable, crosses, panel_send) depth 20, (search (sendable, crosses, frame_send) depth 20, (search sendable, tt)))))
 
-pub display_send : IsSend display.the_row
-display_send = let D = display_in.the_type in
+device_send : IsSend device.the_row
+device_send = let D = device_in.the_type in
     view_send _ _ _ _ _ (recorded_send _ _ _ D.to_one (struct_send (shape D) (search (sendable, crosses, seq_send) depth 20, (search sendable, (search (sendable, crosses) depth 20, (search (sendable, crosses, BTreeMap-send, seq_send) depth 20, (search (sendable, crosses, BTreeMap-send) depth 20, (search (sendable, crosses, BTreeMap-send) depth 40, (search (sendable, crosses, BTreeMap-send) depth 40, (search (sendable, crosses, BTreeMap-send) depth 20, (search (sendable, crosses, seq_send) depth 20, (scanouts_send, (search (sendable, crosses, BTreeMap-send, seq_send) depth 20, tt)))))))))))))
+
+pub display_send : IsSend display.the_row
+display_send = let D = display_in.the_type in view_send _ _ _ _ _ (recorded_send _ _ _ D.to_one (struct_send (shape D) (device_send, tt)))
 
 pub act_send : IsSend act.the_row
 act_send = search (sendable, crosses) depth 40
@@ -69,28 +75,28 @@ holds_send = let T = holds.the_type in
 -- The rows of what a display's book lends and gives.
 module _ (B : RattleType) (gb : Naming.Ghosts B.Denot) where
   abbrev pub Lane : RattleType
-  Lane = lane.the_row display.the_row B display.the_row act.the_row act_reply.the_row request.the_row reply.the_row holds.the_row request.the_row machine.ghosts gb
+  Lane = lane.the_row display.the_row B device.the_row act.the_row act_reply.the_row request.the_row reply.the_row holds.the_row job.the_row machine.ghosts gb
 
   abbrev pub Carried : RattleType
-  Carried = carried.the_row display.the_row B display.the_row act.the_row act_reply.the_row request.the_row reply.the_row holds.the_row request.the_row machine.ghosts gb
+  Carried = carried.the_row display.the_row B device.the_row act.the_row act_reply.the_row request.the_row reply.the_row holds.the_row job.the_row machine.ghosts gb
 
   abbrev pub Client : RattleType
-  Client = client.the_row display.the_row B display.the_row act.the_row act_reply.the_row request.the_row reply.the_row holds.the_row request.the_row machine.ghosts gb
+  Client = client.the_row display.the_row B device.the_row act.the_row act_reply.the_row request.the_row reply.the_row holds.the_row job.the_row machine.ghosts gb
 
   abbrev pub Book : RattleType
-  Book = book.the_row display.the_row B display.the_row act.the_row act_reply.the_row request.the_row reply.the_row holds.the_row request.the_row gb machine.ghosts
+  Book = book.the_row display.the_row B device.the_row act.the_row act_reply.the_row request.the_row reply.the_row holds.the_row job.the_row gb machine.ghosts
 
   pub lane_sent : IsSend Lane
-  lane_sent = lane_send display.the_row display.the_row act.the_row act_reply.the_row request.the_row reply.the_row holds.the_row request.the_row display_send act_send act_reply_send request_send reply_send B machine.ghosts gb
+  lane_sent = lane_send display.the_row device.the_row act.the_row act_reply.the_row request.the_row reply.the_row holds.the_row job.the_row display_send act_send act_reply_send request_send reply_send B machine.ghosts gb
 
   pub carried_sent : IsSend Carried
   carried_sent = search (sendable, crosses, pass_send, done_send, display_send, act_send, act_reply_send, request_send, reply_send) depth 20
 
   pub client_sent : IsSend Client
-  client_sent = client_send display.the_row display.the_row act.the_row act_reply.the_row request.the_row reply.the_row holds.the_row request.the_row display_send act_send act_reply_send request_send reply_send B machine.ghosts gb holds_send
+  client_sent = client_send display.the_row device.the_row act.the_row act_reply.the_row request.the_row reply.the_row holds.the_row job.the_row display_send act_send act_reply_send request_send reply_send B machine.ghosts gb holds_send
 
   pub book_shared : IsSync Book
-  book_shared = book_sync display.the_row display.the_row act.the_row act_reply.the_row request.the_row reply.the_row holds.the_row request.the_row display_send act_send act_reply_send request_send reply_send B machine.ghosts gb
+  book_shared = book_sync display.the_row device.the_row act.the_row act_reply.the_row request.the_row reply.the_row holds.the_row job.the_row display_send act_send act_reply_send request_send reply_send B machine.ghosts gb
 
   module _ (N : RattleType) (gn : Rings.Ghosts N.Denot) (n : IsSend N) where
     pub front_sent : (gp : Tagged.Ghosts Carried.Denot) (gt : Turn.Ghosts Lane.Denot) → IsSend (front.the_row Carried Lane N gp gt gn)

@@ -6,21 +6,23 @@ use Rattle.vg_book.specs.declared.outcome.Carried.TheVariants.{Wanted, Done, Unr
 use Rattle.vg_book.specs.Tokens as tokens
 use Rattle.vg_client_holds.specs.declared.act.Act.{Act}
 use Rattle.vg_client_holds.specs.declared.act.ActReply.{ActReply}
-use Rattle.vg_machine.specs.declared.history.Reply.{Reply}
-use Rattle.vg_machine.specs.declared.history.Request.{Request}
+use Rattle.vg_device.specs.declared.request.Reply.{Reply}
+use Rattle.vg_device.specs.declared.request.Request.{Request}
 use Rattle.vg_client_holds.specs.declared.holds.Holds.{Holds}
-use Rattle.vg_machine.specs.State.{State}
+use Rattle.vg_device.specs.State.{State}
+use Rattle.vg_machine.specs.Jobs.{Job}
+use Rattle.vg_machine.specs.Lender.{Lender}
 use Rattle.vg_machine.specs.Replay.{display}
 use Rattle.vg_machine.specs.Written.{written_in}
 
 abbrev pub Lane : Type 0
-Lane = tokens.Lane State State Act ActReply Request Reply Holds Request
+Lane = tokens.Lane Lender State Act ActReply Request Reply Holds Job
 
 abbrev pub Pass : Type 0
-Pass = tokens.Passed State State Act ActReply Request Reply Holds Request
+Pass = tokens.Passed Lender State Act ActReply Request Reply Holds Job
 
 abbrev pub Carried : Type 0 → Type 0
-Carried B = books.Carried State B State Act ActReply Request Reply Holds Request
+Carried B = books.Carried Lender B State Act ActReply Request Reply Holds Job
 
 -- The pass wasn't run, and comes back: behind a look for room in the history, or as it was, where its request couldn't be read.
 abbrev pub ComesUnrun : Lane → Pass → Lane → Pass → Type 0

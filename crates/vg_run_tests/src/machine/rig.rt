@@ -3,7 +3,7 @@
 use std::alloc::{AllocError, Global};
 use std::process::Abort;
 use vg_list::Seq;
-use vg_machine::{Act, ActReply, Display, Holds, Setup, ShareRefusal};
+use vg_device::{Act, ActReply, Device, Holds, Setup, ShareRefusal};
 use vg_wire::Queue;
 
 /// RESOURCE_CREATE_2D, the low byte of its type (VIRTIO 1.2, 5.7.6.7), whose fields are resource, format, width, height.
@@ -49,7 +49,7 @@ pub(crate) enum Due<'a> {
 #[derive(Drop)]
 struct Rig {
     alloc: Global,
-    display: Display,
+    device: Device,
     first: Holds,
     second: Holds,
 }
@@ -74,7 +74,7 @@ impl Rig {
         };
         Ok(Rig {
             alloc,
-            display: Display::new(alloc, &setup)?,
+            device: Device::new(alloc, &setup)?,
             first: Holds::new(alloc, &setup, 1),
             second: Holds::new(alloc, &setup, 2),
         })
@@ -104,9 +104,9 @@ impl Rig {
         code: u32,
     ) -> Result<(), AllocError> {
         let request = request(self.alloc, kind, fields)?;
-        assert!(rt; self.display.entries() < 1000);
+        assert!(rt; self.device.entries() < 1000);
         let answer = self
-            .display
+            .device
             .command(self.alloc, queue, request.as_slice(), 408)?;
         assert_eq!(rt; answer.as_slice(), plain_header(code).as_slice(), "{name}");
         Ok(())
@@ -114,13 +114,13 @@ impl Rig {
 
     /// Does an act of client 1 or 2, and gives its reply.
     fn act(&mut self, rt: &impl Abort, client: u32, act: &Act) -> Result<ActReply, AllocError> {
-        assert!(rt; self.display.entries() < 1000);
+        assert!(rt; self.device.entries() < 1000);
         let (reply, _) = if client == 1 {
             assert!(rt; self.first.client == 1);
-            self.display.act(self.alloc, 1, &mut self.first, act)?
+            self.device.act(self.alloc, 1, &mut self.first, act)?
         } else {
             assert!(rt; self.second.client == 2);
-            self.display.act(self.alloc, 2, &mut self.second, act)?
+            self.device.act(self.alloc, 2, &mut self.second, act)?
         };
         Ok(reply)
     }
@@ -147,7 +147,7 @@ pub(crate) fn run(rt: &impl Abort, alloc: Global, rows: &[Row<'_>]) -> Result<()
     for row in rows {
         rig.row(rt, row)?;
     }
-    assert_eq!(rt; rig.display.entries(), rows.len() as u64);
+    assert_eq!(rt; rig.device.entries(), rows.len() as u64);
     Ok(())
 }
 
