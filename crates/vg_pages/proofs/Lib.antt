@@ -1,3 +1,4 @@
 pub mod FreePages
 pub mod Marked
 pub mod Padded
+pub mod Spliced

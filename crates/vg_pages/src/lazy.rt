@@ -104,7 +104,7 @@ fn fill_from(bytes: &[u8], out: &mut [u8])
     rest.fill(0);
 }
 
-fn overwrite(front: &mut Vec<u8>, start: usize, bytes: &[u8])
+pub(crate) fn overwrite(front: &mut Vec<u8>, start: usize, bytes: &[u8])
     requires { start + length bytes.now ≤ length front.old.items }
     ensures bytes { front.new.items ≡ take start front.old.items ++ bytes.now ++ drop (start + length bytes.now) front.old.items }
     ensures room { vec_capacity front.old ≤ vec_capacity front.new }
@@ -121,7 +121,7 @@ fn zero_from_to(front: &mut Vec<u8>, start: usize, end: usize)
     zero_part(front.as_mut_slice(), start, end);
 }
 
-fn overwrite_part(all: &mut [u8], start: usize, bytes: &[u8])
+pub(crate) fn overwrite_part(all: &mut [u8], start: usize, bytes: &[u8])
     requires { start + length bytes.now ≤ length all.old }
     ensures { all.new ≡ take start all.old ++ bytes.now ++ drop (start + length bytes.now) all.old }
 {

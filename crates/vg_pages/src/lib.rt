@@ -4,6 +4,8 @@
 ghost use Rattle.std.specs.Prelude.{◌≡◌};
 ghost use Rattle.vg_pages.specs.Memory as memory_words;
 
+mod block;
+mod blocks;
 mod flags;
 mod lazy;
 mod memory;

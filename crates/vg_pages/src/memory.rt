@@ -1,11 +1,11 @@
-//! Guest memory as one buffer, with a flag for each page.
+//! Guest memory page by page, with a flag for each page.
 
 ghost use Rattle.std.specs.Prelude.{◌≡◌, ℕ, List, All, ◌<◌, ◌≤◌, ◌*◌, ◌↔◌, IfOk, IfSome, IfNone, OnErr, IsNone, IsTrue, length, take, false, vec_len};
 ghost use Rattle.vg_pages.specs.Memory.{HasWholePages, fresh_memory, HoldsRange, bytes_at, written_at, free_pages, is_among, marked, after_taking, AreGivable, AreTakeable, page_address};
 
 use crate::flags::{count_free, least, lowest_free, mark, next_free, zero};
-use crate::lazy::LazyBytes;
-use crate::{MEMORY_START, PAGE_BYTES, page_address};
+use crate::blocks::Blocks;
+use crate::{MEMORY_START, page_address};
 use std::alloc::{AllocError, Global};
 use std::marker::Model;
 
@@ -13,7 +13,7 @@ use std::marker::Model;
 /// are in bytes. A clause sees the bytes of all pages as one list, and for each page whether it is taken.
 #[derive(Debug, Drop)]
 pub struct Pages {
-    bytes: LazyBytes,
+    bytes: Blocks,
     taken: Vec<bool>,
     /// No page below this one is free.
     low: usize,
@@ -41,7 +41,7 @@ impl Pages {
         ensures count { IfOk result (λ memory. length memory.taken ≡ count) }
         ensures pages { IfOk result HasWholePages }
     {
-        let bytes = LazyBytes::new(alloc, count as usize * PAGE_BYTES)?;
+        let bytes = Blocks::new(alloc, count)?;
         let taken = vec![in alloc; false; count as usize]?;
         Ok(Pages {
             bytes,
