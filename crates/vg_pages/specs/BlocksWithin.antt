@@ -1,5 +1,5 @@
 -- The bytes of pages of which some have a block of their own.
-use Rattle.std.specs.Prelude.{◌≡◌, ◌⊎◌, ◌<◌, ◌≤◌, ℕ, ◌+◌, ◌/◌, ◌%◌, List, ◌++◌, take, drop, length, slice_index, slice_index_or, Option, Some, None}
+use Rattle.std.specs.Prelude.{◌≡◌, ◌⊎◌, ◌<◌, ◌≤◌, ℕ, ◌+◌, ◌/◌, ◌%◌, List, ◌++◌, take, drop, replicate, length, slice_index, slice_index_or, Option, Some, None}
 use Rattle.vg_places.specs.Places.{tabulate}
 
 -- The byte at a place, whose page has this block.
@@ -31,3 +31,8 @@ pub record IsWritten (start from : ℕ) (bytes : List ℕ) (old new : Option (Li
   pub long : length (page_of old base start) ≡ 4096
   pub page : page_of new after start ≡ spliced from bytes (page_of old base start)
   pub rest : (k : ℕ) → (k < start) ⊎ (start + 4096 ≤ k) → slice_index after k ≡ slice_index base k
+
+-- The bytes of a page that was shared, with its block or, where they are all 0, without.
+abbrev pub shared_bytes : Option (List ℕ) → List ℕ
+shared_bytes (Some block) = block
+shared_bytes None = replicate 4096 0

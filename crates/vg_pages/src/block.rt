@@ -37,7 +37,8 @@ impl Block {
 
     /// The same bytes, in the same place.
     pub(crate) fn share(&self) -> Result<Block, AllocError>
-        ensures { IfOk result (λ block. block ≡ self.now) }
+        ensures bytes { IfOk result (λ block. block ≡ self.now) }
+        ensures size { length self.now ≡ 4096 }
     {
         let bytes = self.bytes.clone()?;
         Ok(Block { bytes })

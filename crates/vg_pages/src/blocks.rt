@@ -1,13 +1,14 @@
 //! The bytes of pages, of which each may be shared.
 
-ghost use Rattle.std.specs.Prelude.{◌≡◌, ◌+◌, ◌*◌, ◌<◌, ◌≤◌, ◌++◌, ◌%◌, ◌^◌, IfOk, None, length, take, drop, replicate};
-ghost use Rattle.vg_pages.specs.BlocksWithin.{IsWritten, spliced};
+ghost use Rattle.std.specs.Prelude.{◌≡◌, ◌+◌, ◌-◌, ◌*◌, ◌<◌, ◌≤◌, ◌++◌, ◌%◌, ◌^◌, IfOk, None, length, min, take, drop, replicate};
+ghost use Rattle.vg_pages.specs.BlocksWithin.{IsWritten, page_of, shared_bytes, spliced};
 
 use crate::PAGE_BYTES;
 use crate::block::Block;
 use crate::lazy::{LazyBytes, overwrite};
 use std::alloc::{AllocError, Global};
 use std::marker::Model;
+use crate::piece::Piece;
 use std::mem;
 use vg_places::zeros;
 
@@ -75,6 +76,20 @@ impl Blocks {
             Some(block) => out.copy_from_slice(&block.as_slice()[from..from + out.len()]),
             None => self.base.read(at, out),
         }
+    }
+
+    /// The bytes from `at` on, at most `most` and up to the end of their page.
+    pub(crate) fn share(&self, alloc: Global, at: usize, most: usize) -> Result<Piece, AllocError>
+        requires inside { at + most ≤ length self.now }
+        requires some { 0 < most }
+        ensures bytes { IfOk result (λ piece. piece ≡ take (length piece) (drop at self.now)) }
+        ensures length { IfOk result (λ piece. length piece ≡ min most (4096 - at % 4096)) }
+    {
+        let page = at / PAGE_BYTES;
+        let from = at % PAGE_BYTES;
+        let length = most.min(PAGE_BYTES - from);
+        let block = share_page(alloc, &self.blocks[page], &self.base, page * PAGE_BYTES)?;
+        Ok(Piece::of(block, from, length))
     }
 
     /// Writes these bytes from `start` on.
@@ -195,6 +210,44 @@ fn page_of(alloc: Global, base: &LazyBytes, start: usize) -> Result<Vec<u8>, All
     let mut page = zeros(alloc, PAGE_BYTES)?;
     base.read(start, page.as_mut_slice());
     Ok(page)
+}
+
+/// The block of the page that begins at `start`, or one with its bytes; none where they are all 0.
+fn share_page(
+    alloc: Global,
+    block: &Option<Block>,
+    base: &LazyBytes,
+    start: usize,
+) -> Result<Option<Block>, AllocError>
+    requires { start + 4096 ≤ length base.now }
+    ensures bytes { IfOk result (λ shared. shared_bytes shared ≡ page_of block.now base.now start) }
+    ensures size { IfOk result (λ shared. length (shared_bytes shared) ≡ 4096) }
+{
+    match block {
+        Some(block) => {
+            let shared = block.share()?;
+            Ok(Some(shared))
+        }
+        None => share_base(alloc, base, start),
+    }
+}
+
+/// The same of a page without a block.
+fn share_base(
+    alloc: Global,
+    base: &LazyBytes,
+    start: usize,
+) -> Result<Option<Block>, AllocError>
+    requires { start + 4096 ≤ length base.now }
+    ensures bytes { IfOk result (λ shared. shared_bytes shared ≡ page_of None base.now start) }
+    ensures size { IfOk result (λ shared. length (shared_bytes shared) ≡ 4096) }
+{
+    if base.is_zero_from(start) {
+        return Ok(None);
+    }
+    let page = page_of(alloc, base, start)?;
+    let block = Block::of(alloc, page)?;
+    Ok(Some(block))
 }
 
 /// So many pages without a block.

@@ -1,6 +1,6 @@
 //! Bytes of a fixed number that take no time and no pages of the host before they are written.
 
-ghost use Rattle.std.specs.Prelude.{◌≡◌, ◌+◌, ◌-◌, ◌≤◌, ◌++◌, IfOk, length, min, take, drop, replicate, vec_capacity};
+ghost use Rattle.std.specs.Prelude.{◌≡◌, true, ◌+◌, ◌-◌, ◌≤◌, ◌++◌, IfOk, length, min, take, drop, replicate, vec_capacity};
 ghost use Rattle.vg_pages.specs.Memory.{padded};
 
 use std::alloc::{AllocError, Global};
@@ -49,6 +49,13 @@ impl LazyBytes {
         ensures { out.new ≡ take (length out.old) (drop start self.now) }
     {
         read_padded(self.front.as_slice(), self.size, start, out);
+    }
+
+    /// Whether the bytes from `start` on lie behind all that was written, and so are 0.
+    pub(crate) fn is_zero_from(&self, start: usize) -> bool
+        ensures { result ≡ true → drop start self.now ≡ replicate (length self.now - start) 0 }
+    {
+        self.front.len() <= start
     }
 
     /// Writes these bytes from `start` on.

@@ -9,8 +9,10 @@ mod blocks;
 mod flags;
 mod lazy;
 mod memory;
+mod piece;
 
 pub use memory::Pages;
+pub use piece::Piece;
 
 /// How many bytes a page has.
 pub const PAGE_BYTES: usize = 4_096;

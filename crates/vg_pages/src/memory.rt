@@ -1,10 +1,11 @@
 //! Guest memory page by page, with a flag for each page.
 
-ghost use Rattle.std.specs.Prelude.{◌≡◌, ℕ, List, All, ◌<◌, ◌≤◌, ◌*◌, ◌↔◌, IfOk, IfSome, IfNone, OnErr, IsNone, IsTrue, length, take, false, vec_len};
-ghost use Rattle.vg_pages.specs.Memory.{HasWholePages, fresh_memory, HoldsRange, bytes_at, written_at, free_pages, is_among, marked, after_taking, AreGivable, AreTakeable, page_address};
+ghost use Rattle.std.specs.Prelude.{◌≡◌, ℕ, List, All, ◌<◌, ◌≤◌, ◌*◌, ◌↔◌, IfOk, IfSome, IfNone, OnErr, IsNone, IsTrue, length, min, take, false, vec_len, ◌-◌, ◌%◌};
+ghost use Rattle.vg_pages.specs.Memory.{HasWholePages, fresh_memory, HoldsRange, bytes_at, written_at, free_pages, is_among, is_free, marked, after_taking, AreGivable, AreTakeable, page_address};
 
 use crate::flags::{count_free, least, lowest_free, mark, next_free, zero};
 use crate::blocks::Blocks;
+use crate::piece::Piece;
 use crate::{MEMORY_START, page_address};
 use std::alloc::{AllocError, Global};
 use std::marker::Model;
@@ -119,6 +120,16 @@ impl Pages {
         count_free(self.taken.as_slice())
     }
 
+    /// Whether there is such a page, and it is free.
+    pub fn is_free(&self, page: u32) -> bool
+        ensures { result ≡ is_free self.now.taken page }
+    {
+        match self.taken.get(page as usize) {
+            Some(is_taken) => !*is_taken,
+            None => false,
+        }
+    }
+
     /// Whether the `length` bytes from the address `addr` on lie wholly in memory. An empty range does where its
     /// address is in memory or the first one past it.
     pub fn holds(&self, addr: u64, length: u64) -> bool
@@ -145,6 +156,18 @@ impl Pages {
         ensures { out.new ≡ bytes_at self.now.bytes addr (length out.old) }
     {
         self.bytes.read((addr - MEMORY_START) as usize, out);
+    }
+
+    /// The bytes from the address `addr` on, at most `most` and up to the end of their page, as they are now. It copies none
+    /// where the page was written to since it was taken.
+    pub fn share(&self, alloc: Global, addr: u64, most: usize) -> Result<Piece, AllocError>
+        requires held { HoldsRange self.now addr most }
+        requires some { 0 < most }
+        ensures bytes { IfOk result (λ piece. piece ≡ bytes_at self.now.bytes addr (length piece)) }
+        ensures length { IfOk result (λ piece. length piece ≡ min most (4096 - addr % 4096)) }
+    {
+        self.bytes
+            .share(alloc, (addr - MEMORY_START) as usize, most)
     }
 
     /// Writes `bytes` over memory from the address `addr` on.
