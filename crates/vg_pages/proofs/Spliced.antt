@@ -1,8 +1,8 @@
 -- Pieces written over bytes, and the bytes of pages with blocks, place by place.
-use Rattle.std.proofs.Common.{◌≡◌, ◌⊎◌, ◌≢◌, ℕ, zero, suc, ◌+◌, ◌*◌, ◌-◌, ◌/◌, ◌%◌, ◌<◌, ◌≤◌, List, ◌++◌, Option, Some, None, length, get_or, set, take, drop, replicate, sym, ap, ◌∙◌, refl, inl, inr, append_assoc, arith}
+use Rattle.std.proofs.Common.{◌≡◌, ◌⊎◌, ◌≢◌, ℕ, zero, suc, ◌+◌, ◌*◌, ◌-◌, ◌/◌, ◌%◌, ◌<◌, ◌≤◌, List, [], ◌++◌, Option, Some, None, length, get_or, set, take, drop, replicate, sym, ap, ◌∙◌, refl, inl, inr, append_assoc, arith}
 use Rattle.std.proofs.Math.Seq.{take-add, take-append_seam, drop-append_seam}
 use Rattle.std.proofs.lemmas.Bool.{cases_eq, cases_lt}
-use Rattle.std.proofs.lemmas.List.{get_or-take, get_or-drop, get_or-replicate, get_or-set_same, get_or-set_other, length-append, length-take, length-drop, length-replicate, drop-drop, append-nil, take-append-drop}
+use Rattle.std.proofs.lemmas.List.{get_or-take, get_or-drop, get_or-replicate, get_or-set_same, get_or-set_other, length-append, length-take, length-drop, length-replicate, drop-drop, drop_all, append-nil, take-append-drop}
 use borrow.Rule.Slice.PartMut.{put_mid}
 use Rattle.vg_places.specs.Places.{tabulate}
 use Rattle.vg_places.proofs.Places.{length-tabulate, get_or-tabulate, tabulate_from_places}
@@ -300,3 +300,20 @@ written-behind base between after block piece new start from inside long is then
         | inr high ↦ splice-high start block base k at (omega (arith, high, long))
       ];
     }
+
+-- the same where the part has what stood behind it too
+pub read-on : (xs old out part : List ℕ) (done n : ℕ) → out ≡ take done xs ++ drop done old → done ≤ length old → done + n ≤ length xs
+    → part ≡ take n (drop done xs) ++ drop n (drop done out) → put_mid done (length out - done) out part ≡ take (done + n) xs ++ drop (done + n) old
+read-on xs old out part done n is room fits same =
+    let front = take done xs in
+    let long : length front ≡ done = omega (arith, length-take done xs, fits) in
+    let before : take done out ≡ front = ap (take done) is ∙ ap (λ m. take m (front ++ drop done old)) (sym long) ∙ take-append_seam front (drop done old) in
+    let after : drop done out ≡ drop done old = ap (drop done) is ∙ ap (λ m. drop m (front ++ drop done old)) (sym long) ∙ drop-append_seam front (drop done old) in
+    let none : drop (length out - done) (drop done out) ≡ [] = drop_all (length out - done) (drop done out) (omega (arith, length-drop done out)) in
+    ap (λ ys. ys ++ (part ++ drop (length out - done) (drop done out))) before
+    ∙ ap (λ ys. front ++ (part ++ ys)) none
+    ∙ ap (λ ys. front ++ ys) (append-nil part ∙ same)
+    ∙ ap (λ ys. front ++ (take n (drop done xs) ++ drop n ys)) after
+    ∙ ap (λ ys. front ++ (take n (drop done xs) ++ ys)) (drop-drop n done old)
+    ∙ sym (append_assoc front (take n (drop done xs)) (drop (done + n) old))
+    ∙ ap (λ ys. ys ++ drop (done + n) old) (sym (take-add done n xs))

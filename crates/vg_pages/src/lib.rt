@@ -8,9 +8,11 @@ mod block;
 mod blocks;
 mod flags;
 mod lazy;
+mod lent;
 mod memory;
 mod piece;
 
+pub use lent::LentBytes;
 pub use memory::Pages;
 pub use piece::Piece;
 
