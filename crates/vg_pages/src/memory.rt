@@ -1,12 +1,12 @@
 //! Guest memory page by page, with a flag for each page.
 
-ghost use Rattle.std.specs.Prelude.{◌≡◌, ℕ, List, All, ◌<◌, ◌≤◌, ◌*◌, ◌↔◌, IfOk, IfSome, IfNone, OnErr, IsNone, IsTrue, length, min, take, false, vec_len, ◌-◌, ◌%◌};
+ghost use Rattle.std.specs.Prelude.{◌≡◌, ℕ, List, All, ◌<◌, ◌≤◌, ◌*◌, ◌↔◌, IfOk, IfSome, IfNone, OnErr, IsNone, IsTrue, length, min, take, false, vec_len, ◌-◌, ◌/◌, ◌%◌};
 ghost use Rattle.vg_pages.specs.Memory.{HasWholePages, fresh_memory, HoldsRange, bytes_at, written_at, free_pages, is_among, is_free, marked, after_taking, AreGivable, AreTakeable, page_address};
 
 use crate::flags::{count_free, least, lowest_free, mark, next_free, zero};
 use crate::blocks::Blocks;
 use crate::piece::Piece;
-use crate::{MEMORY_START, page_address};
+use crate::{MEMORY_START, PAGE_BYTES, page_address};
 use std::alloc::{AllocError, Global};
 use std::marker::Model;
 
@@ -148,6 +148,15 @@ impl Pages {
     {
         prove!((page as usize) < self.taken.len());
         page_address(page)
+    }
+
+    /// The page that has the byte of this address.
+    pub fn page_at(&self, addr: u64) -> u32
+        requires { HoldsRange self.now addr 1 }
+        ensures { result ≡ (addr - 1048576) / 4096 }
+    {
+        prove!((addr - MEMORY_START) as usize / PAGE_BYTES < self.taken.len());
+        ((addr - MEMORY_START) as usize / PAGE_BYTES) as u32
     }
 
     /// Copies the bytes from the address `addr` on into `out`, as many as it has.
