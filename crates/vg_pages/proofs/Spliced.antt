@@ -1,8 +1,8 @@
 -- Pieces written over bytes, and the bytes of pages with blocks, place by place.
 use Rattle.std.proofs.Common.{◌≡◌, ◌⊎◌, ◌≢◌, ℕ, zero, suc, ◌+◌, ◌*◌, ◌-◌, ◌/◌, ◌%◌, ◌<◌, ◌≤◌, List, [], ◌++◌, Option, Some, None, length, get_or, set, take, drop, replicate, sym, ap, ◌∙◌, refl, inl, inr, append_assoc, arith}
 use Rattle.std.proofs.Math.Seq.{take-add, take-append_seam, drop-append_seam}
-use Rattle.std.proofs.lemmas.Bool.{cases_eq, cases_lt}
-use Rattle.std.proofs.lemmas.List.{get_or-take, get_or-drop, get_or-replicate, get_or-set_same, get_or-set_other, length-append, length-take, length-drop, length-replicate, drop-drop, drop_all, append-nil, take-append-drop}
+use Rattle.std.proofs.lemmas.Bool.{cases_lt}
+use Rattle.std.proofs.lemmas.List.{get_or-take, get_or-drop, get_or-set_same, get_or-set_other, length-take, length-drop, length-replicate, drop-drop, drop_all, append-nil, take-append-drop}
 use borrow.Rule.Slice.PartMut.{put_mid}
 use Rattle.vg_places.specs.Places.{tabulate}
 use Rattle.vg_places.proofs.Places.{length-tabulate, get_or-tabulate, tabulate_from_places}

@@ -6,9 +6,9 @@ ghost use Rattle.vg_pages.specs.BlocksWithin.{IsWritten, page_of, shared_bytes, 
 use crate::PAGE_BYTES;
 use crate::block::Block;
 use crate::lazy::{LazyBytes, overwrite};
+use crate::piece::Piece;
 use std::alloc::{AllocError, Global};
 use std::marker::Model;
-use crate::piece::Piece;
 use std::mem;
 use vg_places::zeros;
 
@@ -233,11 +233,7 @@ fn share_page(
 }
 
 /// The same of a page without a block.
-fn share_base(
-    alloc: Global,
-    base: &LazyBytes,
-    start: usize,
-) -> Result<Option<Block>, AllocError>
+fn share_base(alloc: Global, base: &LazyBytes, start: usize) -> Result<Option<Block>, AllocError>
     requires { start + 4096 ≤ length base.now }
     ensures bytes { IfOk result (λ shared. shared_bytes shared ≡ page_of None base.now start) }
     ensures size { IfOk result (λ shared. length (shared_bytes shared) ≡ 4096) }

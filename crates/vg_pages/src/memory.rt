@@ -3,8 +3,8 @@
 ghost use Rattle.std.specs.Prelude.{◌≡◌, ℕ, List, All, ◌<◌, ◌≤◌, ◌*◌, ◌↔◌, IfOk, IfSome, IfNone, OnErr, IsNone, IsTrue, length, min, take, false, vec_len, ◌-◌, ◌/◌, ◌%◌};
 ghost use Rattle.vg_pages.specs.Memory.{HasWholePages, fresh_memory, HoldsRange, bytes_at, written_at, free_pages, is_among, is_free, marked, after_taking, AreGivable, AreTakeable, page_address};
 
-use crate::flags::{count_free, least, lowest_free, mark, next_free, zero};
 use crate::blocks::Blocks;
+use crate::flags::{count_free, least, lowest_free, mark, next_free, zero};
 use crate::piece::Piece;
 use crate::{MEMORY_START, PAGE_BYTES, page_address};
 use std::alloc::{AllocError, Global};

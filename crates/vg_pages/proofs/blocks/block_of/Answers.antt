@@ -1,4 +1,4 @@
-use Rattle.std.proofs.Common.{arith, length, ◌+◌, ◌≤◌, ◌++◌, ◌≡◌, ◌∙◌, List, ℕ, ap, subst, sym, take, drop}
+use Rattle.std.proofs.Common.{arith, length, ◌≡◌, ◌∙◌, List, ℕ, ap, subst, drop}
 use Rattle.std.specs.Prelude.{IfOk}
 use Rattle.std.proofs.lemmas.List.{length-take, length-drop}
 use Rattle.vg_pages.specs.BlocksWithin.{spliced}

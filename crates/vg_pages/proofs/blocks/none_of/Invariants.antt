@@ -1,4 +1,4 @@
-use Rattle.std.proofs.Common.{◌≡◌, ℕ, List, None, replicate}
+use Rattle.std.proofs.Common.{◌≡◌, None, replicate}
 use Rattle.vg_pages.proofs.blocks.none_of.Given as goal
 
 abbrev pub invariant-loop-page : goal.invariant-loop-page

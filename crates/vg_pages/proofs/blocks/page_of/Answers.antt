@@ -1,4 +1,4 @@
-use Rattle.std.proofs.Common.{◌≡◌, ◌≤◌, ◌+◌, ◌++◌, ◌∙◌, List, ℕ, ap, length, take, drop, arith}
+use Rattle.std.proofs.Common.{◌≡◌, ◌∙◌, ℕ, ap, length, take, drop, arith}
 use Rattle.std.proofs.lemmas.List.{length-take, length-drop, length-replicate, take_at}
 use Rattle.vg_pages.proofs.blocks.page_of.Goals as goal
 

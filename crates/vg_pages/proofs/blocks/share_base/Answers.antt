@@ -1,4 +1,4 @@
-use Rattle.std.proofs.Common.{◌≡◌, ◌≤◌, ◌+◌, ◌-◌, ◌∙◌, ℕ, List, ap, sym, length, take, drop, arith}
+use Rattle.std.proofs.Common.{◌-◌, ◌∙◌, ap, sym, length, take, drop, arith}
 use Rattle.std.proofs.lemmas.List.{take-replicate, length-take, length-drop}
 use Rattle.vg_pages.proofs.blocks.share_base.Goals as goal
 

@@ -1,4 +1,4 @@
-use Rattle.std.proofs.Common.{◌≡◌, ◌≤◌, ◌+◌, List, ℕ, Some, ap, refl, length, take, drop, arith}
+use Rattle.std.proofs.Common.{refl, drop, arith}
 use Rattle.std.proofs.lemmas.List.{length-take, length-drop}
 use Rattle.vg_pages.proofs.Spliced.{written-in_base}
 use Rattle.vg_pages.proofs.blocks.write_base.Goals as goal

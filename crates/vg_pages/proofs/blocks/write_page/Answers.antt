@@ -1,4 +1,4 @@
-use Rattle.std.proofs.Common.{◌≡◌, ◌∙◌, ◌+◌, ◌++◌, List, ℕ, Option, Some, ap, inl, refl, sym, subst, length, take, drop}
+use Rattle.std.proofs.Common.{◌∙◌, List, ℕ, Option, Some, ap, refl, sym, subst}
 use Rattle.vg_pages.specs.BlocksWithin.{IsWritten, spliced}
 use Rattle.vg_pages.proofs.Spliced.{written-behind}
 use Rattle.vg_pages.proofs.blocks.write_page.Goals as goal

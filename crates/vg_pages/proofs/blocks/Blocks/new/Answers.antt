@@ -1,4 +1,4 @@
-use Rattle.std.proofs.Common.{◌≡◌, ◌*◌, ◌∙◌, ℕ, List, Option, None, ap, replicate, arith}
+use Rattle.std.proofs.Common.{◌*◌, ◌∙◌, None, ap, replicate, arith}
 use Rattle.vg_pages.specs.BlocksWithin.{overlaid}
 use Rattle.vg_pages.proofs.Spliced.{overlaid-none}
 use Rattle.vg_pages.proofs.blocks.Blocks.new.Goals as goal

@@ -1,5 +1,5 @@
-use Rattle.std.proofs.Common.{◌≡◌, ◌+◌, ◌*◌, ◌/◌, ◌%◌, ◌<◌, ◌≤◌, ℕ, List, Option, None, ap, sym, ◌∙◌, subst, length, set, get_or, arith}
-use Rattle.std.proofs.lemmas.List.{get_or_default, length-set, set-set}
+use Rattle.std.proofs.Common.{◌≡◌, ◌+◌, ◌*◌, ◌/◌, ◌%◌, ◌<◌, ℕ, List, Option, None, ap, sym, ◌∙◌, subst, length, get_or, arith}
+use Rattle.std.proofs.lemmas.List.{get_or_default, set-set}
 use Rattle.vg_pages.specs.BlocksWithin.{IsWritten, overlaid, spliced}
 use Rattle.vg_pages.proofs.Spliced.{length-overlaid, page-written}
 use Rattle.vg_pages.proofs.blocks.Blocks.write_in_page.Goals as goal

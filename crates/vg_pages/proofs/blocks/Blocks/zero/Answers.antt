@@ -1,4 +1,4 @@
-use Rattle.std.proofs.Common.{◌≡◌, ◌+◌, ◌*◌, ◌<◌, ◌≤◌, ◌++◌, ℕ, List, None, ap, sym, ◌∙◌, subst, length, take, drop, set, replicate, arith}
+use Rattle.std.proofs.Common.{◌≡◌, ◌+◌, ◌*◌, ◌<◌, ◌≤◌, ◌++◌, ℕ, List, None, ap, sym, ◌∙◌, length, take, drop, replicate, arith}
 use Rattle.std.proofs.lemmas.List.{length-replicate, length-set}
 use Rattle.vg_pages.specs.BlocksWithin.{overlaid}
 use Rattle.vg_pages.proofs.Spliced.{length-overlaid, length-splice, page-zeroed}

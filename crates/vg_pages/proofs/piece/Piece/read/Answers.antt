@@ -1,4 +1,4 @@
-use Rattle.std.proofs.Common.{◌≡◌, ◌≤◌, ◌+◌, ◌-◌, ◌∙◌, ℕ, List, ap, sym, length, take, drop, replicate, arith}
+use Rattle.std.proofs.Common.{◌≡◌, ◌≤◌, ◌-◌, ◌∙◌, ℕ, List, ap, sym, length, take, drop, replicate, arith}
 use Rattle.std.proofs.lemmas.List.{drop-replicate, take-replicate, length-replicate}
 use Rattle.vg_pages.specs.BlocksWithin.{shared_bytes}
 use Rattle.vg_pages.proofs.piece.Piece.read.Goals as goal

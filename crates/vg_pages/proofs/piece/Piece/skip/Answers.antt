@@ -1,5 +1,5 @@
-use Rattle.std.proofs.Common.{◌≡◌, ◌≤◌, ◌+◌, ◌-◌, ◌∙◌, ℕ, List, ap, sym, length, take, drop, arith}
-use Rattle.std.proofs.lemmas.List.{drop-drop, drop-take, length-take, length-drop}
+use Rattle.std.proofs.Common.{◌≡◌, ◌≤◌, ◌+◌, ◌-◌, ◌∙◌, ap, sym, length, take, drop, arith}
+use Rattle.std.proofs.lemmas.List.{drop-drop, drop-take, length-take}
 use Rattle.vg_pages.specs.BlocksWithin.{shared_bytes}
 use Rattle.vg_pages.proofs.piece.Piece.skip.Goals as goal
 
