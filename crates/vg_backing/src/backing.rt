@@ -219,7 +219,7 @@ fn lend_from(
         touched.push(pages.page_at(addr))?;
         done += n;
         if n == here {
-            i += 1;
+            i = i + 1;
         }
     }
     Ok(LentBytes::of(pieces, touched))
