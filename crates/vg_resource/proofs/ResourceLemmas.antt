@@ -1,6 +1,5 @@
 -- The pixels' bytes of all resources, as one comes, goes or is written to.
-use Rattle.std.proofs.lemmas.Bool.Decides.{nat_tests}
-use Rattle.std.proofs.Common.{◌==◌, Bool, true, false, cond, refl, ◌≡◌, ℕ, ◌+◌, ◌*◌, ◌<◌, ◌≤◌, List, Option, Some, None, length, sym, ap, ◌∙◌, subst, arith}
+use Rattle.std.proofs.Common.{◌≡◌, ℕ, ◌+◌, ◌*◌, ◌<◌, ◌≤◌, List, Option, Some, None, length, sym, ap, ◌∙◌, subst, arith}
 use Rattle.std.specs.Prelude.{unwrap_or, IfSome}
 use Rattle.std.specs.Option.{option_map}
 use Rattle.std.specs.List.{All}
@@ -15,7 +14,6 @@ use Rattle.std.proofs.lemmas.Map.Views.{All-values-set_value, IfSome-lookup_from
 use Rattle.vg_formats.specs.declared.format.Format.{Format}
 use Rattle.vg_resource.specs.declared.resource.Resource.{Resource}
 use Rattle.vg_resource.specs.Resource.{blank, pixel_bytes, resource_at, with_pixels, without, IsWhole}
-use Rattle.vg_resource.specs.Pixels.{given_back}
 
 -- how many bytes the pixels of a resource have
 abbrev bytes_of : Resource → ℕ
@@ -44,19 +42,23 @@ unfolding blank
 length-blank width height format = length-replicate (4 * width * height) 0
 
 -- a resource whose pixels were brought back
-length-given : (same : Bool) (bytes old : List ℕ) → (length bytes == length old) ≡ same → length (cond same bytes old) ≡ length old
-length-given true bytes old is = grind (arith, nat_tests)
-length-given false bytes old is = refl
-
 pub restored-keeps : (entries : List (ℕ × Resource)) (id : ℕ) (resource : Resource) (bytes : List ℕ) → All (λ resource. IsWhole resource) (values_of entries)
-    → resource_at id entries ≡ Some resource
-    → (pixel_bytes (with_pixels id resource (given_back bytes resource.pixels) entries) ≡ pixel_bytes entries)
-    × All (λ resource. IsWhole resource) (values_of (with_pixels id resource (given_back bytes resource.pixels) entries))
-restored-keeps entries id resource bytes whole is =
+    → resource_at id entries ≡ Some resource → length bytes ≡ length resource.pixels
+    → (pixel_bytes (with_pixels id resource bytes entries) ≡ pixel_bytes entries)
+    × All (λ resource. IsWhole resource) (values_of (with_pixels id resource bytes entries))
+restored-keeps entries id resource bytes whole is same =
     let test = is_at (nat_cmp id) in
-    let after : Resource = record resource { pixels = given_back bytes resource.pixels } in
-    let same : length after.pixels ≡ length resource.pixels = length-given (length bytes == length resource.pixels) bytes resource.pixels refl in
+    let after : Resource = record resource { pixels = bytes } in
     let was : IsWhole resource = subst (λ (o : Option Resource). IfSome o (λ r. IsWhole r)) is (IfSome-lookup_from_All (λ r. IsWhole r) test entries whole) in
     let now : IsWhole after = (same ∙ was.0, omega (arith, same, was), was.2, was.3) in
     let sums = sum_by-set_value bytes_of test entries resource after is in
     (omega (arith, sums, same), All-values-set_value test (λ r. IsWhole r) entries after whole now)
+
+some-same : {X : Type 0} {x y : X} → ◌≡◌ {A = Option X} (Some x) (Some y) → x ≡ y
+some-same same = cc
+
+-- as many bytes as the resource has
+pub as-many : (entries : List (ℕ × Resource)) (id : ℕ) (resource : Resource) (bytes : List ℕ) → resource_at id entries ≡ Some resource
+    → option_map (λ (xs : List ℕ). length xs) (option_map (λ (r : Resource). r.pixels) (resource_at id entries)) ≡ Some (length bytes) → length bytes ≡ length resource.pixels
+as-many entries id resource bytes is long =
+    some-same (sym long ∙ ap (λ (o : Option Resource). option_map (λ (xs : List ℕ). length xs) (option_map (λ (r : Resource). r.pixels) o)) is)

@@ -1,7 +1,6 @@
 //! The pixels of a resource, which may be lent.
 
 ghost use Rattle.std.specs.Prelude.{◌≡◌, IfSome, length};
-ghost use Rattle.vg_resource.specs.Pixels.{given_back};
 
 use std::marker::Model;
 use std::mem;
@@ -77,13 +76,12 @@ impl Pixels {
         Some(mem::replace(&mut self.bytes, none))
     }
 
-    /// Takes the bytes back, which may be others now. It does nothing where there are more or fewer.
+    /// Takes as many bytes back, which may be others now.
     pub fn restore(&mut self, bytes: Vec<u8>)
-        ensures { self.new ≡ given_back bytes.items self.old }
+        requires { length bytes.items ≡ length self.old }
+        ensures { self.new ≡ bytes.items }
     {
-        if bytes.len() == self.size {
-            self.lent = false;
-            self.bytes = bytes;
-        }
+        self.lent = false;
+        self.bytes = bytes;
     }
 }

@@ -1,10 +1,10 @@
 //! The 2D resources by their ids (VIRTIO 1.2, 5.7.6.8).
 
-ghost use Rattle.std.specs.Prelude.{◌≡◌, ◌<◌, ◌≤◌, [], Some, None, ◌+◌, IfOk, IfErr, OnOk, OnErr, IfSome, ◌*◌, option_copied};
+ghost use Rattle.std.specs.Prelude.{◌≡◌, ◌<◌, ◌≤◌, [], Some, None, ◌+◌, IfOk, IfErr, OnOk, OnErr, IfSome, ◌*◌, length, option_copied};
 ghost use Rattle.std.specs.List.{All};
 ghost use Rattle.std.specs.Map.{values_of};
-ghost use Rattle.vg_resource.specs.Lending.{restored};
-ghost use Rattle.vg_resource.specs.Resource.{IsWhole, blank, create, create_refusals, pixel_bytes, pixels_at, remove, resource_at};
+ghost use Rattle.std.specs.Option.{option_map};
+ghost use Rattle.vg_resource.specs.Resource.{IsWhole, blank, create, create_refusals, pixel_bytes, pixels_at, remove, resource_at, with_pixels};
 ghost use Rattle.vg_refusals.specs.Refusals.{refusal_of};
 ghost use Rattle.vg_formats.specs.Formats.{format_of};
 
@@ -157,15 +157,12 @@ impl Resources {
         resource.pixels.lend()
     }
 
-    /// Brings pixels back to the resource that has lent them, which may be others now. It takes no memory, and does nothing where
-    /// there is no such resource, or it has more or fewer bytes.
+    /// Brings pixels back to the resource that has lent them, as many as it has, which may be others now. It takes no memory.
     pub fn restore(&mut self, id: u32, pixels: Vec<u8>)
-        ensures { self.new ≡ restored id pixels.items self.old }
+        requires { option_map length (pixels_at id self.old) ≡ Some (length pixels.items) }
+        ensures { IfSome (resource_at id self.old) (λ resource. self.new ≡ with_pixels id resource pixels.items self.old) }
     {
-        let found = self.map.get_mut(&id);
-        let Some(resource) = found else {
-            return;
-        };
+        let resource = self.map.get_mut(&id).unwrap();
         resource.pixels.restore(pixels);
     }
 }
