@@ -65,7 +65,7 @@ length-backing_bytes memory (entry ∷ more) held =
 pub length-entries_of : (runs : List Run) → length (entries_of runs) ≡ length runs
 length-entries_of runs = length-map runs (λ run. run.entry)
 
-entry-at : (runs : List Run) (k : ℕ) (d : Run) (e : MemEntry) → k < length runs → get_or (entries_of runs) k e ≡ (get_or runs k d).entry
+pub entry-at : (runs : List Run) (k : ℕ) (d : Run) (e : MemEntry) → k < length runs → get_or (entries_of runs) k e ≡ (get_or runs k d).entry
 entry-at runs k d e within = get_or-map (λ (run : Run). run.entry) runs k d e within
 
 -- what is known of a run

@@ -1,2 +1,3 @@
 pub mod BackingLemmas
 pub mod HeldLemmas
+pub mod LentLemmas

@@ -1,8 +1,8 @@
 -- Backings: the ranges of guest memory that a resource's pixels come from (VIRTIO 1.2, 5.7.6.8, RESOURCE_ATTACH_BACKING).
-use Rattle.std.specs.Prelude.{ℕ, ◌+◌, ◌<◌, ◌==◌, ◌||◌, ◌&&◌, Bool, not, nat_le, List, [], ◌∷◌, ◌++◌, length}
+use Rattle.std.specs.Prelude.{ℕ, ◌+◌, ◌<◌, ◌==◌, ◌||◌, ◌&&◌, Bool, not, nat_le, nat_lt, List, [], ◌∷◌, ◌++◌, length}
 use Rattle.std.specs.List.{All, sum_by, list_any}
 use Rattle.vg_formats.specs.declared.entry.MemEntry.{MemEntry}
-use Rattle.vg_pages.specs.Memory.{Memory, HoldsRange, bytes_at}
+use Rattle.vg_pages.specs.Memory.{Memory, HoldsRange, bytes_at, page_address}
 
 -- The entry lies wholly in guest memory.
 abbrev pub is_held : Memory → MemEntry → Bool
@@ -27,3 +27,12 @@ backing_bytes memory (entry ∷ more) = bytes_at memory.bytes entry.addr entry.l
 -- Each entry has bytes, and lies wholly in guest memory.
 abbrev pub AreHeld : Memory → List MemEntry → Type 0
 AreHeld memory entries = All (λ entry. (0 < entry.length) × HoldsRange memory entry.addr entry.length) entries
+
+-- Some byte of the page lies in the entry.
+abbrev pub is_touched : ℕ → MemEntry → Bool
+is_touched page entry =
+    not (entry.length == 0) && nat_lt entry.addr (page_address page + 4096) && nat_lt (page_address page) (entry.addr + entry.length)
+
+-- Some byte of the page lies in one of the entries.
+abbrev pub touches : ℕ → List MemEntry → Bool
+touches page entries = list_any (is_touched page) entries

@@ -1,8 +1,10 @@
 -- What the runs that a backing keeps have: for private contracts.
-use Rattle.std.specs.Prelude.{◌≡◌, ℕ, ◌+◌, ◌^◌, ◌<◌, ◌≤◌, List, length, map, take, slice_index_or}
+use Rattle.std.specs.Prelude.{◌≡◌, ℕ, ◌+◌, ◌^◌, ◌<◌, ◌≤◌, List, length, map, take, drop, slice_index_or}
 use Rattle.vg_formats.specs.declared.entry.MemEntry.{MemEntry}
 use Rattle.vg_backing.specs.declared.backing.Run.{Run}
-use Rattle.vg_backing.specs.Backing.{total}
+use Rattle.vg_backing.specs.Backing.{backing_bytes, total}
+use Rattle.vg_pages.specs.Memory.{Memory}
+use Rattle.vg_pages.specs.Lending.{AreSameIn, Lending}
 
 -- The entries of the runs that a backing keeps.
 abbrev pub entries_of : List Run → List MemEntry
@@ -20,3 +22,8 @@ ArePlaced runs = (k : ℕ) (d : Run) → k < length runs
 -- This run has the byte of number `at`.
 abbrev pub HasByte : List Run → ℕ → ℕ → Type 0
 HasByte runs k at = (k < length runs) × (total (take k (entries_of runs)) ≤ at) × (at < total (take (k + 1) (entries_of runs)))
+
+-- These bytes were lent of the entries, from number `at` on, and are the same in each memory that has the same bytes in their pages.
+pub record IsLent (memory : Memory) (entries : List MemEntry) (at count : ℕ) (lent : Lending) : Type 0 where
+  pub bytes : lent.bytes ≡ take count (drop at (backing_bytes memory entries))
+  pub rest : (other : Memory) → AreSameIn lent.pages memory other → take count (drop at (backing_bytes other entries)) ≡ lent.bytes

@@ -2,13 +2,15 @@
 
 ghost use Rattle.std.specs.Prelude.{◌≡◌, ◌+◌, ◌-◌, ◌*◌, ◌<◌, ◌≤◌, ◌⊎◌, ◌^◌, [], true, length, take, drop, IfOk, IfSome, IfNone, OnErr, false, All, option_copied};
 ghost use Rattle.std.specs.List.{list_any};
-ghost use Rattle.vg_backing.specs.Backing.{AreHeld, are_bad, backing_bytes, is_bad, total};
-ghost use Rattle.vg_backing.specs.Fits.{ArePlaced, EndsInRange, HasByte, entries_of};
+ghost use Rattle.vg_backing.specs.Backing.{AreHeld, are_bad, backing_bytes, is_bad, is_touched, total, touches};
+ghost use Rattle.vg_pages.specs.Lending.{AreSameIn};
+ghost use Rattle.vg_pages.specs.Memory.{Memory};
+ghost use Rattle.vg_backing.specs.Fits.{ArePlaced, EndsInRange, HasByte, IsLent, entries_of};
 
 use std::alloc::{AllocError, Global};
 use std::marker::Model;
 use vg_formats::MemEntry;
-use vg_pages::Pages;
+use vg_pages::{LentBytes, PAGE_BYTES, Pages, page_address};
 
 /// An entry, and how many bytes of the backing stand before it.
 #[derive(Clone, Copy, Debug)]
@@ -95,6 +97,34 @@ impl Backing {
         let first = run_of(runs, at);
         read_from(runs, first, pages, at, out);
     }
+
+    /// The bytes of the entries from number `at` on, so many, as they are now. They are the same as long as nothing is written to
+    /// the pages that have them.
+    pub fn lend(
+        &self,
+        alloc: Global,
+        pages: &Pages,
+        at: u64,
+        count: usize,
+    ) -> Result<LentBytes, AllocError>
+        requires held { AreHeld pages.now self.now }
+        requires inside { at + count ≤ total self.now }
+        requires some { 0 < count }
+        ensures bytes { IfOk result (λ lent. lent.bytes ≡ take count (drop at (backing_bytes pages.now self.now))) }
+        ensures rest { IfOk result (λ lent. (other : Memory) → AreSameIn lent.pages pages.now other
+            → take count (drop at (backing_bytes other self.now)) ≡ lent.bytes) }
+    {
+        let runs = self.runs.as_slice();
+        let first = run_of(runs, at);
+        lend_from(alloc, runs, first, pages, at, count)
+    }
+
+    /// Whether some byte of the page lies in an entry.
+    pub fn touches(&self, page: u32) -> bool
+        ensures { result ≡ touches page self.now }
+    {
+        touches_in(self.runs.as_slice(), page)
+    }
 }
 
 /// Whether one of the entries has no bytes, or isn't wholly in guest memory.
@@ -156,4 +186,62 @@ fn read_from(runs: &[Run], first: usize, pages: &Pages, at: u64, out: &mut [u8])
         done += n;
         i += 1;
     }
+}
+
+/// The bytes from number `at` on, so many, of which the run `first` has the first.
+fn lend_from(
+    alloc: Global,
+    runs: &[Run],
+    first: usize,
+    pages: &Pages,
+    at: u64,
+    count: usize,
+) -> Result<LentBytes, AllocError>
+    requires placed { ArePlaced runs.now }
+    requires held { AreHeld pages.now (entries_of runs.now) }
+    requires first { HasByte runs.now first at }
+    requires small { total (entries_of runs.now) < 2 ^ 64 }
+    requires inside { at + count ≤ total (entries_of runs.now) }
+    ensures { IfOk result (IsLent pages.now (entries_of runs.now) at count) }
+{
+    let mut pieces = Vec::new(alloc);
+    let mut touched = Vec::new(alloc);
+    let mut i = first;
+    let mut done = 0;
+    while done < count {
+        let Run { start, entry } = runs[i];
+        let skip = at + done as u64 - start;
+        let here = (u64::from(entry.length) - skip) as usize;
+        let addr = entry.addr + skip;
+        let piece = pages.share(alloc, addr, here.min(count - done))?;
+        let n = piece.len();
+        pieces.push(piece)?;
+        touched.push(pages.page_at(addr))?;
+        done += n;
+        if n == here {
+            i = i + 1;
+        }
+    }
+    Ok(LentBytes::of(pieces, touched))
+}
+
+/// Whether some byte of the page lies in the entry of a run.
+fn touches_in(runs: &[Run], page: u32) -> bool
+    ensures { result ≡ touches page (entries_of runs.now) }
+{
+    for run in runs {
+        if touches_entry(&run.entry, page) {
+            return true;
+        }
+    }
+    false
+}
+
+fn touches_entry(entry: &MemEntry, page: u32) -> bool
+    ensures { result ≡ is_touched page entry.now }
+{
+    let start = u128::from(page_address(page));
+    let from = u128::from(entry.addr);
+    let to = from + u128::from(entry.length);
+    entry.length != 0 && from < start + PAGE_BYTES as u128 && start < to
 }

@@ -27,6 +27,11 @@ abbrev pub size_of : Option Blob → ℕ
 size_of (Some blob) = blob.size
 size_of None = 0
 
+-- The ranges of guest memory that a blob has its bytes in, and none where there is no blob.
+abbrev pub entries_of : Option Blob → List MemEntry
+entries_of (Some blob) = blob.entries
+entries_of None = []
+
 -- The bytes of a blob: the first ones of its entries, as guest memory has them.
 abbrev pub blob_bytes : Memory → Blob → List ℕ
 blob_bytes memory blob = take blob.size (backing_bytes memory blob.entries)

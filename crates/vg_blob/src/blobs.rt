@@ -4,7 +4,8 @@ ghost use Rattle.std.specs.Prelude.{◌≡◌, ◌<◌, ◌^◌, [], length, IfO
 ghost use Rattle.std.specs.Option.{option_map};
 ghost use Rattle.std.specs.Map.{values_of};
 ghost use Rattle.vg_pages.specs.Memory.{Memory};
-ghost use Rattle.vg_blob.specs.Blobs.{IsBlob, IsHeld, blob_at, blob_bytes, create, remove, size_of};
+ghost use Rattle.vg_blob.specs.Blobs.{IsBlob, IsHeld, blob_at, blob_bytes, create, entries_of, remove, size_of};
+ghost use Rattle.vg_backing.specs.Backing.{touches};
 
 use std::alloc::{AllocError, Global};
 use std::collections::BTreeMap;
@@ -139,6 +140,16 @@ impl Blobs {
         let mut bytes = zeros(alloc, blob.size as usize)?;
         blob.entries.read(pages, 0, &mut bytes);
         Ok(Some(bytes))
+    }
+
+    /// Whether some byte of the page lies in an entry of the blob of this id.
+    pub fn touches(&self, id: u32, page: u32) -> bool
+        ensures { result ≡ touches page (entries_of (blob_at id self.now)) }
+    {
+        match self.map.get(&id) {
+            Some(blob) => blob.entries.touches(page),
+            None => false,
+        }
     }
 
     /// A law, and no work: each blob has bytes, and no more than its entries.

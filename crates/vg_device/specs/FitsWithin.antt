@@ -1,7 +1,7 @@
 -- What private contracts say: what a command came to.
 use Rattle.std.specs.Prelude.{ℕ, Bool, true, false, Result, Ok, Err}
 use Rattle.vg_wire.specs.declared.two_d.Command2d.{Command2d}
-use Rattle.vg_wire.specs.declared.two_d.Command2d.TheVariants.{DisplayInfo, Create2d, Flush, Attach}
+use Rattle.vg_wire.specs.declared.two_d.Command2d.TheVariants.{DisplayInfo, Create2d, Flush, Transfer, Attach}
 use Rattle.vg_wire_ext.specs.declared.command.Command.{Command}
 use Rattle.vg_wire_ext.specs.declared.command.Command.TheVariants.{TwoD, CapsetInfo, Capset, Edid, AssignUuid, CreateBlob, CtxCreate, CtxAttach, Submit, UpdateCursor, MoveCursor}
 use Rattle.vg_wire_ext.specs.declared.response.Response.{Response}
@@ -22,11 +22,13 @@ abbrev pub IfWant : Result Response Stop → Type 0 → Type 0
 IfWant (Err Memory) P = P
 IfWant done P = Unit {0}
 
--- The 2D commands that take memory: for a list, for pixels, or for an entry of a table.
+-- The 2D commands that take memory: for a list, for pixels, or for an entry of a table; and TRANSFER_TO_HOST_2D, which takes none and
+-- stops as for want of it where the pixels are lent.
 abbrev pub takes_memory_2d : Command2d → Bool
 takes_memory_2d DisplayInfo = true
 takes_memory_2d (Create2d resource format width height) = true
 takes_memory_2d (Flush rect resource) = true
+takes_memory_2d (Transfer rect offset resource) = true
 takes_memory_2d (Attach resource entries) = true
 takes_memory_2d _ = false
 

@@ -65,7 +65,7 @@ impl Device {
                     offset,
                     resource,
                 },
-            ) => nodata(self.transfer(rect, *offset, *resource)),
+            ) => self.transfer(rect, *offset, *resource),
             Command::TwoD(Command2d::Attach { resource, entries }) => {
                 self.attach(alloc, *resource, entries.as_slice())
             }
@@ -238,27 +238,34 @@ impl Device {
         if !rect.inside(surface.width, surface.height) {
             return Err(Stop::Refused(ERR_INVALID_PARAMETER));
         }
-        let pixels = surface.pixels.as_slice();
+        let Some(pixels) = surface.pixels.as_slice() else {
+            return Err(Stop::Memory);
+        };
         let done = self
             .scanouts
             .flush(alloc, self.entries, resource, rect, pixels, &self.cursors)?;
         nodata(done)
     }
 
-    fn transfer(&mut self, rect: &Rect, offset: u64, resource: u32) -> Result<(), u32>
-        ensures { transfer_step self.old rect.now offset resource ≡ (self.new, response_of result) }
+    fn transfer(&mut self, rect: &Rect, offset: u64, resource: u32) -> Result<Response, Stop>
+        ensures step { IfDone result (λ response. transfer_step self.old rect.now offset resource ≡ (self.new, response)) }
+        ensures err { IfWant result (self.new ≡ self.old) }
     {
         if self.blobs.has(resource) {
-            return Ok(());
+            return Ok(Response::Nodata);
         }
-        receive(
+        let received = receive(
             &mut self.resources,
             resource,
             &self.pages,
             &self.backings,
             rect,
             offset,
-        )
+        );
+        match received {
+            Some(done) => nodata(done),
+            None => Err(Stop::Memory),
+        }
     }
 
     fn attach(

@@ -135,7 +135,10 @@ impl Device {
         {
             return Err(Stop::Refused(ERR_INVALID_PARAMETER));
         }
-        let image = shown_image(alloc, surface)?;
+        let Some(pixels) = surface.pixels.as_slice() else {
+            return Err(Stop::Memory);
+        };
+        let image = shown_image(alloc, surface, pixels)?;
         Ok(image)
     }
 
@@ -148,16 +151,13 @@ impl Device {
 }
 
 /// A resource's pixels as they are shown.
-fn shown_image(alloc: Global, surface: &Resource) -> Result<Vec<u8>, AllocError>
-    requires { IsWhole surface.now }
+fn shown_image(alloc: Global, surface: &Resource, pixels: &[u8]) -> Result<Vec<u8>, AllocError>
+    requires whole { IsWhole surface.now }
+    requires pixels { pixels.now ≡ surface.now.pixels }
     ensures { IfOk result (λ image. image.items ≡ image_of (Some surface.now)) }
 {
-    let mut image = zeros(alloc, surface.pixels.len())?;
-    show_row(
-        surface.format,
-        image.as_mut_slice(),
-        surface.pixels.as_slice(),
-    );
+    let mut image = zeros(alloc, pixels.len())?;
+    show_row(surface.format, image.as_mut_slice(), pixels);
     Ok(image)
 }
 

@@ -1,6 +1,6 @@
 //! Resources' pixels as they come from backings (VIRTIO 1.2, 5.7.6.8).
 
-ghost use Rattle.std.specs.Prelude.{◌≡◌, All};
+ghost use Rattle.std.specs.Prelude.{◌≡◌, All, IfNone, IfSome};
 ghost use Rattle.vg_backing.specs.Backing.{AreHeld};
 ghost use Rattle.vg_device.specs.Receive.{receive};
 
@@ -11,7 +11,7 @@ use vg_transfer::{Backings, Region};
 use vg_wire::kinds::ERR_INVALID_RESOURCE_ID;
 
 /// Copies a rectangle of the resource from its backing, of which the first byte is that at `offset`, or answers the code of
-/// its refusal.
+/// its refusal. None where the pixels are lent.
 pub(crate) fn receive(
     resources: &mut Resources,
     id: u32,
@@ -19,12 +19,13 @@ pub(crate) fn receive(
     backings: &Backings,
     rect: &Rect,
     offset: u64,
-) -> Result<(), u32>
+) -> Option<Result<(), u32>>
     requires held { All (λ entry. AreHeld pages.now entry.1) backings.now }
-    ensures { (resources.new, result) ≡ receive pages.now id rect.now offset backings.now resources.old }
+    ensures done { IfSome result (λ done. (resources.new, done) ≡ receive pages.now id rect.now offset backings.now resources.old) }
+    ensures lent { IfNone result (resources.new ≡ resources.old) }
 {
     let Some(resource) = resources.get(id) else {
-        return Err(ERR_INVALID_RESOURCE_ID);
+        return Some(Err(ERR_INVALID_RESOURCE_ID));
     };
     let region = Region {
         rect: *rect,
@@ -32,6 +33,8 @@ pub(crate) fn receive(
         width: resource.width,
         height: resource.height,
     };
-    let pixels = resources.pixels_mut(id);
-    backings.transfer(pages, id, &region, pixels)
+    let mut pixels = resources.lend(id)?;
+    let done = backings.transfer(pages, id, &region, pixels.as_mut_slice());
+    resources.restore(id, pixels);
+    Some(done)
 }

@@ -9,7 +9,7 @@ use vg_wire_ext::Response;
 /// Why a command does nothing.
 #[derive(Clone, Copy)]
 pub(crate) enum Stop {
-    /// Want of memory.
+    /// Want of memory; or of pixels, which are lent.
     Memory,
     /// It is refused, and answered the error of this code (VIRTIO 1.2, 5.7.6.7).
     Refused(u32),

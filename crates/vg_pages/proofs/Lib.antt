@@ -1,3 +1,5 @@
 pub mod FreePages
 pub mod Marked
 pub mod Padded
+pub mod Sent
+pub mod Spliced

@@ -19,7 +19,7 @@ padded-at : (size : ℕ) (xs : List ℕ) (i : ℕ) → get_or (padded size xs) i
 padded-at size xs i = behind-at xs (size - length xs) i
 
 -- lists of one length that agree at each place are equal
-same-places : (xs ys : List ℕ) → length xs ≡ length ys → ((i : ℕ) → get_or xs i 0 ≡ get_or ys i 0) → xs ≡ ys
+pub same-places : (xs ys : List ℕ) → length xs ≡ length ys → ((i : ℕ) → get_or xs i 0 ≡ get_or ys i 0) → xs ≡ ys
 same-places xs ys long at =
     tabulate_from_places (λ i. get_or ys i 0) xs (length ys) 0 long (λ i within. at i)
     ∙ sym (tabulate_from_places (λ i. get_or ys i 0) ys (length ys) 0 refl (λ i within. refl))
@@ -40,7 +40,7 @@ padded-grown size more xs small =
 abbrev spliced : ℕ → List ℕ → List ℕ → List ℕ
 spliced start piece xs = take start xs ++ (piece ++ drop (start + length piece) xs)
 
-length-spliced : (start : ℕ) (piece xs : List ℕ) → start + length piece ≤ length xs → length (spliced start piece xs) ≡ length xs
+pub length-spliced : (start : ℕ) (piece xs : List ℕ) → start + length piece ≤ length xs → length (spliced start piece xs) ≡ length xs
 length-spliced start piece xs inside =
     let front = length-append (take start xs) (piece ++ drop (start + length piece) xs) in
     let back = length-append piece (drop (start + length piece) xs) in
@@ -49,16 +49,16 @@ length-spliced start piece xs inside =
 size-of-front : (start : ℕ) (xs : List ℕ) → start ≤ length xs → length (take start xs) ≡ start
 size-of-front start xs inside = omega (arith, length-take start xs, inside)
 
-spliced-low : (start : ℕ) (piece rest xs : List ℕ) (i : ℕ) → start ≤ length xs → i < start → get_or (take start xs ++ (piece ++ rest)) i 0 ≡ get_or xs i 0
+pub spliced-low : (start : ℕ) (piece rest xs : List ℕ) (i : ℕ) → start ≤ length xs → i < start → get_or (take start xs ++ (piece ++ rest)) i 0 ≡ get_or xs i 0
 spliced-low start piece rest xs i inside low =
     get_or_append_left (take start xs) (piece ++ rest) 0 i (omega (arith, size-of-front start xs inside, low)) ∙ get_or-take start xs i 0 low
 
-spliced-mid : (start : ℕ) (piece rest xs : List ℕ) (i : ℕ) → start ≤ length xs → start ≤ i → i < start + length piece → get_or (take start xs ++ (piece ++ rest)) i 0 ≡ get_or piece (i - start) 0
+pub spliced-mid : (start : ℕ) (piece rest xs : List ℕ) (i : ℕ) → start ≤ length xs → start ≤ i → i < start + length piece → get_or (take start xs ++ (piece ++ rest)) i 0 ≡ get_or piece (i - start) 0
 spliced-mid start piece rest xs i inside low high =
     get_or-append_right (take start xs) (piece ++ rest) start i 0 (size-of-front start xs inside) low
     ∙ get_or_append_left piece rest 0 (i - start) (omega (arith, low, high))
 
-spliced-high : (start : ℕ) (piece xs : List ℕ) (i : ℕ) → start ≤ length xs → start + length piece ≤ i → get_or (spliced start piece xs) i 0 ≡ get_or xs i 0
+pub spliced-high : (start : ℕ) (piece xs : List ℕ) (i : ℕ) → start ≤ length xs → start + length piece ≤ i → get_or (spliced start piece xs) i 0 ≡ get_or xs i 0
 spliced-high start piece xs i inside high =
     get_or-append_right (take start xs) (piece ++ drop (start + length piece) xs) start i 0 (size-of-front start xs inside) (omega (arith, high))
     ∙ get_or-append_right piece (drop (start + length piece) xs) (length piece) (i - start) 0 refl (omega (arith, high))

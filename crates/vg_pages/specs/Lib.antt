@@ -1,1 +1,3 @@
 pub mod Memory
+pub mod BlocksWithin
+pub mod Lending

@@ -3,8 +3,7 @@
 ghost use Rattle.std.specs.Prelude.{◌≡◌, ◌+◌, ◌*◌, ◌<◌, ◌≤◌, All, IfOk, length, take};
 ghost use Rattle.vg_pages.specs.Memory.{AreTakenBelow, free_pages, marked, zeroed};
 
-use crate::PAGE_BYTES;
-use crate::lazy::LazyBytes;
+use crate::blocks::Blocks;
 use std::alloc::{AllocError, Global};
 
 /// How many pages are free.
@@ -84,11 +83,11 @@ pub(crate) fn mark(taken: &mut [bool], pages: &[u32], now: bool)
 }
 
 /// Writes zeros over these pages.
-pub(crate) fn zero(bytes: &mut LazyBytes, pages: &[u32])
+pub(crate) fn zero(bytes: &mut Blocks, pages: &[u32])
     requires { All (λ page. 4096 * page + 4096 ≤ length bytes.old) pages.now }
     ensures { bytes.new ≡ zeroed pages.now bytes.old }
 {
     for page in pages {
-        bytes.zero(*page as usize * PAGE_BYTES, PAGE_BYTES);
+        bytes.zero(*page);
     }
 }

@@ -1,6 +1,6 @@
 //! Bytes of a fixed number that take no time and no pages of the host before they are written.
 
-ghost use Rattle.std.specs.Prelude.{◌≡◌, ◌+◌, ◌-◌, ◌≤◌, ◌++◌, IfOk, length, min, take, drop, replicate, vec_capacity};
+ghost use Rattle.std.specs.Prelude.{◌≡◌, true, ◌+◌, ◌-◌, ◌≤◌, ◌++◌, IfOk, length, min, take, drop, replicate, vec_capacity};
 ghost use Rattle.vg_pages.specs.Memory.{padded};
 
 use std::alloc::{AllocError, Global};
@@ -49,6 +49,13 @@ impl LazyBytes {
         ensures { out.new ≡ take (length out.old) (drop start self.now) }
     {
         read_padded(self.front.as_slice(), self.size, start, out);
+    }
+
+    /// Whether the bytes from `start` on lie behind all that was written, and so are 0.
+    pub(crate) fn is_zero_from(&self, start: usize) -> bool
+        ensures { result ≡ true → drop start self.now ≡ replicate (length self.now - start) 0 }
+    {
+        self.front.len() <= start
     }
 
     /// Writes these bytes from `start` on.
@@ -104,7 +111,7 @@ fn fill_from(bytes: &[u8], out: &mut [u8])
     rest.fill(0);
 }
 
-fn overwrite(front: &mut Vec<u8>, start: usize, bytes: &[u8])
+pub(crate) fn overwrite(front: &mut Vec<u8>, start: usize, bytes: &[u8])
     requires { start + length bytes.now ≤ length front.old.items }
     ensures bytes { front.new.items ≡ take start front.old.items ++ bytes.now ++ drop (start + length bytes.now) front.old.items }
     ensures room { vec_capacity front.old ≤ vec_capacity front.new }
@@ -121,7 +128,7 @@ fn zero_from_to(front: &mut Vec<u8>, start: usize, end: usize)
     zero_part(front.as_mut_slice(), start, end);
 }
 
-fn overwrite_part(all: &mut [u8], start: usize, bytes: &[u8])
+pub(crate) fn overwrite_part(all: &mut [u8], start: usize, bytes: &[u8])
     requires { start + length bytes.now ≤ length all.old }
     ensures { all.new ≡ take start all.old ++ bytes.now ++ drop (start + length bytes.now) all.old }
 {

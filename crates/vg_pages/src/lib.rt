@@ -4,11 +4,19 @@
 ghost use Rattle.std.specs.Prelude.{◌≡◌};
 ghost use Rattle.vg_pages.specs.Memory as memory_words;
 
+mod block;
+mod blocks;
 mod flags;
 mod lazy;
+mod lent;
 mod memory;
+mod piece;
+mod threads;
 
+pub use lent::LentBytes;
 pub use memory::Pages;
+pub use piece::Piece;
+pub use threads::pages_may_be_sent;
 
 /// How many bytes a page has.
 pub const PAGE_BYTES: usize = 4_096;

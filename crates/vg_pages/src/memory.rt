@@ -1,10 +1,11 @@
-//! Guest memory as one buffer, with a flag for each page.
+//! Guest memory page by page, with a flag for each page.
 
-ghost use Rattle.std.specs.Prelude.{◌≡◌, ℕ, List, All, ◌<◌, ◌≤◌, ◌*◌, ◌↔◌, IfOk, IfSome, IfNone, OnErr, IsNone, IsTrue, length, take, false, vec_len};
-ghost use Rattle.vg_pages.specs.Memory.{HasWholePages, fresh_memory, HoldsRange, bytes_at, written_at, free_pages, is_among, marked, after_taking, AreGivable, AreTakeable, page_address};
+ghost use Rattle.std.specs.Prelude.{◌≡◌, ℕ, List, All, ◌<◌, ◌≤◌, ◌*◌, ◌↔◌, IfOk, IfSome, IfNone, OnErr, IsNone, IsTrue, length, min, take, false, vec_len, ◌-◌, ◌/◌, ◌%◌};
+ghost use Rattle.vg_pages.specs.Memory.{HasWholePages, fresh_memory, HoldsRange, bytes_at, written_at, free_pages, is_among, is_free, marked, after_taking, AreGivable, AreTakeable, page_address};
 
+use crate::blocks::Blocks;
 use crate::flags::{count_free, least, lowest_free, mark, next_free, zero};
-use crate::lazy::LazyBytes;
+use crate::piece::Piece;
 use crate::{MEMORY_START, PAGE_BYTES, page_address};
 use std::alloc::{AllocError, Global};
 use std::marker::Model;
@@ -13,7 +14,7 @@ use std::marker::Model;
 /// are in bytes. A clause sees the bytes of all pages as one list, and for each page whether it is taken.
 #[derive(Debug, Drop)]
 pub struct Pages {
-    bytes: LazyBytes,
+    bytes: Blocks,
     taken: Vec<bool>,
     /// No page below this one is free.
     low: usize,
@@ -41,7 +42,7 @@ impl Pages {
         ensures count { IfOk result (λ memory. length memory.taken ≡ count) }
         ensures pages { IfOk result HasWholePages }
     {
-        let bytes = LazyBytes::new(alloc, count as usize * PAGE_BYTES)?;
+        let bytes = Blocks::new(alloc, count)?;
         let taken = vec![in alloc; false; count as usize]?;
         Ok(Pages {
             bytes,
@@ -119,6 +120,16 @@ impl Pages {
         count_free(self.taken.as_slice())
     }
 
+    /// Whether there is such a page, and it is free.
+    pub fn is_free(&self, page: u32) -> bool
+        ensures { result ≡ is_free self.now.taken page }
+    {
+        match self.taken.get(page as usize) {
+            Some(is_taken) => !*is_taken,
+            None => false,
+        }
+    }
+
     /// Whether the `length` bytes from the address `addr` on lie wholly in memory. An empty range does where its
     /// address is in memory or the first one past it.
     pub fn holds(&self, addr: u64, length: u64) -> bool
@@ -139,12 +150,33 @@ impl Pages {
         page_address(page)
     }
 
+    /// The page that has the byte of this address.
+    pub fn page_at(&self, addr: u64) -> u32
+        requires { HoldsRange self.now addr 1 }
+        ensures { result ≡ (addr - 1048576) / 4096 }
+    {
+        prove!((addr - MEMORY_START) as usize / PAGE_BYTES < self.taken.len());
+        ((addr - MEMORY_START) as usize / PAGE_BYTES) as u32
+    }
+
     /// Copies the bytes from the address `addr` on into `out`, as many as it has.
     pub fn read(&self, addr: u64, out: &mut [u8])
         requires { HoldsRange self.now addr (length out.old) }
         ensures { out.new ≡ bytes_at self.now.bytes addr (length out.old) }
     {
         self.bytes.read((addr - MEMORY_START) as usize, out);
+    }
+
+    /// The bytes from the address `addr` on, at most `most` and up to the end of their page, as they are now. It copies none
+    /// where the page was written to since it was taken.
+    pub fn share(&self, alloc: Global, addr: u64, most: usize) -> Result<Piece, AllocError>
+        requires held { HoldsRange self.now addr most }
+        requires some { 0 < most }
+        ensures bytes { IfOk result (λ piece. piece ≡ bytes_at self.now.bytes addr (length piece)) }
+        ensures length { IfOk result (λ piece. length piece ≡ min most (4096 - addr % 4096)) }
+    {
+        self.bytes
+            .share(alloc, (addr - MEMORY_START) as usize, most)
     }
 
     /// Writes `bytes` over memory from the address `addr` on.

@@ -1,24 +1,19 @@
 -- The pixels' bytes of all resources, as one comes, goes or is written to.
-use Rattle.std.proofs.Common.{◌≡◌, ℕ, ◌+◌, ◌*◌, ◌<◌, ◌≤◌, List, ◌++◌, Option, Some, None, length, drop, sym, ap, ◌∙◌, subst, arith}
+use Rattle.std.proofs.Common.{◌≡◌, ℕ, ◌+◌, ◌*◌, ◌<◌, ◌≤◌, List, Option, Some, None, length, sym, ap, ◌∙◌, subst, arith}
 use Rattle.std.specs.Prelude.{unwrap_or, IfSome}
 use Rattle.std.specs.Option.{option_map}
 use Rattle.std.specs.List.{All}
 use Rattle.std.specs.List.Sorted.{IsStrictlySortedBy}
 use Rattle.std.proofs.lemmas.Cmp.{nat_cmp_total}
-use Rattle.std.specs.Map.{keys_of, set_value, values_of}
+use Rattle.std.specs.Map.{keys_of, values_of}
 use Rattle.std.specs.BTreeMap.{insert_entry, is_at}
 use Rattle.std.specs.Ordering.{nat_cmp}
-use Rattle.std.proofs.lemmas.List.{length-replicate, length-take, length-append, length-drop}
-use Rattle.vg_list.specs.Seq.{overwritten}
+use Rattle.std.proofs.lemmas.List.{length-replicate}
 use Rattle.std.proofs.lemmas.Map.Entries.{sum_by-insert_entry, sum_by-remove_entry, sum_by-set_value}
 use Rattle.std.proofs.lemmas.Map.Views.{All-values-set_value, IfSome-lookup_from_All}
 use Rattle.vg_formats.specs.declared.format.Format.{Format}
 use Rattle.vg_resource.specs.declared.resource.Resource.{Resource}
-use Rattle.vg_resource.specs.Resource.{blank, pixel_bytes, resource_at, without, IsWhole}
-
-length-overwritten : (old written : List ℕ) → length (overwritten old written) ≡ length old
-length-overwritten old written =
-    omega (arith, length-take (length old) (written ++ drop (length written) old), length-append written (drop (length written) old), length-drop (length written) old)
+use Rattle.vg_resource.specs.Resource.{blank, pixel_bytes, resource_at, with_pixels, without, IsWhole}
 
 -- how many bytes the pixels of a resource have
 abbrev bytes_of : Resource → ℕ
@@ -46,19 +41,24 @@ pub length-blank : (width height : ℕ) (format : Format) → length (blank widt
 unfolding blank
 length-blank width height format = length-replicate (4 * width * height) 0
 
--- a resource whose pixels were written over
-pub written-keeps : (entries new : List (ℕ × Resource)) (id : ℕ) (resource : Resource) (bytes : List ℕ) → All (λ resource. IsWhole resource) (values_of entries)
-    → resource_at id entries ≡ Some resource
-    → new ≡ set_value (is_at (nat_cmp id)) entries (record resource { pixels = overwritten resource.pixels bytes })
-    → (pixel_bytes new ≡ pixel_bytes entries) × All (λ resource. IsWhole resource) (values_of new)
-written-keeps entries new id resource bytes whole is some =
+-- a resource whose pixels were brought back
+pub restored-keeps : (entries : List (ℕ × Resource)) (id : ℕ) (resource : Resource) (bytes : List ℕ) → All (λ resource. IsWhole resource) (values_of entries)
+    → resource_at id entries ≡ Some resource → length bytes ≡ length resource.pixels
+    → (pixel_bytes (with_pixels id resource bytes entries) ≡ pixel_bytes entries)
+    × All (λ resource. IsWhole resource) (values_of (with_pixels id resource bytes entries))
+restored-keeps entries id resource bytes whole is same =
     let test = is_at (nat_cmp id) in
-    let after : Resource = record resource { pixels = overwritten resource.pixels bytes } in
-    let same = length-overwritten resource.pixels bytes in
+    let after : Resource = record resource { pixels = bytes } in
     let was : IsWhole resource = subst (λ (o : Option Resource). IfSome o (λ r. IsWhole r)) is (IfSome-lookup_from_All (λ r. IsWhole r) test entries whole) in
     let now : IsWhole after = (same ∙ was.0, omega (arith, same, was), was.2, was.3) in
     let sums = sum_by-set_value bytes_of test entries resource after is in
-    let kept : pixel_bytes (set_value test entries after) ≡ pixel_bytes entries = omega (arith, sums, same) in (
-      ap (λ (es : List (ℕ × Resource)). pixel_bytes es) some ∙ kept,
-      subst (λ (es : List (ℕ × Resource)). All (λ r. IsWhole r) (values_of es)) (sym some) (All-values-set_value test (λ r. IsWhole r) entries after whole now),
-    )
+    (omega (arith, sums, same), All-values-set_value test (λ r. IsWhole r) entries after whole now)
+
+some-same : {X : Type 0} {x y : X} → ◌≡◌ {A = Option X} (Some x) (Some y) → x ≡ y
+some-same same = cc
+
+-- as many bytes as the resource has
+pub as-many : (entries : List (ℕ × Resource)) (id : ℕ) (resource : Resource) (bytes : List ℕ) → resource_at id entries ≡ Some resource
+    → option_map (λ (xs : List ℕ). length xs) (option_map (λ (r : Resource). r.pixels) (resource_at id entries)) ≡ Some (length bytes) → length bytes ≡ length resource.pixels
+as-many entries id resource bytes is long =
+    some-same (sym long ∙ ap (λ (o : Option Resource). option_map (λ (xs : List ℕ). length xs) (option_map (λ (r : Resource). r.pixels) o)) is)

@@ -1,2 +1,2 @@
+pub mod Pixels
 pub mod Resource
-pub mod Lending

@@ -1,19 +1,18 @@
 //! The 2D resources by their ids (VIRTIO 1.2, 5.7.6.8).
 
-ghost use Rattle.std.specs.Prelude.{◌≡◌, ◌<◌, ◌≤◌, [], Some, None, ◌+◌, IfOk, IfErr, OnOk, OnErr, IfSome, ◌*◌, IsSome, option_copied};
-ghost use Rattle.std.specs.Borrow.{sem};
+ghost use Rattle.std.specs.Prelude.{◌≡◌, ◌<◌, ◌≤◌, [], Some, None, ◌+◌, IfOk, IfErr, OnOk, OnErr, IfSome, ◌*◌, length, option_copied};
 ghost use Rattle.std.specs.List.{All};
 ghost use Rattle.std.specs.Map.{values_of};
-ghost use Rattle.vg_resource.specs.Lending.{lends_pixels};
-ghost use Rattle.vg_resource.specs.Resource.{IsWhole, blank, create, create_refusals, pixel_bytes, pixels_at, remove, resource_at};
+ghost use Rattle.std.specs.Option.{option_map};
+ghost use Rattle.vg_resource.specs.Resource.{IsWhole, blank, create, create_refusals, pixel_bytes, pixels_at, remove, resource_at, with_pixels};
 ghost use Rattle.vg_refusals.specs.Refusals.{refusal_of};
 ghost use Rattle.vg_formats.specs.Formats.{format_of};
 
+use crate::pixels::Pixels;
 use std::alloc::{AllocError, Global};
 use std::collections::BTreeMap;
 use std::marker::Model;
 use vg_formats::{Format, pixel_bytes};
-use vg_list::Seq;
 use vg_places::zeros;
 use vg_wire::kinds::{ERR_INVALID_PARAMETER, ERR_INVALID_RESOURCE_ID, ERR_OUT_OF_MEMORY};
 
@@ -21,16 +20,16 @@ use vg_wire::kinds::{ERR_INVALID_PARAMETER, ERR_INVALID_RESOURCE_ID, ERR_OUT_OF_
 const MOST_PIXEL_BYTES: u64 = 134_217_728;
 
 /// A 2D resource: width and height in pixels, and its pixels, row by row, four bytes each.
-#[derive(Debug, Drop)]
+#[derive(Drop)]
 pub struct Resource {
     pub width: u32,
     pub height: u32,
     pub format: Format,
-    pub pixels: Seq<u8>,
+    pub pixels: Pixels,
 }
 
 /// The resources by their ids.
-#[derive(Debug, Drop)]
+#[derive(Drop)]
 pub struct Resources {
     map: BTreeMap<u32, Resource>,
     /// How many bytes their pixels have.
@@ -146,14 +145,25 @@ impl Resources {
         self.map.get(&id)
     }
 
-    /// The pixels of a resource, row by row, four bytes each, to be written in place.
-    pub fn pixels_mut(&mut self, id: u32) -> &mut [u8]
-        requires there { IsSome (resource_at id self.old) }
-        ensures* writes_back { sem 𝓛 (lends_pixels self.entry id result) }
-        ensures value { Some result.now ≡ pixels_at id self.old }
+    /// Lends the pixels of a resource, row by row, four bytes each, which takes no memory and copies none. None where there is no such
+    /// resource or they are lent. What is seen of them stays.
+    pub fn lend(&mut self, id: u32) -> Option<Vec<u8>>
+        ensures same { self.new ≡ self.old }
+        ensures pixels { IfSome result (λ pixels. Some pixels.items ≡ pixels_at id self.old) }
+    {
+        let Some(resource) = self.map.get_mut(&id) else {
+            return None;
+        };
+        resource.pixels.lend()
+    }
+
+    /// Brings pixels back to the resource that has lent them, as many as it has, which may be others now. It takes no memory.
+    pub fn restore(&mut self, id: u32, pixels: Vec<u8>)
+        requires { option_map length (pixels_at id self.old) ≡ Some (length pixels.items) }
+        ensures { IfSome (resource_at id self.old) (λ resource. self.new ≡ with_pixels id resource pixels.items self.old) }
     {
         let resource = self.map.get_mut(&id).unwrap();
-        resource.pixels.as_mut_slice()
+        resource.pixels.restore(pixels);
     }
 }
 
@@ -168,7 +178,7 @@ fn blank(
     requires { size ≡ 4 * width * height }
     ensures { IfOk result (λ resource. resource ≡ blank width height format) }
 {
-    let pixels = Seq::from_vec(zeros(alloc, size)?);
+    let pixels = Pixels::of(zeros(alloc, size)?);
     Ok(Resource {
         width,
         height,

@@ -3,10 +3,11 @@
 ghost use Rattle.std.specs.BTreeMap.{is_at};
 ghost use Rattle.std.specs.Map.{lookup};
 ghost use Rattle.std.specs.Ordering.{nat_cmp};
-ghost use Rattle.std.specs.Prelude.{◌≡◌, ◌==◌, ◌+◌, ◌^◌, ◌-◌, ℕ, not, true, ◌<◌, [], Some, None, IfOk, IfErr, OnOk, OnErr, length, replicate, slice_get};
+ghost use Rattle.std.specs.Prelude.{◌≡◌, ◌==◌, ◌+◌, ◌^◌, ◌-◌, ℕ, not, true, ◌<◌, [], Some, None, IfOk, IfErr, OnOk, OnErr, length, replicate, slice_get, option_copied};
+ghost use Rattle.std.specs.Option.{option_map};
 ghost use Rattle.vg_pages.specs.Memory.{AreTakeable, Memory, after_taking, fresh_memory};
 ghost use Rattle.vg_share.specs.Cells.{pages_of};
-ghost use Rattle.vg_share.specs.Share.{SharesPages, drop_refusal, ended, entered, export_refusal, exported, exported_key, free_refusal, freed, geometry_at, geometry_in, given_back, has_entered, has_holder, holds_once, import_refusal, imported, imported_buffer, imported_entries, is_holder, is_leased, leased, new_buffer, pages_at, place_refusal, release_refusal, released, released_buffer, released_entries, some_holder, take_refusal, token_key, unleased, with_buffer};
+ghost use Rattle.vg_share.specs.Share.{SharesPages, buffer_at, drop_refusal, ended, entered, export_refusal, exported, exported_key, free_refusal, freed, geometry_at, geometry_in, given_back, has_entered, has_holder, holds_once, import_refusal, imported, imported_buffer, imported_entries, is_holder, is_leased, leased, new_buffer, pages_at, place_refusal, release_refusal, released, released_buffer, released_entries, some_holder, take_refusal, token_key, unleased, with_buffer};
 
 use crate::lists::remove_number;
 use std::alloc::{AllocError, Global};
@@ -151,6 +152,16 @@ impl Share {
             return Err(ShareRefusal::OutOfRange { bytes });
         }
         Ok(buffer.pages.as_slice())
+    }
+
+    /// The pages of a buffer that is live, rising.
+    pub fn pages(&self, key: u32) -> Option<&[u32]>
+        ensures { option_copied result ≡ option_map (λ buffer. buffer.pages) (buffer_at key self.now) }
+    {
+        match self.buffers.get(&key) {
+            Some(buffer) => Some(buffer.pages.as_slice()),
+            None => None,
+        }
     }
 
     /// Takes one hold of the client away, and tells whether it was the last of all: the client takes the buffer down then.

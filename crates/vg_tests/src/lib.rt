@@ -17,6 +17,8 @@ mod formats;
 #[cfg(test)]
 mod io;
 #[cfg(test)]
+mod lending;
+#[cfg(test)]
 mod list;
 #[cfg(test)]
 mod pages;

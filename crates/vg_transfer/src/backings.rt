@@ -4,7 +4,8 @@ ghost use Rattle.std.specs.Prelude.{◌≡◌, ◌+◌, ◌*◌, ◌<◌, ◌≤
 ghost use Rattle.vg_pages.specs.Memory.{Memory};
 ghost use Rattle.vg_formats.specs.declared.rect.Rect.{Rect};
 ghost use Rattle.vg_formats.specs.Pixels.{is_empty};
-ghost use Rattle.vg_backing.specs.Backing.{AreHeld, backing_bytes, total};
+ghost use Rattle.vg_backing.specs.Backing.{AreHeld, backing_bytes, total, touches};
+ghost use Rattle.std.specs.Option.{option_map};
 ghost use Rattle.vg_transfer.specs.Backings.{attach, backing_at, detach, detached, entries_at, transfer, transfer_end, transferred};
 ghost use Rattle.vg_transfer.specs.Pixels.{CopiesRect};
 
@@ -125,6 +126,26 @@ impl Backings {
         }
         copy_rect(backing, pages, rect, region.offset, region.width, pixels);
         Ok(())
+    }
+
+    /// How many bytes a resource's backing has. None where it has no backing.
+    pub fn length(&self, resource: u32) -> Option<u64>
+        ensures { result ≡ option_map total (backing_at resource self.now) }
+    {
+        match self.get(resource) {
+            Some(backing) => Some(backing.length()),
+            None => None,
+        }
+    }
+
+    /// Whether some byte of the page lies in an entry of a resource's backing.
+    pub fn touches(&self, resource: u32, page: u32) -> bool
+        ensures { result ≡ touches page (entries_at resource self.now) }
+    {
+        match self.get(resource) {
+            Some(backing) => backing.touches(page),
+            None => false,
+        }
     }
 
     /// A law, and no work: after a transfer that isn't refused pixel (x + i, y + j) of a resource of this width and height, in

@@ -6,6 +6,7 @@ use denote.Ref.{NamedLft}
 use Rattle.std.proofs.Crossing.{crosses}
 use Rattle.std.proofs.MapsCrossing.{BTreeMap-send}
 use Rattle.vg_list.specs.contracts.seq.Seq as seq
+use Rattle.vg_pages.proofs.Sent.{pages_send}
 use Rattle.vg_shared_bytes.proofs.Sent.{strips_send}
 use Rattle.vg_scanout.specs.contracts.panel.Panel as panel
 use Rattle.vg_scanout.specs.contracts.scanout.Frame as frame
@@ -50,7 +51,7 @@ scanouts_send = let S = scanouts_in.the_type in
 
 device_send : IsSend device.the_row
 device_send = let D = device_in.the_type in
-    view_send _ _ _ _ _ (recorded_send _ _ _ D.to_one (struct_send (shape D) (search (sendable, crosses, seq_send) depth 20, (search sendable, (search (sendable, crosses) depth 20, (search (sendable, crosses, BTreeMap-send, seq_send) depth 20, (search (sendable, crosses, BTreeMap-send) depth 20, (search (sendable, crosses, BTreeMap-send) depth 40, (search (sendable, crosses, BTreeMap-send) depth 40, (search (sendable, crosses, BTreeMap-send) depth 20, (search (sendable, crosses, seq_send) depth 20, (scanouts_send, (search (sendable, crosses, BTreeMap-send, seq_send) depth 20, tt)))))))))))))
+    view_send _ _ _ _ _ (recorded_send _ _ _ D.to_one (struct_send (shape D) (search (sendable, crosses, seq_send) depth 20, (search sendable, (pages_send, (search (sendable, crosses, BTreeMap-send, seq_send) depth 20, (search (sendable, crosses, BTreeMap-send) depth 20, (search (sendable, crosses, BTreeMap-send) depth 40, (search (sendable, crosses, BTreeMap-send) depth 40, (search (sendable, crosses, BTreeMap-send) depth 20, (search (sendable, crosses, seq_send) depth 20, (scanouts_send, (search (sendable, crosses, BTreeMap-send, seq_send) depth 20, tt)))))))))))))
 
 pub display_send : IsSend display.the_row
 display_send = let D = display_in.the_type in view_send _ _ _ _ _ (recorded_send _ _ _ D.to_one (struct_send (shape D) (device_send, tt)))

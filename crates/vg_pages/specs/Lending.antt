@@ -1,0 +1,22 @@
+-- Bytes of guest memory that were lent.
+use Rattle.std.specs.Prelude.{◌≡◌, ℕ, ◌/◌, ◌<◌, ◌≤◌, true, List, [], ◌∷◌, ◌++◌, length, slice_index, slice_index_or}
+use Rattle.vg_pages.specs.Memory.{Memory, is_among}
+
+-- Lists one after another.
+abbrev pub joined : List (List ℕ) → List ℕ
+joined [] = []
+joined (xs ∷ more) = xs ++ joined more
+
+-- Bytes of guest memory, and the pages that they were in.
+pub record Lending : Type 0 where
+  pub bytes : List ℕ
+  pub pages : List ℕ
+
+-- From this place on each list has an element.
+pub record AreSome (next : ℕ) (pieces : List (List ℕ)) : Type 0 where
+  pub each : (k : ℕ) → next ≤ k → k < length pieces → 0 < length (slice_index_or pieces k [])
+
+-- Two states of a guest memory have the same bytes in these pages.
+pub record AreSameIn (pages : List ℕ) (one other : Memory) : Type 0 where
+  pub size : length other.bytes ≡ length one.bytes
+  pub each : (place : ℕ) → is_among pages (place / 4096) ≡ true → slice_index other.bytes place ≡ slice_index one.bytes place
