@@ -284,8 +284,8 @@ fn any_flagged_between(first: u64, end: u64, flags: &[bool]) -> bool
     ensures { (pages : List ℕ) → AreFlagged flags.now pages → result ≡ list_any (λ page. nat_le first page && nat_lt page end) pages }
 {
     let past = end.min(flags.len() as u64) as usize;
-    let first = first.min(past as u64) as usize;
-    for page in first..past {
+    let start = first.min(past as u64) as usize;
+    for page in start..past {
         if flags[page] {
             return true;
         }
