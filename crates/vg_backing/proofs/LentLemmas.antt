@@ -1,18 +1,22 @@
 -- Bytes that are lent, one piece of a page after another.
-use Rattle.std.proofs.Common.{◌≡◌, ℕ, zero, ◌+◌, ◌-◌, ◌*◌, ◌/◌, ◌%◌, ◌==◌, ◌<◌, ◌≤◌, ◌||◌, Bool, true, false, List, [], ◌∷◌, ◌++◌, length, get_or, take, drop, refl, sym, ap, ◌∙◌, append_assoc, arith}
+use Rattle.std.proofs.Common.{◌≡◌, ℕ, ◌+◌, ◌-◌, ◌/◌, ◌%◌, ◌==◌, ◌<◌, ◌≤◌, ◌||◌, Bool, true, false, List, [], ◌∷◌, ◌++◌, length, get_or, take, drop, refl, sym, ap, ◌∙◌, append_assoc, arith}
 use Rattle.std.proofs.Math.Seq.{take-add}
-use Rattle.std.proofs.lemmas.Bool.{eq-eqb, or_right}
+use Rattle.std.proofs.lemmas.Bool.{eq-eqb}
 use Rattle.std.proofs.lemmas.List.{append-nil, drop-drop, get_or-take, get_or-drop, length-take, length-drop}
-use Rattle.std.proofs.lemmas.List.Folds.{list_any-append}
+use Rattle.std.proofs.lemmas.List.Folds.{list_any-append, list_any_at}
 use Rattle.vg_formats.specs.declared.entry.MemEntry.{MemEntry}
-use Rattle.vg_pages.specs.Lending.{AreSameIn, Lending, joined}
-use Rattle.vg_pages.specs.Memory.{Memory, bytes_at, is_among}
+use Rattle.vg_pages.specs.Lending.{AreSameIn, joined}
+use Rattle.vg_pages.specs.Memory.{Memory, bytes_at, is_among, page_address}
 use Rattle.vg_pages.proofs.Padded.{same-places}
 use Rattle.std.proofs.lemmas.List.{get_or_past}
 use Rattle.std.proofs.lemmas.Bool.{cases_lt}
 use Rattle.std.proofs.Common.{inl, inr}
-use Rattle.vg_backing.specs.Backing.{AreHeld, backing_bytes}
-use Rattle.vg_backing.specs.Fits.{IsLent}
+use Rattle.std.proofs.lemmas.Bool.Decides.{nat_tests}
+use Rattle.std.proofs.lemmas.List.Elements.{All-push}
+use Rattle.vg_backing.specs.declared.backing.Run.{Run}
+use Rattle.vg_backing.specs.Backing.{AreHeld, backing_bytes, is_touched, touches}
+use Rattle.vg_backing.specs.Fits.{IsLent, entries_of}
+use Rattle.vg_backing.proofs.BackingLemmas.{entry-at, length-entries_of}
 
 joined-push : (ps : List (List ℕ)) (p : List ℕ) → joined (ps ++ p ∷ []) ≡ joined ps ++ p
 joined-push [] p = append-nil p
@@ -66,15 +70,37 @@ taken-on xs at done n = take-add done n (drop at xs) ∙ ap (λ ys. take done (d
 
 -- nothing yet
 pub lent-none : (memory : Memory) (entries : List MemEntry) (at : ℕ) → IsLent memory entries at 0 (record { bytes = []; pages = [] })
-lent-none memory entries at = record { bytes = refl; rest = λ other are. refl }
+lent-none memory entries at = record {
+  bytes = refl;
+  rest = λ other are. refl;
+  touched = λ k d within. absurd (omega (arith, within));
+  inside = λ k d within. absurd (omega (arith, within));
+}
+
+test-touched : (page addr : ℕ) (entry : MemEntry) → page ≡ (addr - 1048576) / 4096 → 1048576 ≤ entry.addr → entry.addr ≤ addr → addr < entry.addr + entry.length → is_touched page entry ≡ true
+test-touched page addr entry is low from to =
+    let some : 0 < entry.length = omega (arith, from, to) in
+    let before : entry.addr < page_address page + 4096 = omega (arith, is, low, from) in
+    let behind : page_address page < entry.addr + entry.length = omega (arith, is, low, from, to) in
+    grind (arith, nat_tests, some, before, behind)
+
+-- the page of a byte of a run is touched
+pub touched-at : (runs : List Run) (k addr : ℕ) (d : Run) → k < length runs → 1048576 ≤ (get_or runs k d).entry.addr → (get_or runs k d).entry.addr ≤ addr
+    → addr < (get_or runs k d).entry.addr + (get_or runs k d).entry.length → touches ((addr - 1048576) / 4096) (entries_of runs) ≡ true
+touched-at runs k addr d within low from to =
+    let page = (addr - 1048576) / 4096 in
+    let entry = (get_or runs k d).entry in
+    list_any_at (is_touched page) (entries_of runs) k entry (omega (arith, within, length-entries_of runs))
+    (ap (is_touched page) (entry-at runs k d entry within) ∙ test-touched page addr entry refl low from to)
 
 -- one piece more
 pub lent-on : (memory : Memory) (entries : List MemEntry) (at done n addr : ℕ) (pieces : List (List ℕ)) (piece pages : List ℕ) → AreHeld memory entries
     → 1048576 ≤ addr → n ≤ 4096 - addr % 4096 → piece ≡ bytes_at memory.bytes addr n
     → ((other : Memory) → AreHeld other entries → take n (drop (at + done) (backing_bytes other entries)) ≡ bytes_at other.bytes addr n)
+    → touches ((addr - 1048576) / 4096) entries ≡ true → (addr - 1048576) / 4096 < length memory.taken
     → IsLent memory entries at done (record { bytes = joined pieces; pages = pages })
     → IsLent memory entries at (done + n) (record { bytes = joined (pieces ++ piece ∷ []); pages = pages ++ ((addr - 1048576) / 4096) ∷ [] })
-lent-on memory entries at done n addr pieces piece pages held low fits is here was = record {
+lent-on memory entries at done n addr pieces piece pages held low fits is here touched inside was = record {
   bytes =
       joined-push pieces piece ∙ ap (λ xs. joined pieces ++ xs) (is ∙ sym (here memory held)) ∙ ap (λ xs. xs ++ take n (drop (at + done) (backing_bytes memory entries))) was.bytes
       ∙ sym (taken-on (backing_bytes memory entries) at done n);
@@ -83,4 +109,6 @@ lent-on memory entries at done n addr pieces piece pages held low fits is here w
       ∙ ap (λ xs. xs ++ take n (drop (at + done) (backing_bytes other entries))) (was.rest other (same-before pages ((addr - 1048576) / 4096) memory other are))
       ∙ ap (λ xs. joined pieces ++ xs) (here other (held-other memory other entries are.size held) ∙ same-piece pages memory other addr n low fits are ∙ sym is)
       ∙ sym (joined-push pieces piece);
+  touched = All-push (λ page. touches page entries ≡ true) pages ((addr - 1048576) / 4096) was.touched touched;
+  inside = All-push (λ page. page < length memory.taken) pages ((addr - 1048576) / 4096) was.inside inside;
 }

@@ -1,3 +1,4 @@
 pub mod BackingLemmas
+pub mod FlagLemmas
 pub mod HeldLemmas
 pub mod LentLemmas

@@ -1,8 +1,8 @@
 -- What the runs that a backing keeps have: for private contracts.
-use Rattle.std.specs.Prelude.{◌≡◌, ℕ, ◌+◌, ◌^◌, ◌<◌, ◌≤◌, List, length, map, take, drop, slice_index_or}
+use Rattle.std.specs.Prelude.{◌≡◌, ℕ, ◌+◌, ◌^◌, ◌<◌, ◌≤◌, true, All, List, length, map, take, drop, slice_index_or}
 use Rattle.vg_formats.specs.declared.entry.MemEntry.{MemEntry}
 use Rattle.vg_backing.specs.declared.backing.Run.{Run}
-use Rattle.vg_backing.specs.Backing.{backing_bytes, total}
+use Rattle.vg_backing.specs.Backing.{backing_bytes, total, touches}
 use Rattle.vg_pages.specs.Memory.{Memory}
 use Rattle.vg_pages.specs.Lending.{AreSameIn, Lending}
 
@@ -27,3 +27,5 @@ HasByte runs k at = (k < length runs) × (total (take k (entries_of runs)) ≤ a
 pub record IsLent (memory : Memory) (entries : List MemEntry) (at count : ℕ) (lent : Lending) : Type 0 where
   pub bytes : lent.bytes ≡ take count (drop at (backing_bytes memory entries))
   pub rest : (other : Memory) → AreSameIn lent.pages memory other → take count (drop at (backing_bytes other entries)) ≡ lent.bytes
+  pub touched : All (λ page. touches page entries ≡ true) lent.pages
+  pub inside : All (λ page. page < length memory.taken) lent.pages

@@ -1,16 +1,16 @@
 //! Backings: the ranges of guest memory that a resource's pixels come from (VIRTIO 1.2, 5.7.6.8).
 
-ghost use Rattle.std.specs.Prelude.{◌≡◌, ◌+◌, ◌-◌, ◌*◌, ◌<◌, ◌≤◌, ◌⊎◌, ◌^◌, [], true, length, take, drop, IfOk, IfSome, IfNone, OnErr, false, All, option_copied};
+ghost use Rattle.std.specs.Prelude.{◌≡◌, ℕ, List, ◌+◌, ◌-◌, ◌*◌, ◌<◌, ◌≤◌, ◌⊎◌, ◌^◌, [], true, length, take, drop, IfOk, IfSome, IfNone, OnErr, false, All, option_copied, nat_le, nat_lt, ◌&&◌};
 ghost use Rattle.std.specs.List.{list_any};
 ghost use Rattle.vg_backing.specs.Backing.{AreHeld, are_bad, backing_bytes, is_bad, is_touched, total, touches};
-ghost use Rattle.vg_pages.specs.Lending.{AreSameIn};
+ghost use Rattle.vg_pages.specs.Lending.{AreFlagged, AreSameIn};
 ghost use Rattle.vg_pages.specs.Memory.{Memory};
 ghost use Rattle.vg_backing.specs.Fits.{ArePlaced, EndsInRange, HasByte, IsLent, entries_of};
 
 use std::alloc::{AllocError, Global};
 use std::marker::Model;
 use vg_formats::MemEntry;
-use vg_pages::{LentBytes, PAGE_BYTES, Pages, page_address};
+use vg_pages::{LentBytes, MEMORY_START, PAGE_BYTES, Pages, page_address};
 
 /// An entry, and how many bytes of the backing stand before it.
 #[derive(Clone, Copy, Debug)]
@@ -113,6 +113,8 @@ impl Backing {
         ensures bytes { IfOk result (λ lent. lent.bytes ≡ take count (drop at (backing_bytes pages.now self.now))) }
         ensures rest { IfOk result (λ lent. (other : Memory) → AreSameIn lent.pages pages.now other
             → take count (drop at (backing_bytes other self.now)) ≡ lent.bytes) }
+        ensures touched { IfOk result (λ lent. All (λ page. touches page self.now ≡ true) lent.pages) }
+        ensures inside { IfOk result (λ lent. All (λ page. page < length pages.now.taken) lent.pages) }
     {
         let runs = self.runs.as_slice();
         let first = run_of(runs, at);
@@ -124,6 +126,13 @@ impl Backing {
         ensures { result ≡ touches page self.now }
     {
         touches_in(self.runs.as_slice(), page)
+    }
+
+    /// Whether some byte of a page whose flag is set lies in an entry. It takes time by the pages that the entries have.
+    pub fn touches_some(&self, flags: &[bool]) -> bool
+        ensures { (pages : List ℕ) → AreFlagged flags.now pages → result ≡ list_any (λ page. touches page self.now) pages }
+    {
+        some_touched(self.runs.as_slice(), flags)
     }
 }
 
@@ -244,4 +253,42 @@ fn touches_entry(entry: &MemEntry, page: u32) -> bool
     let from = u128::from(entry.addr);
     let to = from + u128::from(entry.length);
     entry.length != 0 && from < start + PAGE_BYTES as u128 && start < to
+}
+
+/// Whether some byte of a page whose flag is set lies in the entry of a run.
+fn some_touched(runs: &[Run], flags: &[bool]) -> bool
+    ensures { (pages : List ℕ) → AreFlagged flags.now pages → result ≡ list_any (λ page. touches page (entries_of runs.now)) pages }
+{
+    for run in runs {
+        if touches_flagged(&run.entry, flags) {
+            return true;
+        }
+    }
+    false
+}
+
+fn touches_flagged(entry: &MemEntry, flags: &[bool]) -> bool
+    ensures { (pages : List ℕ) → AreFlagged flags.now pages → result ≡ list_any (λ page. is_touched page entry.now) pages }
+{
+    let from = entry.addr.saturating_sub(MEMORY_START);
+    let to = (u128::from(entry.addr) + u128::from(entry.length)).saturating_sub(u128::from(
+        MEMORY_START,
+    ));
+    let first = from / PAGE_BYTES as u64;
+    let end = to.div_ceil(PAGE_BYTES as u128) as u64;
+    entry.length != 0 && any_flagged_between(first, end, flags)
+}
+
+/// Whether a page from `first` on and below `end` has its flag set.
+fn any_flagged_between(first: u64, end: u64, flags: &[bool]) -> bool
+    ensures { (pages : List ℕ) → AreFlagged flags.now pages → result ≡ list_any (λ page. nat_le first page && nat_lt page end) pages }
+{
+    let past = end.min(flags.len() as u64) as usize;
+    let start = first.min(past as u64) as usize;
+    for page in start..past {
+        if flags[page] {
+            return true;
+        }
+    }
+    false
 }

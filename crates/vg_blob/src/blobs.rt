@@ -1,8 +1,10 @@
 //! The blob resources by their ids (VIRTIO 1.2, 5.7.6.8).
 
-ghost use Rattle.std.specs.Prelude.{◌≡◌, ◌<◌, ◌^◌, [], length, IfOk, IfSome, OnErr, All, is_some};
+ghost use Rattle.std.specs.List.{list_any};
+ghost use Rattle.std.specs.Prelude.{◌≡◌, ◌<◌, ◌^◌, ℕ, List, [], length, IfOk, IfSome, OnErr, All, is_some};
 ghost use Rattle.std.specs.Option.{option_map};
 ghost use Rattle.std.specs.Map.{values_of};
+ghost use Rattle.vg_pages.specs.Lending.{AreFlagged};
 ghost use Rattle.vg_pages.specs.Memory.{Memory};
 ghost use Rattle.vg_blob.specs.Blobs.{IsBlob, IsHeld, blob_at, blob_bytes, create, entries_of, remove, size_of};
 ghost use Rattle.vg_backing.specs.Backing.{touches};
@@ -148,6 +150,16 @@ impl Blobs {
     {
         match self.map.get(&id) {
             Some(blob) => blob.entries.touches(page),
+            None => false,
+        }
+    }
+
+    /// Whether some byte of a page whose flag is set lies in an entry of the blob of this id.
+    pub fn touches_some(&self, id: u32, flags: &[bool]) -> bool
+        ensures { (pages : List ℕ) → AreFlagged flags.now pages → result ≡ list_any (λ page. touches page (entries_of (blob_at id self.now))) pages }
+    {
+        match self.map.get(&id) {
+            Some(blob) => blob.entries.touches_some(flags),
             None => false,
         }
     }

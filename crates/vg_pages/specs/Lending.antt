@@ -1,5 +1,5 @@
 -- Bytes of guest memory that were lent.
-use Rattle.std.specs.Prelude.{◌≡◌, ℕ, ◌/◌, ◌<◌, ◌≤◌, true, List, [], ◌∷◌, ◌++◌, length, slice_index, slice_index_or}
+use Rattle.std.specs.Prelude.{◌≡◌, ℕ, ◌/◌, ◌<◌, ◌≤◌, Bool, true, false, List, [], ◌∷◌, ◌++◌, length, slice_index, slice_index_or}
 use Rattle.vg_pages.specs.Memory.{Memory, is_among}
 
 -- Lists one after another.
@@ -20,3 +20,11 @@ pub record AreSome (next : ℕ) (pieces : List (List ℕ)) : Type 0 where
 pub record AreSameIn (pages : List ℕ) (one other : Memory) : Type 0 where
   pub size : length other.bytes ≡ length one.bytes
   pub each : (place : ℕ) → is_among pages (place / 4096) ≡ true → slice_index other.bytes place ≡ slice_index one.bytes place
+
+-- Whether the flag of this page is set. Past the end of the flags none is.
+abbrev pub is_flagged : List Bool → ℕ → Bool
+is_flagged flags page = slice_index_or flags page false
+
+-- The flags of these pages are set, and no others.
+pub record AreFlagged (flags : List Bool) (pages : List ℕ) : Type 0 where
+  pub each : (page : ℕ) → is_flagged flags page ≡ is_among pages page

@@ -1,7 +1,9 @@
 //! The flags of pages, and the bytes of pages by their numbers.
 
-ghost use Rattle.std.specs.Prelude.{◌≡◌, ◌+◌, ◌*◌, ◌<◌, ◌≤◌, All, IfOk, length, take};
-ghost use Rattle.vg_pages.specs.Memory.{AreTakenBelow, free_pages, marked, zeroed};
+ghost use Rattle.std.specs.List.{list_any};
+ghost use Rattle.std.specs.Prelude.{◌≡◌, ◌+◌, ◌*◌, ◌<◌, ◌≤◌, All, IfOk, length, take, ℕ, List};
+ghost use Rattle.vg_pages.specs.Lending.{AreFlagged, is_flagged};
+ghost use Rattle.vg_pages.specs.Memory.{AreTakenBelow, free_pages, is_among, marked, zeroed};
 
 use crate::blocks::Blocks;
 use std::alloc::{AllocError, Global};
@@ -89,5 +91,26 @@ pub(crate) fn zero(bytes: &mut Blocks, pages: &[u32])
 {
     for page in pages {
         bytes.zero(*page);
+    }
+}
+
+/// Whether a page of these has its flag set. A page past the end of the flags has none.
+pub fn any_flagged(pages: &[u32], flags: &[bool]) -> bool
+    ensures { (all : List ℕ) → AreFlagged flags.now all → result ≡ list_any (is_among all) pages.now }
+{
+    for page in pages {
+        if is_flagged(flags, *page) {
+            return true;
+        }
+    }
+    false
+}
+
+fn is_flagged(flags: &[bool], page: u32) -> bool
+    ensures { result ≡ is_flagged flags.now page }
+{
+    match flags.get(page as usize) {
+        Some(flag) => *flag,
+        None => false,
     }
 }

@@ -48,6 +48,14 @@ impl LentBytes {
         self.pages.as_slice()
     }
 
+    /// The pages that the bytes were in, for good.
+    pub fn into_pages(self) -> Vec<u32>
+        ensures { result.items ≡ self.pages }
+    {
+        let LentBytes { pages, .. } = self;
+        pages
+    }
+
     /// Copies the next bytes into `out`, as many as it has.
     pub fn read(&mut self, out: &mut [u8])
         requires { length out.old ≤ length self.old.bytes }

@@ -153,7 +153,8 @@ impl Pages {
     /// The page that has the byte of this address.
     pub fn page_at(&self, addr: u64) -> u32
         requires { HoldsRange self.now addr 1 }
-        ensures { result ≡ (addr - 1048576) / 4096 }
+        ensures page { result ≡ (addr - 1048576) / 4096 }
+        ensures inside { result < length self.now.taken }
     {
         prove!((addr - MEMORY_START) as usize / PAGE_BYTES < self.taken.len());
         ((addr - MEMORY_START) as usize / PAGE_BYTES) as u32

@@ -73,6 +73,11 @@ abbrev pub transferred : Memory → List MemEntry → Rect → ℕ → ℕ → L
 transferred memory entries rect offset width pixels =
     copied (bytes_of_rect rect) (4 * width) (backing_bytes memory entries) (4 * width) offset pixels
 
+-- The pixels of a resource of this width after the rectangle was filled from these bytes, which begin with its first pixel and stand
+-- as rows of the resource do.
+abbrev pub placed : Rect → ℕ → List ℕ → List ℕ → List ℕ
+placed rect width bytes pixels = copied (bytes_of_rect rect) (4 * width) bytes (4 * width) 0 pixels
+
 -- A transfer to the pixels of a resource of this size.
 unfoldable pub transfer : Bool → Memory → ℕ → Rect → ℕ → ℕ → ℕ → List (ℕ × List MemEntry) → List ℕ → List ℕ × Result Unit ℕ
 transfer known memory id rect offset width height backings pixels =

@@ -1,12 +1,15 @@
 //! The backings of resources, and the transfers from them (VIRTIO 1.2, 5.7.6.8).
 
-ghost use Rattle.std.specs.Prelude.{◌≡◌, ◌+◌, ◌*◌, ◌<◌, ◌≤◌, ◌⊎◌, ◌^◌, ℕ, List, [], true, length, IfOk, OnOk, OnErr, Ok, All, option_copied};
+ghost use Rattle.std.specs.List.{list_any};
+ghost use Rattle.std.specs.Prelude.{◌≡◌, ◌+◌, ◌-◌, ◌*◌, ◌<◌, ◌≤◌, ◌⊎◌, ◌^◌, ℕ, List, [], true, false, length, take, drop, IfOk, OnOk, OnErr, Ok, None, All, option_copied};
+ghost use Rattle.vg_pages.specs.Lending.{AreFlagged, AreSameIn};
 ghost use Rattle.vg_pages.specs.Memory.{Memory};
 ghost use Rattle.vg_formats.specs.declared.rect.Rect.{Rect};
 ghost use Rattle.vg_formats.specs.Pixels.{is_empty};
 ghost use Rattle.vg_backing.specs.Backing.{AreHeld, backing_bytes, total, touches};
 ghost use Rattle.std.specs.Option.{option_map};
-ghost use Rattle.vg_transfer.specs.Backings.{attach, backing_at, detach, detached, entries_at, transfer, transfer_end, transferred};
+ghost use Rattle.vg_transfer.specs.Backings.{attach, backing_at, detach, detached, entries_at, placed, transfer, transfer_end, transfer_refusals, transferred};
+ghost use Rattle.vg_refusals.specs.Refusals.{refusal_of};
 ghost use Rattle.vg_transfer.specs.Pixels.{CopiesRect};
 
 use std::alloc::{AllocError, Global};
@@ -14,7 +17,7 @@ use std::collections::BTreeMap;
 use std::marker::Model;
 use vg_backing::Backing;
 use vg_formats::{MemEntry, Rect};
-use vg_pages::Pages;
+use vg_pages::{LentBytes, Pages};
 use vg_wire::kinds::{ERR_INVALID_PARAMETER, ERR_UNSPEC};
 
 /// What a transfer copies: a rectangle of a resource of `width` by `height` pixels, four bytes each. The rectangle's first byte is
@@ -128,6 +131,27 @@ impl Backings {
         Ok(())
     }
 
+    /// The bytes that such a transfer copies, with what stands between the rows of its rectangle, as they are now: what `place` takes.
+    pub fn lend(
+        &self,
+        alloc: Global,
+        pages: &Pages,
+        resource: u32,
+        region: &Region,
+    ) -> Result<LentBytes, AllocError>
+        requires held { All (λ entry. AreHeld pages.now entry.1) self.now }
+        requires accepted { refusal_of (transfer_refusals true resource region.now.rect region.now.offset region.now.width region.now.height self.now) ≡ None }
+        requires some { is_empty region.now.rect ≡ false }
+        ensures long { IfOk result (λ lent. 4 * region.now.width * (region.now.rect.height - 1) + 4 * region.now.rect.width ≤ length lent.bytes) }
+        ensures same { IfOk result (λ lent. (other : Memory) → AreSameIn lent.pages pages.now other → (pixels : List ℕ)
+            → placed region.now.rect region.now.width lent.bytes pixels ≡ transferred other (entries_at resource self.now) region.now.rect region.now.offset region.now.width pixels) }
+        ensures touched { IfOk result (λ lent. All (λ page. touches page (entries_at resource self.now) ≡ true) lent.pages) }
+        ensures inside { IfOk result (λ lent. All (λ page. page < length pages.now.taken) lent.pages) }
+    {
+        let backing = self.get(resource).unwrap();
+        lend_rect(alloc, backing, pages, region)
+    }
+
     /// How many bytes a resource's backing has. None where it has no backing.
     pub fn length(&self, resource: u32) -> Option<u64>
         ensures { result ≡ option_map total (backing_at resource self.now) }
@@ -144,6 +168,16 @@ impl Backings {
     {
         match self.get(resource) {
             Some(backing) => backing.touches(page),
+            None => false,
+        }
+    }
+
+    /// Whether some byte of a page whose flag is set lies in an entry of a resource's backing.
+    pub fn touches_some(&self, resource: u32, flags: &[bool]) -> bool
+        ensures { (pages : List ℕ) → AreFlagged flags.now pages → result ≡ list_any (λ page. touches page (entries_at resource self.now)) pages }
+    {
+        match self.get(resource) {
+            Some(backing) => backing.touches_some(flags),
             None => false,
         }
     }
@@ -242,6 +276,81 @@ fn copy_rows(
         let from = offset + stride * u64::from(i);
         backing.read(pages, from, &mut pixels[to..to + row_bytes]);
         to += stride as usize;
+    }
+}
+
+/// The bytes of the backing from the first to the last that a transfer reads.
+fn lend_rect(
+    alloc: Global,
+    backing: &Backing,
+    pages: &Pages,
+    region: &Region,
+) -> Result<LentBytes, AllocError>
+    requires held { AreHeld pages.now backing.now }
+    requires some { (0 < region.now.rect.width) × (0 < region.now.rect.height) }
+    requires source { transfer_end region.now.rect region.now.offset region.now.width ≤ total backing.now }
+    ensures bytes { IfOk result (λ lent. lent.bytes ≡ take (transfer_end region.now.rect 0 region.now.width) (drop region.now.offset (backing_bytes pages.now backing.now))) }
+    ensures rest { IfOk result (λ lent. (other : Memory) → AreSameIn lent.pages pages.now other
+        → take (transfer_end region.now.rect 0 region.now.width) (drop region.now.offset (backing_bytes other backing.now)) ≡ lent.bytes) }
+    ensures touched { IfOk result (λ lent. All (λ page. touches page backing.now ≡ true) lent.pages) }
+    ensures inside { IfOk result (λ lent. All (λ page. page < length pages.now.taken) lent.pages) }
+{
+    // The number of the bytes fits, since the backing's length does.
+    let end = backing.length();
+    prove!(region.offset <= end);
+    let count = end_of(&region.rect, 0, region.width);
+    backing.lend(alloc, pages, region.offset, count as usize)
+}
+
+/// Fills a rectangle of a resource with `width` pixels a row from the next bytes, which begin with its first pixel and stand as
+/// they do in the resource.
+pub fn place(rect: &Rect, width: u32, bytes: &mut LentBytes, pixels: &mut [u8])
+    requires columns { rect.now.x + rect.now.width ≤ width }
+    requires rows { 4 * width * (rect.now.y + rect.now.height) ≤ length pixels.old }
+    requires some { is_empty rect.now ≡ false }
+    requires long { 4 * width * (rect.now.height - 1) + 4 * rect.now.width ≤ length bytes.old.bytes }
+    ensures pixels { pixels.new ≡ placed rect.now width bytes.old.bytes pixels.old }
+    ensures pages { bytes.new.pages ≡ bytes.old.pages }
+{
+    if rect.width == width {
+        place_whole_rows(rect, bytes, pixels);
+    } else {
+        place_rows(rect, width, bytes, pixels);
+    }
+}
+
+/// Fills rows that are as wide as the resource, and so stand one after another in it.
+fn place_whole_rows(rect: &Rect, bytes: &mut LentBytes, pixels: &mut [u8])
+    requires left { rect.now.x ≡ 0 }
+    requires some { (0 < rect.now.width) × (0 < rect.now.height) }
+    requires rows { 4 * rect.now.width * (rect.now.y + rect.now.height) ≤ length pixels.old }
+    requires long { 4 * rect.now.width * (rect.now.height - 1) + 4 * rect.now.width ≤ length bytes.old.bytes }
+    ensures pixels { pixels.new ≡ placed rect.now rect.now.width bytes.old.bytes pixels.old }
+    ensures pages { bytes.new.pages ≡ bytes.old.pages }
+{
+    let row_bytes = 4 * rect.width as usize;
+    let from = row_bytes * rect.y as usize;
+    let size = row_bytes * rect.height as usize;
+    bytes.read(&mut pixels[from..from + size]);
+}
+
+/// Fills each row by itself, and leaves out the bytes between two rows.
+fn place_rows(rect: &Rect, width: u32, bytes: &mut LentBytes, pixels: &mut [u8])
+    requires columns { rect.now.x + rect.now.width ≤ width }
+    requires rows { 4 * width * (rect.now.y + rect.now.height) ≤ length pixels.old }
+    requires long { 4 * width * (rect.now.height - 1) + 4 * rect.now.width ≤ length bytes.old.bytes }
+    ensures pixels { pixels.new ≡ placed rect.now width bytes.old.bytes pixels.old }
+    ensures pages { bytes.new.pages ≡ bytes.old.pages }
+{
+    let stride = 4 * width as usize;
+    let row_bytes = 4 * rect.width as usize;
+    let mut to = stride * rect.y as usize + 4 * rect.x as usize;
+    let mut gap = 0;
+    for _row in 0..rect.height {
+        bytes.skip(gap);
+        bytes.read(&mut pixels[to..to + row_bytes]);
+        gap = stride - row_bytes;
+        to += stride;
     }
 }
 

@@ -3,4 +3,4 @@
 
 mod backings;
 
-pub use backings::{Backings, Region, each_pixel_tells_the_transfer};
+pub use backings::{Backings, Region, each_pixel_tells_the_transfer, place};

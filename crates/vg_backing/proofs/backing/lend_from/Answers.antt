@@ -1,5 +1,5 @@
 -- Each step lends the bytes of one page, and the run has the byte after them, or the next run.
-use Rattle.std.proofs.Common.{◌≡◌, ◌+◌, ◌-◌, ◌<◌, ◌≤◌, ◌%◌, ◌/◌, List, ℕ, refl, rules, subst, ◌∷◌, [], ◌++◌, length, take, drop, get_or, min, sym, ap, ◌∙◌, arith}
+use Rattle.std.proofs.Common.{◌≡◌, ◌+◌, ◌-◌, ◌<◌, ◌≤◌, ◌%◌, ◌/◌, List, ℕ, refl, rules, subst, ◌∷◌, [], ◌++◌, length, get_or, min, sym, ap, ◌∙◌, arith}
 use Rattle.std.proofs.lemmas.List.Elements.{All-push}
 use Rattle.std.proofs.lemmas.Slice.{pushed}
 use Rattle.std.specs.List.{All}
@@ -8,7 +8,7 @@ use Rattle.vg_pages.specs.Lending.{joined}
 use Rattle.vg_backing.specs.declared.backing.Run.{Run}
 use Rattle.vg_backing.specs.Fits.{IsLent, entries_of}
 use Rattle.vg_backing.proofs.BackingLemmas.{run-at, next-run, bytes-here}
-use Rattle.vg_backing.proofs.LentLemmas.{lent-none, lent-on}
+use Rattle.vg_backing.proofs.LentLemmas.{lent-none, lent-on, touched-at}
 use Rattle.vg_backing.proofs.backing.lend_from.Goals as goal
 
 abbrev nothing : Run
@@ -82,12 +82,14 @@ loop-done-preserved-then-n-here c =
     let there : at + done ≡ (get_or runs i nothing).start + skip = omega (arith, has, run) in
     let items : c.push.new.self.items ≡ c.loop-done.pieces.items ++ piece ∷ [] = pushed (piece ∷ []) refl c.in_ok-push.was c.push.ensures.items in
     let pages : c.push-in-loop-done.new.self.items ≡ c.loop-done.touched.items ++ ((addr - 1048576) / 4096) ∷ [] =
-    pushed (c.page_at.result ∷ []) refl c.in_ok-push-2.was c.push-in-loop-done.ensures.items ∙ ap (λ page. c.loop-done.touched.items ++ page ∷ []) c.page_at.ensures in
+    pushed (c.page_at.result ∷ []) refl c.in_ok-push-2.was c.push-in-loop-done.ensures.items ∙ ap (λ page. c.loop-done.touched.items ++ page ∷ []) c.page_at.ensures.page in
     let Lent : List (List ℕ) → List ℕ → Type 0 = λ ps ts. IsLent memory entries at (done + n) (record { bytes = joined ps; pages = ts }) in
     let lent : Lent (c.loop-done.pieces.items ++ piece ∷ []) (c.loop-done.touched.items ++ ((addr - 1048576) / 4096) ∷ []) =
     lent-on memory entries at done n addr c.loop-done.pieces.items piece c.loop-done.touched.items c.requires.held
     (omega (arith, run)) (omega (arith, size)) (c.in_ok-piece.ensures.bytes ∙ ap (bytes_at memory.bytes addr) long)
-    (λ other held. bytes-here other runs i (at + done) skip n nothing c.requires.placed held has.0 there here) was.lent in
+    (λ other held. bytes-here other runs i (at + done) skip n nothing c.requires.placed held has.0 there here)
+    (touched-at runs i addr nothing has.0 run.low (omega arith) (omega (arith, here, some)))
+    (subst (λ page. page < length memory.taken) c.page_at.ensures.page c.page_at.ensures.inside) was.lent in
     let Some : List (List ℕ) → Type 0 = λ ps. All (λ (xs : List ℕ). 0 < length xs) ps in
     record {
       fits = room;
@@ -121,12 +123,14 @@ loop-done-preserved c =
     let there : at + done ≡ (get_or runs i nothing).start + skip = omega (arith, has, run) in
     let items : c.push.new.self.items ≡ c.loop-done.pieces.items ++ piece ∷ [] = pushed (piece ∷ []) refl c.in_ok-push.was c.push.ensures.items in
     let pages : c.push-in-loop-done.new.self.items ≡ c.loop-done.touched.items ++ ((addr - 1048576) / 4096) ∷ [] =
-    pushed (c.page_at.result ∷ []) refl c.in_ok-push-2.was c.push-in-loop-done.ensures.items ∙ ap (λ page. c.loop-done.touched.items ++ page ∷ []) c.page_at.ensures in
+    pushed (c.page_at.result ∷ []) refl c.in_ok-push-2.was c.push-in-loop-done.ensures.items ∙ ap (λ page. c.loop-done.touched.items ++ page ∷ []) c.page_at.ensures.page in
     let Lent : List (List ℕ) → List ℕ → Type 0 = λ ps ts. IsLent memory entries at (done + n) (record { bytes = joined ps; pages = ts }) in
     let lent : Lent (c.loop-done.pieces.items ++ piece ∷ []) (c.loop-done.touched.items ++ ((addr - 1048576) / 4096) ∷ []) =
     lent-on memory entries at done n addr c.loop-done.pieces.items piece c.loop-done.touched.items c.requires.held
     (omega (arith, run)) (omega (arith, size)) (c.in_ok-piece.ensures.bytes ∙ ap (bytes_at memory.bytes addr) long)
-    (λ other held. bytes-here other runs i (at + done) skip n nothing c.requires.placed held has.0 there here) was.lent in
+    (λ other held. bytes-here other runs i (at + done) skip n nothing c.requires.placed held has.0 there here)
+    (touched-at runs i addr nothing has.0 run.low (omega arith) (omega (arith, here, some)))
+    (subst (λ page. page < length memory.taken) c.page_at.ensures.page c.page_at.ensures.inside) was.lent in
     let Some : List (List ℕ) → Type 0 = λ ps. All (λ (xs : List ℕ). 0 < length xs) ps in
     record {
       fits = room;
