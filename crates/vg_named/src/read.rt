@@ -1,0 +1,157 @@
+//! What is named, read from the bytes of a request. `body` is the bytes after the header.
+
+ghost use Rattle.std.specs.Prelude.{◌≡◌};
+ghost use Rattle.vg_wire.specs.TwoD as two_d;
+ghost use Rattle.vg_wire.specs.TwoD.{two_d_of, whole};
+ghost use Rattle.vg_wire_ext.specs.Commands as layout;
+ghost use Rattle.vg_wire_ext.specs.Commands.{by_row, command_of, row_of};
+ghost use Rattle.vg_wire_ext.specs.Request as Request;
+ghost use Rattle.vg_wire_ext.specs.Request.{request_of};
+ghost use Rattle.vg_named.specs.Named.{named_in};
+ghost use Rattle.vg_named.specs.NamedWithin.{found, found_2d};
+
+use crate::named::Named;
+use vg_numbers::u32_at;
+use vg_wire::kinds::{
+    CTX_DESTROY, RESOURCE_ATTACH_BACKING, RESOURCE_DETACH_BACKING, RESOURCE_FLUSH, RESOURCE_UNREF,
+    TRANSFER_TO_HOST_2D, UPDATE_CURSOR,
+};
+use vg_wire::{Queue, is_2d, read_header};
+
+/// By RESOURCE_UNREF: eight bytes.
+#[tactic(auto, unfolding(vg_wire::specs::TwoD::unref))]
+fn by_unref(body: &[u8]) -> Named
+    ensures { result ≡ found_2d (whole 8 body.now (two_d.unref body.now)) }
+{
+    if body.len() < 8 {
+        return Named::Nothing;
+    }
+    let id = u32_at(body, 0);
+    Named::Resource { id }
+}
+
+/// By RESOURCE_FLUSH: 24 bytes.
+#[tactic(auto, unfolding(vg_wire::specs::TwoD::flush))]
+fn by_flush(body: &[u8]) -> Named
+    ensures { result ≡ found_2d (whole 24 body.now (two_d.flush body.now)) }
+{
+    if body.len() < 24 {
+        return Named::Nothing;
+    }
+    let id = u32_at(body, 16);
+    Named::Flush { id }
+}
+
+/// By TRANSFER_TO_HOST_2D: 32 bytes.
+#[tactic(auto, unfolding(vg_wire::specs::TwoD::transfer))]
+fn by_transfer(body: &[u8]) -> Named
+    ensures { result ≡ found_2d (whole 32 body.now (two_d.transfer body.now)) }
+{
+    if body.len() < 32 {
+        return Named::Nothing;
+    }
+    let id = u32_at(body, 24);
+    Named::Transfer { id }
+}
+
+/// By RESOURCE_ATTACH_BACKING: eight bytes, and the 16 of each entry.
+#[tactic(auto, unfolding(vg_wire::specs::TwoD::attach, vg_wire::specs::TwoD::attach_size))]
+fn by_attach(body: &[u8]) -> Named
+    ensures { result ≡ found_2d (whole (two_d.attach_size body.now) body.now (two_d.attach body.now)) }
+{
+    if body.len() < 8 {
+        return Named::Nothing;
+    }
+    let id = u32_at(body, 0);
+    let count = u32_at(body, 4) as usize;
+    if body.len() < 8 + 16 * count {
+        return Named::Nothing;
+    }
+    Named::Resource { id }
+}
+
+/// By RESOURCE_DETACH_BACKING: eight bytes.
+#[tactic(auto, unfolding(vg_wire::specs::TwoD::detach))]
+fn by_detach(body: &[u8]) -> Named
+    ensures { result ≡ found_2d (whole 8 body.now (two_d.detach body.now)) }
+{
+    if body.len() < 8 {
+        return Named::Nothing;
+    }
+    let id = u32_at(body, 0);
+    Named::Resource { id }
+}
+
+/// By UPDATE_CURSOR: 32 bytes.
+#[tactic(auto, unfolding(vg_wire_ext::specs::Commands::update_cursor))]
+fn by_cursor(context: u32, body: &[u8]) -> Named
+    ensures { result ≡ found context (whole 32 body.now (layout.update_cursor body.now)) }
+{
+    if body.len() < 32 {
+        return Named::Nothing;
+    }
+    let id = u32_at(body, 16);
+    Named::Resource { id }
+}
+
+/// By a 2D command, of this kind.
+#[tactic(auto, unfolding(vg_wire::specs::TwoD::two_d_of))]
+fn by_2d(kind: u32, body: &[u8]) -> Named
+    ensures { result ≡ found_2d (two_d_of kind body.now) }
+{
+    match kind {
+        RESOURCE_UNREF => by_unref(body),
+        RESOURCE_FLUSH => by_flush(body),
+        TRANSFER_TO_HOST_2D => by_transfer(body),
+        RESOURCE_ATTACH_BACKING => by_attach(body),
+        RESOURCE_DETACH_BACKING => by_detach(body),
+        _ => Named::Nothing,
+    }
+}
+
+/// By another command, of this kind, whose header has this context.
+#[tactic(auto, unfolding(vg_wire_ext::specs::Commands::row_of, vg_wire_ext::specs::Commands::ctx_destroy))]
+fn by_other(kind: u32, context: u32, body: &[u8]) -> Named
+    ensures { result ≡ found context (by_row (row_of kind) body.now) }
+{
+    match kind {
+        CTX_DESTROY => Named::Context { id: context },
+        UPDATE_CURSOR => by_cursor(context, body),
+        _ => Named::Nothing,
+    }
+}
+
+/// By any command.
+fn by_command(kind: u32, context: u32, body: &[u8]) -> Named
+    ensures { result ≡ found context (command_of kind body.now) }
+{
+    if is_2d(kind) {
+        by_2d(kind, body)
+    } else {
+        by_other(kind, context, body)
+    }
+}
+
+/// Whether commands of this kind go on this queue.
+fn is_queue_of(kind: u32, queue: Queue) -> bool
+    ensures { result ≡ Request.is_queue_of kind queue }
+{
+    match queue {
+        Queue::Control => kind < UPDATE_CURSOR,
+        Queue::Cursor => kind >= UPDATE_CURSOR,
+    }
+}
+
+/// What the request at the front of these bytes, which came on `queue`, names: nothing where they
+/// are no request (VIRTIO 1.2, 5.7.6). It takes no memory.
+pub fn named(queue: Queue, request: &[u8]) -> Named
+    ensures { result ≡ named_in (request_of queue request.now) }
+{
+    let Some(header) = read_header(request) else {
+        return Named::Nothing;
+    };
+    if !is_queue_of(header.kind, queue) {
+        return Named::Nothing;
+    }
+    by_command(header.kind, header.ctx_id, &request[24..])
+}
