@@ -26,7 +26,7 @@ use Rattle.vg_wire.specs.declared.two_d.Command2d.TheVariants.{DisplayInfo, Crea
 use Rattle.vg_resource.specs.declared.resource.Resource.{Resource}
 use Rattle.vg_wire_ext.specs.declared.response.Response.TheVariants as responses
 use Rattle.vg_transfer.specs.Backings.{attach, attach_refusals, detach, detach_refusals, detached}
-use Rattle.vg_device.specs.FitsWithin.{IfDone, nodata, response_of}
+use Rattle.vg_device.specs.FitsWithin.{IfDone, IsLetIn, nodata, response_of}
 use Rattle.vg_device.specs.Receive.{receive, receive_refusal, with_received}
 use Rattle.vg_refusals.specs.Refusals.{refusal_of, unless_refused}
 use Rattle.vg_resource.specs.Resource.{create, create_refusals, height_of, remove, resource_at, width_of, with_blank, without}
@@ -218,6 +218,32 @@ answer-ok state queue bytes header command refusal usable read judged =
     ∙ ap (λ b. by_request b later state context (request_of queue bytes)) usable
     ∙ ap (by_request true later state context) read
     ∙ ap (λ r. refused_or_ran r state context (Some command)) judged
+
+-- what was read of such a request
+read-tests : (short known queue : Bool) (found : Option Command) (whole header : Header) (command : Command)
+    → ◌≡◌ {A = Result (Header × Command) Malformed} (if short then Err ShortHeader else if not known then Err (UnknownKind whole.kind) else if not queue then Err WrongQueue
+    else ok_or (option_map (λ command. (whole, command)) found) ShortBody) (Ok (header, command))
+    → (short ≡ false) × (known ≡ true) × (queue ≡ true) × (found ≡ Some command)
+read-tests true known queue found whole header command read = cc
+read-tests false false queue found whole header command read = cc
+read-tests false true false found whole header command read = cc
+read-tests false true true None whole header command read = cc
+read-tests false true true (Some other) whole header command read = (refl, refl, refl, cc)
+
+pub let-in : (state : State) (queue : Queue) (bytes : List ℕ) (header : Header) (command : Command)
+    → is_usable state.setup.accepted (header_of bytes).kind ≡ true → request_of queue bytes ≡ Ok (header, command)
+    → refusal_of (timeline_refusals state (header_of bytes)) ≡ None → IsLetIn state queue bytes command
+let-in state queue bytes header command usable read judged =
+    let (short, known, right, found) = read-tests (nat_lt (length bytes) 24) (is_known (header_of bytes).kind) (is_queue_of (header_of bytes).kind queue) (command_of (header_of bytes).kind (drop 24 bytes)) (header_of bytes) header command read in
+    record { none = rw (short, known, right, usable, found) judged; reads = found }
+
+-- and of one that is refused behind it
+pub let-in-not : (state : State) (queue : Queue) (bytes : List ℕ) (header : Header) (command : Command) (code : ℕ)
+    → is_usable state.setup.accepted (header_of bytes).kind ≡ true → request_of queue bytes ≡ Ok (header, command)
+    → refusal_of (timeline_refusals state (header_of bytes)) ≡ Some code → refusal_of (request_refusals state queue bytes) ≡ Some code
+let-in-not state queue bytes header command code usable read judged =
+    let (short, known, right, found) = read-tests (nat_lt (length bytes) 24) (is_known (header_of bytes).kind) (is_queue_of (header_of bytes).kind queue) (command_of (header_of bytes).kind (drop 24 bytes)) (header_of bytes) header command read in
+    rw (short, known, right, usable, found) judged
 
 -- one whose command couldn't be read
 pub answer-not : (state : State) (queue : Queue) (bytes : List ℕ) (read : Result (Header × Command) Malformed)

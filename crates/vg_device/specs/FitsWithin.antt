@@ -1,5 +1,5 @@
 -- What private contracts say: what a command came to.
-use Rattle.std.specs.Prelude.{ℕ, Bool, true, false, Result, Ok, Err}
+use Rattle.std.specs.Prelude.{◌≡◌, ℕ, Bool, true, false, List, drop, Some, None, Result, Ok, Err}
 use Rattle.vg_wire.specs.declared.two_d.Command2d.{Command2d}
 use Rattle.vg_wire.specs.declared.two_d.Command2d.TheVariants.{DisplayInfo, Create2d, Flush, Transfer, Attach}
 use Rattle.vg_wire_ext.specs.declared.command.Command.{Command}
@@ -7,7 +7,11 @@ use Rattle.vg_wire_ext.specs.declared.command.Command.TheVariants.{TwoD, CapsetI
 use Rattle.vg_wire_ext.specs.declared.response.Response.{Response}
 use Rattle.vg_wire_ext.specs.declared.response.Response.TheVariants as responses
 use Rattle.vg_device.specs.State.{State}
-use Rattle.vg_device.specs.Step.{command_step}
+use Rattle.vg_device.specs.Step.{command_step, request_refusals}
+use Rattle.vg_refusals.specs.Refusals.{refusal_of}
+use Rattle.vg_wire.specs.declared.request.Queue.{Queue}
+use Rattle.vg_wire.specs.Header.{header_of}
+use Rattle.vg_wire_ext.specs.Commands.{command_of}
 use Rattle.vg_device.specs.declared.stop.Stop.{Stop}
 use Rattle.vg_device.specs.declared.stop.Stop.TheVariants.{Memory, Refused}
 
@@ -86,3 +90,8 @@ IfRefused P Memory = Unit {0}
 abbrev pub by_read : State → Result (ℕ × Command) ℕ → State × Response
 by_read state (Ok (context, command)) = command_step state context command
 by_read state (Err code) = (state, responses.Error code)
+
+-- The bytes are a request with this command, which isn't refused before its own refusals.
+pub record IsLetIn (state : State) (queue : Queue) (bytes : List ℕ) (command : Command) : Type 0 where
+  pub none : refusal_of (request_refusals state queue bytes) ≡ None
+  pub reads : command_of (header_of bytes).kind (drop 24 bytes) ≡ Some command

@@ -4,6 +4,7 @@ pub mod FitsWithin
 pub mod State
 pub mod Answered
 pub mod BlobStep
+pub mod Copies
 pub mod ContextStep
 pub mod Step
 pub mod RequestStep

@@ -7,10 +7,10 @@ ghost use Rattle.vg_device.specs.State.{counted, start};
 ghost use Rattle.vg_device.specs.declared.request.Reply.TheVariants as replies;
 ghost use Rattle.vg_device.specs.ActStep.{KeepsIfRefused, act_step};
 ghost use Rattle.vg_client_holds.specs.Holds.{update};
-ghost use Rattle.vg_device.specs.FitsWithin.{by_read, changes};
+ghost use Rattle.vg_device.specs.FitsWithin.{IsLetIn, by_read, changes};
 ghost use Rattle.vg_refusals.specs.Refusals.{refusal_of};
 ghost use Rattle.vg_device.specs.RequestStep.{request_step};
-ghost use Rattle.vg_device.specs.Step.{Keeps, acceptance, answer_header, answer_of, answered, command_step, effect_and_bytes, step, timeline_refusals};
+ghost use Rattle.vg_device.specs.Step.{Keeps, acceptance, answer_header, answer_of, answered, command_step, effect_and_bytes, request_refusals, step, timeline_refusals};
 
 use crate::features::{has_feature, is_usable};
 use crate::request::{Reply, Request};
@@ -256,13 +256,15 @@ impl Device {
 
     /// The command of a request, and the context of its header; or the code of its refusal, where it is refused before its command is
     /// looked at. Its body isn't read where its kind needs a feature that isn't accepted.
-    fn read(
+    pub(crate) fn read(
         &self,
         alloc: Global,
         queue: Queue,
         request: &[u8],
     ) -> Result<Result<(u32, Command), u32>, AllocError>
         ensures answer { IfOk result (λ read. answer_of self.now queue request.now ≡ by_read self.now read) }
+        ensures let_in { IfOk result (λ read. IfOk read (λ found. IsLetIn self.now queue request.now found.1)) }
+        ensures refused { IfOk result (λ read. IfErr read (λ code. refusal_of (request_refusals self.now queue request.now) ≡ Some code)) }
         ensures entries { IfOk result (λ read. IfOk read (λ found. FitsEntries found.1)) }
     {
         let header = match read_header(request) {
@@ -372,7 +374,7 @@ fn ring_of(header: &Header) -> u8
 }
 
 /// The response's bytes twice, as far as `room` holds them. Without a room nothing is written, which takes no memory.
-fn write_answer(
+pub(crate) fn write_answer(
     alloc: Global,
     request: &[u8],
     room: u32,
@@ -415,7 +417,7 @@ fn rewrite_answer(
 }
 
 /// The reply of a command with these bytes as its response.
-fn response_of(bytes: Vec<u8>) -> Reply
+pub(crate) fn response_of(bytes: Vec<u8>) -> Reply
     ensures { result ≡ replies.Response bytes.items }
 {
     Reply::Response {

@@ -6,6 +6,7 @@ mod acts;
 mod blobs;
 mod commands;
 mod contexts;
+mod copies;
 mod cursors;
 mod device;
 mod features;
@@ -14,6 +15,7 @@ mod receive;
 mod request;
 mod stop;
 
+pub use copies::Copy;
 pub use device::Device;
 pub use laws::each_pixel_tells_the_flush;
 pub use request::{Reply, Request};

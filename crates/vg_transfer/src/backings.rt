@@ -131,6 +131,26 @@ impl Backings {
         Ok(())
     }
 
+    /// The code of a transfer's refusal, as `transfer` answers it, of a resource of which the caller knows that there is one. None where it
+    /// isn't refused.
+    pub fn refusal(&self, resource: u32, region: &Region) -> Option<u32>
+        ensures { result ≡ refusal_of (transfer_refusals true resource region.now.rect region.now.offset region.now.width region.now.height self.now) }
+    {
+        let Some(backing) = self.get(resource) else {
+            return Some(ERR_UNSPEC);
+        };
+        let rect = &region.rect;
+        if !rect.inside(region.width, region.height) {
+            return Some(ERR_INVALID_PARAMETER);
+        }
+        if !rect.is_empty()
+            && u128::from(backing.length()) < end_of(rect, region.offset, region.width)
+        {
+            return Some(ERR_INVALID_PARAMETER);
+        }
+        None
+    }
+
     /// The bytes that such a transfer copies, with what stands between the rows of its rectangle, as they are now: what `place` takes.
     pub fn lend(
         &self,
