@@ -57,7 +57,7 @@ copied-whole a row_length offset source old part to m some left wide start size 
     omega (arith, same, after, start, size, left, wide, column, next))))
     ∙ sym now
 
-held-by : (memory : Memory) (found : Option (List MemEntry)) → IfSome found (AreHeld memory) → AreHeld memory (unwrap_or found [])
+pub held-by : (memory : Memory) (found : Option (List MemEntry)) → IfSome found (AreHeld memory) → AreHeld memory (unwrap_or found [])
 held-by memory (Some entries) held = held
 held-by memory None held = λ k d within. absurd (omega arith)
 

@@ -1,3 +1,4 @@
 pub mod HeldLemmas
 pub mod CopyLemmas
+pub mod PlaceLemmas
 pub mod WholeLemmas

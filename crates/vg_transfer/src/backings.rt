@@ -1,7 +1,7 @@
 //! The backings of resources, and the transfers from them (VIRTIO 1.2, 5.7.6.8).
 
 ghost use Rattle.std.specs.List.{list_any};
-ghost use Rattle.std.specs.Prelude.{◌≡◌, ◌+◌, ◌-◌, ◌*◌, ◌<◌, ◌≤◌, ◌⊎◌, ◌^◌, ℕ, List, [], true, false, length, take, drop, IfOk, OnOk, OnErr, Ok, None, All, option_copied};
+ghost use Rattle.std.specs.Prelude.{◌≡◌, ◌+◌, ◌-◌, ◌*◌, ◌<◌, ◌≤◌, ◌⊎◌, ◌^◌, ℕ, List, [], true, false, length, take, drop, IfOk, OnOk, OnErr, Ok, None, All, is_none, option_copied};
 ghost use Rattle.vg_pages.specs.Lending.{AreFlagged, AreSameIn};
 ghost use Rattle.vg_pages.specs.Memory.{Memory};
 ghost use Rattle.vg_formats.specs.declared.rect.Rect.{Rect};
@@ -168,8 +168,7 @@ impl Backings {
         ensures touched { IfOk result (λ lent. All (λ page. touches page (entries_at resource self.now) ≡ true) lent.pages) }
         ensures inside { IfOk result (λ lent. All (λ page. page < length pages.now.taken) lent.pages) }
     {
-        let backing = self.get(resource).unwrap();
-        lend_rect(alloc, backing, pages, region)
+        lend_rect(alloc, self.known(resource), pages, region)
     }
 
     /// How many bytes a resource's backing has. None where it has no backing.
@@ -220,6 +219,14 @@ impl Backings {
         ensures value { option_copied result ≡ backing_at resource self.now }
     {
         self.map.get(&resource)
+    }
+
+    /// The backing of a resource that has one.
+    fn known(&self, resource: u32) -> &Backing
+        requires { is_none (backing_at resource self.now) ≡ false }
+        ensures { result.now ≡ entries_at resource self.now }
+    {
+        self.get(resource).unwrap()
     }
 }
 
@@ -309,7 +316,7 @@ fn lend_rect(
     requires held { AreHeld pages.now backing.now }
     requires some { (0 < region.now.rect.width) × (0 < region.now.rect.height) }
     requires source { transfer_end region.now.rect region.now.offset region.now.width ≤ total backing.now }
-    ensures bytes { IfOk result (λ lent. lent.bytes ≡ take (transfer_end region.now.rect 0 region.now.width) (drop region.now.offset (backing_bytes pages.now backing.now))) }
+    ensures long { IfOk result (λ lent. transfer_end region.now.rect 0 region.now.width ≤ length lent.bytes) }
     ensures rest { IfOk result (λ lent. (other : Memory) → AreSameIn lent.pages pages.now other
         → take (transfer_end region.now.rect 0 region.now.width) (drop region.now.offset (backing_bytes other backing.now)) ≡ lent.bytes) }
     ensures touched { IfOk result (λ lent. All (λ page. touches page backing.now ≡ true) lent.pages) }
