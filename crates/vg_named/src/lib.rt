@@ -1,8 +1,8 @@
 //! What a request names that a device may have to wait for, read from its bytes without taking memory.
 #![tactic(auto)]
 
-mod named;
+mod names;
 mod read;
 
-pub use named::Named;
+pub use names::Named;
 pub use read::named;

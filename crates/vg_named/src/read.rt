@@ -1,6 +1,6 @@
 //! What is named, read from the bytes of a request. `body` is the bytes after the header.
 
-ghost use Rattle.std.specs.Prelude.{◌≡◌};
+ghost use Rattle.std.specs.Prelude.{◌≡◌, ℕ};
 ghost use Rattle.vg_wire.specs.TwoD as two_d;
 ghost use Rattle.vg_wire.specs.TwoD.{two_d_of, whole};
 ghost use Rattle.vg_wire_ext.specs.Commands as layout;
@@ -10,7 +10,7 @@ ghost use Rattle.vg_wire_ext.specs.Request.{request_of};
 ghost use Rattle.vg_named.specs.Named.{named_in};
 ghost use Rattle.vg_named.specs.NamedWithin.{found, found_2d};
 
-use crate::named::Named;
+use crate::names::Named;
 use vg_numbers::u32_at;
 use vg_wire::kinds::{
     CTX_DESTROY, RESOURCE_ATTACH_BACKING, RESOURCE_DETACH_BACKING, RESOURCE_FLUSH, RESOURCE_UNREF,
@@ -84,8 +84,8 @@ fn by_detach(body: &[u8]) -> Named
 
 /// By UPDATE_CURSOR: 32 bytes.
 #[tactic(auto, unfolding(vg_wire_ext::specs::Commands::update_cursor))]
-fn by_cursor(context: u32, body: &[u8]) -> Named
-    ensures { result ≡ found context (whole 32 body.now (layout.update_cursor body.now)) }
+fn by_cursor(body: &[u8]) -> Named
+    ensures { (context : ℕ) → result ≡ found context (whole 32 body.now (layout.update_cursor body.now)) }
 {
     if body.len() < 32 {
         return Named::Nothing;
@@ -116,7 +116,7 @@ fn by_other(kind: u32, context: u32, body: &[u8]) -> Named
 {
     match kind {
         CTX_DESTROY => Named::Context { id: context },
-        UPDATE_CURSOR => by_cursor(context, body),
+        UPDATE_CURSOR => by_cursor(body),
         _ => Named::Nothing,
     }
 }
