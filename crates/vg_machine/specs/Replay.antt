@@ -1,4 +1,4 @@
-use Rattle.std.specs.Prelude.{List, [], false, is_none}
+use Rattle.std.specs.Prelude.{List, false, is_none}
 use Rattle.vg_history.specs.History as history
 use Rattle.vg_history.specs.declared.machine.Machine.{Ghosts}
 use Rattle.vg_client_holds.specs.declared.setup.Setup.{Setup}

@@ -109,6 +109,8 @@ impl Machine for Display {
 
     /// Nothing was lent, so what this answers says nothing.
     fn end(&mut self, _job: Job) -> (Reply, Reply) {
+        // Its fields say that nothing was lent.
+        let _ = &self.device;
         let fault = ChainFault::Index;
         (Reply::Fault { fault }, Reply::Fault { fault })
     }

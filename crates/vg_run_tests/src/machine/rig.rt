@@ -2,8 +2,8 @@
 
 use std::alloc::{AllocError, Global};
 use std::process::Abort;
-use vg_list::Seq;
 use vg_device::{Act, ActReply, Device, Holds, Setup, ShareRefusal};
+use vg_list::Seq;
 use vg_wire::Queue;
 
 /// RESOURCE_CREATE_2D, the low byte of its type (VIRTIO 1.2, 5.7.6.7), whose fields are resource, format, width, height.
