@@ -220,6 +220,10 @@ answer-ok state queue bytes header command refusal usable read judged =
     ∙ ap (λ r. refused_or_ran r state context (Some command)) judged
 
 -- what was read of such a request
+command_in : Result (Header × Command) Malformed → Option Command
+command_in (Ok (header, command)) = Some command
+command_in (Err malformed) = None
+
 read-tests : (short known queue : Bool) (found : Option Command) (whole header : Header) (command : Command)
     → ◌≡◌ {A = Result (Header × Command) Malformed} (if short then Err ShortHeader else if not known then Err (UnknownKind whole.kind) else if not queue then Err WrongQueue
     else ok_or (option_map (λ command. (whole, command)) found) ShortBody) (Ok (header, command))
@@ -228,7 +232,7 @@ read-tests true known queue found whole header command read = cc
 read-tests false false queue found whole header command read = cc
 read-tests false true false found whole header command read = cc
 read-tests false true true None whole header command read = cc
-read-tests false true true (Some other) whole header command read = (refl, refl, refl, cc)
+read-tests false true true (Some other) whole header command read = (refl, refl, refl, ap command_in read)
 
 pub let-in : (state : State) (queue : Queue) (bytes : List ℕ) (header : Header) (command : Command)
     → is_usable state.setup.accepted (header_of bytes).kind ≡ true → request_of queue bytes ≡ Ok (header, command)
@@ -244,6 +248,24 @@ pub let-in-not : (state : State) (queue : Queue) (bytes : List ℕ) (header : He
 let-in-not state queue bytes header command code usable read judged =
     let (short, known, right, found) = read-tests (nat_lt (length bytes) 24) (is_known (header_of bytes).kind) (is_queue_of (header_of bytes).kind queue) (command_of (header_of bytes).kind (drop 24 bytes)) (header_of bytes) header command read in
     rw (short, known, right, usable, found) judged
+
+-- and of one that couldn't be read
+not-read : (short known queue usable : Bool) (found : Option Command) (header : Header) (later : List (Bool × ℕ))
+    → ((request : Header × Command) → ◌≢◌ {A = Result (Header × Command) Malformed} (if short then Err ShortHeader else if not known then Err (UnknownKind header.kind) else if not queue then Err WrongQueue
+    else ok_or (option_map (λ command. (header, command)) found) ShortBody) (Ok request))
+    → refusal_of ((short, 0x1200) ∷ (not known, 0x1200) ∷ (not queue, 0x1200) ∷ (not usable, 0x1200) ∷ (is_none found, 0x1200) ∷ later) ≡ Some 0x1200
+not-read true known queue usable found header later other = refl
+not-read false false queue usable found header later other = refl
+not-read false true false usable found header later other = refl
+not-read false true true false found header later other = refl
+not-read false true true true None header later other = refl
+not-read false true true true (Some command) header later other = absurd (other (header, command) refl)
+
+pub not-let-in : (state : State) (queue : Queue) (bytes : List ℕ) (read : Result (Header × Command) Malformed)
+    → read ≡ request_of queue bytes → ((request : Header × Command) → read ≢ Ok request) → refusal_of (request_refusals state queue bytes) ≡ Some 0x1200
+not-let-in state queue bytes read is other =
+    not-read (nat_lt (length bytes) 24) (is_known (header_of bytes).kind) (is_queue_of (header_of bytes).kind queue) (is_usable state.setup.accepted (header_of bytes).kind)
+    (command_of (header_of bytes).kind (drop 24 bytes)) (header_of bytes) (timeline_refusals state (header_of bytes)) (λ request same. other request (is ∙ same))
 
 -- one whose command couldn't be read
 pub answer-not : (state : State) (queue : Queue) (bytes : List ℕ) (read : Result (Header × Command) Malformed)

@@ -1,5 +1,5 @@
 -- What private contracts say: what a command came to.
-use Rattle.std.specs.Prelude.{◌≡◌, ℕ, Bool, true, false, List, drop, Some, None, Result, Ok, Err}
+use Rattle.std.specs.Prelude.{◌≡◌, ℕ, Bool, true, false, List, drop, Option, Some, None, Result, Ok, Err}
 use Rattle.vg_wire.specs.declared.two_d.Command2d.{Command2d}
 use Rattle.vg_wire.specs.declared.two_d.Command2d.TheVariants.{DisplayInfo, Create2d, Flush, Transfer, Attach}
 use Rattle.vg_wire_ext.specs.declared.command.Command.{Command}
@@ -11,6 +11,7 @@ use Rattle.vg_device.specs.Step.{command_step, request_refusals}
 use Rattle.vg_refusals.specs.Refusals.{refusal_of}
 use Rattle.vg_wire.specs.declared.request.Queue.{Queue}
 use Rattle.vg_wire.specs.Header.{header_of}
+use Rattle.vg_formats.specs.declared.rect.Rect.{Rect}
 use Rattle.vg_wire_ext.specs.Commands.{command_of}
 use Rattle.vg_device.specs.declared.stop.Stop.{Stop}
 use Rattle.vg_device.specs.declared.stop.Stop.TheVariants.{Memory, Refused}
@@ -95,3 +96,12 @@ by_read state (Err code) = (state, responses.Error code)
 pub record IsLetIn (state : State) (queue : Queue) (bytes : List ℕ) (command : Command) : Type 0 where
   pub none : refusal_of (request_refusals state queue bytes) ≡ None
   pub reads : command_of (header_of bytes).kind (drop 24 bytes) ≡ Some command
+
+-- The transfer that was read, if it was one: its rectangle, its offset, and its resource.
+abbrev pub transfer_of : Command2d → Option (Rect × ℕ × ℕ)
+transfer_of (Transfer rect offset resource) = Some (rect, offset, resource)
+transfer_of _ = None
+
+abbrev pub transfer_read : Result (ℕ × Command) ℕ → Option (Rect × ℕ × ℕ)
+transfer_read (Ok (context, TwoD command)) = transfer_of command
+transfer_read _ = None

@@ -13,6 +13,7 @@ ghost use Rattle.vg_share.specs.Share.{pages_at};
 ghost use Rattle.vg_wire_ext.specs.declared.response.Response.TheVariants as responses;
 ghost use Rattle.vg_device.specs.declared.request.Reply.TheVariants as replies;
 ghost use Rattle.vg_device.specs.Copies.{AsksFor, IsAccepted, copies, copies_2d};
+ghost use Rattle.vg_device.specs.FitsWithin.{transfer_read};
 ghost use Rattle.vg_device.specs.State.{counted};
 ghost use Rattle.vg_device.specs.Step.{answered};
 
@@ -36,7 +37,7 @@ pub struct Copy {
 impl Device {
     /// The copy that a request asks for: that of a transfer to a 2D resource which isn't refused and has pixels in its rectangle. None of
     /// any other request.
-    pub fn copy_of(&self, alloc: Global, request: &Request) -> Result<Option<Copy>, AllocError>
+    pub fn asked_copy(&self, alloc: Global, request: &Request) -> Result<Option<Copy>, AllocError>
         ensures asks { IfOk result (λ answer. IfSome answer (AsksFor self.now request.now)) }
         ensures accepted { IfOk result (λ answer. IfSome answer (IsAccepted self.now)) }
         ensures some { IfOk result (λ answer. IfSome answer (λ copy. copies self.now request.now ≡ true)) }
@@ -45,16 +46,10 @@ impl Device {
         if let Shape::Bad { .. } = request.shape {
             return Ok(None);
         }
-        match self.read(alloc, request.queue, request.bytes.as_slice())? {
-            Ok((
-                _,
-                Command::TwoD(Command2d::Transfer {
-                    rect,
-                    offset,
-                    resource,
-                }),
-            )) => Ok(self.accepted(&rect, offset, resource)),
-            _ => Ok(None),
+        let read = self.read(alloc, request.queue, request.bytes.as_slice())?;
+        match transfer_in(&read) {
+            Some((rect, offset, resource)) => Ok(self.accepted(&rect, offset, resource)),
+            None => Ok(None),
         }
     }
 
@@ -128,5 +123,22 @@ impl Device {
     {
         self.entries += 1;
         self.resources.restore(resource, pixels);
+    }
+}
+
+/// The transfer that was read, if it was one: its rectangle, its offset, and its resource.
+fn transfer_in(read: &Result<(u32, Command), u32>) -> Option<(Rect, u64, u32)>
+    ensures { result ≡ transfer_read read.now }
+{
+    match read {
+        Ok((
+            _,
+            Command::TwoD(Command2d::Transfer {
+                rect,
+                offset,
+                resource,
+            }),
+        )) => Some((*rect, *offset, *resource)),
+        _ => None,
     }
 }
