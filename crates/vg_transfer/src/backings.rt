@@ -336,9 +336,9 @@ fn place_whole_rows(rect: &Rect, bytes: &mut LentBytes, pixels: &mut [u8])
     ensures pages { bytes.new.pages ≡ bytes.old.pages }
 {
     let row_bytes = 4 * rect.width as usize;
-    let from = row_bytes * rect.y as usize;
-    let size = row_bytes * rect.height as usize;
-    bytes.read(&mut pixels[from..from + size]);
+    let to = row_bytes * rect.y as usize;
+    let end = to + row_bytes * rect.height as usize;
+    bytes.read(&mut pixels[to..end]);
 }
 
 /// Fills each row by itself, and leaves out the bytes between two rows.
