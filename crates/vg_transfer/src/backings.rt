@@ -100,8 +100,7 @@ impl Backings {
         self.map.remove(&resource);
     }
 
-    /// Copies a rectangle of a resource, row by row, from its backing, or answers the code of its refusal: ERR_UNSPEC without a
-    /// backing, ERR_INVALID_PARAMETER for a rectangle outside of the resource, or bytes past the backing's end.
+    /// Copies a rectangle of a resource, row by row, from its backing, or answers the code of its refusal.
     #[tactic(auto, unfolding(crate::specs::Backings::transfer))]
     pub fn transfer(
         &self,
@@ -115,23 +114,42 @@ impl Backings {
         ensures done { (pixels.new, result) ≡ transfer true pages.now resource region.now.rect region.now.offset region.now.width region.now.height self.now pixels.old }
         ensures pixels { OnOk result (CopiesRect region.now.rect region.now.offset region.now.width region.now.height (backing_bytes pages.now (entries_at resource self.now)) pixels.old pixels.new) }
     {
+        if let Some(code) = self.refusal(resource, region) {
+            return Err(code);
+        }
+        let backing = self.known(resource);
+        copy_rect(
+            backing,
+            pages,
+            &region.rect,
+            region.offset,
+            region.width,
+            pixels,
+        );
+        Ok(())
+    }
+
+    /// The code of the refusal of a transfer to this region, by which alone `transfer` is refused: ERR_UNSPEC without a backing,
+    /// ERR_INVALID_PARAMETER for a rectangle outside of the resource, or bytes past the backing's end.
+    pub fn refusal(&self, resource: u32, region: &Region) -> Option<u32>
+        ensures { result ≡ refusal_of (transfer_refusals true resource region.now.rect region.now.offset region.now.width region.now.height self.now) }
+    {
         let Some(backing) = self.get(resource) else {
-            return Err(ERR_UNSPEC);
+            return Some(ERR_UNSPEC);
         };
         let rect = &region.rect;
         if !rect.inside(region.width, region.height) {
-            return Err(ERR_INVALID_PARAMETER);
+            return Some(ERR_INVALID_PARAMETER);
         }
         if !rect.is_empty()
             && u128::from(backing.length()) < end_of(rect, region.offset, region.width)
         {
-            return Err(ERR_INVALID_PARAMETER);
+            return Some(ERR_INVALID_PARAMETER);
         }
-        copy_rect(backing, pages, rect, region.offset, region.width, pixels);
-        Ok(())
+        None
     }
 
-    /// The bytes that such a transfer copies, with what stands between the rows of its rectangle, as they are now: what `place` takes.
+    /// The bytes that a transfer which isn't refused copies, with what stands between the rows of its rectangle, as they are now: what `place` takes.
     pub fn lend(
         &self,
         alloc: Global,
