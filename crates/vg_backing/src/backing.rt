@@ -270,13 +270,12 @@ fn some_touched(runs: &[Run], flags: &[bool]) -> bool
 fn touches_flagged(entry: &MemEntry, flags: &[bool]) -> bool
     ensures { (pages : List ℕ) → AreFlagged flags.now pages → result ≡ list_any (λ page. is_touched page entry.now) pages }
 {
-    let from = entry.addr.saturating_sub(MEMORY_START);
-    let to = (u128::from(entry.addr) + u128::from(entry.length)).saturating_sub(u128::from(
-        MEMORY_START,
-    ));
-    let first = from / PAGE_BYTES as u64;
-    let end = to.div_ceil(PAGE_BYTES as u128) as u64;
-    entry.length != 0 && any_flagged_between(first, end, flags)
+    let first = entry.addr.saturating_sub(MEMORY_START) / PAGE_BYTES as u64;
+    let to = u128::from(entry.addr) + u128::from(entry.length);
+    let end = to
+        .saturating_sub(u128::from(MEMORY_START))
+        .div_ceil(PAGE_BYTES as u128);
+    entry.length != 0 && any_flagged_between(first, end as u64, flags)
 }
 
 /// Whether a page from `first` on and below `end` has its flag set.

@@ -13,3 +13,4 @@ pub mod PixelLemmas
 pub mod CursorLemmas
 pub mod FrameLemmas
 pub mod TellLemmas
+pub mod CopyLemmas

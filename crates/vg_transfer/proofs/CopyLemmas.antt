@@ -1,5 +1,5 @@
 -- What a transfer copies, pixel by pixel, and rows that stand one after another.
-use Rattle.std.proofs.Common.{◌≡◌, ℕ, ◌+◌, ◌-◌, ◌*◌, ◌/◌, ◌%◌, ◌<◌, ◌≤◌, ◌⊎◌, ◌&&◌, inl, inr, Bool, true, false, not, List, [], ◌∷◌, length, get_or, slice_index, take, drop, Option, Some, None, Result, Ok, sym, ap, ◌∙◌, refl, subst, arith, le_refl}
+use Rattle.std.proofs.Common.{◌≡◌, ℕ, ◌+◌, ◌-◌, ◌*◌, ◌/◌, ◌%◌, ◌<◌, ◌≤◌, ◌&&◌, Bool, true, false, not, List, [], ◌∷◌, length, get_or, slice_index, take, drop, Option, Some, None, Result, Ok, sym, ap, ◌∙◌, refl, subst, arith, le_refl}
 use Rattle.std.specs.Prelude.{IfSome, is_none, nat_lt, unwrap_or}
 use Rattle.std.specs.List.{All}
 use Rattle.std.proofs.lemmas.Bool.Decides.{nat_tests}
@@ -67,11 +67,7 @@ inside-ends rect width height inside = (grind (arith, nat_tests), grind (arith, 
 reads-within : (rect : Rect) (end size : ℕ) → (not (is_empty rect) && nat_lt size end) ≡ false → 0 < rect.width → 0 < rect.height → end ≤ size
 reads-within rect end size few some_width some_height = grind (arith, nat_tests)
 
-pub few-by : (rect : Rect) (end size : ℕ) → (is_empty rect ≡ true) ⊎ (end ≤ size) → (not (is_empty rect) && nat_lt size end) ≡ false
-few-by rect end size (inl none) = ap (λ b. not b && nat_lt size end) none
-few-by rect end size (inr fits) = grind (arith, nat_tests)
-
-pub copies-in : (memory : Memory) (entries : List MemEntry) (rect : Rect) (offset width height : ℕ) (pixels : List ℕ) → length pixels ≡ 4 * width * height → AreHeld memory entries
+copies-in : (memory : Memory) (entries : List MemEntry) (rect : Rect) (offset width height : ℕ) (pixels : List ℕ) → length pixels ≡ 4 * width * height → AreHeld memory entries
     → not (is_inside rect width height) ≡ false → (not (is_empty rect) && nat_lt (total entries) (transfer_end rect offset width)) ≡ false
     → CopiesRect rect offset width height (backing_bytes memory entries) pixels (transferred memory entries rect offset width pixels)
 copies-in memory entries rect offset width height pixels whole held inside few =
@@ -113,21 +109,28 @@ third rect offset width entries = (not (is_empty rect) && nat_lt (total entries)
 abbrev second : Rect → ℕ → ℕ → ℕ → List MemEntry → List (Bool × ℕ)
 second rect offset width height entries = (not (is_inside rect width height), 0x1205) ∷ third rect offset width entries
 
+-- a transfer that no reason refuses copies each pixel
+pub copies-accepted : (memory : Memory) (id : ℕ) (rect : Rect) (offset width height : ℕ) (backings : List (ℕ × List MemEntry)) (pixels : List ℕ)
+    → All (λ entry. AreHeld memory entry.1) backings → length pixels ≡ 4 * width * height → refusal_of (transfer_refusals true id rect offset width height backings) ≡ None
+    → CopiesRect rect offset width height (backing_bytes memory (entries_at id backings)) pixels (transferred memory (entries_at id backings) rect offset width pixels)
+copies-accepted memory id rect offset width height backings pixels all whole none =
+    let entries = entries_at id backings in
+    let held = held-by memory (backing_at id backings) (All-lookup (AreHeld memory) _ backings all) in
+    let first = none-holds (is_none (backing_at id backings)) 0x1200 (second rect offset width height entries) none in
+    let inside = none-holds (not (is_inside rect width height)) 0x1205 (third rect offset width entries) first.1 in
+    let few = none-holds (not (is_empty rect) && nat_lt (total entries) (transfer_end rect offset width)) 0x1205 [] inside.1 in
+    copies-in memory entries rect offset width height pixels whole held inside.0 few.0
+
 pub copies-each : (memory : Memory) (id : ℕ) (rect : Rect) (offset width height : ℕ) (backings : List (ℕ × List MemEntry)) (pixels : List ℕ)
     → All (λ entry. AreHeld memory entry.1) backings → length pixels ≡ 4 * width * height
     → ◌≡◌ {A = Result (Unit {0}) ℕ} (transfer true memory id rect offset width height backings pixels).1 (Ok tt)
     → CopiesRect rect offset width height (backing_bytes memory (entries_at id backings)) pixels (transfer true memory id rect offset width height backings pixels).0
 unfolding transfer
 copies-each memory id rect offset width height backings pixels all whole done =
-    let entries = entries_at id backings in
-    let held = held-by memory (backing_at id backings) (All-lookup (AreHeld memory) _ backings all) in
-    let new = transferred memory entries rect offset width pixels in
+    let bytes = backing_bytes memory (entries_at id backings) in
+    let new = transferred memory (entries_at id backings) rect offset width pixels in
     let (none, is) = went (refusal_of (transfer_refusals true id rect offset width height backings)) pixels new done in
-    let first = none-holds (is_none (backing_at id backings)) 0x1200 (second rect offset width height entries) none in
-    let inside = none-holds (not (is_inside rect width height)) 0x1205 (third rect offset width entries) first.1 in
-    let few = none-holds (not (is_empty rect) && nat_lt (total entries) (transfer_end rect offset width)) 0x1205 [] inside.1 in
-    subst (λ xs. CopiesRect rect offset width height (backing_bytes memory entries) pixels xs) (sym is)
-    (copies-in memory entries rect offset width height pixels whole held inside.0 few.0)
+    subst (λ xs. CopiesRect rect offset width height bytes pixels xs) (sym is) (copies-accepted memory id rect offset width height backings pixels all whole none)
 
 -- where the last of such rows ends
 pub whole-end : (rect : Rect) (offset : ℕ) → 0 < rect.height → transfer_end rect offset rect.width ≡ offset + rect.height * (4 * rect.width)

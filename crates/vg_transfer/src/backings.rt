@@ -100,8 +100,7 @@ impl Backings {
         self.map.remove(&resource);
     }
 
-    /// Copies a rectangle of a resource, row by row, from its backing, or answers the code of its refusal: ERR_UNSPEC without a
-    /// backing, ERR_INVALID_PARAMETER for a rectangle outside of the resource, or bytes past the backing's end.
+    /// Copies a rectangle of a resource, row by row, from its backing, or answers the code of its refusal.
     #[tactic(auto, unfolding(crate::specs::Backings::transfer))]
     pub fn transfer(
         &self,
@@ -115,24 +114,23 @@ impl Backings {
         ensures done { (pixels.new, result) ≡ transfer true pages.now resource region.now.rect region.now.offset region.now.width region.now.height self.now pixels.old }
         ensures pixels { OnOk result (CopiesRect region.now.rect region.now.offset region.now.width region.now.height (backing_bytes pages.now (entries_at resource self.now)) pixels.old pixels.new) }
     {
-        let Some(backing) = self.get(resource) else {
-            return Err(ERR_UNSPEC);
-        };
-        let rect = &region.rect;
-        if !rect.inside(region.width, region.height) {
-            return Err(ERR_INVALID_PARAMETER);
+        if let Some(code) = self.refusal(resource, region) {
+            return Err(code);
         }
-        if !rect.is_empty()
-            && u128::from(backing.length()) < end_of(rect, region.offset, region.width)
-        {
-            return Err(ERR_INVALID_PARAMETER);
-        }
-        copy_rect(backing, pages, rect, region.offset, region.width, pixels);
+        let backing = self.known(resource);
+        copy_rect(
+            backing,
+            pages,
+            &region.rect,
+            region.offset,
+            region.width,
+            pixels,
+        );
         Ok(())
     }
 
-    /// The code of a transfer's refusal, as `transfer` answers it, of a resource of which the caller knows that there is one. None where it
-    /// isn't refused.
+    /// The code of the refusal of a transfer to this region, by which alone `transfer` is refused: ERR_UNSPEC without a backing,
+    /// ERR_INVALID_PARAMETER for a rectangle outside of the resource, or bytes past the backing's end.
     pub fn refusal(&self, resource: u32, region: &Region) -> Option<u32>
         ensures { result ≡ refusal_of (transfer_refusals true resource region.now.rect region.now.offset region.now.width region.now.height self.now) }
     {
@@ -151,7 +149,7 @@ impl Backings {
         None
     }
 
-    /// The bytes that such a transfer copies, with what stands between the rows of its rectangle, as they are now: what `place` takes.
+    /// The bytes that a transfer which isn't refused copies, with what stands between the rows of its rectangle, as they are now: what `place` takes.
     pub fn lend(
         &self,
         alloc: Global,
@@ -356,9 +354,9 @@ fn place_whole_rows(rect: &Rect, bytes: &mut LentBytes, pixels: &mut [u8])
     ensures pages { bytes.new.pages ≡ bytes.old.pages }
 {
     let row_bytes = 4 * rect.width as usize;
-    let from = row_bytes * rect.y as usize;
-    let size = row_bytes * rect.height as usize;
-    bytes.read(&mut pixels[from..from + size]);
+    let to = row_bytes * rect.y as usize;
+    let end = to + row_bytes * rect.height as usize;
+    bytes.read(&mut pixels[to..end]);
 }
 
 /// Fills each row by itself, and leaves out the bytes between two rows.
