@@ -220,7 +220,7 @@ answer-ok state queue bytes header command refusal usable read judged =
     ∙ ap (λ r. refused_or_ran r state context (Some command)) judged
 
 -- what was read of such a request
-command_in : Result (Header × Command) Malformed → Option Command
+abbrev command_in : Result (Header × Command) Malformed → Option Command
 command_in (Ok (header, command)) = Some command
 command_in (Err malformed) = None
 

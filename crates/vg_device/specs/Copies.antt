@@ -1,10 +1,10 @@
 -- The transfers that copy something (VIRTIO 1.2, 5.7.6.8, TRANSFER_TO_HOST_2D).
-use Rattle.std.specs.Prelude.{◌≡◌, ℕ, ◌&&◌, Bool, true, false, not, is_none, List, drop, Option, Some, None}
+use Rattle.std.specs.Prelude.{◌≡◌, ℕ, ◌&&◌, Bool, true, false, not, is_none, if◌then◌else◌, ◌==◌, List, length, drop, Option, Some, None}
 use Rattle.vg_formats.specs.declared.rect.Rect.{Rect}
 use Rattle.vg_formats.specs.Pixels.{is_empty}
 use Rattle.vg_refusals.specs.Refusals.{refusal_of}
 use Rattle.vg_resource.specs.declared.resource.Resource.{Resource}
-use Rattle.vg_resource.specs.Resource.{resource_at}
+use Rattle.vg_resource.specs.Resource.{resource_at, with_pixels}
 use Rattle.vg_blob.specs.Blobs.{blob_at}
 use Rattle.vg_transfer.specs.Backings.{transfer_refusals}
 use Rattle.vg_chain.specs.declared.shape.Shape.{Shape}
@@ -18,7 +18,7 @@ use Rattle.vg_wire_ext.specs.Commands.{command_of}
 use Rattle.vg_device.specs.declared.copies.Copy.{Copy}
 use Rattle.vg_device.specs.declared.request.Request.{Request}
 use Rattle.vg_device.specs.Receive.{receive_refusal}
-use Rattle.vg_device.specs.State.{State, is_blob}
+use Rattle.vg_device.specs.State.{State, counted, is_blob}
 use Rattle.vg_device.specs.Step.{request_refusals}
 
 -- A transfer copies something where it is to a 2D resource, isn't refused, and its rectangle isn't empty.
@@ -67,3 +67,18 @@ pub record AsksFor (state : State) (request : Request) (copy : Copy) : Type 0 wh
   pub run : IsRun request.shape
   pub let_in : refusal_of (request_refusals state request.queue request.bytes) ≡ None
   pub reads : command_of (header_of request.bytes).kind (drop 24 request.bytes) ≡ Some (TwoD (Transfer copy.region.rect copy.region.offset copy.resource))
+
+-- There is a resource, and its pixels have so many bytes.
+abbrev pub has_as_many : ℕ → Option Resource → Bool
+has_as_many count (Some resource) = length resource.pixels == count
+has_as_many count None = false
+
+-- The device after these pixels came back to the resource that was found; after as many as it has.
+abbrev pub with_brought : ℕ → List ℕ → Option Resource → State → State
+with_brought id pixels (Some resource) state =
+    if length resource.pixels == length pixels then record state { resources = with_pixels id resource pixels state.resources } else state
+with_brought id pixels None state = state
+
+-- The device with one entry more, by which these pixels came back to a resource.
+abbrev pub brought_back : ℕ → List ℕ → State → State
+brought_back id pixels state = with_brought id pixels (resource_at id state.resources) (counted state)

@@ -6,15 +6,14 @@ ghost use Rattle.std.specs.List.{list_any};
 ghost use Rattle.vg_backing.specs.Backing.{touches};
 ghost use Rattle.vg_pages.specs.Lending.{AreFlagged, AreSameIn};
 ghost use Rattle.vg_pages.specs.Memory.{Memory, is_among};
-ghost use Rattle.vg_resource.specs.Resource.{pixels_at, resource_at, with_pixels};
+ghost use Rattle.vg_resource.specs.Resource.{pixels_at, resource_at};
 ghost use Rattle.vg_transfer.specs.Backings.{entries_at, placed, transferred};
-ghost use Rattle.vg_blob.specs.Blobs.{blob_at};
-ghost use Rattle.vg_share.specs.Share.{pages_at};
+ghost use Rattle.vg_blob.specs.Blobs.{blob_at, entries_of};
+ghost use Rattle.vg_share.specs.Share.{SharesPages, pages_at};
 ghost use Rattle.vg_wire_ext.specs.declared.response.Response.TheVariants as responses;
 ghost use Rattle.vg_device.specs.declared.request.Reply.TheVariants as replies;
-ghost use Rattle.vg_device.specs.Copies.{AsksFor, IsAccepted, copies, copies_2d};
+ghost use Rattle.vg_device.specs.Copies.{AsksFor, IsAccepted, brought_back, copies, copies_2d, has_as_many};
 ghost use Rattle.vg_device.specs.FitsWithin.{transfer_read};
-ghost use Rattle.vg_device.specs.State.{counted};
 ghost use Rattle.vg_device.specs.Step.{answered};
 
 use crate::device::{Device, response_of, write_answer};
@@ -22,7 +21,7 @@ use crate::request::{Reply, Request};
 use std::alloc::{AllocError, Global};
 use vg_chain::Shape;
 use vg_formats::Rect;
-use vg_pages::LentBytes;
+use vg_pages::{LentBytes, any_flagged};
 use vg_transfer::Region;
 use vg_wire::Command2d;
 use vg_wire_ext::{Command, Response};
@@ -47,10 +46,10 @@ impl Device {
             return Ok(None);
         }
         let read = self.read(alloc, request.queue, request.bytes.as_slice())?;
-        match transfer_in(&read) {
-            Some((rect, offset, resource)) => Ok(self.accepted(&rect, offset, resource)),
-            None => Ok(None),
-        }
+        let Some((rect, offset, resource)) = transfer_in(&read) else {
+            return Ok(None);
+        };
+        Ok(self.accepted(&rect, offset, resource))
     }
 
     /// The copy of a transfer, if it isn't refused and copies something.
@@ -94,7 +93,7 @@ impl Device {
             → placed copy.now.region.rect copy.now.region.width parts.1.bytes pixels
             ≡ transferred other (entries_at copy.now.resource self.old.backings) copy.now.region.rect copy.now.region.offset copy.now.region.width pixels) }
         ensures touched { IfOk result (λ parts. All (λ page. touches page (entries_at copy.now.resource self.old.backings) ≡ true) parts.1.pages) }
-        ensures inside { IfOk result (λ parts. All (λ page. page < length self.old.memory.taken) parts.1.pages) }
+        ensures inside { IfOk result (λ parts. All (λ page. page < self.old.setup.pages) parts.1.pages) }
     {
         let bytes = self
             .backings
@@ -115,14 +114,65 @@ impl Device {
         Ok((response_of(response), response_of(copy)))
     }
 
-    /// Puts pixels into their resource, as many as it has, as one entry more. It takes no memory.
+    /// Takes back what `lend` gave, as it was. It takes no memory.
+    pub fn take_back(&mut self, resource: u32, pixels: Vec<u8>)
+        requires { pixels_at resource self.old.resources ≡ Some pixels.items }
+        ensures { self.new ≡ self.old }
+    {
+        self.resources.restore(resource, pixels);
+    }
+
+    /// Puts pixels into their resource, which may be others now, as one entry more. It takes no memory. Where there is no such resource,
+    /// or it has more or fewer bytes, the entry changes nothing.
     pub fn put_back(&mut self, resource: u32, pixels: Vec<u8>)
-        requires entries { self.old.entries < 2 ^ 31 - 1 }
-        requires size { option_map length (pixels_at resource self.old.resources) ≡ Some (length pixels.items) }
-        ensures { IfSome (resource_at resource self.old.resources) (λ found. self.new ≡ record (counted self.old) { resources = with_pixels resource found pixels.items self.old.resources }) }
+        requires { self.old.entries < 2 ^ 31 - 1 }
+        ensures { self.new ≡ brought_back resource pixels.items self.old }
     {
         self.entries += 1;
-        self.resources.restore(resource, pixels);
+        if self.has_as_many(resource, pixels.len()) {
+            self.resources.restore(resource, pixels);
+        }
+    }
+
+    /// Whether there is such a resource, and its pixels have so many bytes.
+    fn has_as_many(&self, resource: u32, count: usize) -> bool
+        ensures { result ≡ has_as_many count (resource_at resource self.now.resources) }
+    {
+        match self.resources.get(resource) {
+            Some(found) => found.pixels.len() == count,
+            None => false,
+        }
+    }
+
+    /// Whether a byte of a page whose flag is set is in a resource's backing.
+    pub fn backing_touches(&self, resource: u32, flags: &[bool]) -> bool
+        ensures { (pages : List ℕ) → AreFlagged flags.now pages → result ≡ list_any (λ page. touches page (entries_at resource self.now.backings)) pages }
+    {
+        self.backings.touches_some(resource, flags)
+    }
+
+    /// Whether one is in a blob.
+    pub fn blob_touches(&self, resource: u32, flags: &[bool]) -> bool
+        ensures { (pages : List ℕ) → AreFlagged flags.now pages → result ≡ list_any (λ page. touches page (entries_of (blob_at resource self.now.blobs))) pages }
+    {
+        self.blobs.touches_some(resource, flags)
+    }
+
+    /// Whether a buffer has a page whose flag is set.
+    pub fn buffer_has(&self, key: u32, flags: &[bool]) -> bool
+        ensures { (pages : List ℕ) → AreFlagged flags.now pages → result ≡ list_any (is_among pages) (pages_at key self.now.share) }
+    {
+        match self.share.pages(key) {
+            Some(own) => any_flagged(own, flags),
+            None => false,
+        }
+    }
+
+    /// A law, and no work: the buffers and guest memory fit.
+    pub fn shares_its_pages(&self)
+        ensures { SharesPages self.now.memory self.now.share }
+    {
+        let _ = &self.setup;
     }
 }
 

@@ -27,6 +27,7 @@ use Rattle.vg_device.specs.declared.request.Request.{Request}
 use Rattle.vg_device.specs.declared.blobs.Layout.{Layout}
 use Rattle.vg_device.specs.Answered.{answered_by, answered_with}
 use Rattle.vg_device.specs.BlobStep.{with_shown_blob}
+use Rattle.vg_machine.specs.Jobs.{Job, after_placing, worked}
 use Rattle.vg_device.specs.State.{State, counted, has_resource, is_blob}
 use Rattle.vg_refusals.specs.Refusals.{refusal_of}
 use Rattle.vg_device.specs.Step.{answer_of, command_step, ran, refused_or_ran, request_refusals, two_d_step, with_shown}
@@ -139,3 +140,11 @@ act-counts state client act = (act-like state client act).entries
 
 pub request-counts : (state : State) (request : Request) → (request_step state request).0.entries ≡ state.entries + 1
 request-counts state request = (request-like state request).entries
+
+-- work changes nothing of a job's request
+worked-by : (bytes : Option (List ℕ)) (job : Job) → (after_placing bytes job).asked ≡ job.asked
+worked-by (Some bytes) job = refl
+worked-by None job = refl
+
+pub worked-asks : (job : Job) → (worked job).asked ≡ job.asked
+worked-asks job = worked-by job.bytes job

@@ -1,6 +1,9 @@
 pub mod Lane
 pub mod Jobs
 pub mod Lender
+pub mod Blocks
+pub mod OutWithin
+pub mod JobWithin
 pub mod Entries
 pub mod Lines
 pub mod Written

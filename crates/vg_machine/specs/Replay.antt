@@ -1,4 +1,4 @@
-use Rattle.std.specs.Prelude.{List, false, is_none}
+use Rattle.std.specs.Prelude.{List, is_none}
 use Rattle.vg_history.specs.History as history
 use Rattle.vg_history.specs.declared.machine.Machine.{Ghosts}
 use Rattle.vg_client_holds.specs.declared.setup.Setup.{Setup}
@@ -12,7 +12,8 @@ use Rattle.vg_device.specs.State.{State, start}
 use Rattle.vg_device.specs.ActStep.{act_step}
 use Rattle.vg_client_holds.specs.Holds.{denied_of, gives_up, update}
 use Rattle.vg_device.specs.RequestStep.{request_step}
-use Rattle.vg_machine.specs.Jobs.{Job}
+use Rattle.vg_machine.specs.Blocks.{blocks, blocks_act}
+use Rattle.vg_machine.specs.Jobs.{Job, worked}
 use Rattle.vg_machine.specs.Lender.{Lender}
 use Rattle.vg_machine.specs.Written.{asks_of, read_by, written_in}
 use Rattle.vg_wire.specs.Queues.{is_control}
@@ -36,9 +37,9 @@ display = record {
   read = λ request bytes. read_by request.shape bytes;
   lent = λ d. d.lent;
   asked = λ job. job.asked;
-  worked = λ job. job;
-  blocks = λ d request. false;
-  blocks_act = λ d act. false;
+  worked = worked;
+  blocks = λ d request. blocks d.lent d.state request;
+  blocks_act = λ d act. blocks_act d.lent d.state act;
   is_first = λ request. is_control request.queue;
   act_text = rest_of_act;
   command_text = rest_of_command;

@@ -4,7 +4,6 @@ use crate::display::Display;
 use crate::job::Job;
 use crate::spelled::{put_rest_of_act, put_rest_of_command};
 use std::alloc::{AllocError, Global};
-use vg_chain::ChainFault;
 use vg_client_holds::{Act, ActReply, Holds};
 use vg_device::{Device, Reply, Request};
 use vg_history::{Begun, Machine};
@@ -31,18 +30,19 @@ impl Machine for Display {
 
     type Job = Job;
 
-    ghost use Rattle.std.specs.Prelude.{false, is_none};
+    ghost use Rattle.std.specs.Prelude.{is_none};
+    ghost use Rattle.vg_machine.specs.Jobs as jobs;
+    ghost use Rattle.vg_machine.specs.Blocks as blocking;
     ghost use Rattle.vg_device.specs.ActStep.{act_step};
     ghost use Rattle.vg_client_holds.specs.Holds as holding;
     ghost use Rattle.vg_client_holds.specs.Holds.{denied_of};
     ghost use Rattle.vg_device.specs.RequestStep.{request_step};
     ghost use Rattle.vg_wire.specs.Queues.{is_control};
     ghost use Rattle.vg_machine.specs.Lines.{rest_of_act, rest_of_command};
-    ghost use Rattle.vg_machine.specs.CountedWithin.{act-counts, request-counts};
+    ghost use Rattle.vg_machine.specs.CountedWithin.{act-counts, request-counts, worked-asks};
     ghost use Rattle.vg_client_holds.proofs.GrowingLemmas.{keeps-allowed};
     ghost use Rattle.vg_machine.specs.Written.{asks_of, read_by, written_in};
     ghost use Rattle.vg_machine.specs.ReadWithin.{reads-request};
-    ghost use Rattle.std.proofs.Common.{refl};
 
     ghost state = { λ d. d.state };
 
@@ -74,11 +74,11 @@ impl Machine for Display {
 
     ghost asked = { λ j. j.asked };
 
-    ghost worked = { λ j. j };
+    ghost worked = { jobs.worked };
 
-    ghost blocks = { λ d q. false };
+    ghost blocks = { λ d q. blocking.blocks d.lent d.state q };
 
-    ghost blocks_act = { λ d a. false };
+    ghost blocks_act = { λ d a. blocking.blocks_act d.lent d.state a };
 
     ghost is_first = { λ q. is_control q.queue };
 
@@ -93,34 +93,32 @@ impl Machine for Display {
         holds: &mut Holds,
         act: &Act,
     ) -> Result<(ActReply, ActReply), AllocError> {
-        self.device.act_as(alloc, client, holds, act)
+        self.do_act(alloc, client, holds, act)
     }
 
-    /// It runs each request as a whole.
+    /// It lends the job of a transfer that copies something, and runs each other request as a whole.
     fn begin(
         &mut self,
         alloc: Global,
         request: &Request,
     ) -> Result<Begun<Job, (Reply, Reply)>, AllocError> {
-        Ok(Begun::Whole(self.device.request(alloc, request)?))
+        self.start(alloc, request)
     }
 
-    fn work(_job: &mut Job) {}
-
-    /// Nothing was lent, so what this answers says nothing.
-    fn end(&mut self, _job: Job) -> (Reply, Reply) {
-        // Its fields say that nothing was lent.
-        let _ = &self.device;
-        let fault = ChainFault::Index;
-        (Reply::Fault { fault }, Reply::Fault { fault })
+    fn work(job: &mut Job) {
+        job.work();
     }
 
-    fn blocked(&self, _request: &Request) -> bool {
-        false
+    fn end(&mut self, job: Job) -> (Reply, Reply) {
+        self.bring_back(job)
     }
 
-    fn act_blocked(&self, _act: &Act) -> bool {
-        false
+    fn blocked(&self, request: &Request) -> bool {
+        self.keeps_from(request)
+    }
+
+    fn act_blocked(&self, act: &Act) -> bool {
+        self.keeps_from_act(act)
     }
 
     fn gives_up(act: &Act) -> bool {
@@ -152,7 +150,7 @@ impl Machine for Display {
 
     ghost keeps_holds = { λ h a r q. keeps-allowed h a r q.queue q.bytes };
 
-    ghost work_asks = { λ j. refl };
+    ghost work_asks = { λ j. worked-asks j };
 
     ghost reads = { λ s q. reads-request s q };
 }

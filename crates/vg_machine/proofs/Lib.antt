@@ -1,0 +1,4 @@
+pub mod LeaveLemmas
+pub mod ActLeaveLemmas
+pub mod OutLemmas
+pub mod DisplayLemmas
