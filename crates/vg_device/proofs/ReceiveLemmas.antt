@@ -1,10 +1,10 @@
 -- The resources after the pixels of one were lent to a transfer.
-use Rattle.std.proofs.Common.{◌≡◌, ℕ, ◌*◌, ◌==◌, Bool, cond, List, Option, Some, None, Result, Err, true, length, refl, sym, ap, ◌∙◌}
+use Rattle.std.proofs.Common.{◌≡◌, ℕ, ◌*◌, ◌++◌, take, drop, List, Option, Some, None, Result, Err, true, length, refl, sym, ap, ◌∙◌}
 use Rattle.std.specs.Option.{option_map}
 use Rattle.std.specs.BTreeMap.{is_at}
 use Rattle.std.specs.Ordering.{nat_cmp}
 use Rattle.std.proofs.lemmas.Map.Steps.{set_value_same}
-use Rattle.std.proofs.lemmas.Bool.{eq-eqb}
+use Rattle.std.proofs.Math.Seq.{take-append_seam}
 use Rattle.vg_formats.specs.declared.entry.MemEntry.{MemEntry}
 use Rattle.vg_formats.specs.declared.rect.Rect.{Rect}
 use Rattle.vg_pages.specs.Memory.{Memory}
@@ -12,8 +12,6 @@ use Rattle.vg_places.proofs.Filled.{length-filled}
 use Rattle.vg_refusals.specs.Refusals.{refusal_of, unless_refused}
 use Rattle.vg_transfer.specs.Backings.{bytes_of_rect, entries_at, transfer, transfer_refusals, transferred}
 use Rattle.vg_resource.specs.declared.resource.Resource.{Resource}
-use Rattle.vg_resource.specs.Lending.{restored, with_given}
-use Rattle.vg_resource.specs.Pixels.{given_back}
 use Rattle.vg_resource.specs.Resource.{pixels_at, resource_at, with_pixels}
 use Rattle.vg_device.specs.Receive.{receive, with_received}
 
@@ -55,9 +53,9 @@ length-transfer memory id rect offset width height backings pixels =
     length-unless (refusal_of (transfer_refusals true id rect offset width height backings)) pixels (transferred memory (entries_at id backings) rect offset width pixels)
     (length-filled (bytes_of_rect rect) (4 * width) _ pixels)
 
--- as many bytes brought back are the pixels
-all-given : (old new : List ℕ) → length new ≡ length old → given_back new old ≡ new
-all-given old new same = ap (λ (b : Bool). cond b new old) (eq-eqb (length new) (length old) same)
+-- as many bytes written over what was lent are all of it
+pub all-written : (old new : List ℕ) (n : ℕ) → length new ≡ n → take n (new ++ drop (length new) old) ≡ new
+all-written old new n same = ap (λ n. take n (new ++ drop (length new) old)) (sym same) ∙ take-append_seam new (drop (length new) old)
 
 some-same : {X : Type 0} {x y : X} → ◌≡◌ {A = Option X} (Some x) (Some y) → x ≡ y
 some-same same = cc
@@ -65,12 +63,16 @@ some-same same = cc
 pub received-lent : (memory : Memory) (id : ℕ) (rect : Rect) (offset : ℕ) (backings : List (ℕ × List MemEntry)) (resources : List (ℕ × Resource)) (resource : Resource) (pixels new : List ℕ) (done : Result (Unit {0}) ℕ)
     → resource_at id resources ≡ Some resource → Some pixels ≡ pixels_at id resources
     → ◌≡◌ {A = List ℕ × Result (Unit {0}) ℕ} (new, done) (transfer true memory id rect offset resource.width resource.height backings pixels)
-    → ◌≡◌ {A = List (ℕ × Resource) × Result (Unit {0}) ℕ} (restored id new resources, done) (receive memory id rect offset backings resources)
+    → ◌≡◌ {A = List (ℕ × Resource) × Result (Unit {0}) ℕ} (with_pixels id resource new resources, done) (receive memory id rect offset backings resources)
 received-lent memory id rect offset backings resources resource pixels new done found lent step =
     let was : pixels ≡ resource.pixels = some-same (lent ∙ ap (option_map (λ (r : Resource). r.pixels)) found) in
     let after = step ∙ ap (λ xs. transfer true memory id rect offset resource.width resource.height backings xs) was in
-    let long : length new ≡ length resource.pixels = ap (λ (pair : List ℕ × Result (Unit {0}) ℕ). length pair.0) after ∙ length-transfer memory id rect offset resource.width resource.height backings resource.pixels in
-    ap (λ (o : Option Resource). (with_given id new o resources, done)) found
-    ∙ ap (λ xs. (with_pixels id resource xs resources, done)) (all-given resource.pixels new long)
-    ∙ ap (λ (pair : List ℕ × Result (Unit {0}) ℕ). (with_pixels id resource pair.0 resources, pair.1)) after
+    ap (λ (pair : List ℕ × Result (Unit {0}) ℕ). (with_pixels id resource pair.0 resources, pair.1)) after
     ∙ received-some memory id rect offset backings resources resource found
+
+-- a transfer leaves as many bytes
+pub as-many : (memory : Memory) (id : ℕ) (rect : Rect) (offset width height : ℕ) (backings : List (ℕ × List MemEntry)) (pixels new : List ℕ) (done : Result (Unit {0}) ℕ)
+    → ◌≡◌ {A = List ℕ × Result (Unit {0}) ℕ} (new, done) (transfer true memory id rect offset width height backings pixels)
+    → length new ≡ length pixels
+as-many memory id rect offset width height backings pixels new done step =
+    ap (λ (pair : List ℕ × Result (Unit {0}) ℕ). length pair.0) step ∙ length-transfer memory id rect offset width height backings pixels

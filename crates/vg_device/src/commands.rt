@@ -254,18 +254,17 @@ impl Device {
         if self.blobs.has(resource) {
             return Ok(Response::Nodata);
         }
-        let received = receive(
+        let Some(done) = receive(
             &mut self.resources,
             resource,
             &self.pages,
             &self.backings,
             rect,
             offset,
-        );
-        match received {
-            Some(done) => nodata(done),
-            None => Err(Stop::Memory),
-        }
+        ) else {
+            return Err(Stop::Memory);
+        };
+        nodata(done)
     }
 
     fn attach(

@@ -12,7 +12,7 @@ flush-requires c =
     let surface = c.in-Some.surface.now in
     record {
       cursors = omega (arith, c.self.invariant.screens, c.self.invariant.cursors);
-      surface = rw c.as_slice-pixels.ensures (fits-surface s.blobs s.resources c.args.resource surface s.scanouts.screens (none-there (blob_at c.args.resource s.blobs) (search rules)) (sym c.in-Some.ensures.value) c.in-Some.ensures.whole c.self.invariant.showing);
+      surface = rw c.in-Some-as_slice.ensures (fits-surface s.blobs s.resources c.args.resource surface s.scanouts.screens (none-there (blob_at c.args.resource s.blobs) (search rules)) (sym c.in-Some.ensures.value) c.in-Some.ensures.whole c.self.invariant.showing);
     }
 
 pub invariant_of-self-2 : goal.invariant_of-self-2
@@ -42,4 +42,4 @@ returns-clause-step c =
     let inside : is_inside c.args.rect.now surface.width surface.height ≡ true = search rules in
     rw (c.nodata.ensures, ← c.self.view_is)
     (if-nodata c.in_ok-done.done _
-    (step-flush (record { setup = s.setup; entries = s.entries; memory = s.pages; resources = s.resources; backings = s.backings; blobs = s.blobs; contexts = s.contexts; uuids = s.uuids; cursors = s.cursors; scanouts = s.scanouts; share = s.share }) c.args.rect.now c.args.resource surface c.flush.new.self c.in_ok-done.done (search rules) (sym c.in-Some.ensures.value) inside (rw c.as_slice-pixels.ensures at c.in_ok-done.ensures.done)))
+    (step-flush (record { setup = s.setup; entries = s.entries; memory = s.pages; resources = s.resources; backings = s.backings; blobs = s.blobs; contexts = s.contexts; uuids = s.uuids; cursors = s.cursors; scanouts = s.scanouts; share = s.share }) c.args.rect.now c.args.resource surface c.flush.new.self c.in_ok-done.done (search rules) (sym c.in-Some.ensures.value) inside (rw c.in-Some-as_slice.ensures at c.in_ok-done.ensures.done)))
