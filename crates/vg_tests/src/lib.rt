@@ -25,6 +25,8 @@ mod pages;
 #[cfg(test)]
 mod places;
 #[cfg(test)]
+mod placing;
+#[cfg(test)]
 mod requests;
 #[cfg(test)]
 mod responses;

@@ -41,7 +41,7 @@ pub(crate) fn falling(alloc: Global, count: u32, length: u32) -> Result<Vec<MemE
 }
 
 /// The backings where resource 1 has these entries.
-fn attached(
+pub(crate) fn attached(
     rt: &impl Abort,
     alloc: Global,
     pages: &Pages,

@@ -149,7 +149,8 @@ impl Backings {
         None
     }
 
-    /// The bytes that a transfer which isn't refused copies, with what stands between the rows of its rectangle, as they are now: what `place` takes.
+    /// The bytes that a transfer which isn't refused copies, with those between the rows of its rectangle, as they are now: what
+    /// `place` takes. They come to the same as long as nothing is written to the pages that have them.
     pub fn lend(
         &self,
         alloc: Global,
@@ -327,8 +328,8 @@ fn lend_rect(
     backing.lend(alloc, pages, region.offset, count as usize)
 }
 
-/// Fills a rectangle of a resource with `width` pixels a row from the next bytes, which begin with its first pixel and stand as
-/// they do in the resource.
+/// Fills a rectangle, which isn't empty, of a resource with `width` pixels a row from the next bytes, which begin with its first
+/// pixel and stand as they do in the resource.
 pub fn place(rect: &Rect, width: u32, bytes: &mut LentBytes, pixels: &mut [u8])
     requires columns { rect.now.x + rect.now.width ≤ width }
     requires rows { 4 * width * (rect.now.y + rect.now.height) ≤ length pixels.old }
