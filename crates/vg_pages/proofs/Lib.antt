@@ -3,3 +3,4 @@ pub mod Marked
 pub mod Padded
 pub mod Sent
 pub mod Spliced
+pub mod FlagLemmas

@@ -1,6 +1,7 @@
 -- Bytes of guest memory that were lent.
-use Rattle.std.specs.Prelude.{◌≡◌, ℕ, ◌/◌, ◌<◌, ◌≤◌, Bool, true, false, List, [], ◌∷◌, ◌++◌, length, slice_index, slice_index_or}
-use Rattle.vg_pages.specs.Memory.{Memory, is_among}
+use Rattle.std.specs.Prelude.{◌≡◌, ℕ, ◌/◌, ◌<◌, ◌≤◌, Bool, true, false, List, [], ◌∷◌, ◌++◌, length, nat_lt, take, if◌then◌else◌, slice_index, slice_index_or}
+use Rattle.std.specs.List.{list_any}
+use Rattle.vg_pages.specs.Memory.{Memory, free_pages, is_among}
 
 -- Lists one after another.
 abbrev pub joined : List (List ℕ) → List ℕ
@@ -28,3 +29,7 @@ is_flagged flags page = slice_index_or flags page false
 -- The flags of these pages are set, and no others.
 pub record AreFlagged (flags : List Bool) (pages : List ℕ) : Type 0 where
   pub each : (page : ℕ) → is_flagged flags page ≡ is_among pages page
+
+-- One of the lowest free pages, so many, is among these, where there are as many.
+abbrev pub would_take : ℕ → List ℕ → List Bool → Bool
+would_take n pages taken = if nat_lt (length (free_pages taken)) n then false else list_any (is_among pages) (take n (free_pages taken))

@@ -106,6 +106,29 @@ pub fn any_flagged(pages: &[u32], flags: &[bool]) -> bool
     false
 }
 
+/// Whether one of the `n` lowest free pages has its flag set, or one of all free pages where there are fewer. None below `low` is
+/// free.
+pub(crate) fn any_free_flagged(taken: &[bool], low: usize, n: usize, flags: &[bool]) -> bool
+    requires pages { length taken.now ≤ 65536 }
+    requires low { low ≤ length taken.now }
+    requires below { AreTakenBelow taken.now low }
+    ensures { result ≡ list_any (is_flagged flags.now) (take n (free_pages taken.now)) }
+{
+    let mut count = 0;
+    for page in low..taken.len() {
+        if count == n {
+            return false;
+        }
+        if !taken[page] {
+            if is_flagged(flags, page as u32) {
+                return true;
+            }
+            count += 1;
+        }
+    }
+    false
+}
+
 fn is_flagged(flags: &[bool], page: u32) -> bool
     ensures { result ≡ is_flagged flags.now page }
 {

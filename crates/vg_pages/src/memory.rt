@@ -1,10 +1,11 @@
 //! Guest memory page by page, with a flag for each page.
 
 ghost use Rattle.std.specs.Prelude.{◌≡◌, ℕ, List, All, ◌<◌, ◌≤◌, ◌*◌, ◌↔◌, IfOk, IfSome, IfNone, OnErr, IsNone, IsTrue, length, min, take, false, vec_len, ◌-◌, ◌/◌, ◌%◌};
+ghost use Rattle.vg_pages.specs.Lending.{AreFlagged, would_take};
 ghost use Rattle.vg_pages.specs.Memory.{HasWholePages, fresh_memory, HoldsRange, bytes_at, written_at, free_pages, is_among, is_free, marked, after_taking, AreGivable, AreTakeable, page_address};
 
 use crate::blocks::Blocks;
-use crate::flags::{count_free, least, lowest_free, mark, next_free, zero};
+use crate::flags::{any_free_flagged, count_free, least, lowest_free, mark, next_free, zero};
 use crate::piece::Piece;
 use crate::{MEMORY_START, PAGE_BYTES, page_address};
 use std::alloc::{AllocError, Global};
@@ -128,6 +129,16 @@ impl Pages {
             Some(is_taken) => !*is_taken,
             None => false,
         }
+    }
+
+    /// Whether one of the `n` lowest free pages has its flag set. False where fewer are free.
+    pub fn would_take(&self, n: u32, flags: &[bool]) -> bool
+        ensures { (pages : List ℕ) → AreFlagged flags.now pages → result ≡ would_take n pages self.now.taken }
+    {
+        if self.free() < n {
+            return false;
+        }
+        any_free_flagged(self.taken.as_slice(), self.low, n as usize, flags)
     }
 
     /// Whether the `length` bytes from the address `addr` on lie wholly in memory. An empty range does where its
