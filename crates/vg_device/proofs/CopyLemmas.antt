@@ -1,8 +1,15 @@
 -- A request that is read as a transfer, and what it copies.
-use Rattle.std.proofs.Common.{◌≡◌, ◌≢◌, ℕ, ◌&&◌, not, Bool, true, false, List, Option, Some, None, Result, Ok, Err, drop, ap, sym, ◌∙◌, refl, subst}
-use Rattle.std.specs.Prelude.{is_none, IfErr, IfOk, IfSome, IfNone}
+use Rattle.std.proofs.Common.{◌≡◌, ◌≢◌, ◌≤◌, ℕ, ◌+◌, ◌*◌, ◌&&◌, not, Bool, true, false, List, [], ◌∷◌, length, arith, Option, Some, None, Result, Ok, Err, drop, ap, sym, ◌∙◌, refl, subst}
+use Rattle.std.specs.Prelude.{is_none, nat_lt, IfErr, IfOk, IfSome, IfNone}
 use Rattle.vg_formats.specs.declared.rect.Rect.{Rect}
-use Rattle.vg_formats.specs.Pixels.{is_empty}
+use Rattle.std.specs.Option.{option_map}
+use Rattle.std.proofs.lemmas.Bool.Decides.{nat_tests}
+use Rattle.vg_formats.specs.Pixels.{is_empty, is_inside}
+use Rattle.vg_backing.specs.Backing.{total}
+use Rattle.vg_resource.specs.declared.resource.Resource.{Resource}
+use Rattle.vg_resource.specs.Resource.{pixels_at}
+use Rattle.vg_transfer.specs.Backings.{backing_at, entries_at, transfer_end}
+use Rattle.vg_wire.specs.Kinds.{ERR_INVALID_PARAMETER, ERR_INVALID_RESOURCE_ID, ERR_UNSPEC}
 use Rattle.vg_refusals.specs.Refusals.{refusal_of}
 use Rattle.vg_chain.specs.declared.shape.Shape.{Shape}
 use Rattle.vg_chain.specs.declared.shape.Shape.TheVariants.{Plain, Pieces, Indirect, Mixed, Bad}
@@ -126,3 +133,35 @@ copies-none state request (Ok (context, command)) run none let_in refused =
 copies-none state request (Err code) run none let_in refused =
     shaped-plain request.shape state request run
     ∙ ap (λ refusal. is_none refusal && copies_by state (command_of (header_of request.bytes).kind (drop 24 request.bytes))) refused
+
+-- a rectangle that isn't refused lies inside of its resource
+inside-of : (a b c : Bool) (r s t : ℕ) (more : List (Bool × ℕ)) → refusal_of ((a, r) ∷ (b, s) ∷ (not c, t) ∷ more) ≡ None → c ≡ true
+inside-of true b c r s t more none = cc
+inside-of false true c r s t more none = cc
+inside-of false false false r s t more none = cc
+inside-of false false true r s t more none = refl
+
+pub copy-inside : (state : State) (copy : Copy) → IsAccepted state copy → is_inside copy.region.rect copy.region.width copy.region.height ≡ true
+copy-inside state copy is =
+    let region = copy.region in
+    inside-of (not true) (is_none (backing_at copy.resource state.backings)) (is_inside region.rect region.width region.height) ERR_INVALID_RESOURCE_ID ERR_UNSPEC ERR_INVALID_PARAMETER
+    ((not (is_empty region.rect) && nat_lt (total (entries_at copy.resource state.backings)) (transfer_end region.rect region.offset region.width), ERR_INVALID_PARAMETER) ∷ []) is.accepted
+
+pub copy-columns : (state : State) (copy : Copy) → IsAccepted state copy → copy.region.rect.x + copy.region.rect.width ≤ copy.region.width
+copy-columns state copy is = grind (arith, nat_tests, copy-inside state copy is)
+
+rows-fit : (width height end : ℕ) → end ≤ height → 4 * width * end ≤ 4 * width * height
+rows-fit width height end few = grind (arith)
+
+pub copy-rows : (state : State) (copy : Copy) (pixels : List ℕ) → IsAccepted state copy → pixels_at copy.resource state.resources ≡ Some pixels
+    → 4 * copy.region.width * (copy.region.rect.y + copy.region.rect.height) ≤ length pixels
+copy-rows state copy pixels is given =
+    let inside = copy-inside state copy is in
+    let down : copy.region.rect.y + copy.region.rect.height ≤ copy.region.height = grind (arith, nat_tests, inside) in
+    let same : is.found.pixels ≡ pixels = some-items (sym (ap (option_map (λ (resource : Resource). resource.pixels)) is.there) ∙ given) in
+    let long : length pixels ≡ 4 * copy.region.width * copy.region.height =
+        ap length (sym same) ∙ is.whole.0 ∙ ap (λ width. 4 * width * is.found.height) is.width ∙ ap (λ height. 4 * copy.region.width * height) is.height in
+    subst (λ n. 4 * copy.region.width * (copy.region.rect.y + copy.region.rect.height) ≤ n) (sym long) (rows-fit copy.region.width copy.region.height (copy.region.rect.y + copy.region.rect.height) down)
+  where
+    some-items : {xs ys : List ℕ} → ◌≡◌ {A = Option (List ℕ)} (Some xs) (Some ys) → xs ≡ ys
+    some-items same = cc

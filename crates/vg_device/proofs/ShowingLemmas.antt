@@ -1,6 +1,6 @@
 -- Screens show resources that there are, after each command.
 use Rattle.std.proofs.Common.{◌≡◌, ℕ, ◌+◌, ◌*◌, ◌==◌, Bool, true, false, not, ◌||◌, List, [], ◌∷◌, Option, Some, None, Result, inl, inr, sym, ap, ◌∙◌, refl, subst, get_or}
-use Rattle.std.specs.Prelude.{is_none, is_some, nat_lt}
+use Rattle.std.specs.Prelude.{IfSome, is_none, is_some, length, nat_lt}
 use Rattle.std.specs.List.{All}
 use Rattle.std.proofs.lemmas.Bool.{cases_eq}
 use Rattle.vg_formats.specs.declared.entry.MemEntry.{MemEntry}
@@ -18,8 +18,11 @@ use Rattle.vg_resource.specs.Resource.{blank, pixel_bytes, resource_at, with_bla
 use Rattle.vg_blob.specs.declared.blobs.Blob.{Blob}
 use Rattle.vg_blob.specs.Blobs.{BLOB_FLAGS, BLOB_MEM_GUEST, blob_at, create, create_refusals, with_blob}
 use Rattle.vg_backing.specs.Backing.{are_bad, total}
+use Rattle.std.specs.Option.{option_map}
+use Rattle.std.proofs.lemmas.Map.Steps.{set_value_same}
 use Rattle.std.specs.Ordering.{nat_cmp}
-use Rattle.std.specs.BTreeMap.{insert_entry}
+use Rattle.std.specs.BTreeMap.{insert_entry, is_at}
+use Rattle.vg_device.specs.Copies.{has_as_many}
 use Rattle.vg_device.specs.State.{IsShowing, ShowsEither, ShowsResource, ShowsSome}
 use Rattle.vg_device.proofs.MapLemmas.{insert_other, set_itself, set_other}
 use Rattle.vg_formats.specs.Pixels.{is_inside}
@@ -191,3 +194,16 @@ pub showing-blob : (memory : Memory) (id mem flags size : ℕ) (entries : List M
 unfolding create
 showing-blob memory id mem flags size entries old now done step resources screens gone showing =
     blob-made memory id mem flags size entries old now done (refusal_of (create_refusals memory id mem flags size entries old)) refl step resources screens gone showing
+
+-- pixels that came back
+pub keeping-brought : (id : ℕ) (pixels : List ℕ) (old now : List (ℕ × Resource)) (found : Option Resource) → resource_at id old ≡ found
+    → IfSome found (λ resource. now ≡ with_pixels id resource pixels old) → has_as_many (length pixels) found ≡ true → Keeping old now
+keeping-brought id pixels old now None is after many = cc
+keeping-brought id pixels old now (Some resource) is after many = subst (Keeping old) (sym after) (keeping-pixels id resource pixels old is)
+
+-- pixels that came back as they were
+pub brought-same : (id : ℕ) (pixels : List ℕ) (old now : List (ℕ × Resource)) (found : Option Resource) → resource_at id old ≡ found
+    → option_map (λ (resource : Resource). resource.pixels) found ≡ Some pixels → IfSome found (λ resource. now ≡ with_pixels id resource pixels old) → now ≡ old
+brought-same id pixels old now None is given after = cc
+brought-same id pixels old now (Some resource) is given after =
+    after ∙ ap (λ items. with_pixels id resource items old) (sym (some-same given)) ∙ set_value_same (is_at (nat_cmp id)) old resource is

@@ -4,7 +4,7 @@ use Rattle.vg_formats.specs.declared.rect.Rect.{Rect}
 use Rattle.vg_formats.specs.Pixels.{is_empty}
 use Rattle.vg_refusals.specs.Refusals.{refusal_of}
 use Rattle.vg_resource.specs.declared.resource.Resource.{Resource}
-use Rattle.vg_resource.specs.Resource.{resource_at, with_pixels}
+use Rattle.vg_resource.specs.Resource.{IsWhole, resource_at, with_pixels}
 use Rattle.vg_blob.specs.Blobs.{blob_at}
 use Rattle.vg_transfer.specs.Backings.{transfer_refusals}
 use Rattle.vg_chain.specs.declared.shape.Shape.{Shape}
@@ -58,6 +58,7 @@ pub record IsAccepted (state : State) (copy : Copy) : Type 0 where
   pub no_blob : blob_at copy.resource state.blobs ≡ None
   pub found : Resource
   pub there : resource_at copy.resource state.resources ≡ Some found
+  pub whole : IsWhole found
   pub width : found.width ≡ copy.region.width
   pub height : found.height ≡ copy.region.height
   pub accepted : refusal_of (transfer_refusals true copy.resource copy.region.rect copy.region.offset copy.region.width copy.region.height state.backings) ≡ None

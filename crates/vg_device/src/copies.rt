@@ -4,11 +4,12 @@
 ghost use Rattle.std.specs.Prelude.{◌≡◌, ◌+◌, ◌*◌, ◌-◌, ◌<◌, ◌≤◌, ◌^◌, ℕ, List, false, true, length, All, IfNone, IfOk, IfSome, OnErr, OnOk, option_map, Some};
 ghost use Rattle.std.specs.List.{list_any};
 ghost use Rattle.vg_backing.specs.Backing.{touches};
-ghost use Rattle.vg_pages.specs.Lending.{AreFlagged, AreSameIn};
+ghost use Rattle.vg_pages.specs.Lending.{AreFlagged, AreSameIn, would_take};
 ghost use Rattle.vg_pages.specs.Memory.{Memory, is_among};
 ghost use Rattle.vg_resource.specs.Resource.{pixels_at, resource_at};
 ghost use Rattle.vg_transfer.specs.Backings.{entries_at, placed, transferred};
 ghost use Rattle.vg_blob.specs.Blobs.{blob_at, entries_of};
+ghost use Rattle.vg_share.specs.Cells.{pages_of};
 ghost use Rattle.vg_share.specs.Share.{SharesPages, pages_at};
 ghost use Rattle.vg_wire_ext.specs.declared.response.Response.TheVariants as responses;
 ghost use Rattle.vg_device.specs.declared.request.Reply.TheVariants as replies;
@@ -22,6 +23,7 @@ use std::alloc::{AllocError, Global};
 use vg_chain::Shape;
 use vg_formats::Rect;
 use vg_pages::{LentBytes, any_flagged};
+use vg_share::pages_of;
 use vg_transfer::Region;
 use vg_wire::Command2d;
 use vg_wire_ext::{Command, Response};
@@ -98,10 +100,10 @@ impl Device {
         let bytes = self
             .backings
             .lend(alloc, &self.pages, copy.resource, &copy.region)?;
-        match self.resources.lend(copy.resource) {
-            Some(pixels) => Ok((pixels, bytes)),
-            None => Err(AllocError),
-        }
+        let Some(pixels) = self.resources.lend(copy.resource) else {
+            return Err(AllocError);
+        };
+        Ok((pixels, bytes))
     }
 
     /// The reply to a request that is accepted with OK_NODATA, twice.
@@ -166,6 +168,13 @@ impl Device {
             Some(own) => any_flagged(own, flags),
             None => false,
         }
+    }
+
+    /// Whether a reserve of so many bytes would take a page whose flag is set.
+    pub fn would_take(&self, bytes: u32, flags: &[bool]) -> bool
+        ensures { (pages : List ℕ) → AreFlagged flags.now pages → result ≡ would_take (pages_of bytes) pages self.now.memory.taken }
+    {
+        self.pages.would_take(pages_of(bytes), flags)
     }
 
     /// A law, and no work: the buffers and guest memory fit.

@@ -40,7 +40,7 @@ use Rattle.vg_device.proofs.MapLemmas.{set_other}
 use Rattle.vg_machine.specs.Blocks.{blocks, blocks_act, blocks_named, blocks_shaped, is_lent, touches_lent}
 use Rattle.vg_machine.specs.CountedWithin.{act-like, request-like}
 use Rattle.vg_machine.specs.Jobs.{Job, after_placing, worked}
-use Rattle.vg_machine.specs.OutWithin.{AreApart, IsOut, lane_of}
+use Rattle.vg_machine.specs.OutWithin.{AreApart, IsOut, job_lane}
 use Rattle.vg_machine.proofs.ActLeaveLemmas.{job-pages, leaves-effect, one-not}
 use Rattle.vg_machine.proofs.LeaveLemmas.{IsThere, Leaves, apart-from, leaves-itself, leaves-request, or-left, or-right, read-of, same-itself}
 use Rattle.vg_machine.proofs.OutLemmas.{out-counted, out-kept, out-step}
@@ -139,18 +139,18 @@ pages-of-apart jobs one entries pages none has touched = λ k d within.
         apart : ◌≡◌ {A = Bool} true false → ⊥
         apart same = cc
 
-of-lane-has : (l : ℕ) (jobs : List Job) (one : Job) → Has jobs one → one.asked.lane ≡ l → Has (of_lane lane_of l jobs) one
+of-lane-has : (l : ℕ) (jobs : List Job) (one : Job) → Has jobs one → one.asked.lane ≡ l → Has (of_lane job_lane l jobs) one
 of-lane-has l (job ∷ more) one (inl is) at =
-    subst (λ (js : List Job). Has js one) (sym (of_lane_same lane_of l job more (ap (λ (j : Job). j.asked.lane) is ∙ at))) (inl is)
+    subst (λ (js : List Job). Has js one) (sym (of_lane_same job_lane l job more (ap (λ (j : Job). j.asked.lane) is ∙ at))) (inl is)
 of-lane-has l (job ∷ more) one (inr has) at = dite (ℕ_discrete job.asked.lane l)
-    (λ same. subst (λ (js : List Job). Has js one) (sym (of_lane_same lane_of l job more same)) (inr (of-lane-has l more one has at)))
-    (λ other. subst (λ (js : List Job). Has js one) (sym (of_lane_else lane_of l job more other)) (of-lane-has l more one has at))
+    (λ same. subst (λ (js : List Job). Has js one) (sym (of_lane_same job_lane l job more same)) (inr (of-lane-has l more one has at)))
+    (λ other. subst (λ (js : List Job). Has js one) (sym (of_lane_else job_lane l job more other)) (of-lane-has l more one has at))
 
-pub lane-free : (jobs : List Job) (lane : ℕ) (one : Job) → of_lane lane_of lane jobs ≡ [] → Has jobs one → one.asked.lane ≢ lane
+pub lane-free : (jobs : List Job) (lane : ℕ) (one : Job) → of_lane job_lane lane jobs ≡ [] → Has jobs one → one.asked.lane ≢ lane
 lane-free jobs lane one none has = λ same. subst (λ (js : List Job). Has js one) none (of-lane-has lane jobs one has same)
 
 pub all-apart : (jobs all : List Job) (job : Job) (entries : List MemEntry) → ((one : Job) → Has jobs one → Has all one)
-    → of_lane lane_of job.asked.lane all ≡ [] → is_lent all job.resource ≡ false → touches_lent all entries ≡ false
+    → of_lane job_lane job.asked.lane all ≡ [] → is_lent all job.resource ≡ false → touches_lent all entries ≡ false
     → All (λ page. touches page entries ≡ true) job.pages → AllByRecursion (AreApart job) jobs
 all-apart [] all job entries within lane resource pages touched = tt
 all-apart (one ∷ more) all job entries within lane resource pages touched = (

@@ -1,4 +1,6 @@
 pub mod LeaveLemmas
 pub mod ActLeaveLemmas
 pub mod OutLemmas
+pub mod LoanLemmas
 pub mod DisplayLemmas
+pub mod Sent

@@ -4,6 +4,8 @@ pub mod Lender
 pub mod Blocks
 pub mod OutWithin
 pub mod JobWithin
+pub mod Loans
+pub mod LoansWithin
 pub mod Entries
 pub mod Lines
 pub mod Written

@@ -21,8 +21,8 @@ use Rattle.vg_device.specs.Copies.{IsRun}
 use Rattle.vg_machine.specs.Jobs.{Job}
 
 -- The lane of a job's request.
-abbrev pub lane_of : Job → ℕ
-lane_of job = job.asked.lane
+abbrev pub job_lane : Job → ℕ
+job_lane job = job.asked.lane
 
 -- A job that is lent while the display is in this state: its request is a transfer that isn't refused, to the resource whose pixels the job
 -- has, and placing its bytes is what the transfer does, whatever is written outside of its pages; and the reply is the request's.

@@ -11,7 +11,7 @@ ghost use Rattle.vg_device.specs.RequestStep.{request_step};
 ghost use Rattle.vg_device.specs.State.{start};
 ghost use Rattle.vg_machine.specs.Blocks.{blocks, blocks_act};
 ghost use Rattle.vg_machine.specs.Jobs.{worked};
-ghost use Rattle.vg_machine.specs.OutWithin.{lane_of};
+ghost use Rattle.vg_machine.specs.OutWithin.{job_lane};
 
 use crate::job::Job;
 use crate::loans::Loans;
@@ -104,7 +104,7 @@ impl Display {
     ) -> Result<Begun<Job, (Reply, Reply)>, AllocError>
         requires count { self.old.state.entries < 2 ^ 31 - 1 }
         requires free { blocks self.old.lent self.old.state request.now ≡ false }
-        requires lane { of_lane lane_of request.now.lane self.old.lent ≡ [] }
+        requires lane { of_lane job_lane request.now.lane self.old.lent ≡ [] }
         ensures whole { IfOk result (λ b. IfWhole b (λ twice. ((self.new.state, twice.0) ≡ request_step self.old.state request.now) × (twice.1 ≡ twice.0) × (self.new.lent ≡ self.old.lent) × (copies self.old.state request.now ≡ false))) }
         ensures job { IfOk result (λ b. IfLent b (λ job. (self.new.state ≡ self.old.state) × (self.new.lent ≡ job ∷ self.old.lent) × (job.asked ≡ request.now) × (copies self.old.state request.now ≡ true))) }
         ensures err { OnErr result (self.new ≡ self.old) }
@@ -145,7 +145,7 @@ impl Display {
         requires asks { AsksFor self.old.state request.now copy.now }
         requires accepted { IsAccepted self.old.state copy.now }
         requires free { blocks self.old.lent self.old.state request.now ≡ false }
-        requires lane { of_lane lane_of request.now.lane self.old.lent ≡ [] }
+        requires lane { of_lane job_lane request.now.lane self.old.lent ≡ [] }
         ensures job { IfOk result (λ job. (self.new.state ≡ self.old.state) × (self.new.lent ≡ job ∷ self.old.lent) × (job.asked ≡ request.now)) }
         ensures err { OnErr result (self.new ≡ self.old) }
     {
@@ -169,7 +169,7 @@ impl Display {
         requires { self.old.state.entries < 2 ^ 31 - 1 }
         ensures step { IsBack worked self.old.lent job → (self.new.state, result.0) ≡ request_step self.old.state job.asked }
         ensures same { IsBack worked self.old.lent job → result.1 ≡ result.0 }
-        ensures lent { IsBack worked self.old.lent job → self.new.lent ≡ but_lane lane_of job.asked.lane self.old.lent }
+        ensures lent { IsBack worked self.old.lent job → self.new.lent ≡ but_lane job_lane job.asked.lane self.old.lent }
     {
         self.loans.are_apart();
         let ended = self.loans.end(job.lane());

@@ -5,6 +5,7 @@
 mod display;
 mod job;
 mod lane;
+mod loans;
 mod machine;
 mod spelled;
 

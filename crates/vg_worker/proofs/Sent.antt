@@ -28,6 +28,7 @@ use Rattle.vg_worker.specs.contracts.worker.Worker as worker
 use Rattle.vg_machine.specs.contracts.display.Display as display
 use Rattle.vg_machine.specs.contracts.display.Display.TheInside as display_in
 use Rattle.vg_machine.specs.contracts.job.Job as job
+use Rattle.vg_machine.proofs.Sent.{loans_send}
 use Rattle.vg_device.specs.contracts.device.Device as device
 use Rattle.vg_device.specs.contracts.device.Device.TheInside as device_in
 use Rattle.vg_client_holds.specs.contracts.act.Act as act
@@ -54,7 +55,7 @@ device_send = let D = device_in.the_type in
     view_send _ _ _ _ _ (recorded_send _ _ _ D.to_one (struct_send (shape D) (search (sendable, crosses, seq_send) depth 20, (search sendable, (pages_send, (search (sendable, crosses, BTreeMap-send, seq_send) depth 20, (search (sendable, crosses, BTreeMap-send) depth 20, (search (sendable, crosses, BTreeMap-send) depth 40, (search (sendable, crosses, BTreeMap-send) depth 40, (search (sendable, crosses, BTreeMap-send) depth 20, (search (sendable, crosses, seq_send) depth 20, (scanouts_send, (search (sendable, crosses, BTreeMap-send, seq_send) depth 20, tt)))))))))))))
 
 pub display_send : IsSend display.the_row
-display_send = let D = display_in.the_type in view_send _ _ _ _ _ (recorded_send _ _ _ D.to_one (struct_send (shape D) (device_send, tt)))
+display_send = let D = display_in.the_type in view_send _ _ _ _ _ (recorded_send _ _ _ D.to_one (struct_send (shape D) (device_send, (loans_send, tt))))
 
 pub act_send : IsSend act.the_row
 act_send = search (sendable, crosses) depth 40
