@@ -51,6 +51,7 @@ one-read-2d (Transfer area at resource) rect offset id is = ap (by Transfer) (so
   where
     by : (Rect → ℕ → ℕ → Command2d) → Rect × ℕ × ℕ → Command2d
     by make (area, at, resource) = make area at resource
+
     some-is : {x y : Rect × ℕ × ℕ} → ◌≡◌ {A = Option (Rect × ℕ × ℕ)} (Some x) (Some y) → x ≡ y
     some-is same = cc
 one-read-2d (Attach resource entries) rect offset id is = cc
@@ -160,7 +161,7 @@ copy-rows state copy pixels is given =
     let down : copy.region.rect.y + copy.region.rect.height ≤ copy.region.height = grind (arith, nat_tests, inside) in
     let same : is.found.pixels ≡ pixels = some-items (sym (ap (option_map (λ (resource : Resource). resource.pixels)) is.there) ∙ given) in
     let long : length pixels ≡ 4 * copy.region.width * copy.region.height =
-        ap length (sym same) ∙ is.whole.0 ∙ ap (λ width. 4 * width * is.found.height) is.width ∙ ap (λ height. 4 * copy.region.width * height) is.height in
+    ap length (sym same) ∙ is.whole.0 ∙ ap (λ width. 4 * width * is.found.height) is.width ∙ ap (λ height. 4 * copy.region.width * height) is.height in
     subst (λ n. 4 * copy.region.width * (copy.region.rect.y + copy.region.rect.height) ≤ n) (sym long) (rows-fit copy.region.width copy.region.height (copy.region.rect.y + copy.region.rect.height) down)
   where
     some-items : {xs ys : List ℕ} → ◌≡◌ {A = Option (List ℕ)} (Some xs) (Some ys) → xs ≡ ys

@@ -81,11 +81,7 @@ impl Device {
 
     /// What a copy needs: the resource's pixels, row by row, four bytes each, which are away from then on until they are put back, and the
     /// bytes of guest memory that are copied. What is seen of the device stays as it was.
-    pub fn lend(
-        &mut self,
-        alloc: Global,
-        copy: &Copy,
-    ) -> Result<(Vec<u8>, LentBytes), AllocError>
+    pub fn lend(&mut self, alloc: Global, copy: &Copy) -> Result<(Vec<u8>, LentBytes), AllocError>
         requires { IsAccepted self.old copy.now }
         ensures same { self.new ≡ self.old }
         ensures pixels { IfOk result (λ parts. pixels_at copy.now.resource self.old.resources ≡ Some parts.0.items) }
@@ -190,14 +186,18 @@ fn transfer_in(read: &Result<(u32, Command), u32>) -> Option<(Rect, u64, u32)>
     ensures { result ≡ transfer_read read.now }
 {
     match read {
-        Ok((
-            _,
-            Command::TwoD(Command2d::Transfer {
-                rect,
-                offset,
-                resource,
-            }),
-        )) => Some((*rect, *offset, *resource)),
+        Ok(
+            (
+                _,
+                Command::TwoD(
+                    Command2d::Transfer {
+                        rect,
+                        offset,
+                        resource,
+                    },
+                ),
+            ),
+        ) => Some((*rect, *offset, *resource)),
         _ => None,
     }
 }

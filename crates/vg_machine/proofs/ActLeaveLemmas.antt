@@ -45,9 +45,16 @@ pub one-not : (test : ℕ → Bool) (pages : List ℕ) (p : ℕ) → list_any te
 one-not test [] p none among = cc
 one-not test (x ∷ more) p none among = one-not-by test p x more (x == p) refl among none (one-not test more p)
 
+true-not : {P : Type 0} → ◌≡◌ {A = Bool} true false → P
+true-not same = cc
+
+pages-apart-by : (jobs : List Job) (job : Job) (pages : List ℕ) (p : ℕ) (b : Bool) → is_among pages p ≡ b → has_lent jobs pages ≡ false → Has jobs job → is_among job.pages p ≡ true → is_among pages p ≡ false
+pages-apart-by jobs job pages p false is none has among = is
+pages-apart-by jobs job pages p true is none has among =
+    true-not (sym among ∙ job-pages (λ one. one == p) jobs job (one-not (is_among (lent_pages jobs)) pages p none is) has)
+
 pub pages-apart : (jobs : List Job) (job : Job) (pages : List ℕ) → has_lent jobs pages ≡ false → Has jobs job → (p : ℕ) → is_among job.pages p ≡ true → is_among pages p ≡ false
-pages-apart jobs job pages none has p among =
-    one-not (λ page. is_among pages page) job.pages p (job-pages (λ page. is_among pages page) jobs job none has) among
+pages-apart jobs job pages none has p among = pages-apart-by jobs job pages p (is_among pages p) refl none has among
 
 -- the bytes of a page that isn't among those that are zeroed
 zeroed-apart : (pages bytes : List ℕ) (place : ℕ) → is_among pages (place / 4096) ≡ false → slice_index (zeroed pages bytes) place ≡ slice_index bytes place
@@ -79,7 +86,7 @@ stored-apart pages offset piece bytes place apart inside =
     let none = position-none (λ page. page == place / 4096) pages apart in
     let far : nat_lt (place_in_buffer pages place) (offset + length piece) ≡ false = grind (arith, nat_tests, none, inside) in
     let same : stored_byte pages offset piece bytes place ≡ slice_index bytes place =
-        and-false (nat_le offset (place_in_buffer pages place)) (nat_lt (place_in_buffer pages place) (offset + length piece)) (slice_index piece (place_in_buffer pages place - offset)) (slice_index bytes place) far in
+    and-false (nat_le offset (place_in_buffer pages place)) (nat_lt (place_in_buffer pages place) (offset + length piece)) (slice_index piece (place_in_buffer pages place - offset)) (slice_index bytes place) far in
     ⊎_elim
     (λ (within : place < length bytes). get_or-tabulate (stored_byte pages offset piece bytes) (length bytes) place 0 within ∙ same)
     (λ (past : length bytes ≤ place). get_or_past _ place 0 (subst (λ n. n ≤ place) (sym (length-tabulate (stored_byte pages offset piece bytes) (length bytes))) past) ∙ sym (get_or_past bytes place 0 past))

@@ -74,7 +74,7 @@ let-in-kept : (old new : State) (queue : Queue) (bytes : List ℕ) → new.setup
     → refusal_of (request_refusals old queue bytes) ≡ None → refusal_of (request_refusals new queue bytes) ≡ None
 let-in-kept old new queue bytes setup kept none =
     let here : refusal_of (request_refusals (record old { setup = new.setup }) queue bytes) ≡ None
-        = subst (λ s. refusal_of (request_refusals (record old { setup = s }) queue bytes) ≡ None) (sym setup) none in
+    = subst (λ s. refusal_of (request_refusals (record old { setup = s }) queue bytes) ≡ None) (sym setup) none in
     let names = names_timeline new.setup (header_of bytes) in
     admitted (nat_lt (length bytes) 24) (not (is_known (header_of bytes).kind)) (not (is_queue_of (header_of bytes).kind queue)) (not (is_usable new.setup.accepted (header_of bytes).kind))
     (is_none (command_of (header_of bytes).kind (drop 24 bytes))) (names && nat_le 64 (header_of bytes).ring_idx) names
@@ -109,8 +109,20 @@ out-kept old new job leaves out = record {
 -- one entry more changes nothing of it
 pub out-counted : (state : State) (job : Job) → IsOut state job → IsOut (counted state) job
 out-counted state job out = record {
-  found = out.found; offset = out.offset; bytes = out.bytes; lent = out.lent; there = out.there; pixels = out.pixels; width = out.width; no_blob = out.no_blob;
-  accepted = out.accepted; same = out.same; run = out.run; reads = out.reads; let_in = out.let_in; answers = out.answers;
+  found = out.found;
+  offset = out.offset;
+  bytes = out.bytes;
+  lent = out.lent;
+  there = out.there;
+  pixels = out.pixels;
+  width = out.width;
+  no_blob = out.no_blob;
+  accepted = out.accepted;
+  same = out.same;
+  run = out.run;
+  reads = out.reads;
+  let_in = out.let_in;
+  answers = out.answers;
 }
 
 -- what its request does
@@ -129,10 +141,10 @@ out-answer state job out =
     let step = by-resource state job.rect out.offset job.resource out.found out.there out.accepted in
     let context = (header_of job.asked.bytes).ctx_id in
     let moved : transferred state.memory (entries_at job.resource state.backings) job.rect out.offset out.found.width out.found.pixels ≡ (worked job).pixels =
-        ap (λ width. transferred state.memory (entries_at job.resource state.backings) job.rect out.offset width out.found.pixels) out.width
-        ∙ ap (λ pixels. transferred state.memory (entries_at job.resource state.backings) job.rect out.offset job.width pixels) out.pixels
-        ∙ sym (out.same state.memory (same-itself job.pages state.memory))
-        ∙ sym (ap (λ (bytes : Option (List ℕ)). (after_placing bytes job).pixels) out.lent) in
+    ap (λ width. transferred state.memory (entries_at job.resource state.backings) job.rect out.offset width out.found.pixels) out.width
+    ∙ ap (λ pixels. transferred state.memory (entries_at job.resource state.backings) job.rect out.offset job.width pixels) out.pixels
+    ∙ sym (out.same state.memory (same-itself job.pages state.memory))
+    ∙ sym (ap (λ (bytes : Option (List ℕ)). (after_placing bytes job).pixels) out.lent) in
     ap (λ refusal. refused_or_ran refusal state context (command_of (header_of job.asked.bytes).kind (drop 24 job.asked.bytes))) out.let_in
     ∙ ap (λ command. refused_or_ran None state context command) out.reads
     ∙ ap (λ found. cond (is_some found) (state, responses.Nodata) (transfer_2d_step state job.rect out.offset job.resource)) out.no_blob

@@ -33,7 +33,7 @@ lent_pages (job ∷ more) = job.pages ++ lent_pages more
 
 -- One of these pages is.
 abbrev pub has_lent : List Job → List ℕ → Bool
-has_lent jobs pages = list_any (λ page. is_among pages page) (lent_pages jobs)
+has_lent jobs pages = list_any (is_among (lent_pages jobs)) pages
 
 -- One of them has a byte of these entries.
 abbrev pub touches_lent : List Job → List MemEntry → Bool

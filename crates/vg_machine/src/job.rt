@@ -1,7 +1,6 @@
 //! The jobs that a display lends: the copies of transfers (VIRTIO 1.2, 5.7.6.8, TRANSFER_TO_HOST_2D).
 
-ghost use Rattle.std.specs.Prelude.{◌≡◌, ◌+◌, ◌*◌, ◌-◌, ◌<◌, ◌≤◌, false, length, Some};
-ghost use Rattle.vg_formats.specs.Pixels.{is_empty};
+ghost use Rattle.std.specs.Prelude.{◌≡◌, ◌==◌, ◌≤◌, bit_and, if◌then◌else◌, length, None, Some};
 ghost use Rattle.vg_machine.specs.JobWithin.{Fits, context_of};
 ghost use Rattle.vg_machine.specs.Jobs.{worked};
 
@@ -55,6 +54,7 @@ impl Job {
         replies: (Reply, Reply),
     ) -> Job
         requires fits { Fits copied.now.region.rect copied.now.region.width (length pixels.items) (Some source.bytes) }
+        requires whole { 24 ≤ length request.now.bytes }
         requires twice { replies.1 ≡ replies.0 }
         ensures { result ≡ record { asked = request.now; resource = copied.now.resource; width = copied.now.region.width; pixels = pixels.items; rect = copied.now.region.rect; bytes = Some source.bytes; pages = source.pages; reply = replies.0 } }
     {
@@ -124,17 +124,34 @@ impl Job {
         ensures reply { result.1.0 ≡ self.reply }
         ensures twice { result.1.1 ≡ result.1.0 }
     {
-        let Job { pixels, reply, copy, .. } = self;
+        let Job {
+            pixels,
+            reply,
+            copy,
+            ..
+        } = self;
         (pixels, (reply, copy))
     }
 }
 
-/// The context that a request names, if its flags have INFO_RING_IDX.
+/// The context that a request with a whole header names, if its flags have INFO_RING_IDX.
 fn context_of(request: &Request) -> Option<u32>
+    requires { 24 ≤ length request.now.bytes }
     ensures { result ≡ context_of request.now }
 {
     match read_header(request.bytes.as_slice()) {
-        Some(header) if header.flags & 2 == 2 => Some(header.ctx_id),
-        _ => None,
+        Some(header) => context_in(&header),
+        None => None,
+    }
+}
+
+/// The context that a header names, if its flags have INFO_RING_IDX.
+fn context_in(header: &Header) -> Option<u32>
+    ensures { result ≡ (if bit_and header.now.flags 2 == 2 then Some header.now.ctx_id else None) }
+{
+    if header.flags & 2 == 2 {
+        Some(header.ctx_id)
+    } else {
+        None
     }
 }
