@@ -25,6 +25,7 @@ use Rattle.vg_device.specs.contracts.request.Request as request
 use Rattle.vg_client_holds.specs.contracts.holds.Holds as holds
 use Rattle.vg_machine.specs.contracts.display.Display as display
 use Rattle.vg_machine.specs.contracts.display.Display.TheInside as display_in
+use Rattle.vg_machine.proofs.Sent.{loans_send}
 use Rattle.vg_device.specs.contracts.device.Device as device
 use Rattle.vg_device.specs.contracts.device.Device.TheInside as device_in
 
@@ -49,10 +50,10 @@ holds_send = search (sendable, crosses, seq_send) depth 20
 
 device_send : IsSend device.the_row
 device_send = let T = device_in.the_type in
-    view_send _ _ _ _ _ (recorded_send _ _ _ T.to_one (struct_send (shape T) (search (sendable, crosses) depth 20, (search sendable, (search (sendable, crosses) depth 20, (search (sendable, crosses, BTreeMap-send) depth 40, (search (sendable, crosses, BTreeMap-send) depth 40, (search (sendable, crosses, BTreeMap-send) depth 40, (search (sendable, crosses, BTreeMap-send) depth 40, (search (sendable, crosses, BTreeMap-send) depth 40, (search (sendable, crosses) depth 20, (search (sendable, crosses) depth 60 fits 100000, (search (sendable, crosses, BTreeMap-send) depth 40, tt)))))))))))))
+    view_send _ _ _ _ _ (recorded_send _ _ _ T.to_one (struct_send (shape T) (search (sendable, crosses) depth 20, (search sendable, (search (sendable, crosses) depth 30, (search (sendable, crosses, BTreeMap-send) depth 40, (search (sendable, crosses, BTreeMap-send) depth 40, (search (sendable, crosses, BTreeMap-send) depth 40, (search (sendable, crosses, BTreeMap-send) depth 40, (search (sendable, crosses, BTreeMap-send) depth 40, (search (sendable, crosses) depth 20, (search (sendable, crosses) depth 60 fits 100000, (search (sendable, crosses, BTreeMap-send) depth 40, tt)))))))))))))
 
 pub display_send : IsSend display.the_row
-display_send = let T = display_in.the_type in view_send _ _ _ _ _ (recorded_send _ _ _ T.to_one (struct_send (shape T) (device_send, tt)))
+display_send = let T = display_in.the_type in view_send _ _ _ _ _ (recorded_send _ _ _ T.to_one (struct_send (shape T) (device_send, (loans_send, tt))))
 
 module _ (M S A R Q P H W : RattleType) (m : IsSend M) (a : IsSend A) (r : IsSend R) (q : IsSend Q) (p : IsSend P) (B : RattleType) (gm : Machine.Ghosts M.Denot S.Denot A.Denot R.Denot Q.Denot P.Denot H.Denot W.Denot) (gb : Naming.Ghosts B.Denot) where
   heard_send : IsSend (heard.the_row M B S A R Q P H W gm gb)
