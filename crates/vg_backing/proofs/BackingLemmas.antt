@@ -7,9 +7,9 @@ use Rattle.std.proofs.lemmas.Bool.{cases_lt}
 use borrow.Rule.Slice.PartMut.{put_mid}
 use Rattle.vg_formats.specs.declared.entry.MemEntry.{MemEntry}
 use Rattle.vg_pages.specs.Memory.{Memory, HoldsRange, bytes_at}
-use Rattle.vg_backing.specs.declared.backing.Run.{Run}
+use Rattle.vg_backing.specs.declared.run.Run.{Run}
 use Rattle.vg_backing.specs.Backing.{AreHeld, backing_bytes, total}
-use Rattle.vg_backing.specs.Fits.{ArePlaced, HasByte, entries_of}
+use Rattle.vg_backing.specs.Fits.{ArePlaced, HasByte, entries_of, entry_of}
 
 -- bytes from another place on in a range of memory
 bytes-within : (bytes : List ℕ) (addr length skip n start : ℕ) → start ≤ addr → skip + n ≤ length
@@ -63,30 +63,30 @@ length-backing_bytes memory (entry ∷ more) held =
     omega (arith, long, length-append here (backing_bytes memory more), length-backing_bytes memory more (held-rest memory entry more held), sum_by-cons (λ (e : MemEntry). e.length) entry more)
 
 pub length-entries_of : (runs : List Run) → length (entries_of runs) ≡ length runs
-length-entries_of runs = length-map runs (λ run. run.entry)
+length-entries_of runs = length-map runs entry_of
 
-pub entry-at : (runs : List Run) (k : ℕ) (d : Run) (e : MemEntry) → k < length runs → get_or (entries_of runs) k e ≡ (get_or runs k d).entry
-entry-at runs k d e within = get_or-map (λ (run : Run). run.entry) runs k d e within
+pub entry-at : (runs : List Run) (k : ℕ) (d : Run) (e : MemEntry) → k < length runs → get_or (entries_of runs) k e ≡ entry_of (get_or runs k d)
+entry-at runs k d e within = get_or-map entry_of runs k d e within
 
 -- what is known of a run
 pub record At (memory : Memory) (runs : List Run) (k : ℕ) (run : Run) : Type 0 where
   pub start : run.start ≡ total (take k (entries_of runs))
-  pub end : total (take (k + 1) (entries_of runs)) ≡ run.start + run.entry.length
-  pub some : 0 < run.entry.length
-  pub low : 1048576 ≤ run.entry.addr
-  pub fits : run.entry.addr + run.entry.length < 2 ^ 64
-  pub high : run.entry.addr + run.entry.length ≤ 1048576 + length memory.bytes
+  pub end : total (take (k + 1) (entries_of runs)) ≡ run.start + run.length
+  pub some : 0 < run.length
+  pub low : 1048576 ≤ run.addr
+  pub fits : run.addr + run.length < 2 ^ 64
+  pub high : run.addr + run.length ≤ 1048576 + length memory.bytes
 
 pub run-at : (memory : Memory) (runs : List Run) (k : ℕ) (d : Run) → ArePlaced runs → AreHeld memory (entries_of runs) → k < length runs → At memory runs k (get_or runs k d)
 run-at memory runs k d placed held within =
     let run = get_or runs k d in
     let inside : k < length (entries_of runs) = omega (arith, length-entries_of runs) in
-    let same : get_or (entries_of runs) k run.entry ≡ run.entry = entry-at runs k d run.entry within in
-    let is = rw same at (held k run.entry inside) in
+    let same : get_or (entries_of runs) k (entry_of run) ≡ (entry_of run) = entry-at runs k d (entry_of run) within in
+    let is = rw same at (held k (entry_of run) inside) in
     let begin : run.start ≡ total (take k (entries_of runs)) = (placed k d within).0 in
     record {
       start = begin;
-      end = sum_by_more (λ (e : MemEntry). e.length) (entries_of runs) k run.entry inside ∙ ap (λ (e : MemEntry). total (take k (entries_of runs)) + e.length) same ∙ ap (λ m. m + run.entry.length) (sym begin);
+      end = sum_by_more (λ (e : MemEntry). e.length) (entries_of runs) k (entry_of run) inside ∙ ap (λ (e : MemEntry). total (take k (entries_of runs)) + e.length) same ∙ ap (λ m. m + run.length) (sym begin);
       some = is.0;
       low = is.1.0;
       fits = (placed k d within).1;
@@ -108,15 +108,15 @@ next-run memory runs k at d placed held within here inside =
 
 -- bytes of a run, as they stand in the backing
 pub bytes-here : (memory : Memory) (runs : List Run) (k at skip n : ℕ) (d : Run) → ArePlaced runs → AreHeld memory (entries_of runs) → k < length runs
-    → at ≡ (get_or runs k d).start + skip → skip + n ≤ (get_or runs k d).entry.length
-    → take n (drop at (backing_bytes memory (entries_of runs))) ≡ bytes_at memory.bytes ((get_or runs k d).entry.addr + skip) n
+    → at ≡ (get_or runs k d).start + skip → skip + n ≤ (get_or runs k d).length
+    → take n (drop at (backing_bytes memory (entries_of runs))) ≡ bytes_at memory.bytes ((get_or runs k d).addr + skip) n
 bytes-here memory runs k at skip n d placed held within here fits =
     let run = get_or runs k d in
-    let same : get_or (entries_of runs) k run.entry ≡ run.entry = entry-at runs k d run.entry within in
+    let same : get_or (entries_of runs) k (entry_of run) ≡ (entry_of run) = entry-at runs k d (entry_of run) within in
     let inside : k < length (entries_of runs) = omega (arith, length-entries_of runs) in
-    let room : skip + n ≤ (get_or (entries_of runs) k run.entry).length = rw same fits in
+    let room : skip + n ≤ (get_or (entries_of runs) k (entry_of run)).length = rw same fits in
     ap (λ m. take n (drop m (backing_bytes memory (entries_of runs)))) (here ∙ ap (λ m. m + skip) (placed k d within).0)
-    ∙ piece memory (entries_of runs) k skip n run.entry held inside room
+    ∙ piece memory (entries_of runs) k skip n (entry_of run) held inside room
     ∙ ap (λ (e : MemEntry). bytes_at memory.bytes (e.addr + skip) n) same
 
 -- the first bytes of a list are written over those of another, and then some more

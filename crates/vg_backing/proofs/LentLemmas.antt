@@ -13,9 +13,9 @@ use Rattle.std.proofs.lemmas.Bool.{cases_lt}
 use Rattle.std.proofs.Common.{inl, inr}
 use Rattle.std.proofs.lemmas.Bool.Decides.{nat_tests}
 use Rattle.std.proofs.lemmas.List.Elements.{All-push}
-use Rattle.vg_backing.specs.declared.backing.Run.{Run}
+use Rattle.vg_backing.specs.declared.run.Run.{Run}
 use Rattle.vg_backing.specs.Backing.{AreHeld, backing_bytes, is_touched, touches}
-use Rattle.vg_backing.specs.Fits.{IsLent, entries_of}
+use Rattle.vg_backing.specs.Fits.{IsLent, entries_of, entry_of}
 use Rattle.vg_backing.proofs.BackingLemmas.{entry-at, length-entries_of}
 
 joined-push : (ps : List (List ℕ)) (p : List ℕ) → joined (ps ++ p ∷ []) ≡ joined ps ++ p
@@ -85,11 +85,11 @@ test-touched page addr entry is low from to =
     grind (arith, nat_tests, some, before, behind)
 
 -- the page of a byte of a run is touched
-pub touched-at : (runs : List Run) (k addr : ℕ) (d : Run) → k < length runs → 1048576 ≤ (get_or runs k d).entry.addr → (get_or runs k d).entry.addr ≤ addr
-    → addr < (get_or runs k d).entry.addr + (get_or runs k d).entry.length → touches ((addr - 1048576) / 4096) (entries_of runs) ≡ true
+pub touched-at : (runs : List Run) (k addr : ℕ) (d : Run) → k < length runs → 1048576 ≤ (get_or runs k d).addr → (get_or runs k d).addr ≤ addr
+    → addr < (get_or runs k d).addr + (get_or runs k d).length → touches ((addr - 1048576) / 4096) (entries_of runs) ≡ true
 touched-at runs k addr d within low from to =
     let page = (addr - 1048576) / 4096 in
-    let entry = (get_or runs k d).entry in
+    let entry = entry_of (get_or runs k d) in
     list_any_at (is_touched page) (entries_of runs) k entry (omega (arith, within, length-entries_of runs))
     (ap (is_touched page) (entry-at runs k d entry within) ∙ test-touched page addr entry refl low from to)
 

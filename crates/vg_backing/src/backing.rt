@@ -5,23 +5,19 @@ ghost use Rattle.std.specs.List.{list_any};
 ghost use Rattle.vg_backing.specs.Backing.{AreHeld, are_bad, backing_bytes, is_bad, is_touched, total, touches};
 ghost use Rattle.vg_pages.specs.Lending.{AreFlagged, AreSameIn};
 ghost use Rattle.vg_pages.specs.Memory.{Memory};
-ghost use Rattle.vg_backing.specs.Fits.{ArePlaced, EndsInRange, HasByte, IsLent, entries_of};
+ghost use Rattle.vg_backing.specs.Fits.{ArePlaced, EndsInRange, HasByte, IsLent, entries_of, entry_of};
+ghost use Rattle.vg_backing.specs.Runs.{runs_of};
 
+use crate::run::{Run, table_of};
 use std::alloc::{AllocError, Global};
 use std::marker::Model;
 use vg_formats::MemEntry;
 use vg_pages::{LentBytes, MEMORY_START, PAGE_BYTES, Pages, page_address};
 
-/// An entry, and how many bytes of the backing stand before it.
-#[derive(Clone, Copy, Debug)]
-struct Run {
-    start: u64,
-    entry: MemEntry,
-}
-
 /// The entries of a resource, whose bytes stand one after another. A clause sees it as the list of its entries.
 #[derive(Debug, Drop)]
 pub struct Backing {
+    entries: Vec<MemEntry>,
     runs: Vec<Run>,
     length: u64,
 }
@@ -30,13 +26,14 @@ impl Model for Backing {
     ghost use Rattle.std.specs.Prelude.{◌≡◌, ◌<◌, ◌^◌, List};
     ghost use Rattle.vg_formats.specs.declared.entry.MemEntry.{MemEntry};
     ghost use Rattle.vg_backing.specs.Backing.{total};
-    ghost use Rattle.vg_backing.specs.Fits.{ArePlaced, entries_of};
+    ghost use Rattle.vg_backing.specs.Fits.{IsTable};
+    ghost use Rattle.vg_backing.specs.Runs.{runs_of};
 
     ghost Value = { List MemEntry };
 
-    ghost view = { λ b. entries_of b.runs.items };
+    ghost view = { λ b. b.entries.items };
 
-    ghost invariant = { λ b. (b.length ≡ total (entries_of b.runs.items)) × (b.length < 2 ^ 64) × ArePlaced b.runs.items };
+    ghost invariant = { λ b. (b.runs.items ≡ runs_of b.entries.items) × (b.length ≡ total b.entries.items) × (b.length < 2 ^ 64) × IsTable b.entries.items b.runs.items };
 }
 
 impl Backing {
@@ -61,20 +58,24 @@ impl Backing {
 
     fn of(alloc: Global, entries: &[MemEntry]) -> Result<Backing, AllocError>
         requires number { length entries.now < 2 ^ 32 }
+        requires some { 0 < length entries.now }
         requires ends { All EndsInRange entries.now }
         ensures { IfOk result (λ backing. backing ≡ entries.now) }
     {
-        let mut runs = Vec::with_capacity(alloc, entries.len())?;
-        let mut length = 0;
-        for entry in entries {
-            let run = Run {
-                start: length,
-                entry: *entry,
-            };
-            runs.push(run)?;
-            length += u64::from(entry.length);
-        }
-        Ok(Backing { runs, length })
+        let (runs, length) = table_of(alloc, entries)?;
+        let entries = entries.to_vec(alloc)?;
+        Ok(Backing {
+            entries,
+            runs,
+            length,
+        })
+    }
+
+    /// The entries in order, each joined to the one before where it begins at that one's end. They are made once, with the backing.
+    pub fn runs(&self) -> &[Run]
+        ensures { result.now ≡ runs_of self.now }
+    {
+        self.runs.as_slice()
     }
 
     /// How many bytes the entries have.
@@ -187,11 +188,11 @@ fn read_from(runs: &[Run], first: usize, pages: &Pages, at: u64, out: &mut [u8])
     let mut i = first;
     let mut done = 0;
     while done < out.len() {
-        let Run { start, entry } = runs[i];
-        let skip = at + done as u64 - start;
-        let here = (u64::from(entry.length) - skip) as usize;
+        let run = runs[i];
+        let skip = at + done as u64 - run.start;
+        let here = (run.length - skip) as usize;
         let n = here.min(out.len() - done);
-        pages.read(entry.addr + skip, &mut out[done..done + n]);
+        pages.read(run.addr + skip, &mut out[done..done + n]);
         done += n;
         i += 1;
     }
@@ -218,10 +219,10 @@ fn lend_from(
     let mut i = first;
     let mut done = 0;
     while done < count {
-        let Run { start, entry } = runs[i];
-        let skip = at + done as u64 - start;
-        let here = (u64::from(entry.length) - skip) as usize;
-        let addr = entry.addr + skip;
+        let run = runs[i];
+        let skip = at + done as u64 - run.start;
+        let here = (run.length - skip) as usize;
+        let addr = run.addr + skip;
         let piece = pages.share(alloc, addr, here.min(count - done))?;
         let n = piece.len();
         pieces.push(piece)?;
@@ -239,20 +240,20 @@ fn touches_in(runs: &[Run], page: u32) -> bool
     ensures { result ≡ touches page (entries_of runs.now) }
 {
     for run in runs {
-        if touches_entry(&run.entry, page) {
+        if touches_run(run, page) {
             return true;
         }
     }
     false
 }
 
-fn touches_entry(entry: &MemEntry, page: u32) -> bool
-    ensures { result ≡ is_touched page entry.now }
+fn touches_run(run: &Run, page: u32) -> bool
+    ensures { result ≡ is_touched page (entry_of run.now) }
 {
     let start = u128::from(page_address(page));
-    let from = u128::from(entry.addr);
-    let to = from + u128::from(entry.length);
-    entry.length != 0 && from < start + PAGE_BYTES as u128 && start < to
+    let from = u128::from(run.addr);
+    let to = from + u128::from(run.length);
+    run.length != 0 && from < start + PAGE_BYTES as u128 && start < to
 }
 
 /// Whether some byte of a page whose flag is set lies in the entry of a run.
@@ -260,22 +261,22 @@ fn some_touched(runs: &[Run], flags: &[bool]) -> bool
     ensures { (pages : List ℕ) → AreFlagged flags.now pages → result ≡ list_any (λ page. touches page (entries_of runs.now)) pages }
 {
     for run in runs {
-        if touches_flagged(&run.entry, flags) {
+        if touches_flagged(run, flags) {
             return true;
         }
     }
     false
 }
 
-fn touches_flagged(entry: &MemEntry, flags: &[bool]) -> bool
-    ensures { (pages : List ℕ) → AreFlagged flags.now pages → result ≡ list_any (λ page. is_touched page entry.now) pages }
+fn touches_flagged(run: &Run, flags: &[bool]) -> bool
+    ensures { (pages : List ℕ) → AreFlagged flags.now pages → result ≡ list_any (λ page. is_touched page (entry_of run.now)) pages }
 {
-    let first = entry.addr.saturating_sub(MEMORY_START) / PAGE_BYTES as u64;
-    let to = u128::from(entry.addr) + u128::from(entry.length);
+    let first = run.addr.saturating_sub(MEMORY_START) / PAGE_BYTES as u64;
+    let to = u128::from(run.addr) + u128::from(run.length);
     let end = to
         .saturating_sub(u128::from(MEMORY_START))
         .div_ceil(PAGE_BYTES as u128);
-    entry.length != 0 && any_flagged_between(first, end as u64, flags)
+    run.length != 0 && any_flagged_between(first, end as u64, flags)
 }
 
 /// Whether a page from `first` on and below `end` has its flag set.

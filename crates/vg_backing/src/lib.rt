@@ -2,5 +2,7 @@
 #![tactic(auto)]
 
 mod backing;
+mod run;
 
 pub use backing::Backing;
+pub use run::Run;

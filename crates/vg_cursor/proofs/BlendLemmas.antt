@@ -94,7 +94,7 @@ not-covered image (pos i) (negsuc n) c screen off = refl
 not-covered image (negsuc n) w c screen off = refl
 
 -- a place is one of so many from the first on, or it isn't
-in-or-out : (n first count : ℕ) → ((first ≤ n) × (n < first + count)) ⊎ ((n < first) ⊎ (first + count ≤ n))
+pub in-or-out : (n first count : ℕ) → ((first ≤ n) × (n < first + count)) ⊎ ((n < first) ⊎ (first + count ≤ n))
 in-or-out n first count = elim (cases_lt n first) [
   | inl low ↦ inr (inl low)
   | inr from ↦ elim (cases_lt n (first + count)) [

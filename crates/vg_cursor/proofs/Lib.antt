@@ -1,5 +1,6 @@
 pub mod CursorLemmas
 pub mod SpanLemmas
 pub mod RowLemmas
+pub mod RowsLemmas
 pub mod BlendLemmas
 pub mod LawLemmas

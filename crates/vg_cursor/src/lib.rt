@@ -9,4 +9,4 @@ mod span;
 
 pub use cursor::{Cursor, Cursors};
 pub use laws::cover_each_pixel;
-pub use look::Look;
+pub use look::{Look, Rows};

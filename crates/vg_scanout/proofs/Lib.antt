@@ -1,3 +1,4 @@
+pub mod EmptyLemmas
 pub mod ScreenLemmas
 pub mod PanelLemmas
 pub mod SnapLemmas

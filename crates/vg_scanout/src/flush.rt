@@ -229,8 +229,7 @@ fn picture_of(
             Ground::Shared(number),
         ));
     }
-    let pixels = with_cursor(&cursors.look(scanout), binding, screen.to_vec(alloc)?);
-    let pixels = Strips::cut(alloc, pixels.as_slice(), Some(&screen))?;
+    let pixels = with_cursor(alloc, &cursors.look(scanout), binding, &screen)?;
     Ok((
         framed(entry, scanout, binding, pixels),
         Ground::Kept(screen),
@@ -251,20 +250,41 @@ pub(crate) fn frame_of(
     ensures { IfOk result (λ frame. (cursors : List Cursor) → cursor_of cursors scanout ≡ cursor_like look.now
         → frame ∷ [] ≡ frame_of entry cursors scanout (screen_in frames.now (Some panel.now))) }
 {
-    let pixels = with_cursor(look, &panel.binding, panel.pixels(alloc, frames)?);
-    let pixels = Strips::cut(alloc, pixels.as_slice(), panel.strips(frames))?;
+    let pixels = match panel.strips(frames) {
+        Some(screen) => with_cursor(alloc, look, &panel.binding, screen)?,
+        None => {
+            let blank = panel.pixels(alloc, frames)?;
+            let screen = Strips::cut(alloc, blank.as_slice(), None)?;
+            with_cursor(alloc, look, &panel.binding, &screen)?
+        }
+    };
     Ok(framed(entry, scanout, &panel.binding, pixels))
 }
 
-/// The pixels of a screen, with a cursor that looks so in them.
-fn with_cursor(look: &Look, binding: &Binding, mut pixels: Vec<u8>) -> Vec<u8>
+/// The pixels of a screen, with a cursor that looks so in them. Only the rows that the cursor lies over are made.
+fn with_cursor(
+    alloc: Global,
+    look: &Look,
+    binding: &Binding,
+    screen: &Strips,
+) -> Result<Strips, AllocError>
     requires look { IsWhole (cursor_like look.now) }
-    requires pixels { length pixels.items ≡ 4 * binding.now.rect.width * binding.now.rect.height }
-    ensures { result.items ≡ blended (cursor_like look.now) binding.now.rect.width pixels.items }
+    requires pixels { length screen.now ≡ 4 * binding.now.rect.width * binding.now.rect.height }
+    ensures { IfOk result (λ pixels. pixels ≡ blended (cursor_like look.now) binding.now.rect.width screen.now) }
 {
-    let (width, height) = (binding.rect.width, binding.rect.height);
-    look.blend(width, height, pixels.as_mut_slice());
-    pixels
+    if screen.len() == 0 {
+        return screen.share(alloc);
+    }
+    let Some(rows) = look.rows(binding.rect.height) else {
+        return screen.share(alloc)
+    };
+    let width = binding.rect.width;
+    let row_length = 4 * width as usize;
+    let from = row_length * rows.first as usize;
+    let to = row_length * (rows.first as usize + rows.count as usize);
+    let mut pixels = screen.part(alloc, from, to)?;
+    rows.look.blend(width, rows.count, pixels.as_mut_slice());
+    screen.with(alloc, from, pixels.as_slice())
 }
 
 /// A frame of a screen's size with these pixels.

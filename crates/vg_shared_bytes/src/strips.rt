@@ -85,6 +85,20 @@ impl Strips {
         })
     }
 
+    /// The same bytes, in the same strips.
+    pub fn share(&self, alloc: Global) -> Result<Strips, AllocError>
+        ensures { IfOk result (λ strips. strips ≡ self.now) }
+    {
+        let mut strips = Vec::with_capacity(alloc, self.strips.len())?;
+        for strip in &self.strips {
+            strips.push(strip.share()?)?;
+        }
+        Ok(Strips {
+            strips,
+            len: self.len,
+        })
+    }
+
     /// Other bytes for those from this place on, with what stands in front of them and behind them in their strips.
     fn widened(&self, alloc: Global, at: usize, bytes: &[u8]) -> Result<Vec<u8>, AllocError>
         requires some { 0 < length bytes.now }

@@ -5,14 +5,14 @@ use Rattle.std.proofs.lemmas.Slice.{pushed}
 use Rattle.std.specs.List.{All}
 use Rattle.vg_pages.specs.Memory.{bytes_at}
 use Rattle.vg_pages.specs.Lending.{joined}
-use Rattle.vg_backing.specs.declared.backing.Run.{Run}
-use Rattle.vg_backing.specs.Fits.{IsLent, entries_of}
+use Rattle.vg_backing.specs.declared.run.Run.{Run}
+use Rattle.vg_backing.specs.Fits.{IsLent, entries_of, entry_of}
 use Rattle.vg_backing.proofs.BackingLemmas.{run-at, next-run, bytes-here}
 use Rattle.vg_backing.proofs.LentLemmas.{lent-none, lent-on, touched-at}
 use Rattle.vg_backing.proofs.backing.lend_from.Goals as goal
 
 abbrev nothing : Run
-nothing = record { start = 0; entry = record { addr = 0; length = 0 } }
+nothing = record { start = 0; addr = 0; length = 0 }
 
 pub loop-done-init : goal.loop-done-init
 loop-done-init c = record {
@@ -26,7 +26,7 @@ pub overflow_sub-here : goal.overflow_sub-here
 overflow_sub-here c =
     let has = c.loop-done.invariant.run c.loop-done-test.true in
     let run = run-at c.args.pages.now c.args.runs.now c.loop-done.i nothing c.requires.placed c.requires.held has.0 in
-    omega (arith, has, run, c.from.ensures)
+    omega (arith, has, run)
 
 pub overflow_add-addr : goal.overflow_add-addr
 overflow_add-addr c =
@@ -38,13 +38,13 @@ pub share-requires-clause-held : goal.share-requires-clause-held
 share-requires-clause-held c =
     let has = c.loop-done.invariant.run c.loop-done-test.true in
     let run = run-at c.args.pages.now c.args.runs.now c.loop-done.i nothing c.requires.placed c.requires.held has.0 in
-    (omega (arith, has, run), omega (arith, has, run, c.min.ensures, c.from.ensures))
+    (omega (arith, has, run), omega (arith, has, run, c.min.ensures))
 
 pub share-requires-clause-some : goal.share-requires-clause-some
 share-requires-clause-some c =
     let has = c.loop-done.invariant.run c.loop-done-test.true in
     let run = run-at c.args.pages.now c.args.runs.now c.loop-done.i nothing c.requires.placed c.requires.held has.0 in
-    omega (arith, has, run, c.min.ensures, c.from.ensures, c.loop-done-test.true)
+    omega (arith, has, run, c.min.ensures, c.loop-done-test.true)
 
 pub page_at-requires : goal.page_at-requires
 page_at-requires c =
@@ -56,7 +56,7 @@ pub loop-done-smaller-then-n-here : goal.loop-done-smaller-then-n-here
 loop-done-smaller-then-n-here c =
     let has = c.loop-done.invariant.run c.loop-done-test.true in
     let run = run-at c.args.pages.now c.args.runs.now c.loop-done.i nothing c.requires.placed c.requires.held has.0 in
-    omega (arith, c.len-n.ensures, c.in_ok-piece.ensures.length, c.min.ensures, c.loop-done-test.true, has, run, c.from.ensures, c.loop-done.invariant.fits)
+    omega (arith, c.len-n.ensures, c.in_ok-piece.ensures.length, c.min.ensures, c.loop-done-test.true, has, run, c.loop-done.invariant.fits)
 
 pub loop-done-preserved-then-n-here : goal.loop-done-preserved-then-n-here
 loop-done-preserved-then-n-here c =
@@ -69,7 +69,7 @@ loop-done-preserved-then-n-here c =
     let was = c.loop-done.invariant in
     let has = was.run c.loop-done-test.true in
     let run = run-at memory runs i nothing c.requires.placed c.requires.held has.0 in
-    let entry = (get_or runs i nothing).entry in
+    let entry = entry_of (get_or runs i nothing) in
     let skip = at + done - (get_or runs i nothing).start in
     let addr = entry.addr + skip in
     let piece : List ℕ = c.in_ok-piece.piece in
@@ -77,8 +77,8 @@ loop-done-preserved-then-n-here c =
     let long : length piece ≡ n = sym c.len-n.ensures in
     let size : n ≡ min c.min.result (4096 - addr % 4096) = sym long ∙ c.in_ok-piece.ensures.length in
     let room : done + n ≤ c.args.count = omega (arith, size, c.min.ensures, c.loop-done-test.true) in
-    let some : 0 < n = omega (arith, size, c.min.ensures, c.loop-done-test.true, has, run, c.from.ensures) in
-    let here : skip + n ≤ entry.length = omega (arith, size, c.min.ensures, has, run, c.from.ensures) in
+    let some : 0 < n = omega (arith, size, c.min.ensures, c.loop-done-test.true, has, run) in
+    let here : skip + n ≤ entry.length = omega (arith, size, c.min.ensures, has, run) in
     let there : at + done ≡ (get_or runs i nothing).start + skip = omega (arith, has, run) in
     let items : c.push.new.self.items ≡ c.loop-done.pieces.items ++ piece ∷ [] = pushed (piece ∷ []) refl c.in_ok-push.was c.push.ensures.items in
     let pages : c.push-in-loop-done.new.self.items ≡ c.loop-done.touched.items ++ ((addr - 1048576) / 4096) ∷ [] =
@@ -94,7 +94,7 @@ loop-done-preserved-then-n-here c =
     record {
       fits = room;
       run = λ more. next-run memory runs i (at + (done + n)) nothing c.requires.placed c.requires.held has.0
-          (omega (arith, has, run, c.from.ensures, c.if-n-here.true)) (omega (arith, more, c.requires.inside));
+          (omega (arith, has, run, c.if-n-here.true)) (omega (arith, more, c.requires.inside));
       some = subst Some (sym items) (All-push (λ (xs : List ℕ). 0 < length xs) c.loop-done.pieces.items piece was.some (omega (arith, some, long)));
       lent = subst (λ ps. Lent ps c.push-in-loop-done.new.self.items) (sym items) (subst (λ ts. Lent (c.loop-done.pieces.items ++ piece ∷ []) ts) (sym pages) lent);
     }
@@ -110,7 +110,7 @@ loop-done-preserved c =
     let was = c.loop-done.invariant in
     let has = was.run c.loop-done-test.true in
     let run = run-at memory runs i nothing c.requires.placed c.requires.held has.0 in
-    let entry = (get_or runs i nothing).entry in
+    let entry = entry_of (get_or runs i nothing) in
     let skip = at + done - (get_or runs i nothing).start in
     let addr = entry.addr + skip in
     let piece : List ℕ = c.in_ok-piece.piece in
@@ -118,8 +118,8 @@ loop-done-preserved c =
     let long : length piece ≡ n = sym c.len-n.ensures in
     let size : n ≡ min c.min.result (4096 - addr % 4096) = sym long ∙ c.in_ok-piece.ensures.length in
     let room : done + n ≤ c.args.count = omega (arith, size, c.min.ensures, c.loop-done-test.true) in
-    let some : 0 < n = omega (arith, size, c.min.ensures, c.loop-done-test.true, has, run, c.from.ensures) in
-    let here : skip + n ≤ entry.length = omega (arith, size, c.min.ensures, has, run, c.from.ensures) in
+    let some : 0 < n = omega (arith, size, c.min.ensures, c.loop-done-test.true, has, run) in
+    let here : skip + n ≤ entry.length = omega (arith, size, c.min.ensures, has, run) in
     let there : at + done ≡ (get_or runs i nothing).start + skip = omega (arith, has, run) in
     let items : c.push.new.self.items ≡ c.loop-done.pieces.items ++ piece ∷ [] = pushed (piece ∷ []) refl c.in_ok-push.was c.push.ensures.items in
     let pages : c.push-in-loop-done.new.self.items ≡ c.loop-done.touched.items ++ ((addr - 1048576) / 4096) ∷ [] =
@@ -134,7 +134,7 @@ loop-done-preserved c =
     let Some : List (List ℕ) → Type 0 = λ ps. All (λ (xs : List ℕ). 0 < length xs) ps in
     record {
       fits = room;
-      run = λ more. (has.0, omega (arith, has), omega (arith, has, run, here, size, c.min.ensures, c.from.ensures, c.if-n-here.false));
+      run = λ more. (has.0, omega (arith, has), omega (arith, has, run, here, size, c.min.ensures, c.if-n-here.false));
       some = subst Some (sym items) (All-push (λ (xs : List ℕ). 0 < length xs) c.loop-done.pieces.items piece was.some (omega (arith, some, long)));
       lent = subst (λ ps. Lent ps c.push-in-loop-done.new.self.items) (sym items) (subst (λ ts. Lent (c.loop-done.pieces.items ++ piece ∷ []) ts) (sym pages) lent);
     }

@@ -3,14 +3,14 @@ use Rattle.std.proofs.Common.{◌≡◌, ◌+◌, ◌-◌, ◌≤◌, length, ta
 use Rattle.std.proofs.lemmas.List.{length-take, length-drop, drop-drop}
 use borrow.Rule.Slice.PartMut.{put_mid}
 use Rattle.vg_pages.specs.Memory.{bytes_at}
-use Rattle.vg_backing.specs.declared.backing.Run.{Run}
+use Rattle.vg_backing.specs.declared.run.Run.{Run}
 use Rattle.vg_backing.specs.Backing.{backing_bytes}
 use Rattle.vg_backing.proofs.BackingLemmas.{run-at, next-run, bytes-here, more-written, length-backing_bytes}
 use Rattle.vg_backing.proofs.backing.read_from.Goals as goal
-use Rattle.vg_backing.specs.Fits.{entries_of}
+use Rattle.vg_backing.specs.Fits.{entries_of, entry_of}
 
 abbrev nothing : Run
-nothing = record { start = 0; entry = record { addr = 0; length = 0 } }
+nothing = record { start = 0; addr = 0; length = 0 }
 
 pub overflow_add-skip : goal.overflow_add-skip
 overflow_add-skip c = omega (arith, c.requires.inside, c.requires.small, c.loop-done-test.true, c.loop-done.auto.out)
@@ -19,10 +19,10 @@ pub overflow_sub-here : goal.overflow_sub-here
 overflow_sub-here c =
     let has = c.loop-done.invariant.run (omega (arith, c.loop-done-test.true, c.loop-done.auto.out)) in
     let run = run-at c.args.pages.now c.args.runs.now c.loop-done.i nothing c.requires.placed c.requires.held has.0 in
-    omega (arith, has, run, c.from.ensures)
+    omega (arith, has, run)
 
-pub overflow_add-entry : goal.overflow_add-entry
-overflow_add-entry c =
+pub overflow_add-run : goal.overflow_add-run
+overflow_add-run c =
     let has = c.loop-done.invariant.run (omega (arith, c.loop-done-test.true, c.loop-done.auto.out)) in
     let run = run-at c.args.pages.now c.args.runs.now c.loop-done.i nothing c.requires.placed c.requires.held has.0 in
     omega (arith, has, run, run.fits)
@@ -34,13 +34,13 @@ read-requires c =
     let n : length (take (c.loop-done.done + c.min-n.result - c.loop-done.done) (drop c.loop-done.done c.loop-done.out)) ≤ c.min-n.result =
     omega (arith, length-take (c.loop-done.done + c.min-n.result - c.loop-done.done) (drop c.loop-done.done c.loop-done.out))
     in
-    (omega (arith, has, run), omega (arith, has, run, n, c.min-n.ensures, c.from.ensures))
+    (omega (arith, has, run), omega (arith, has, run, n, c.min-n.ensures))
 
 pub loop-done-smaller : goal.loop-done-smaller
 loop-done-smaller c =
     let has = c.loop-done.invariant.run (omega (arith, c.loop-done-test.true, c.loop-done.auto.out)) in
     let run = run-at c.args.pages.now c.args.runs.now c.loop-done.i nothing c.requires.placed c.requires.held has.0 in
-    omega (arith, has, run, c.min-n.ensures, c.from.ensures, c.loop-done-test.true, c.loop-done.auto.out)
+    omega (arith, has, run, c.min-n.ensures, c.loop-done-test.true, c.loop-done.auto.out)
 
 pub loop-done-preserved : goal.loop-done-preserved
 loop-done-preserved c =
@@ -54,9 +54,9 @@ loop-done-preserved c =
     let bytes = backing_bytes memory (entries_of runs) in
     let has = c.loop-done.invariant.run (omega (arith, c.loop-done-test.true, c.loop-done.auto.out)) in
     let run = run-at memory runs i nothing c.requires.placed c.requires.held has.0 in
-    let entry = (get_or runs i nothing).entry in
+    let entry = entry_of (get_or runs i nothing) in
     let skip = c.args.at + done - (get_or runs i nothing).start in
-    let within : skip + n ≤ entry.length = omega (arith, has, run, c.min-n.ensures, c.from.ensures) in
+    let within : skip + n ≤ entry.length = omega (arith, has, run, c.min-n.ensures) in
     let at : c.args.at + done ≡ (get_or runs i nothing).start + skip = omega (arith, has, run) in
     let room : done + n ≤ length old = omega (arith, c.min-n.ensures, c.loop-done-test.true, c.loop-done.auto.out) in
     let size : done + n - done ≡ n = omega arith in
@@ -74,7 +74,7 @@ loop-done-preserved c =
     record {
       fits = room;
       run = λ more. next-run memory runs i (c.args.at + (done + n)) nothing c.requires.placed c.requires.held has.0
-          (omega (arith, has, run, c.min-n.ensures, c.from.ensures, more, c.loop-done.auto.out))
+          (omega (arith, has, run, c.min-n.ensures, more, c.loop-done.auto.out))
           (omega (arith, more, c.requires.inside));
       out =
           ap (λ xs. put_mid done (done + n - done) xs part) c.loop-done.invariant.out
