@@ -1,0 +1,14 @@
+pub mod CountLemmas
+pub mod EntryLemmas
+pub mod HeldLemmas
+pub mod LinkLemmas
+pub mod MoveLemmas
+pub mod LinkHistory
+pub mod FitLemmas
+pub mod SizeLemmas
+pub mod IdLemmas
+pub mod ScreenLemmas
+pub mod ReplayLemmas
+pub mod HoldsLemmas
+pub mod BufferLemmas
+pub mod SoundLemmas

@@ -1,0 +1,14 @@
+pub mod KeptLemmas
+pub mod FitLemmas
+pub mod MemoryLemmas
+pub mod PixelLemmas
+pub mod LeaseLemmas
+pub mod ShownLemmas
+pub mod EntryLemmas
+pub mod ShowLemmas
+pub mod ReserveLemmas
+pub mod BackedLemmas
+pub mod BindLemmas
+pub mod MayLemmas
+pub mod KeepLemmas
+pub mod FairLemmas

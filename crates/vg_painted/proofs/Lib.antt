@@ -1,0 +1,10 @@
+pub mod RelatedLemmas
+pub mod InkLemmas
+pub mod ClientLemmas
+pub mod PlaceLemmas
+pub mod OnceLemmas
+pub mod FrameLemmas
+pub mod ResourceLemmas
+pub mod ScreenLemmas
+pub mod StandLemmas
+pub mod PaintedLemmas
