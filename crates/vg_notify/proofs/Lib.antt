@@ -1,0 +1,4 @@
+pub mod NeedLemmas
+pub mod Steps
+pub mod Told
+pub mod Sent

@@ -1,0 +1,4 @@
+pub mod Need
+pub mod Rule
+pub mod Plays
+pub mod Halves
