@@ -179,10 +179,12 @@ impl Machine for Counter {
     }
 
     // Nobody prints a counter's history: none of its entries is spelled, so that all are held whole.
+    #[tactic(auto, using(vg_list::proofs::FrontLemmas::fronts))]
     fn put_act(_out: &mut Packed, _act: &Act, _reply: &u64) -> Result<(), AllocError> {
         Err(AllocError)
     }
 
+    #[tactic(auto, using(vg_list::proofs::FrontLemmas::fronts))]
     fn put_command(_out: &mut Packed, _request: &Request, _reply: &u64) -> Result<(), AllocError> {
         Err(AllocError)
     }

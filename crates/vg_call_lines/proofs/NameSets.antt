@@ -2,7 +2,7 @@
 use Rattle.std.proofs.Common.{◌≡◌, ◌+◌, ℕ, Bool, true, false, cond, List, Option, Some, None, if◌then◌else◌, refl, ◌∙◌, ap, Bor, bytes_eq}
 use mathlib.Core.Path.{fun_ext}
 use Rattle.std.proofs.lemmas.Map.Text.{is_eq-slice_cmp}
-use Rattle.std.specs.BTreeMap.{BTreeMap, UpdatesBy}
+use Rattle.std.specs.BTreeMap.{BTreeMap, IsUnchanged, UpdatesBy}
 use Rattle.std.specs.Cmp.Lexicographic.{slice_cmp}
 use Rattle.std.specs.Ordering.{nat_cmp}
 use Rattle.vg_call_lines.specs.declared.names.NameKind.TheVariants.{Buffer, Context}
@@ -20,6 +20,10 @@ more_names : (old new : BTreeMap (Bor (List ℕ)) Named) (name : List ℕ) (one 
     → names_of new ≡ (λ q. if bytes_eq name q then one else names_of old q)
 more_names old new name one updates =
     fun_ext (λ q. updates.0 (record { ref_ptr = (0, 0); now = q }) ∙ ap (λ b. cond b one (names_of old q)) (is_eq-slice_cmp name q) ∙ cond-if (bytes_eq name q) one (names_of old q))
+
+-- A map whose entries stay has the names that it had.
+same_names : (old new : BTreeMap (Bor (List ℕ)) Named) → IsUnchanged old new → names_of new ≡ names_of old
+same_names old new same = fun_ext (λ q. rw same refl)
 
 module _ (labels : List ℕ → Option Label) (given : ℕ) (old new : BTreeMap (Bor (List ℕ)) Named) (name : List ℕ) (count contexts : ℕ) where
   -- The table of a map and two counts.
@@ -39,3 +43,6 @@ module _ (labels : List ℕ → Option Label) (given : ℕ) (old new : BTreeMap 
 
   pub ended : UpdatesBy (λ x y. slice_cmp nat_cmp x.now y.now) (λ k. slice_cmp nat_cmp name k.now) old new None → table_with new count contexts ≡ without_name name (table_with old count contexts)
   ended updates = ap (counted count contexts) (more_names old new name None updates)
+
+  pub unchanged : IsUnchanged old new → table_with new count contexts ≡ table_with old count contexts
+  unchanged same = ap (counted count contexts) (same_names old new same)

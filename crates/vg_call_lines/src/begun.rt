@@ -1,6 +1,6 @@
 //! What a client begins and what it waits for, and the lines of their own that what it begins has too.
 
-ghost use Rattle.std.specs.Prelude.{◌≡◌, ◌∷◌, map, option_map};
+ghost use Rattle.std.specs.Prelude.{◌≡◌, ◌∷◌, map, option_map, OnErr};
 ghost use Rattle.vg_call_lines.specs.Bodies.{info_body, send_body, flush_body, submit_body, submit_body_on, timeline_part, is_timeline, timeline_words, on_timeline, is_on, body_of, is_body, begun_label, judged_part, judged_body};
 ghost use Rattle.vg_call_lines.specs.Args.{no_args, two_args, five_args};
 ghost use Rattle.vg_call_lines.specs.Rows.{judged_row, begin_row, await_row, call_of_body};
@@ -236,6 +236,7 @@ fn both(
 #[tactic(auto, unfolding(crate::specs::Rows::begin_row))]
 pub(crate) fn begin(names: &mut Names, args: &[&[u8]]) -> Result<Call, Stop>
     ensures call { Judges (table_of names.new) result (judged_row (begin_row (table_of names.old) (map (λ arg. arg.now) args.now))) }
+    ensures err { OnErr result (table_of names.new ≡ table_of names.old) }
     ensures count { (table_of names.new).count ≡ (table_of names.old).count }
 {
     match args {
@@ -254,6 +255,7 @@ fn begin_on(
 ) -> Result<Call, Stop>
     ensures call { Judges (table_of names.new) result
         (judged_row (begin_row (table_of names.old) (label.now ∷ on.now ∷ word.now ∷ map (λ arg. arg.now) args.now))) }
+    ensures err { OnErr result (table_of names.new ≡ table_of names.old) }
     ensures count { (table_of names.new).count ≡ (table_of names.old).count }
 {
     if !is_timeline(on) {

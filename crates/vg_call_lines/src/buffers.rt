@@ -1,6 +1,6 @@
 //! The lines about buffers, their bytes and their pixels, one function for each word.
 
-ghost use Rattle.std.specs.Prelude.{◌≡◌, ◌+◌, ◌-◌, ◌<◌, ◌≤◌, ◌^◌, true};
+ghost use Rattle.std.specs.Prelude.{◌≡◌, ◌+◌, ◌-◌, ◌<◌, ◌≤◌, ◌^◌, true, OnErr};
 ghost use Rattle.vg_script_words.specs.Words.{is_number, value};
 ghost use Rattle.vg_call_lines.specs.Rows.{judged_row, is_format, are_times, buffer_row, blob_row, store_row, load_row, send_row, flush_row};
 ghost use Rattle.vg_script_words.specs.Code.{Yields};
@@ -28,6 +28,7 @@ pub(crate) fn buffer<'a>(
     requires { (table_of names.old).count < 2 ^ 32 - 1 }
     ensures call { Judges (table_of names.new) result
         (judged_row (buffer_row (table_of names.old) name.now width.now height.now format.now)) }
+    ensures err { OnErr result (table_of names.new ≡ table_of names.old) }
     ensures count { (table_of names.new).count ≤ (table_of names.old).count + 1 }
 {
     both_spelled(width, height)?;
@@ -51,6 +52,7 @@ pub(crate) fn blob<'a>(names: &mut Names<'a>, name: &'a [u8], size: &[u8]) -> Re
     requires { (table_of names.old).count < 2 ^ 32 - 1 }
     ensures call { Judges (table_of names.new) result
         (judged_row (blob_row (table_of names.old) name.now size.now)) }
+    ensures err { OnErr result (table_of names.new ≡ table_of names.old) }
     ensures count { (table_of names.new).count ≤ (table_of names.old).count + 1 }
 {
     spelled(size)?;

@@ -1,6 +1,6 @@
 //! Which line of a client some words are.
 
-ghost use Rattle.std.specs.Prelude.{◌≡◌, ◌+◌, ◌-◌, ◌<◌, ◌≤◌, ◌^◌, map};
+ghost use Rattle.std.specs.Prelude.{◌≡◌, ◌+◌, ◌-◌, ◌<◌, ◌≤◌, ◌^◌, map, OnErr};
 ghost use Rattle.vg_call_lines.specs.Rows.{judged_row, row_of, row_of_buffers, row_of_scanouts, row_of_others, row_of_contexts, row_of_shared, row_of_begun, buffer_row, blob_row, store_row, load_row, send_row, flush_row, show_row, showblob_row, flip_row, cursor_row, move_row, raw_row, context_row, attach_row, detach_row, submit_row, import_row};
 ghost use Rattle.vg_call_lines.specs.Args.{one_arg, two_args, three_args, four_args, five_args, six_args, eleven_args};
 ghost use Rattle.vg_call_lines.specs.Code.{table_of, Judges};
@@ -14,7 +14,7 @@ use vg_script_words::{Kind, Stop, is};
 
 /// The call of a client's line, by its first word and the arguments behind it, or the least kind of its faults. There are
 /// `displays` displays, at most 16. `names` has the names that are defined before the line, and where it is a call those
-/// after it.
+/// after it; where it is none they stay.
 #[tactic(auto, unfolding(crate::specs::Rows::row_of))]
 pub fn call_of<'a>(
     alloc: Global,
@@ -27,6 +27,7 @@ pub fn call_of<'a>(
     requires count { (table_of names.old).count < 2 ^ 32 - 1 }
     ensures call { Judges (table_of names.new) result
         (judged_row (row_of word.now displays (table_of names.old) (map (λ arg. arg.now) args.now))) }
+    ensures err { OnErr result (table_of names.new ≡ table_of names.old) }
     ensures count { (table_of names.new).count ≤ (table_of names.old).count + 1 }
 {
     if is(word, b"info") {
@@ -51,6 +52,7 @@ fn call_of_buffers<'a>(
     requires count { (table_of names.old).count < 2 ^ 32 - 1 }
     ensures call { Judges (table_of names.new) result
         (judged_row (row_of_buffers word.now displays (table_of names.old) (map (λ arg. arg.now) args.now))) }
+    ensures err { OnErr result (table_of names.new ≡ table_of names.old) }
     ensures count { (table_of names.new).count ≤ (table_of names.old).count + 1 }
 {
     if is(word, b"buffer") {
@@ -87,6 +89,7 @@ fn call_of_scanouts<'a>(
     requires count { (table_of names.old).count < 2 ^ 32 - 1 }
     ensures call { Judges (table_of names.new) result
         (judged_row (row_of_scanouts word.now displays (table_of names.old) (map (λ arg. arg.now) args.now))) }
+    ensures err { OnErr result (table_of names.new ≡ table_of names.old) }
     ensures count { (table_of names.new).count ≤ (table_of names.old).count + 1 }
 {
     if is(word, b"take") {
@@ -123,6 +126,7 @@ fn call_of_others<'a>(
     requires count { (table_of names.old).count < 2 ^ 32 - 1 }
     ensures call { Judges (table_of names.new) result
         (judged_row (row_of_others word.now displays (table_of names.old) (map (λ arg. arg.now) args.now))) }
+    ensures err { OnErr result (table_of names.new ≡ table_of names.old) }
     ensures count { (table_of names.new).count ≤ (table_of names.old).count + 1 }
 {
     if is(word, b"cursor") {
@@ -149,6 +153,7 @@ fn call_of_contexts<'a>(names: &mut Names<'a>, word: &[u8], args: &[&'a [u8]]) -
     requires count { (table_of names.old).count < 2 ^ 32 - 1 }
     ensures call { Judges (table_of names.new) result
         (judged_row (row_of_contexts word.now (table_of names.old) (map (λ arg. arg.now) args.now))) }
+    ensures err { OnErr result (table_of names.new ≡ table_of names.old) }
     ensures count { (table_of names.new).count ≤ (table_of names.old).count + 1 }
 {
     if is(word, b"context") {
@@ -175,6 +180,7 @@ fn call_of_shared<'a>(names: &mut Names<'a>, word: &[u8], args: &[&'a [u8]]) -> 
     requires count { (table_of names.old).count < 2 ^ 32 - 1 }
     ensures call { Judges (table_of names.new) result
         (judged_row (row_of_shared word.now (table_of names.old) (map (λ arg. arg.now) args.now))) }
+    ensures err { OnErr result (table_of names.new ≡ table_of names.old) }
     ensures count { (table_of names.new).count ≤ (table_of names.old).count + 1 }
 {
     if is(word, b"export") {
@@ -191,6 +197,7 @@ fn call_of_shared<'a>(names: &mut Names<'a>, word: &[u8], args: &[&'a [u8]]) -> 
 fn call_of_begun(names: &mut Names, word: &[u8], args: &[&[u8]]) -> Result<Call, Stop>
     ensures call { Judges (table_of names.new) result
         (judged_row (row_of_begun word.now (table_of names.old) (map (λ arg. arg.now) args.now))) }
+    ensures err { OnErr result (table_of names.new ≡ table_of names.old) }
     ensures count { (table_of names.new).count ≡ (table_of names.old).count }
 {
     if is(word, b"begin") {
@@ -206,6 +213,7 @@ fn buffer<'a>(names: &mut Names<'a>, args: &[&'a [u8]]) -> Result<Call, Stop>
     requires { (table_of names.old).count < 2 ^ 32 - 1 }
     ensures call { Judges (table_of names.new) result
         (judged_row (four_args (buffer_row (table_of names.old)) (map (λ arg. arg.now) args.now))) }
+    ensures err { OnErr result (table_of names.new ≡ table_of names.old) }
     ensures count { (table_of names.new).count ≤ (table_of names.old).count + 1 }
 {
     with_args!(args, [name, width, height, format] => buffers::buffer(names, name, width, height, format))
@@ -215,6 +223,7 @@ fn blob<'a>(names: &mut Names<'a>, args: &[&'a [u8]]) -> Result<Call, Stop>
     requires { (table_of names.old).count < 2 ^ 32 - 1 }
     ensures call { Judges (table_of names.new) result
         (judged_row (two_args (blob_row (table_of names.old)) (map (λ arg. arg.now) args.now))) }
+    ensures err { OnErr result (table_of names.new ≡ table_of names.old) }
     ensures count { (table_of names.new).count ≤ (table_of names.old).count + 1 }
 {
     with_args!(args, [name, size] => buffers::blob(names, name, size))
@@ -298,6 +307,7 @@ fn raw(alloc: Global, names: &Names, args: &[&[u8]]) -> Result<Call, Stop>
 fn context<'a>(names: &mut Names<'a>, args: &[&'a [u8]]) -> Result<Call, Stop>
     ensures call { Judges (table_of names.new) result
         (judged_row (one_arg (context_row (table_of names.old)) (map (λ arg. arg.now) args.now))) }
+    ensures err { OnErr result (table_of names.new ≡ table_of names.old) }
     ensures count { (table_of names.new).count ≡ (table_of names.old).count }
 {
     with_args!(args, [name] => contexts::context(names, name))
@@ -328,6 +338,7 @@ fn import<'a>(names: &mut Names<'a>, args: &[&'a [u8]]) -> Result<Call, Stop>
     requires { (table_of names.old).count < 2 ^ 32 - 1 }
     ensures call { Judges (table_of names.new) result
         (judged_row (two_args (import_row (table_of names.old)) (map (λ arg. arg.now) args.now))) }
+    ensures err { OnErr result (table_of names.new ≡ table_of names.old) }
     ensures count { (table_of names.new).count ≤ (table_of names.old).count + 1 }
 {
     with_args!(args, [label, name] => rows::import(names, label, name))

@@ -1,6 +1,6 @@
 //! The lines about contexts, one function for each word.
 
-ghost use Rattle.std.specs.Prelude.{◌≡◌};
+ghost use Rattle.std.specs.Prelude.{◌≡◌, OnErr};
 ghost use Rattle.vg_call_lines.specs.Rows.{judged_row, context_row, endcontext_row, attach_row, detach_row, submit_row};
 ghost use Rattle.vg_call_lines.specs.Code.{table_of, Judges};
 
@@ -18,6 +18,7 @@ const MOST_CONTEXTS: u32 = 255;
 pub(crate) fn context<'a>(names: &mut Names<'a>, name: &'a [u8]) -> Result<Call, Stop>
     ensures call { Judges (table_of names.new) result
         (judged_row (context_row (table_of names.old) name.now)) }
+    ensures err { OnErr result (table_of names.new ≡ table_of names.old) }
     ensures count { (table_of names.new).count ≡ (table_of names.old).count }
 {
     if names.contexts >= MOST_CONTEXTS {
@@ -35,6 +36,7 @@ pub(crate) fn context<'a>(names: &mut Names<'a>, name: &'a [u8]) -> Result<Call,
 pub(crate) fn end_context(names: &mut Names, name: &[u8]) -> Result<Call, Stop>
     ensures call { Judges (table_of names.new) result
         (judged_row (endcontext_row (table_of names.old) name.now)) }
+    ensures err { OnErr result (table_of names.new ≡ table_of names.old) }
     ensures count { (table_of names.new).count ≡ (table_of names.old).count }
 {
     let context = known_context(names, name)?;

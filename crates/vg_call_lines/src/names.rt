@@ -54,7 +54,7 @@ pub struct Names<'a> {
 }
 
 impl<'a> Names<'a> {
-    ghost use Rattle.std.specs.Prelude.{◌≡◌, ◌+◌, ◌-◌, ◌<◌, ◌≤◌, ◌^◌, ◌&&◌, OnOk, is_some};
+    ghost use Rattle.std.specs.Prelude.{◌≡◌, ◌+◌, ◌-◌, ◌<◌, ◌≤◌, ◌^◌, ◌&&◌, OnErr, OnOk, is_some};
     ghost use Rattle.vg_call_lines.specs.Tables.{with_name, with_context, without_name, without_names, no_names, labels_in, is_label, label_number, is_next};
     ghost use Rattle.vg_script_words.specs.Words.{is_name};
     ghost use Rattle.vg_call_lines.specs.Code.{table_of, IsNumbered, IsGiven};
@@ -86,10 +86,11 @@ impl<'a> Names<'a> {
         self.named.get(name).copied()
     }
 
-    /// Defines a buffer's name, which gets the next number of buffers.
+    /// Defines a buffer's name, which gets the next number of buffers. For want of memory, here and below, nothing changes.
     pub(crate) fn define(&mut self, name: &'a [u8]) -> Result<(), AllocError>
         requires { (table_of self.old).count < 2 ^ 32 - 1 }
         ensures names { OnOk result (table_of self.new ≡ with_name name.now (table_of self.old)) }
+        ensures err { OnErr result (table_of self.new ≡ table_of self.old) }
         ensures count { (table_of self.new).count ≤ (table_of self.old).count + 1 }
     {
         let number = self.count + 1;
@@ -103,6 +104,7 @@ impl<'a> Names<'a> {
     pub(crate) fn define_context(&mut self, name: &'a [u8]) -> Result<(), AllocError>
         requires { (table_of self.old).contexts < 2 ^ 32 - 1 }
         ensures names { OnOk result (table_of self.new ≡ with_context name.now (table_of self.old)) }
+        ensures err { OnErr result (table_of self.new ≡ table_of self.old) }
         ensures count { (table_of self.new).count ≡ (table_of self.old).count }
     {
         let number = self.contexts + 1;

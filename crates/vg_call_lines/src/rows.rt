@@ -1,6 +1,6 @@
 //! The other lines of a client, one function for each word, and what several have in common.
 
-ghost use Rattle.std.specs.Prelude.{◌≡◌, ◌+◌, ◌-◌, ◌<◌, ◌≤◌, ◌^◌, ◌&&◌, true, OnOk};
+ghost use Rattle.std.specs.Prelude.{◌≡◌, ◌+◌, ◌-◌, ◌<◌, ◌≤◌, ◌^◌, ◌&&◌, true, OnOk, OnErr};
 ghost use Rattle.vg_chain.specs.declared.shape.Shape.TheVariants as shapes;
 ghost use Rattle.vg_call_lines.specs.declared.names.NameKind.TheVariants as kinds;
 ghost use Rattle.vg_script_words.specs.Words.{is_number, value, is_within};
@@ -55,6 +55,7 @@ pub(crate) fn uuid(names: &Names, name: &[u8]) -> Result<Call, Stop>
 pub(crate) fn export(names: &mut Names, name: &[u8], label: &[u8]) -> Result<Call, Stop>
     ensures call { Judges (table_of names.new) result
         (judged_row (export_row (table_of names.old) name.now label.now)) }
+    ensures err { OnErr result (table_of names.new ≡ table_of names.old) }
     ensures count { (table_of names.new).count ≡ (table_of names.old).count }
 {
     let name = known(names, name)?;
@@ -70,6 +71,7 @@ pub(crate) fn import<'a>(names: &mut Names<'a>, label: &[u8], name: &'a [u8]) ->
     requires { (table_of names.old).count < 2 ^ 32 - 1 }
     ensures call { Judges (table_of names.new) result
         (judged_row (import_row (table_of names.old) label.now name.now)) }
+    ensures err { OnErr result (table_of names.new ≡ table_of names.old) }
     ensures count { (table_of names.new).count ≤ (table_of names.old).count + 1 }
 {
     let Some(label) = names.label(label, LabelKind::Token) else {
@@ -87,6 +89,7 @@ pub(crate) fn import<'a>(names: &mut Names<'a>, label: &[u8], name: &'a [u8]) ->
 pub(crate) fn close(names: &mut Names, name: &[u8]) -> Result<Call, Stop>
     ensures call { Judges (table_of names.new) result
         (judged_row (close_row (table_of names.old) name.now)) }
+    ensures err { OnErr result (table_of names.new ≡ table_of names.old) }
     ensures count { (table_of names.new).count ≡ (table_of names.old).count }
 {
     let buffer = known(names, name)?;

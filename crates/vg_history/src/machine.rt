@@ -2,6 +2,7 @@
 
 ghost use Rattle.std.specs.Prelude.{◌≡◌, ℕ, ◌+◌, ◌<◌, ◌^◌, ◌-◌, Bool, true, false, Option, List, [], ◌∷◌, ◌++◌, IfOk, OnOk, OnErr};
 ghost use Rattle.vg_asks.specs.declared.asked.Asked.{Asked};
+ghost use Rattle.vg_list.specs.Front.{HasFront};
 ghost use Rattle.vg_history.specs.Jobs.{IsBack, of_lane, but_lane, lane_by};
 ghost use Rattle.vg_history.specs.Begins.{IfLent, IfWhole};
 
@@ -154,9 +155,10 @@ pub trait Machine: Drop {
     fn by_first(request: &Self::Request) -> bool
         ensures { result ≡ is_first request.now };
 
-    /// Adds what stands in the line of an act behind its numbers, with the line's end.
+    /// Adds what stands in the line of an act behind its numbers, with the line's end. For want of memory a front of it is added.
     fn put_act(out: &mut Packed, act: &Self::Act, reply: &Self::ActReply) -> Result<(), AllocError>
-        ensures { OnOk result (out.new ≡ out.old ++ act_text act.now reply.now) };
+        ensures ok { OnOk result (out.new ≡ out.old ++ act_text act.now reply.now) }
+        ensures err { OnErr result (HasFront out.old out.new (act_text act.now reply.now)) };
 
     /// The same of a command.
     fn put_command(
@@ -164,7 +166,8 @@ pub trait Machine: Drop {
         request: &Self::Request,
         reply: &Self::Reply,
     ) -> Result<(), AllocError>
-        ensures { OnOk result (out.new ≡ out.old ++ command_text request.now reply.now) };
+        ensures ok { OnOk result (out.new ≡ out.old ++ command_text request.now reply.now) }
+        ensures err { OnErr result (HasFront out.old out.new (command_text request.now reply.now)) };
 
     // Each entry is counted.
     ghost acts_count: { (s : Self.State) (c : ℕ) (a : Self.Act) → count (acted s c a) ≡ count s + 1 };

@@ -1,6 +1,7 @@
 //! The lines of a history's entries.
 
 ghost use Rattle.std.specs.Prelude.{◌≡◌, [], ◌∷◌, ◌++◌, ◌<◌, ◌-◌, ◌^◌, length, OnOk, OnErr};
+ghost use Rattle.vg_list.specs.Front.{HasFront};
 ghost use Rattle.vg_text.specs.Text.{numbered};
 ghost use Rattle.vg_history.specs.Lines.{entry_line};
 
@@ -77,14 +78,15 @@ impl<M: Machine> Lines<M> {
     }
 }
 
-/// Adds the line of the entry with this number.
-#[tactic(auto, unfolding(crate::specs::Lines::entry_line))]
+/// Adds the line of the entry with this number. For want of memory a front of it is added.
+#[tactic(auto, unfolding(crate::specs::Lines::entry_line), using(vg_list::proofs::FrontLemmas::fronts))]
 pub fn put_line<M: Machine>(
     out: &mut Packed,
     number: u64,
     entry: &Entry<M>,
 ) -> Result<(), AllocError>
-    ensures { OnOk result (out.new ≡ out.old ++ entry_line M.Machine number entry.now) }
+    ensures ok { OnOk result (out.new ≡ out.old ++ entry_line M.Machine number entry.now) }
+    ensures err { OnErr result (HasFront out.old out.new (entry_line M.Machine number entry.now)) }
 {
     match entry {
         Entry::Act {

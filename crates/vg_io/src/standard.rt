@@ -108,6 +108,7 @@ impl<W: Write> Sink for StdSink<W> {
     ghost faults = { λ s. s.faults };
 
     fn write(&mut self, bytes: &[u8]) -> Result<usize, Failed>
+        requires { length bytes.now ≤ 65536 }
         ensures room { IfOk result (λ n. n ≤ length bytes.now) }
         ensures bytes { IfOk result (λ n. Takes None None (take n bytes.now)) }
         ensures some { IfOk result (λ n. 0 < length bytes.now → 0 < n) }

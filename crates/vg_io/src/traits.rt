@@ -37,9 +37,10 @@ pub trait Sink {
 
     ghost faults: { Self → ℕ };
 
-    /// Takes bytes from the front of `bytes`, and answers how many: at least one, where there is one.
-    /// A write that failed has taken nothing.
+    /// Takes bytes from the front of `bytes`, at most 65,536, and answers how many: at least one, where
+    /// there is one. A write that failed has taken nothing.
     fn write(&mut self, bytes: &[u8]) -> Result<usize, Failed>
+        requires { length bytes.now ≤ 65536 }
         ensures room { IfOk result (λ n. n ≤ length bytes.now) }
         ensures bytes { IfOk result (λ n. Takes (held self.old) (held self.new) (take n bytes.now)) }
         ensures some { IfOk result (λ n. 0 < length bytes.now → 0 < n) }

@@ -1,6 +1,7 @@
 //! What stands in a line for an act.
 
-ghost use Rattle.std.specs.Prelude.{◌≡◌, ◌++◌, codes, decimal, OnOk};
+ghost use Rattle.std.specs.Prelude.{◌≡◌, ◌++◌, codes, decimal, OnErr, OnOk};
+ghost use Rattle.vg_list.specs.Front.{HasFront};
 ghost use Rattle.vg_text.specs.Text.{hex_text};
 ghost use Rattle.vg_journal_words.specs.Text.{act_text, await_text, load_text, reserve_text, store_text, what_text};
 
@@ -8,9 +9,11 @@ use std::alloc::AllocError;
 use vg_client_holds::{Act, What};
 use vg_text::Packed;
 
-/// Adds the text of an act.
+/// Adds the text of an act. For want of memory a front of it is added.
+#[tactic(auto, using(vg_list::proofs::FrontLemmas::fronts))]
 pub fn put_act(out: &mut Packed, act: &Act) -> Result<(), AllocError>
-    ensures { OnOk result (out.new ≡ out.old ++ act_text act.now) }
+    ensures ok { OnOk result (out.new ≡ out.old ++ act_text act.now) }
+    ensures err { OnErr result (HasFront out.old out.new (act_text act.now)) }
 {
     match act {
         Act::Enter => out.put(b"enter"),
@@ -43,7 +46,7 @@ pub fn put_act(out: &mut Packed, act: &Act) -> Result<(), AllocError>
     }
 }
 
-#[tactic(auto, unfolding(crate::specs::Text::reserve_text))]
+#[tactic(auto, unfolding(crate::specs::Text::reserve_text), using(vg_list::proofs::FrontLemmas::fronts))]
 fn put_reserve(
     out: &mut Packed,
     width: u32,
@@ -51,7 +54,8 @@ fn put_reserve(
     format: u32,
     bytes: u32,
 ) -> Result<(), AllocError>
-    ensures { OnOk result (out.new ≡ out.old ++ reserve_text width height format bytes) }
+    ensures ok { OnOk result (out.new ≡ out.old ++ reserve_text width height format bytes) }
+    ensures err { OnErr result (HasFront out.old out.new (reserve_text width height format bytes)) }
 {
     out.put(b"reserve ")?;
     out.put_three(u64::from(width), u64::from(height), u64::from(format))?;
@@ -59,15 +63,18 @@ fn put_reserve(
 }
 
 /// Adds bytes and how many times they are written, each behind a blank.
+#[tactic(auto, using(vg_list::proofs::FrontLemmas::fronts))]
 fn put_repeated(out: &mut Packed, bytes: &[u8], times: u32) -> Result<(), AllocError>
-    ensures { OnOk result (
+    ensures ok { OnOk result (
         out.new ≡ out.old ++ (codes " " ++ hex_text bytes.now ++ codes " " ++ decimal times)) }
+    ensures err { OnErr result (
+        HasFront out.old out.new (codes " " ++ hex_text bytes.now ++ codes " " ++ decimal times)) }
 {
     out.put_bytes(b" ", bytes)?;
     out.put_numbered(b" ", times)
 }
 
-#[tactic(auto, unfolding(crate::specs::Text::store_text))]
+#[tactic(auto, unfolding(crate::specs::Text::store_text), using(vg_list::proofs::FrontLemmas::fronts))]
 fn put_store(
     out: &mut Packed,
     key: u32,
@@ -75,38 +82,45 @@ fn put_store(
     bytes: &[u8],
     times: u32,
 ) -> Result<(), AllocError>
-    ensures { OnOk result (out.new ≡ out.old ++ store_text key offset bytes.now times) }
+    ensures ok { OnOk result (out.new ≡ out.old ++ store_text key offset bytes.now times) }
+    ensures err { OnErr result (HasFront out.old out.new (store_text key offset bytes.now times)) }
 {
     out.put_numbered(b"store ", key)?;
     out.put_numbered(b" ", offset)?;
     put_repeated(out, bytes, times)
 }
 
-#[tactic(auto, unfolding(crate::specs::Text::load_text))]
+#[tactic(auto, unfolding(crate::specs::Text::load_text), using(vg_list::proofs::FrontLemmas::fronts))]
 fn put_load(out: &mut Packed, key: u32, offset: u32, length: u32) -> Result<(), AllocError>
-    ensures { OnOk result (out.new ≡ out.old ++ load_text key offset length) }
+    ensures ok { OnOk result (out.new ≡ out.old ++ load_text key offset length) }
+    ensures err { OnErr result (HasFront out.old out.new (load_text key offset length)) }
 {
     out.put(b"load ")?;
     out.put_three(u64::from(key), u64::from(offset), u64::from(length))
 }
 
-#[tactic(auto, unfolding(crate::specs::Text::await_text))]
+#[tactic(auto, unfolding(crate::specs::Text::await_text), using(vg_list::proofs::FrontLemmas::fronts))]
 fn put_await(out: &mut Packed, lane: u32, ordinal: u64) -> Result<(), AllocError>
-    ensures { OnOk result (out.new ≡ out.old ++ await_text lane ordinal) }
+    ensures ok { OnOk result (out.new ≡ out.old ++ await_text lane ordinal) }
+    ensures err { OnErr result (HasFront out.old out.new (await_text lane ordinal)) }
 {
     out.put_numbered(b"await ", lane)?;
     out.put_counted(b" ", ordinal)
 }
 
+#[tactic(auto, using(vg_list::proofs::FrontLemmas::fronts))]
 fn put_denied(out: &mut Packed, what: &What) -> Result<(), AllocError>
-    ensures { OnOk result (out.new ≡ out.old ++ (codes "denied " ++ what_text what.now)) }
+    ensures ok { OnOk result (out.new ≡ out.old ++ (codes "denied " ++ what_text what.now)) }
+    ensures err { OnErr result (HasFront out.old out.new (codes "denied " ++ what_text what.now)) }
 {
     out.put(b"denied ")?;
     put_what(out, what)
 }
 
+#[tactic(auto, using(vg_list::proofs::FrontLemmas::fronts))]
 fn put_what(out: &mut Packed, what: &What) -> Result<(), AllocError>
-    ensures { OnOk result (out.new ≡ out.old ++ what_text what.now) }
+    ensures ok { OnOk result (out.new ≡ out.old ++ what_text what.now) }
+    ensures err { OnErr result (HasFront out.old out.new (what_text what.now)) }
 {
     match what {
         What::Name => out.put(b"name"),

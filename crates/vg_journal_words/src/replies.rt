@@ -1,6 +1,7 @@
 //! What stands in a line for the answer to an act.
 
-ghost use Rattle.std.specs.Prelude.{◌≡◌, ◌++◌, codes, decimal, OnOk};
+ghost use Rattle.std.specs.Prelude.{◌≡◌, ◌++◌, codes, decimal, OnErr, OnOk};
+ghost use Rattle.vg_list.specs.Front.{HasFront};
 ghost use Rattle.vg_text.specs.Text.{numbered};
 ghost use Rattle.vg_journal_words.specs.Text.{act_reply_text, comma_text, imported_text, pages_text, refusal_text, reserved_text, size_text};
 
@@ -9,9 +10,11 @@ use vg_client_holds::ActReply;
 use vg_share::{Geometry, ShareRefusal};
 use vg_text::Packed;
 
-/// Adds the text of what an act is answered.
+/// Adds the text of what an act is answered. For want of memory a front of it is added.
+#[tactic(auto, using(vg_list::proofs::FrontLemmas::fronts))]
 pub fn put_act_reply(out: &mut Packed, reply: &ActReply) -> Result<(), AllocError>
-    ensures { OnOk result (out.new ≡ out.old ++ act_reply_text reply.now) }
+    ensures ok { OnOk result (out.new ≡ out.old ++ act_reply_text reply.now) }
+    ensures err { OnErr result (HasFront out.old out.new (act_reply_text reply.now)) }
 {
     match reply {
         ActReply::Ok => out.put(b"ok"),
@@ -29,8 +32,10 @@ pub fn put_act_reply(out: &mut Packed, reply: &ActReply) -> Result<(), AllocErro
     }
 }
 
+#[tactic(auto, using(vg_list::proofs::FrontLemmas::fronts))]
 fn put_refusal(out: &mut Packed, refusal: &ShareRefusal) -> Result<(), AllocError>
-    ensures { OnOk result (out.new ≡ out.old ++ refusal_text refusal.now) }
+    ensures ok { OnOk result (out.new ≡ out.old ++ refusal_text refusal.now) }
+    ensures err { OnErr result (HasFront out.old out.new (refusal_text refusal.now)) }
 {
     match refusal {
         ShareRefusal::GuestFull { free } => out.put_numbered(b"full ", *free),
@@ -43,23 +48,25 @@ fn put_refusal(out: &mut Packed, refusal: &ShareRefusal) -> Result<(), AllocErro
     }
 }
 
-#[tactic(auto, unfolding(crate::specs::Text::reserved_text))]
+#[tactic(auto, unfolding(crate::specs::Text::reserved_text), using(vg_list::proofs::FrontLemmas::fronts))]
 fn put_reserved(out: &mut Packed, key: u32, pages: &[u32]) -> Result<(), AllocError>
-    ensures { OnOk result (out.new ≡ out.old ++ reserved_text key pages.now) }
+    ensures ok { OnOk result (out.new ≡ out.old ++ reserved_text key pages.now) }
+    ensures err { OnErr result (HasFront out.old out.new (reserved_text key pages.now)) }
 {
     out.put_numbered(b"key ", key)?;
     out.put(b" pages ")?;
     put_pages(out, pages)
 }
 
-#[tactic(auto, unfolding(crate::specs::Text::imported_text))]
+#[tactic(auto, unfolding(crate::specs::Text::imported_text), using(vg_list::proofs::FrontLemmas::fronts))]
 fn put_imported(
     out: &mut Packed,
     key: u32,
     geometry: &Geometry,
     pages: &[u32],
 ) -> Result<(), AllocError>
-    ensures { OnOk result (out.new ≡ out.old ++ imported_text key geometry.now pages.now) }
+    ensures ok { OnOk result (out.new ≡ out.old ++ imported_text key geometry.now pages.now) }
+    ensures err { OnErr result (HasFront out.old out.new (imported_text key geometry.now pages.now)) }
 {
     out.put_numbered(b"key ", key)?;
     put_size(out, geometry)?;
@@ -67,9 +74,10 @@ fn put_imported(
     put_pages(out, pages)
 }
 
-#[tactic(auto, unfolding(crate::specs::Text::size_text))]
+#[tactic(auto, unfolding(crate::specs::Text::size_text), using(vg_list::proofs::FrontLemmas::fronts))]
 fn put_size(out: &mut Packed, geometry: &Geometry) -> Result<(), AllocError>
-    ensures { OnOk result (out.new ≡ out.old ++ size_text geometry.now) }
+    ensures ok { OnOk result (out.new ≡ out.old ++ size_text geometry.now) }
+    ensures err { OnErr result (HasFront out.old out.new (size_text geometry.now)) }
 {
     out.put(b" size ")?;
     out.put_three(
@@ -80,8 +88,10 @@ fn put_size(out: &mut Packed, geometry: &Geometry) -> Result<(), AllocError>
     out.put_numbered(b" ", geometry.bytes)
 }
 
+#[tactic(auto, using(vg_list::proofs::FrontLemmas::fronts))]
 fn put_pages(out: &mut Packed, pages: &[u32]) -> Result<(), AllocError>
-    ensures { OnOk result (out.new ≡ out.old ++ pages_text pages.now) }
+    ensures ok { OnOk result (out.new ≡ out.old ++ pages_text pages.now) }
+    ensures err { OnErr result (HasFront out.old out.new (pages_text pages.now)) }
 {
     match pages {
         [] => out.put(b"-"),
@@ -93,8 +103,10 @@ fn put_pages(out: &mut Packed, pages: &[u32]) -> Result<(), AllocError>
 }
 
 /// Adds page numbers, each behind a comma.
+#[tactic(auto, using(vg_list::proofs::FrontLemmas::fronts))]
 fn put_more_pages(out: &mut Packed, pages: &[u32]) -> Result<(), AllocError>
-    ensures { OnOk result (out.new ≡ out.old ++ numbered comma_text 0 pages.now) }
+    ensures ok { OnOk result (out.new ≡ out.old ++ numbered comma_text 0 pages.now) }
+    ensures err { OnErr result (HasFront out.old out.new (numbered comma_text 0 pages.now)) }
 {
     for (place, page) in pages.iter().enumerate() {
         put_comma(out, place, *page)?;
@@ -102,9 +114,10 @@ fn put_more_pages(out: &mut Packed, pages: &[u32]) -> Result<(), AllocError>
     Ok(())
 }
 
-#[tactic(auto, unfolding(crate::specs::Text::comma_text))]
+#[tactic(auto, unfolding(crate::specs::Text::comma_text), using(vg_list::proofs::FrontLemmas::fronts))]
 fn put_comma(out: &mut Packed, place: usize, page: u32) -> Result<(), AllocError>
-    ensures { OnOk result (out.new ≡ out.old ++ comma_text place page) }
+    ensures ok { OnOk result (out.new ≡ out.old ++ comma_text place page) }
+    ensures err { OnErr result (HasFront out.old out.new (comma_text place page)) }
 {
     let _ = place;
     out.put_numbered(b",", page)

@@ -248,10 +248,12 @@ impl Machine for Waiter {
     }
 
     // Nobody prints this history: none of its entries is spelled, so that all are held whole.
+    #[tactic(auto, using(vg_list::proofs::FrontLemmas::fronts))]
     fn put_act(_out: &mut Packed, _act: &u64, _reply: &u64) -> Result<(), AllocError> {
         Err(AllocError)
     }
 
+    #[tactic(auto, using(vg_list::proofs::FrontLemmas::fronts))]
     fn put_command(_out: &mut Packed, _request: &Request, _reply: &u64) -> Result<(), AllocError> {
         Err(AllocError)
     }

@@ -1,6 +1,7 @@
 //! What a word says.
 
-ghost use Rattle.std.specs.Prelude.{◌≡◌, ◌<◌, ◌≤◌, ◌^◌, ◌∷◌, [], length, map, IfOk, IfSome, OnOk, MatchOption};
+ghost use Rattle.std.specs.Prelude.{◌≡◌, ◌<◌, ◌≤◌, ◌^◌, ◌∷◌, [], length, map, IfOk, IfSome, OnErr, OnOk, MatchOption};
+ghost use Rattle.vg_list.specs.Front.{HasFront};
 ghost use Rattle.vg_line_words.specs.Words.{parts_at, number_of, bytes_of, bytes_within, numbers_of};
 
 use memchr::memchr;
@@ -21,9 +22,10 @@ fn cut_at(text: &[u8], mark: u8) -> Option<(&[u8], &[u8])>
 }
 
 /// Puts the parts of a line between its blanks in place of others: two blanks have an empty one between them. It fails only
-/// for want of memory, and then leaves some of them.
+/// for want of memory, and then leaves the first of them.
 pub fn put_parts<'a>(words: &mut Vec<&'a [u8]>, line: &'a [u8]) -> Result<(), AllocError>
-    ensures { OnOk result (map (λ word. word.now) words.new.items ≡ parts_at 32 line.now) }
+    ensures ok { OnOk result (map (λ word. word.now) words.new.items ≡ parts_at 32 line.now) }
+    ensures err { OnErr result (HasFront [] (map (λ word. word.now) words.new.items) (parts_at 32 line.now)) }
 {
     words.clear();
     let mut rest = line;

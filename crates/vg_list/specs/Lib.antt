@@ -1,1 +1,2 @@
 pub mod Seq
+pub mod Front

@@ -1,6 +1,7 @@
 //! What stands in a journal's line for an act, and for a command.
 
-ghost use Rattle.std.specs.Prelude.{◌≡◌, ◌++◌, codes, decimal, OnOk};
+ghost use Rattle.std.specs.Prelude.{◌≡◌, ◌++◌, codes, decimal, OnErr, OnOk};
+ghost use Rattle.vg_list.specs.Front.{HasFront};
 ghost use Rattle.vg_text.specs.Text.{hex_text};
 ghost use Rattle.vg_journal_words.specs.Text.{act_text, act_reply_text, fault_text, shape_text};
 ghost use Rattle.vg_machine.specs.Lines.{reply_text, request_text, rest_of_act, rest_of_command};
@@ -12,14 +13,16 @@ use vg_device::{Reply, Request};
 use vg_journal_words::{put_act, put_act_reply, put_fault, put_shape};
 use vg_text::Packed;
 
-/// Adds what stands in the line of an act behind its numbers, with the line's end.
-#[tactic(auto, unfolding(crate::specs::Lines::rest_of_act))]
+/// Adds what stands in the line of an act behind its numbers, with the line's end. For want of memory, here and below, a front of
+/// it is added.
+#[tactic(auto, unfolding(crate::specs::Lines::rest_of_act), using(vg_list::proofs::FrontLemmas::fronts))]
 pub(crate) fn put_rest_of_act(
     out: &mut Packed,
     act: &Act,
     reply: &ActReply,
 ) -> Result<(), AllocError>
-    ensures { OnOk result (out.new ≡ out.old ++ rest_of_act act.now reply.now) }
+    ensures ok { OnOk result (out.new ≡ out.old ++ rest_of_act act.now reply.now) }
+    ensures err { OnErr result (HasFront out.old out.new (rest_of_act act.now reply.now)) }
 {
     out.put(b" act ")?;
     put_act(out, act)?;
@@ -29,13 +32,14 @@ pub(crate) fn put_rest_of_act(
 }
 
 /// The same of a command.
-#[tactic(auto, unfolding(crate::specs::Lines::rest_of_command))]
+#[tactic(auto, unfolding(crate::specs::Lines::rest_of_command), using(vg_list::proofs::FrontLemmas::fronts))]
 pub(crate) fn put_rest_of_command(
     out: &mut Packed,
     request: &Request,
     reply: &Reply,
 ) -> Result<(), AllocError>
-    ensures { OnOk result (out.new ≡ out.old ++ rest_of_command request.now reply.now) }
+    ensures ok { OnOk result (out.new ≡ out.old ++ rest_of_command request.now reply.now) }
+    ensures err { OnErr result (HasFront out.old out.new (rest_of_command request.now reply.now)) }
 {
     out.put(b" cmd ")?;
     put_request(out, request)?;
@@ -44,9 +48,10 @@ pub(crate) fn put_rest_of_command(
     out.put(b"\n")
 }
 
-#[tactic(auto, unfolding(crate::specs::Lines::request_text))]
+#[tactic(auto, unfolding(crate::specs::Lines::request_text), using(vg_list::proofs::FrontLemmas::fronts))]
 fn put_request(out: &mut Packed, request: &Request) -> Result<(), AllocError>
-    ensures { OnOk result (out.new ≡ out.old ++ request_text request.now) }
+    ensures ok { OnOk result (out.new ≡ out.old ++ request_text request.now) }
+    ensures err { OnErr result (HasFront out.old out.new (request_text request.now)) }
 {
     out.put_three(
         u64::from(request.lane),
@@ -58,8 +63,10 @@ fn put_request(out: &mut Packed, request: &Request) -> Result<(), AllocError>
     out.put_bytes(b" ", request.bytes.as_slice())
 }
 
+#[tactic(auto, using(vg_list::proofs::FrontLemmas::fronts))]
 fn put_reply(out: &mut Packed, reply: &Reply) -> Result<(), AllocError>
-    ensures { OnOk result (out.new ≡ out.old ++ reply_text reply.now) }
+    ensures ok { OnOk result (out.new ≡ out.old ++ reply_text reply.now) }
+    ensures err { OnErr result (HasFront out.old out.new (reply_text reply.now)) }
 {
     match reply {
         Reply::Response { bytes } => out.put_hex(bytes.as_slice()),
@@ -67,8 +74,10 @@ fn put_reply(out: &mut Packed, reply: &Reply) -> Result<(), AllocError>
     }
 }
 
+#[tactic(auto, using(vg_list::proofs::FrontLemmas::fronts))]
 fn put_fault_reply(out: &mut Packed, fault: ChainFault) -> Result<(), AllocError>
-    ensures { OnOk result (out.new ≡ out.old ++ (codes "fault " ++ fault_text fault)) }
+    ensures ok { OnOk result (out.new ≡ out.old ++ (codes "fault " ++ fault_text fault)) }
+    ensures err { OnErr result (HasFront out.old out.new (codes "fault " ++ fault_text fault)) }
 {
     out.put(b"fault ")?;
     put_fault(out, fault)

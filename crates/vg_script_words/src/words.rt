@@ -3,7 +3,8 @@
 ghost use Rattle.std.specs.List.{list_all, before_first, after_first, position_or_len};
 ghost use Rattle.std.specs.Int.{is_in_range};
 ghost use Rattle.std.specs.Char.{is_ascii_digit, is_ascii_alphanumeric};
-ghost use Rattle.std.specs.Prelude.{◌≡◌, ◌==◌, [], ◌∷◌, ◌+◌, ◌-◌, ◌*◌, ◌^◌, ◌<◌, ◌≤◌, ◌-ℤ◌, ◌&&◌, pos, min, true, false, length, map, bytes_eq, IfOk, OnOk, MatchResult};
+ghost use Rattle.std.specs.Prelude.{◌≡◌, ◌==◌, [], ◌∷◌, ◌+◌, ◌-◌, ◌*◌, ◌^◌, ◌<◌, ◌≤◌, ◌-ℤ◌, ◌&&◌, pos, min, true, false, length, map, bytes_eq, IfOk, OnErr, OnOk, MatchResult};
+ghost use Rattle.vg_list.specs.Front.{HasFront};
 ghost use Rattle.vg_script_words.specs.Code.{Passes, Yields, Decodes};
 ghost use Rattle.vg_script_words.specs.Words.{is_text, words_of, is_number, value, is_within, is_signed, signed_value, is_position, is_hex, is_hex_digit, hex_bytes, is_hex_or_none, bytes_or_none, is_name};
 
@@ -72,9 +73,10 @@ fn far_place(bytes: &[u8], at: u8) -> usize
 }
 
 /// Puts the words of a line, which are what stands between its spaces, in place of others. It fails only for want of
-/// memory, and then leaves some of them.
+/// memory, and then leaves the first of them.
 pub fn put_words<'a>(words: &mut Vec<&'a [u8]>, line: &'a [u8]) -> Result<(), AllocError>
-    ensures { OnOk result (map (λ word. word.now) words.new.items ≡ words_of line.now) }
+    ensures ok { OnOk result (map (λ word. word.now) words.new.items ≡ words_of line.now) }
+    ensures err { OnErr result (HasFront [] (map (λ word. word.now) words.new.items) (words_of line.now)) }
 {
     words.clear();
     let mut rest = line;

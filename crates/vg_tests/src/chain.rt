@@ -102,20 +102,24 @@ fn number_of(walked: &Result<Chain, ChainFault>) -> u8 {
     }
 }
 
-/// The fault's number or 0, and how many segments are read.
-fn walked(
-    alloc: Global,
-    ring: &[Descriptor],
-    tables: &[u8],
-    head: u16,
-) -> Result<(u8, usize), AllocError> {
-    let parts = Parts {
+/// The parts of a request of 24 bytes and a room of 8, with these tables.
+fn parts_with(tables: &[u8]) -> Parts<'_> {
+    Parts {
         base: BASE,
         request: 24,
         room: 8,
         tables,
-    };
-    let walked = walk(alloc, ring, head, &parts)?;
+    }
+}
+
+/// The fault's number or 0, and how many segments are read.
+fn walked(
+    alloc: Global,
+    ring: &[Descriptor],
+    head: u16,
+    parts: &Parts,
+) -> Result<(u8, usize), AllocError> {
+    let walked = walk(alloc, ring, head, parts)?;
     let segments = match &walked {
         Ok(chain) => chain.readable.len(),
         Err(_) => 0,
@@ -135,7 +139,7 @@ fn fault_of(alloc: Global, case: &Case) -> Result<u8, AllocError> {
     for place in 0..2 {
         put(&mut tables, descriptor_of(table.get(place)))?;
     }
-    let (fault, _) = walked(alloc, &ring, tables.as_slice(), head)?;
+    let (fault, _) = walked(alloc, &ring, head, &parts_with(tables.as_slice()))?;
     Ok(fault)
 }
 
@@ -143,6 +147,69 @@ fn fault_of(alloc: Global, case: &Case) -> Result<u8, AllocError> {
 fn walks_end_at_the_first_fault(rt: HostRuntime) -> Result<(), Fail> {
     for case in &CASES {
         assert!(rt; fault_of(rt.alloc(), case)? == case.3);
+    }
+    Ok(())
+}
+
+/// Rows that stand at these places of a ring of 64, the head, and the fault's number or 0 and how many segments are read. Elsewhere
+/// each descriptor is of no bytes, and the one behind it is its next.
+type Wide = (&'static [(u16, Row)], u16, u8, usize);
+
+static WIDE: [Wide; 10] = [
+    // all of them, the last without a next, with one past the ring, and with the first
+    (&[(63, NONE)], 0, 0, 64),
+    (&[], 0, 1, 0),
+    (&[(63, (0, 0, 1, 0))], 0, 2, 0),
+    // a head past the ring
+    (&[], 64, 1, 0),
+    // a table of 64 descriptors, of which the first is the last, and one of 65
+    (&[(0, (57344, 1024, 4, 0))], 0, 0, 1),
+    (&[(0, (57344, 1040, 4, 0))], 0, 5, 0),
+    // an end that 64 bits take for 1
+    (&[(0, (0xffff_ffff_ffff_ffff, 2, 0, 0))], 0, 7, 0),
+    // all of the room, and a byte more
+    (&[(0, (49152, 24, 2, 0))], 0, 0, 0),
+    (&[(0, (49152, 25, 2, 0))], 0, 7, 0),
+    // what is read behind what is written, a byte too long
+    (&[(0, (49152, 24, 3, 1)), (1, (0, 25, 0, 0))], 0, 6, 0),
+];
+
+// A function of its own, so that no goal sees how many zeros there are.
+fn zeros(alloc: Global, count: usize) -> Result<Vec<u8>, AllocError> {
+    vec![in alloc; 0u8; count]
+}
+
+/// The row at this place.
+fn row_at(rows: &[(u16, Row)], place: u16) -> Row {
+    for (at, row) in rows {
+        if *at == place {
+            return *row;
+        }
+    }
+    (0, 0, 1, place.wrapping_add(1))
+}
+
+/// The fault's number or 0, and how many segments are read, where parts begin at address 0 and tables are zeros.
+fn wide(alloc: Global, case: &Wide) -> Result<(u8, usize), AllocError> {
+    let (rows, head, _, _) = *case;
+    let mut ring = Vec::new(alloc);
+    for place in 0..64 {
+        ring.push(descriptor_of(Some(&row_at(rows, place))))?;
+    }
+    let tables = zeros(alloc, 1040)?;
+    let parts = Parts {
+        base: 0,
+        request: 24,
+        room: 24,
+        tables: tables.as_slice(),
+    };
+    walked(alloc, ring.as_slice(), head, &parts)
+}
+
+#[test]
+fn hostile_chains_of_a_full_ring(rt: HostRuntime) -> Result<(), Fail> {
+    for case in &WIDE {
+        assert!(rt; wide(rt.alloc(), case)? == (case.2, case.3));
     }
     Ok(())
 }
@@ -165,7 +232,7 @@ fn long_table(alloc: Global, count: u16) -> Result<(u8, usize), AllocError> {
     let tables = table_of(alloc, count)?;
     let first = descriptor_of(Some(&(TABLES, 16 * u32::from(count), 4, 0)));
     let ring = [first; 64];
-    walked(alloc, &ring, tables.as_slice(), 0)
+    walked(alloc, &ring, 0, &parts_with(tables.as_slice()))
 }
 
 /// How many descriptors a table has, and the fault's number and the segments that are read.

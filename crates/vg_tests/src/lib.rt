@@ -3,6 +3,8 @@
 #![tactic(auto)]
 
 #[cfg(test)]
+mod bells;
+#[cfg(test)]
 mod blobs;
 #[cfg(test)]
 mod chain;
@@ -30,6 +32,8 @@ mod placing;
 mod requests;
 #[cfg(test)]
 mod responses;
+#[cfg(test)]
+mod runs;
 #[cfg(test)]
 mod share;
 #[cfg(test)]

@@ -9,7 +9,8 @@ use Rattle.std.proofs.lemmas.Grind.{replicate_next}
 use Rattle.hex.proofs.HexLemmas.{length-encode_with}
 use Rattle.std.proofs.Math.Seq.{take-add, take-suc}
 use Rattle.hex.specs.Hex.{encode_with, encode_lower, lower_digits}
-use Rattle.vg_text.specs.Text.{are_characters}
+use Rattle.vg_list.specs.Front.{HasFront}
+use Rattle.vg_text.specs.Text.{are_characters, hex_text}
 use Rattle.vg_text.specs.Packing.{said, next, unpacked, left}
 
 pub unpacked_append : (n : ℕ) (xs ys : List ℕ) → unpacked n (xs ++ ys) ≡ unpacked n xs ++ unpacked (left n xs) ys
@@ -130,6 +131,17 @@ pub are_more : (xs : List ℕ) (i : ℕ) (x d : ℕ) → i < length xs → are_c
 are_more xs i x d within are is small =
     let front : take (i + 1) xs ≡ take i xs ++ (x ∷ []) = rw add-one (take-suc xs i d within ∙ ap (λ y. take i xs ++ (y ∷ [])) (sym is)) in
     subst (λ l. are_characters l ≡ true) (sym front) (snoc_characters (take i xs) x are small)
+
+-- The digits of the bytes before a place are a front of those of all.
+pub spelled_front : (at : ℕ) (xs old now new : List ℕ) → now ≡ old ++ encode_lower (take at xs) → new ≡ now → at < length xs → HasFront old new (hex_text xs)
+spelled_front at [] old now new is same some = absurd (omega (arith, some))
+spelled_front at (x ∷ xs) old now new is same some =
+    record {
+      front = encode_lower (take at (x ∷ xs));
+      rest = encode_lower (drop at (x ∷ xs));
+      added = same ∙ is;
+      whole = sym (encode_append (take at (x ∷ xs)) (drop at (x ∷ xs))) ∙ ap encode_lower (take-append-drop at (x ∷ xs));
+    }
 
 pub nothing_spelled : (xs : List ℕ) → xs ≡ xs ++ encode_lower []
 unfolding encode_with

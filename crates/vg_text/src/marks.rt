@@ -22,7 +22,8 @@ pub(crate) fn tell(count: usize) -> (u8, usize)
 /// How many bytes a byte tells of.
 pub(crate) fn told(first: u8) -> usize
     requires { (128 ≤ first) × (first < 224) }
-    ensures { result ≡ next 0 first }
+    ensures next { result ≡ next 0 first }
+    ensures few { result ≤ 2048 }
 {
     let first = first as usize;
     if first < 192 {

@@ -2,6 +2,7 @@
 
 ghost use Rattle.std.specs.Prelude.{◌≡◌, ◌≤◌, ◌<◌, ◌+◌, ◌-◌, ◌++◌, [], true, length, take, drop, replicate, IfOk, OnOk, OnErr};
 ghost use Rattle.hex.specs.Hex.{encode_lower};
+ghost use Rattle.vg_list.specs.Front.{HasFront};
 ghost use Rattle.vg_text.specs.Packing.{said, next};
 ghost use Rattle.vg_text.specs.Text.{are_characters, hex_text};
 
@@ -69,17 +70,19 @@ impl Packed {
         self.bytes.clear();
     }
 
-    /// Adds characters.
+    /// Adds characters. For want of memory nothing changes.
     pub fn put(&mut self, text: &[u8]) -> Result<(), AllocError>
         requires { are_characters text.now ≡ true }
-        ensures { OnOk result (self.new ≡ self.old ++ text.now) }
+        ensures ok { OnOk result (self.new ≡ self.old ++ text.now) }
+        ensures err { OnErr result (self.new ≡ self.old) }
     {
         self.bytes.extend_from_slice(text)
     }
 
-    /// Adds bytes as lower-case hexadecimal digits, `-` for none.
+    /// Adds bytes as lower-case hexadecimal digits, `-` for none. For want of memory a front of them is added.
     pub fn put_hex(&mut self, bytes: &[u8]) -> Result<(), AllocError>
-        ensures { OnOk result (self.new ≡ self.old ++ hex_text bytes.now) }
+        ensures ok { OnOk result (self.new ≡ self.old ++ hex_text bytes.now) }
+        ensures err { OnErr result (HasFront self.old self.new (hex_text bytes.now)) }
     {
         if bytes.is_empty() {
             return self.put(b"-");
@@ -91,11 +94,12 @@ impl Packed {
         Ok(())
     }
 
-    /// Adds some of these bytes as digits, from a place on, and tells the place behind them.
+    /// Adds some of these bytes as digits, from a place on, and tells the place behind them. For want of memory nothing changes.
     fn put_part(&mut self, bytes: &[u8], at: usize) -> Result<usize, AllocError>
         requires { at < length bytes.now }
         ensures text { IfOk result (λ end. self.new ≡ self.old ++ encode_lower (take (end - at) (drop at bytes.now))) }
         ensures within { IfOk result (λ end. (at < end) × (end ≤ length bytes.now)) }
+        ensures err { OnErr result (self.new ≡ self.old) }
     {
         let zeros = zeros_at(bytes, at);
         if zeros >= SOME_ZEROS || at + zeros == bytes.len() {
@@ -111,7 +115,8 @@ impl Packed {
     /// Adds so many bytes of 0 as digits.
     fn put_zeros(&mut self, count: usize) -> Result<(), AllocError>
         requires { (1 ≤ count) × (count ≤ 32) }
-        ensures { OnOk result (self.new ≡ self.old ++ encode_lower (replicate count 0)) }
+        ensures ok { OnOk result (self.new ≡ self.old ++ encode_lower (replicate count 0)) }
+        ensures err { OnErr result (self.new ≡ self.old) }
     {
         self.bytes.push(223 + count as u8)?;
         Ok(())
@@ -121,7 +126,8 @@ impl Packed {
     fn put_piece(&mut self, first: u8, bytes: &[u8]) -> Result<(), AllocError>
         requires says { said 0 first ≡ [] }
         requires next { next 0 first ≡ length bytes.now }
-        ensures { OnOk result (self.new ≡ self.old ++ encode_lower bytes.now) }
+        ensures ok { OnOk result (self.new ≡ self.old ++ encode_lower bytes.now) }
+        ensures err { OnErr result (self.new ≡ self.old) }
     {
         self.bytes.reserve(1 + bytes.len())?;
         self.bytes.push_reserved(first);

@@ -1,6 +1,6 @@
 //! Packed text, as it reads.
 
-ghost use Rattle.std.specs.Prelude.{◌≡◌, ◌≤◌, ◌<◌, ◌+◌, ◌++◌, [], true, false, length, slice_index, take, drop, replicate, IfOk, OnOk};
+ghost use Rattle.std.specs.Prelude.{◌≡◌, ◌≤◌, ◌<◌, ◌+◌, ◌*◌, ◌++◌, [], true, false, length, slice_index, take, drop, replicate, IfOk, OnErr, OnOk};
 ghost use Rattle.hex.specs.Hex.{encode_lower};
 ghost use Rattle.vg_text.specs.Text.{are_characters};
 ghost use Rattle.vg_text.specs.Packing.{left, unpacked};
@@ -53,6 +53,8 @@ impl<'a> Spelling<'a> {
         requires { 0 < length self.old }
         ensures moved { OnOk result (out.new.items ++ self.new ≡ out.old.items ++ self.old) }
         ensures falls { OnOk result (length self.new < length self.old) }
+        ensures few { OnOk result (length self.old ≤ length self.new + 4096) }
+        ensures err { OnErr result ((self.new ≡ self.old) × (out.new.items ≡ out.old.items)) }
     {
         let end = put_part(self.rest, out)?;
         self.rest = rest_of(self.rest, end);
@@ -67,6 +69,8 @@ fn put_part(packed: &[u8], out: &mut Vec<u8>) -> Result<usize, AllocError>
     ensures text { IfOk result (λ end. out.new.items ≡ out.old.items ++ unpacked 0 (take end packed.now)) }
     ensures whole { IfOk result (λ end. left 0 (take end packed.now) ≡ 0) }
     ensures some { IfOk result (λ end. (0 < end) × (end ≤ length packed.now)) }
+    ensures few { OnOk result (length out.new.items ≤ length out.old.items + 4096) }
+    ensures err { OnErr result (out.new.items ≡ out.old.items) }
 {
     let first = packed[0];
     if first < 128 {
@@ -103,6 +107,7 @@ fn part_of(packed: &[u8], count: usize) -> &[u8]
 fn characters(packed: &[u8]) -> usize
     requires { (0 < length packed.now) × (slice_index packed.now 0 < 128) }
     ensures fits { (0 < result) × (result ≤ length packed.now) }
+    ensures few { result ≤ 4096 }
     ensures are { are_characters (take result packed.now) ≡ true }
 {
     let most = packed.len().min(MOST);
@@ -116,7 +121,9 @@ fn characters(packed: &[u8]) -> usize
 
 /// Adds bytes as digits, which are written where they are to stand.
 fn put_digits(out: &mut Vec<u8>, bytes: &[u8]) -> Result<(), AllocError>
-    ensures { OnOk result (out.new.items ≡ out.old.items ++ encode_lower bytes.now) }
+    ensures text { OnOk result (out.new.items ≡ out.old.items ++ encode_lower bytes.now) }
+    ensures few { OnOk result (length out.new.items ≤ length out.old.items + 2 * length bytes.now) }
+    ensures err { OnErr result (out.new.items ≡ out.old.items) }
 {
     let at = out.len();
     out.resize(at.saturating_add(2 * bytes.len()), 0)?;
@@ -127,7 +134,9 @@ fn put_digits(out: &mut Vec<u8>, bytes: &[u8]) -> Result<(), AllocError>
 /// Adds the digits of so many bytes of 0.
 fn put_zeros(out: &mut Vec<u8>, count: usize) -> Result<(), AllocError>
     requires { count ≤ 32 }
-    ensures { OnOk result (out.new.items ≡ out.old.items ++ encode_lower (replicate count 0)) }
+    ensures text { OnOk result (out.new.items ≡ out.old.items ++ encode_lower (replicate count 0)) }
+    ensures few { OnOk result (length out.new.items ≤ length out.old.items + 2 * count) }
+    ensures err { OnErr result (out.new.items ≡ out.old.items) }
 {
     let at = out.len();
     out.resize(at.saturating_add(2 * count), b'0')

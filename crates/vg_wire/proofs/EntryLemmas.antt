@@ -1,12 +1,28 @@
-use Rattle.std.proofs.Common.{◌≡◌, ℕ, ◌+◌, ◌*◌, ◌<◌, List, [], ◌∷◌, ◌++◌, length, map, take, get_or, refl, ap, ◌∙◌, arith, append_assoc, length-append}
-use Rattle.std.specs.List.{All, range_with_len}
-use Rattle.std.proofs.lemmas.List.{take_more, append-nil}
+use Rattle.std.proofs.Common.{◌≡◌, ℕ, ◌+◌, ◌*◌, ◌<◌, List, [], ◌∷◌, ◌++◌, length, map, take, drop, get_or, refl, sym, ap, subst, ◌∙◌, arith, append_assoc, length-append}
+use Rattle.std.specs.List.{All, flat_map, range_with_len}
+use Rattle.std.proofs.lemmas.List.{take_more, take-append-drop, append-nil}
 use Rattle.std.proofs.lemmas.List.Elements.{All-head, All-tail, All-more}
 use Rattle.std.proofs.lemmas.List.Concat.{flat_map-append}
+use Rattle.vg_list.specs.Front.{HasFront}
+use Rattle.vg_list.proofs.FrontLemmas.{front_first, front_then}
 use Rattle.vg_formats.specs.declared.entry.MemEntry.{MemEntry}
 use Rattle.vg_numbers.specs.Numbers.{number_at, le}
 use Rattle.vg_wire.specs.Entries.{IsEntry, entry_at, entries_at, entry_bytes, entries_bytes}
 use Rattle.vg_numbers.proofs.NumberLemmas.{length-le, number_at-le}
+
+-- a front of one text of a list more
+pub front-more : {X : Type 0} (text : X → List ℕ) (xs : List X) (i : ℕ) (x d : X) (old mid new : List ℕ) → i < length xs → x ≡ get_or xs i d
+    → mid ≡ old ++ flat_map text (take i xs) → HasFront mid new (text x) → HasFront old new (flat_map text xs)
+front-more text xs i x d old mid new inside is so_far has =
+    let one : flat_map text (x ∷ []) ≡ text x = append-nil (text x) in
+    let more : flat_map text (take i xs) ++ text x ≡ flat_map text (take (i + 1) xs) =
+    ap (λ l. flat_map text (take i xs) ++ l) (sym one) ∙ sym (flat_map-append text (take i xs) (x ∷ []))
+    ∙ ap (λ y. flat_map text (take i xs ++ y ∷ [])) is ∙ ap (flat_map text) (sym (take_more xs i d inside)) in
+    let whole : flat_map text (take (i + 1) xs) ++ flat_map text (drop (i + 1) xs) ≡ flat_map text xs =
+    sym (flat_map-append text (take (i + 1) xs) (drop (i + 1) xs)) ∙ ap (flat_map text) (take-append-drop (i + 1) xs) in
+    let front : HasFront old new (flat_map text (take (i + 1) xs)) =
+    subst (HasFront old new) more (front_then old mid new (flat_map text (take i xs)) (text x) so_far has) in
+    subst (HasFront old new) whole (front_first old new (flat_map text (take (i + 1) xs)) (flat_map text (drop (i + 1) xs)) front)
 
 -- the bytes of one entry more
 pub bytes-more : (now before start : List ℕ) (entries : List MemEntry) (i : ℕ) (d : MemEntry) → i < length entries

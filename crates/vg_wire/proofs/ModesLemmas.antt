@@ -1,8 +1,10 @@
-use Rattle.std.proofs.Common.{◌≡◌, ℕ, suc, zero, ◌+◌, ◌-◌, ◌≤◌, List, [], ◌∷◌, ◌++◌, length, take, replicate, Some, None, is_some, false, cond, refl, ap, sym, ◌∙◌, arith, length-append}
-use Rattle.std.proofs.lemmas.List.{take-append-le, take_all, length-map}
+use Rattle.std.proofs.Common.{◌≡◌, ℕ, suc, zero, ◌+◌, ◌-◌, ◌≤◌, ◌<◌, List, [], ◌∷◌, ◌++◌, length, take, replicate, Some, None, is_some, false, cond, refl, ap, sym, ◌∙◌, arith, length-append}
+use Rattle.std.proofs.lemmas.List.{take-append-le, take_all, take-replicate, get_or-replicate, length-map, length-replicate}
 use Rattle.std.proofs.lemmas.List.FromFn.{length-range_with_len}
 use Rattle.std.proofs.lemmas.List.Concat.{flat_map-append}
 use Rattle.std.specs.List.{flat_map}
+use Rattle.vg_list.specs.Front.{HasFront}
+use Rattle.vg_wire.proofs.EntryLemmas.{front-more}
 use Rattle.vg_wire.specs.Modes.{Mode, mode_bytes, modes_bytes, slots, slots_of, trimmed, before_trimmed, ends_in_none}
 
 -- a none at the end is trimmed
@@ -80,3 +82,10 @@ trimmed-all now items enabled slot bytes kept same read end = kept ∙ same ∙ 
 pub modes_bytes-parts : (modes : List Mode) → flat_map mode_bytes modes ++ flat_map mode_bytes (replicate (16 - length modes) None) ≡ modes_bytes modes
 unfolding modes_bytes
 modes_bytes-parts modes = sym (flat_map-append mode_bytes modes (replicate (16 - length modes) None))
+
+-- a front of the bytes of one none more
+pub front-none : (n i : ℕ) (old mid new : List ℕ) → i < n → mid ≡ old ++ flat_map mode_bytes (replicate i None) → HasFront mid new (mode_bytes None) → HasFront old new (flat_map mode_bytes (replicate n None))
+front-none n i old mid new inside so_far has =
+    let size = length-replicate {A = Mode} n None in
+    front-more mode_bytes (replicate n None) i None None old mid new (omega (arith, size, inside)) (sym (get_or-replicate n i None None inside))
+    (so_far ∙ ap (λ l. old ++ flat_map mode_bytes l) (sym (take-replicate i n None (omega (arith, inside))))) has

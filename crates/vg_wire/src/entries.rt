@@ -1,7 +1,8 @@
 //! The entries of guest memory that a backing lists, in their bytes (VIRTIO 1.2, 5.7.6.8).
 
-ghost use Rattle.std.specs.Prelude.{◌≡◌, ◌+◌, ◌*◌, ◌≤◌, ◌++◌, length, IfOk, OnOk};
+ghost use Rattle.std.specs.Prelude.{◌≡◌, ◌+◌, ◌*◌, ◌≤◌, ◌++◌, length, IfOk, OnErr, OnOk};
 ghost use Rattle.std.specs.List.{All};
+ghost use Rattle.vg_list.specs.Front.{HasFront};
 ghost use Rattle.vg_wire.specs.Entries as layout;
 ghost use Rattle.vg_wire.specs.Entries.{entries_at, entries_bytes, entry_bytes, IsEntry};
 
@@ -43,9 +44,10 @@ pub fn read_entries(
 }
 
 /// Adds the 16 bytes of an entry, with padding 0.
-#[tactic(auto, unfolding(crate::specs::Entries::entry_bytes))]
+#[tactic(auto, unfolding(crate::specs::Entries::entry_bytes), using(vg_list::proofs::FrontLemmas::fronts))]
 fn put_entry(out: &mut Vec<u8>, entry: MemEntry) -> Result<(), AllocError>
     ensures bytes { OnOk result (out.new.items ≡ out.old.items ++ entry_bytes entry) }
+    ensures err { OnErr result (HasFront out.old.items out.new.items (entry_bytes entry)) }
     ensures fits { IsEntry entry }
 {
     put_u64(out, entry.addr)?;
@@ -53,9 +55,10 @@ fn put_entry(out: &mut Vec<u8>, entry: MemEntry) -> Result<(), AllocError>
     put_u32(out, 0)
 }
 
-/// Adds the bytes of these entries.
+/// Adds the bytes of these entries. For want of memory a front of them is added.
 pub fn put_entries(out: &mut Vec<u8>, entries: &[MemEntry]) -> Result<(), AllocError>
     ensures bytes { OnOk result (out.new.items ≡ out.old.items ++ entries_bytes entries.now) }
+    ensures err { OnErr result (HasFront out.old.items out.new.items (entries_bytes entries.now)) }
     ensures fit { OnOk result (All IsEntry entries.now) }
 {
     for entry in entries {

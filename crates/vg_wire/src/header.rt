@@ -1,6 +1,7 @@
 //! The header that begins each request and each response (VIRTIO 1.2, 5.7.6.7).
 
-ghost use Rattle.std.specs.Prelude.{◌≡◌, ◌<◌, ◌++◌, length, OnOk, IsNone, IfSome, ◌↔◌};
+ghost use Rattle.std.specs.Prelude.{◌≡◌, ◌<◌, ◌++◌, length, OnErr, OnOk, IsNone, IfSome, ◌↔◌};
+ghost use Rattle.vg_list.specs.Front.{HasFront};
 ghost use Rattle.vg_wire.specs.Header.{header_of, header_bytes, IsHeader};
 
 use std::alloc::AllocError;
@@ -39,10 +40,11 @@ pub fn read_header(bytes: &[u8]) -> Option<Header>
     })
 }
 
-/// Adds the 24 bytes of a header, with padding 0.
-#[tactic(auto, unfolding(crate::specs::Header::header_bytes))]
+/// Adds the 24 bytes of a header, with padding 0. For want of memory a front of them is added.
+#[tactic(auto, unfolding(crate::specs::Header::header_bytes), using(vg_list::proofs::FrontLemmas::fronts))]
 pub fn put_header(out: &mut Vec<u8>, header: Header) -> Result<(), AllocError>
     ensures bytes { OnOk result (out.new.items ≡ out.old.items ++ header_bytes header) }
+    ensures err { OnErr result (HasFront out.old.items out.new.items (header_bytes header)) }
     ensures fits { IsHeader header }
 {
     put_u32(out, header.kind)?;

@@ -1,7 +1,8 @@
 //! The modes of the scanouts, as GET_DISPLAY_INFO answers them.
 
-ghost use Rattle.std.specs.Prelude.{◌≡◌, ◌++◌, ◌+◌, ◌≤◌, ◌^◌, ◌<◌, None, length, replicate, OnOk, IfOk};
+ghost use Rattle.std.specs.Prelude.{◌≡◌, ◌++◌, ◌+◌, ◌≤◌, ◌^◌, ◌<◌, None, length, replicate, OnErr, OnOk, IfOk};
 ghost use Rattle.std.specs.List.{flat_map};
+ghost use Rattle.vg_list.specs.Front.{HasFront};
 ghost use Rattle.vg_wire.specs.Modes.{IsModes, mode_bytes, modes_bytes, slot_at, slots_of, trimmed};
 
 use std::alloc::{AllocError, Global};
@@ -17,6 +18,7 @@ pub struct Modes {
 
 impl Model for Modes {
     ghost use Rattle.std.specs.Prelude.{List};
+    ghost use Rattle.vg_list.specs.Front.{HasFront};
     ghost use Rattle.vg_wire.specs.Modes.{Mode, IsModes};
 
     ghost Value = { List Mode };
@@ -45,9 +47,10 @@ impl Modes {
 }
 
 /// Adds the 24 bytes of a mode: its rectangle, enabled and flags; zeros for none.
-#[tactic(auto, unfolding(crate::specs::Modes::mode_bytes))]
+#[tactic(auto, unfolding(crate::specs::Modes::mode_bytes), using(vg_list::proofs::FrontLemmas::fronts))]
 fn put_mode(out: &mut Vec<u8>, mode: Option<(u32, u32)>) -> Result<(), AllocError>
-    ensures { OnOk result (out.new.items ≡ out.old.items ++ mode_bytes mode) }
+    ensures bytes { OnOk result (out.new.items ≡ out.old.items ++ mode_bytes mode) }
+    ensures err { OnErr result (HasFront out.old.items out.new.items (mode_bytes mode)) }
 {
     let Some((width, height)) = mode else {
         return out.extend_from_slice(&[0; 24]);
@@ -62,7 +65,8 @@ fn put_mode(out: &mut Vec<u8>, mode: Option<(u32, u32)>) -> Result<(), AllocErro
 
 /// Adds the bytes of these modes.
 fn put_each(out: &mut Vec<u8>, modes: &[Option<(u32, u32)>]) -> Result<(), AllocError>
-    ensures { OnOk result (out.new.items ≡ out.old.items ++ flat_map mode_bytes modes.now) }
+    ensures bytes { OnOk result (out.new.items ≡ out.old.items ++ flat_map mode_bytes modes.now) }
+    ensures err { OnErr result (HasFront out.old.items out.new.items (flat_map mode_bytes modes.now)) }
 {
     for mode in modes {
         put_mode(out, *mode)?;
@@ -72,7 +76,8 @@ fn put_each(out: &mut Vec<u8>, modes: &[Option<(u32, u32)>]) -> Result<(), Alloc
 
 /// Adds the bytes of as many nones.
 fn put_nones(out: &mut Vec<u8>, count: usize) -> Result<(), AllocError>
-    ensures { OnOk result (out.new.items ≡ out.old.items ++ flat_map mode_bytes (replicate count None)) }
+    ensures bytes { OnOk result (out.new.items ≡ out.old.items ++ flat_map mode_bytes (replicate count None)) }
+    ensures err { OnErr result (HasFront out.old.items out.new.items (flat_map mode_bytes (replicate count None))) }
 {
     for _none in 0..count {
         put_mode(out, None)?;
@@ -80,9 +85,10 @@ fn put_nones(out: &mut Vec<u8>, count: usize) -> Result<(), AllocError>
     Ok(())
 }
 
-/// Adds the bytes of 16 modes: these, and none for each scanout past the last.
+/// Adds the bytes of 16 modes: these, and none for each scanout past the last. For want of memory a front of them is added.
 pub fn put_modes(out: &mut Vec<u8>, modes: &Modes) -> Result<(), AllocError>
-    ensures { OnOk result (out.new.items ≡ out.old.items ++ modes_bytes modes.now) }
+    ensures bytes { OnOk result (out.new.items ≡ out.old.items ++ modes_bytes modes.now) }
+    ensures err { OnErr result (HasFront out.old.items out.new.items (modes_bytes modes.now)) }
 {
     let modes = modes.as_slice();
     put_each(out, modes)?;

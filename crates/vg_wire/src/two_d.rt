@@ -1,6 +1,7 @@
 //! The 2D commands (VIRTIO 1.2, 5.7.6.8).
 
 ghost use Rattle.std.specs.Prelude.{◌≡◌, ◌+◌, ◌*◌, ◌^◌, ◌<◌, ◌≤◌, ◌++◌, length, IfOk, OnOk, OnErr, IsSome, IfSome};
+ghost use Rattle.vg_list.specs.Front.{HasFront};
 ghost use Rattle.vg_numbers.specs.Numbers.{le};
 ghost use Rattle.vg_wire.specs.declared.two_d.Command2d.TheVariants.{Create2d, SetScanout, Flush, Transfer, Attach};
 ghost use Rattle.vg_wire.specs.TwoD.{two_d_of, body_of_2d, whole, FitsCount, IsCommand2d};
@@ -240,8 +241,10 @@ pub fn size_2d(command: &Command2d) -> usize
 }
 
 /// Adds a resource's number and four bytes of padding.
+#[tactic(auto, using(vg_list::proofs::FrontLemmas::fronts))]
 fn put_resource(out: &mut Vec<u8>, resource: u32) -> Result<(), AllocError>
     ensures bytes { OnOk result (out.new.items ≡ out.old.items ++ (le 4 resource ++ le 4 0)) }
+    ensures err { OnErr result (HasFront out.old.items out.new.items (le 4 resource ++ le 4 0)) }
     ensures fits { resource < 2 ^ 32 }
 {
     put_u32(out, resource)?;
@@ -249,6 +252,7 @@ fn put_resource(out: &mut Vec<u8>, resource: u32) -> Result<(), AllocError>
 }
 
 /// Adds the fields of RESOURCE_CREATE_2D.
+#[tactic(auto, using(vg_list::proofs::FrontLemmas::fronts))]
 fn put_create_2d(
     out: &mut Vec<u8>,
     resource: u32,
@@ -258,6 +262,8 @@ fn put_create_2d(
 ) -> Result<(), AllocError>
     ensures bytes { OnOk result (
         out.new.items ≡ out.old.items ++ body_of_2d (Create2d resource format width height)) }
+    ensures err { OnErr result (
+        HasFront out.old.items out.new.items (body_of_2d (Create2d resource format width height))) }
     ensures fits { IsCommand2d (Create2d resource format width height) }
 {
     put_u32(out, resource)?;
@@ -267,6 +273,7 @@ fn put_create_2d(
 }
 
 /// Adds the fields of SET_SCANOUT.
+#[tactic(auto, using(vg_list::proofs::FrontLemmas::fronts))]
 fn put_set_scanout(
     out: &mut Vec<u8>,
     rect: Rect,
@@ -275,6 +282,8 @@ fn put_set_scanout(
 ) -> Result<(), AllocError>
     ensures bytes { OnOk result (
         out.new.items ≡ out.old.items ++ body_of_2d (SetScanout rect scanout resource)) }
+    ensures err { OnErr result (
+        HasFront out.old.items out.new.items (body_of_2d (SetScanout rect scanout resource))) }
     ensures fits { IsCommand2d (SetScanout rect scanout resource) }
 {
     put_rect(out, rect)?;
@@ -283,9 +292,12 @@ fn put_set_scanout(
 }
 
 /// Adds the fields of RESOURCE_FLUSH.
+#[tactic(auto, using(vg_list::proofs::FrontLemmas::fronts))]
 fn put_flush(out: &mut Vec<u8>, rect: Rect, resource: u32) -> Result<(), AllocError>
     ensures bytes { OnOk result (
         out.new.items ≡ out.old.items ++ body_of_2d (Flush rect resource)) }
+    ensures err { OnErr result (
+        HasFront out.old.items out.new.items (body_of_2d (Flush rect resource))) }
     ensures fits { IsCommand2d (Flush rect resource) }
 {
     put_rect(out, rect)?;
@@ -293,9 +305,12 @@ fn put_flush(out: &mut Vec<u8>, rect: Rect, resource: u32) -> Result<(), AllocEr
 }
 
 /// Adds the fields of TRANSFER_TO_HOST_2D.
+#[tactic(auto, using(vg_list::proofs::FrontLemmas::fronts))]
 fn put_transfer(out: &mut Vec<u8>, rect: Rect, offset: u64, resource: u32) -> Result<(), AllocError>
     ensures bytes { OnOk result (
         out.new.items ≡ out.old.items ++ body_of_2d (Transfer rect offset resource)) }
+    ensures err { OnErr result (
+        HasFront out.old.items out.new.items (body_of_2d (Transfer rect offset resource))) }
     ensures fits { IsCommand2d (Transfer rect offset resource) }
 {
     put_rect(out, rect)?;
@@ -304,10 +319,13 @@ fn put_transfer(out: &mut Vec<u8>, rect: Rect, offset: u64, resource: u32) -> Re
 }
 
 /// Adds the fields of RESOURCE_ATTACH_BACKING.
+#[tactic(auto, using(vg_list::proofs::FrontLemmas::fronts))]
 fn put_attach(out: &mut Vec<u8>, resource: u32, entries: &[MemEntry]) -> Result<(), AllocError>
     requires { length entries.now < 2 ^ 32 }
     ensures bytes { OnOk result (
         out.new.items ≡ out.old.items ++ body_of_2d (Attach resource entries.now)) }
+    ensures err { OnErr result (
+        HasFront out.old.items out.new.items (body_of_2d (Attach resource entries.now))) }
     ensures fits { OnOk result (IsCommand2d (Attach resource entries.now)) }
 {
     put_u32(out, resource)?;
@@ -315,10 +333,12 @@ fn put_attach(out: &mut Vec<u8>, resource: u32, entries: &[MemEntry]) -> Result<
     put_entries(out, entries)
 }
 
-/// Adds the bytes of a command's fields, with padding 0. It has fewer than 2^32 entries.
+/// Adds the bytes of a command's fields, with padding 0. It has fewer than 2^32 entries. For want of memory a front of them is
+/// added.
 pub fn put_2d(out: &mut Vec<u8>, command: &Command2d) -> Result<(), AllocError>
     requires { FitsCount command.now }
     ensures bytes { OnOk result (out.new.items ≡ out.old.items ++ body_of_2d command.now) }
+    ensures err { OnErr result (HasFront out.old.items out.new.items (body_of_2d command.now)) }
     ensures fits { OnOk result (IsCommand2d command.now) }
 {
     match command {

@@ -1,6 +1,7 @@
 //! A whole response: a header and what it answers (VIRTIO 1.2, 5.7.6.7 and 5.7.6.8).
 
 ghost use Rattle.std.specs.Prelude.{◌≡◌, ◌≤◌, ◌++◌, Some, IfOk, OnErr, OnOk, IfSome, IsSome, length, take, drop};
+ghost use Rattle.vg_list.specs.Front.{HasFront};
 ghost use Rattle.vg_wire.specs.Header.{IsHeader, header_of};
 ghost use Rattle.vg_wire.specs.declared.header.Header.{Header as HeaderFields};
 ghost use Rattle.vg_wire_ext.specs.declared.response.Response.{Response as Responses};
@@ -45,9 +46,10 @@ impl Response {
 }
 
 /// Adds the fields of OK_EDID: the size of the block, the block, and zeros up to 1,024 bytes.
-#[tactic(auto, unfolding(crate::specs::Response::edid_body))]
+#[tactic(auto, unfolding(crate::specs::Response::edid_body), using(vg_list::proofs::FrontLemmas::fronts))]
 fn put_edid(out: &mut Vec<u8>, block: &[u8; 128]) -> Result<(), AllocError>
-    ensures { OnOk result (out.new.items ≡ out.old.items ++ spelling.edid_body block.now) }
+    ensures ok { OnOk result (out.new.items ≡ out.old.items ++ spelling.edid_body block.now) }
+    ensures err { OnErr result (HasFront out.old.items out.new.items (spelling.edid_body block.now)) }
 {
     put_u32(out, 128)?;
     put_u32(out, 0)?;
@@ -56,8 +58,10 @@ fn put_edid(out: &mut Vec<u8>, block: &[u8; 128]) -> Result<(), AllocError>
 }
 
 /// Adds what follows the header.
+#[tactic(auto, using(vg_list::proofs::FrontLemmas::fronts))]
 fn put_response(out: &mut Vec<u8>, response: &Response) -> Result<(), AllocError>
-    ensures { OnOk result (out.new.items ≡ out.old.items ++ response_body response.now) }
+    ensures ok { OnOk result (out.new.items ≡ out.old.items ++ response_body response.now) }
+    ensures err { OnErr result (HasFront out.old.items out.new.items (response_body response.now)) }
 {
     match response {
         Response::DisplayInfo { modes } => put_modes(out, modes),
@@ -96,14 +100,16 @@ pub fn write_response(
 }
 
 /// Adds the bytes of a response, as `write_response` gives them, behind those that are there. It takes memory only where there
-/// is no room for them.
+/// is no room for them; for want of it a front of them is added.
+#[tactic(auto, using(vg_list::proofs::FrontLemmas::fronts))]
 pub fn append_response(
     out: &mut Vec<u8>,
     header: &Header,
     response: &Response,
 ) -> Result<(), AllocError>
     requires { header.now.kind ≡ response_kind response.now }
-    ensures { OnOk result (out.new.items ≡ out.old.items ++ response_bytes header.now response.now) }
+    ensures ok { OnOk result (out.new.items ≡ out.old.items ++ response_bytes header.now response.now) }
+    ensures err { OnErr result (HasFront out.old.items out.new.items (response_bytes header.now response.now)) }
 {
     put_header(out, *header)?;
     put_response(out, response)

@@ -10,7 +10,7 @@ returns-in_default c =
       parts = c.plain_words_and_their_line.ensures.back;
       line = c.plain_words_and_their_line.ensures.line;
     } in
-    not_read _ _ _ _ _ laws c.cut.ensures.before (ap (map (λ word. word.now)) c.as_slice.ensures.value ∙ c.in_ok-put_parts.ensures) (sym c.frame_of.ensures ∙ c.in_default.is)
+    not_read _ _ _ _ _ laws c.cut.ensures.before (ap (map (λ word. word.now)) c.as_slice.ensures.value ∙ c.in_ok-put_parts.ensures.ok) (sym c.frame_of.ensures ∙ c.in_default.is)
 
 pub returns-then-not-is_head_of : goal.returns-then-not-is_head_of
 returns-then-not-is_head_of c =
@@ -20,7 +20,7 @@ returns-then-not-is_head_of c =
       parts = c.plain_words_and_their_line.ensures.back;
       line = c.plain_words_and_their_line.ensures.line;
     } in
-    other_head _ _ _ _ _ _ laws c.cut.ensures.before (ap (map (λ word. word.now)) c.as_slice.ensures.value ∙ c.in_ok-put_parts.ensures) (sym c.frame_of.ensures ∙ c.in-Some.is)
+    other_head _ _ _ _ _ _ laws c.cut.ensures.before (ap (map (λ word. word.now)) c.as_slice.ensures.value ∙ c.in_ok-put_parts.ensures.ok) (sym c.frame_of.ensures ∙ c.in-Some.is)
     (λ same. let no = c.if-not-is_head_of.ensures.1 same in cc)
 
 pub returns : goal.returns
@@ -31,5 +31,5 @@ returns c =
       parts = c.plain_words_and_their_line.ensures.back;
       line = c.plain_words_and_their_line.ensures.line;
     } in
-    found_or_not _ _ _ _ _ _ _ _ laws c.cut.ensures.before c.cut.ensures.after (ap (map (λ word. word.now)) c.as_slice.ensures.value ∙ c.in_ok-put_parts.ensures)
+    found_or_not _ _ _ _ _ _ _ _ laws c.cut.ensures.before c.cut.ensures.after (ap (map (λ word. word.now)) c.as_slice.ensures.value ∙ c.in_ok-put_parts.ensures.ok)
     (sym c.frame_of.ensures ∙ c.in-Some.is) (c.if-not-is_head_of.ensures.0 refl) c.behind_pixels.ensures

@@ -9,7 +9,7 @@ unwrap-entry-requires c =
       line = c.entries_and_their_words.ensures.line;
       back = c.entries_and_their_words.ensures.back;
     } in
-    let some = is_some _ _ _ _ _ _ _ _ laws c.requires.2 c.cut.ensures.before (ap (map (λ word. word.now)) c.as_slice.ensures.value ∙ c.in_ok-put_parts.ensures) c.in_ok-read_entry.ensures in
+    let some = is_some _ _ _ _ _ _ _ _ laws c.requires.2 c.cut.ensures.before (ap (map (λ word. word.now)) c.as_slice.ensures.value ∙ c.in_ok-put_parts.ensures.ok) c.in_ok-read_entry.ensures in
     rw some (search rules)
 
 pub returns : goal.returns
@@ -19,5 +19,5 @@ returns c = λ entry more stands.
       line = c.entries_and_their_words.ensures.line;
       back = c.entries_and_their_words.ensures.back;
     } in
-    let some = is_some _ _ _ _ _ _ _ _ laws stands c.cut.ensures.before (ap (map (λ word. word.now)) c.as_slice.ensures.value ∙ c.in_ok-put_parts.ensures) c.in_ok-read_entry.ensures in
+    let some = is_some _ _ _ _ _ _ _ _ laws stands c.cut.ensures.before (ap (map (λ word. word.now)) c.as_slice.ensures.value ∙ c.in_ok-put_parts.ensures.ok) c.in_ok-read_entry.ensures in
     (the_same _ _ (sym c.unwrap-entry.ensures ∙ some), c.cut.ensures.after ∙ (is_read _ _ _ _ _ laws stands).behind)

@@ -9,5 +9,5 @@ loop-rest-preserved-in_ok-push c = let some = words_of-some c.loop-rest.rest.now
 pub loop-rest-preserved : goal.loop-rest-preserved
 loop-rest-preserved c = let none = words_of-none c.loop-rest.rest.now in grind (arith, common_steps, none)
 
-pub returns : goal.returns
-returns c = grind (arith, common_steps, words_of-nil)
+pub returns-clause-ok : goal.returns-clause-ok
+returns-clause-ok c = grind (arith, common_steps, words_of-nil)

@@ -16,5 +16,5 @@ spelled c =
 pub invariant_of-self-2 : goal.invariant_of-self-2
 invariant_of-self-2 c = (spelled c).1
 
-pub returns : goal.returns
-returns c = on_ok c.extend_from_slice.result (rw (← c.self.view_is) (spelled c).0)
+pub returns-clause-ok : goal.returns-clause-ok
+returns-clause-ok c = on_ok c.extend_from_slice.result (rw (← c.self.view_is) (spelled c).0)
