@@ -78,6 +78,13 @@ impl Backing {
         self.runs.as_slice()
     }
 
+    /// The entries, in order.
+    pub fn entries(&self) -> &[MemEntry]
+        ensures { result.now ≡ self.now }
+    {
+        self.entries.as_slice()
+    }
+
     /// How many bytes the entries have.
     pub fn length(&self) -> u64
         ensures { result ≡ total self.now }

@@ -1,7 +1,7 @@
 //! The blob resources by their ids (VIRTIO 1.2, 5.7.6.8).
 
 ghost use Rattle.std.specs.List.{list_any};
-ghost use Rattle.std.specs.Prelude.{◌≡◌, ◌<◌, ◌^◌, ℕ, List, [], length, IfOk, IfSome, OnErr, All, is_some};
+ghost use Rattle.std.specs.Prelude.{◌≡◌, ◌<◌, ◌^◌, ℕ, List, [], length, IfOk, IfSome, OnErr, All, is_some, option_copied};
 ghost use Rattle.std.specs.Option.{option_map};
 ghost use Rattle.std.specs.Map.{values_of};
 ghost use Rattle.vg_pages.specs.Lending.{AreFlagged};
@@ -121,6 +121,16 @@ impl Blobs {
     {
         match self.map.get(&id) {
             Some(blob) => Some(blob.size),
+            None => None,
+        }
+    }
+
+    /// The entries of the blob of this id, in order.
+    pub fn entries(&self, id: u32) -> Option<&[MemEntry]>
+        ensures { option_copied result ≡ option_map (λ blob. blob.entries) (blob_at id self.now) }
+    {
+        match self.map.get(&id) {
+            Some(blob) => Some(blob.entries.entries()),
             None => None,
         }
     }

@@ -5,7 +5,7 @@ ghost use Rattle.vg_journal_lines.specs.Refusals.{IsRefusedAt};
 ghost use Rattle.vg_checking.specs.OutliningWithin.{IsOutlined, accepted_of, outline_of};
 
 use std::alloc::{AllocError, Global};
-use vg_config::features::{CONTEXT_INIT, EDID, OFFERED, RESOURCE_BLOB, RESOURCE_UUID, VIRGL};
+use vg_config::features::{CONTEXT_INIT, EDID, KEPT, RESOURCE_BLOB, RESOURCE_UUID, VIRGL};
 use vg_journal_lines::{LeftOut, State};
 use vg_journal_read::{Scanned, scan};
 use vg_judge::Outline;
@@ -63,7 +63,7 @@ fn outline_of(scanned: Scanned) -> Outline
 fn accepted_of(out: LeftOut) -> u64
     ensures { result ≡ accepted_of out }
 {
-    OFFERED
+    KEPT
         - left_out(out.edid, EDID)
         - left_out(out.uuid, RESOURCE_UUID)
         - left_out(out.blob, RESOURCE_BLOB)

@@ -1,12 +1,12 @@
 use Rattle.std.specs.Prelude.{◌≡◌, ◌≤◌, ◌+◌, ◌-◌, ℕ, Bool, if◌then◌else◌, List, [], ◌∷◌, length}
-use Rattle.vg_config.specs.Features.{CONTEXT_INIT, EDID, RESOURCE_BLOB, RESOURCE_UUID, VIRGL, offered}
+use Rattle.vg_config.specs.Features.{CONTEXT_INIT, EDID, RESOURCE_BLOB, RESOURCE_UUID, VIRGL, kept}
 use Rattle.vg_client_holds.specs.declared.setup.Setup.{Setup}
 
--- The features that are accepted, of those that are offered, where some are left out (VIRTIO 1.2, 5.7.3): EDID, RESOURCE_UUID,
+-- The features that are accepted, of those that a setup keeps, where some are left out (VIRTIO 1.2, 5.7.3): EDID, RESOURCE_UUID,
 -- RESOURCE_BLOB, and contexts, which are VIRGL and CONTEXT_INIT.
 abbrev pub features_without : Bool → Bool → Bool → Bool → ℕ
 features_without edid uuid blob context =
-    offered - (if edid then EDID else 0) - (if uuid then RESOURCE_UUID else 0) - (if blob then RESOURCE_BLOB else 0)
+    kept - (if edid then EDID else 0) - (if uuid then RESOURCE_UUID else 0) - (if blob then RESOURCE_BLOB else 0)
     - (if context then VIRGL + CONTEXT_INIT else 0)
 
 -- Features that can be accepted: all but what is left out.

@@ -1,7 +1,7 @@
-use Rattle.std.specs.Prelude.{◌≡◌, ◌<◌, ◌+◌, ◌/◌, ◌%◌, ◌^◌, ◌==◌, ◌&&◌, ℕ, Bool, false, not, ◌||◌}
+use Rattle.std.specs.Prelude.{◌≡◌, ◌<◌, ◌+◌, ◌-◌, ◌/◌, ◌%◌, ◌^◌, ◌==◌, ◌&&◌, ℕ, Bool, false, not, ◌||◌}
 
 -- The bits of the features that the device offers: those that commands need (VIRTIO 1.2, 5.7.3, VIRTIO_GPU_F_VIRGL and so on),
--- and two that any device may have (VIRTIO 1.2, 6, VIRTIO_F_INDIRECT_DESC and VIRTIO_F_VERSION_1).
+-- and three that any device may have (VIRTIO 1.2, 6, VIRTIO_F_INDIRECT_DESC, VIRTIO_F_EVENT_IDX and VIRTIO_F_VERSION_1).
 abbrev pub VIRGL_BIT : ℕ
 VIRGL_BIT = 0
 
@@ -19,6 +19,9 @@ CONTEXT_INIT_BIT = 4
 
 abbrev pub INDIRECT_DESC_BIT : ℕ
 INDIRECT_DESC_BIT = 28
+
+abbrev pub EVENT_IDX_BIT : ℕ
+EVENT_IDX_BIT = 29
 
 abbrev pub VERSION_1_BIT : ℕ
 VERSION_1_BIT = 32
@@ -42,12 +45,19 @@ CONTEXT_INIT = 2 ^ CONTEXT_INIT_BIT
 abbrev pub INDIRECT_DESC : ℕ
 INDIRECT_DESC = 2 ^ INDIRECT_DESC_BIT
 
+abbrev pub EVENT_IDX : ℕ
+EVENT_IDX = 2 ^ EVENT_IDX_BIT
+
 abbrev pub VERSION_1 : ℕ
 VERSION_1 = 2 ^ VERSION_1_BIT
 
 -- The set that the device offers.
 abbrev pub offered : ℕ
-offered = VIRGL + EDID + RESOURCE_UUID + RESOURCE_BLOB + CONTEXT_INIT + INDIRECT_DESC + VERSION_1
+offered = VIRGL + EDID + RESOURCE_UUID + RESOURCE_BLOB + CONTEXT_INIT + INDIRECT_DESC + EVENT_IDX + VERSION_1
+
+-- Those of them that a setup keeps: how kicks are made (VIRTIO 1.2, 2.7.10) leaves no trace in a history.
+abbrev pub kept : ℕ
+kept = offered - EVENT_IDX
 
 -- Feature n is in a set of features, which has bit n for it (VIRTIO 1.2, 2.2).
 abbrev pub has : ℕ → ℕ → Bool

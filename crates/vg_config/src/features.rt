@@ -13,6 +13,8 @@ pub(crate) const CONTEXT_INIT_BIT: u32 = 4;
 
 const INDIRECT_DESC_BIT: u32 = 28;
 
+const EVENT_IDX_BIT: u32 = 29;
+
 pub(crate) const VERSION_1_BIT: u32 = 32;
 
 /// 3D commands.
@@ -33,6 +35,9 @@ pub const CONTEXT_INIT: u64 = 1 << CONTEXT_INIT_BIT;
 /// Indirect tables of descriptors.
 pub const INDIRECT_DESC: u64 = 1 << INDIRECT_DESC_BIT;
 
+/// Kicks by event index.
+pub const EVENT_IDX: u64 = 1 << EVENT_IDX_BIT;
+
 /// The standard from its version 1 on.
 pub const VERSION_1: u64 = 1 << VERSION_1_BIT;
 
@@ -40,4 +45,7 @@ pub const VERSION_1: u64 = 1 << VERSION_1_BIT;
 const GPU: u64 = VIRGL | EDID | RESOURCE_UUID | RESOURCE_BLOB | CONTEXT_INIT;
 
 /// All that are offered.
-pub const OFFERED: u64 = GPU | INDIRECT_DESC | VERSION_1;
+pub const OFFERED: u64 = GPU | INDIRECT_DESC | EVENT_IDX | VERSION_1;
+
+/// Those of them that a setup keeps: how kicks are made leaves no trace in a history.
+pub const KEPT: u64 = OFFERED - EVENT_IDX;

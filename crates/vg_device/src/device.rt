@@ -95,6 +95,48 @@ impl Device {
         self.scanouts.frames()
     }
 
+    /// Its 2D resources, with their pixels.
+    pub fn resources(&self) -> &Resources
+        ensures { result.now ≡ self.now.resources }
+    {
+        &self.resources
+    }
+
+    /// What is attached to its resources.
+    pub fn backings(&self) -> &Backings
+        ensures { result.now ≡ self.now.backings }
+    {
+        &self.backings
+    }
+
+    /// Its blobs.
+    pub fn blobs(&self) -> &Blobs
+        ensures { result.now ≡ self.now.blobs }
+    {
+        &self.blobs
+    }
+
+    /// Its cursors, by their scanouts.
+    pub fn cursors(&self) -> &Cursors
+        ensures { result.now ≡ self.now.cursors }
+    {
+        &self.cursors
+    }
+
+    /// Its scanouts, and the frames so far.
+    pub fn scanouts(&self) -> &Scanouts
+        ensures { result.now ≡ self.now.scanouts }
+    {
+        &self.scanouts
+    }
+
+    /// What its clients share.
+    pub fn share(&self) -> &Share
+        ensures { result.now ≡ self.now.share }
+    {
+        &self.share
+    }
+
     /// The frames, which the display gives up.
     pub fn into_frames(self) -> Vec<Frame>
         ensures { result.items ≡ self.scanouts.frames }

@@ -12,7 +12,7 @@ use crate::lines::is_over;
 use crate::pieces::{Part, go_on};
 use crate::start::start;
 use std::alloc::{AllocError, Global};
-use vg_config::features::{CONTEXT_INIT, EDID, OFFERED, RESOURCE_BLOB, RESOURCE_UUID, VIRGL};
+use vg_config::features::{CONTEXT_INIT, EDID, KEPT, RESOURCE_BLOB, RESOURCE_UUID, VIRGL};
 use vg_journal::Journal;
 use vg_journal_lines::{
     FrameHead, LeftOut, State, journals_and_their_refusals, journals_and_their_text,
@@ -136,7 +136,7 @@ fn journal_of(state: State, entries: History, frames: Vec<Frame>) -> Journal
 fn accepted_of(out: LeftOut) -> u64
     ensures { result ≡ accepted_of out }
 {
-    OFFERED
+    KEPT
         - left_out(out.edid, EDID)
         - left_out(out.uuid, RESOURCE_UUID)
         - left_out(out.blob, RESOURCE_BLOB)

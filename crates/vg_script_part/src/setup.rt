@@ -6,7 +6,7 @@ ghost use Rattle.vg_script.specs.Limits.{ScriptInLimits};
 ghost use Rattle.vg_script_part.specs.Setup as setups;
 
 use std::alloc::{AllocError, Global};
-use vg_config::features::{CONTEXT_INIT, EDID, OFFERED, RESOURCE_BLOB, RESOURCE_UUID, VIRGL};
+use vg_config::features::{CONTEXT_INIT, EDID, KEPT, RESOURCE_BLOB, RESOURCE_UUID, VIRGL};
 use vg_list::Seq;
 use vg_machine::Setup;
 use vg_script::{Feature, Script};
@@ -30,7 +30,7 @@ fn accepted_of(without: &[Feature]) -> u64
 {
     let (edid, uuid) = (has_edid(without), has_uuid(without));
     let (blob, context) = (has_blob(without), has_context(without));
-    OFFERED
+    KEPT
         - left_out(edid, EDID)
         - left_out(uuid, RESOURCE_UUID)
         - left_out(blob, RESOURCE_BLOB)

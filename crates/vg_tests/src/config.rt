@@ -4,7 +4,8 @@ use std::test::Fail;
 use vg_config::{Config, Negotiation, Refused};
 
 /// Features that a driver accepts, and the faulty bits among them.
-static FAULTY: [(u64, u64); 9] = [
+static FAULTY: [(u64, u64); 10] = [
+    (0x1_3000_001f, 0),
     (0x1_1000_001f, 0),
     (0x1_0000_0000, 0),
     (0x1_0000_0001, 0),
@@ -12,8 +13,8 @@ static FAULTY: [(u64, u64); 9] = [
     (0x1_0000_0020, 0x20),
     (0x0_0000_0000, 0x1_0000_0000),
     (0x0_1000_001f, 0x1_0000_0000),
-    (0x8000_0001_2000_001e, 0x8000_0000_2000_0010),
-    (0xffff_ffff_ffff_ffff, 0xffff_fffe_efff_ffe0),
+    (0x8000_0001_4000_001e, 0x8000_0000_4000_0010),
+    (0xffff_ffff_ffff_ffff, 0xffff_fffe_cfff_ffe0),
 ];
 
 #[test]

@@ -170,6 +170,16 @@ impl Backings {
         lend_rect(alloc, self.known(resource), pages, region)
     }
 
+    /// The entries of a resource's backing, in order. None where it has no backing.
+    pub fn entries(&self, resource: u32) -> Option<&[MemEntry]>
+        ensures { option_copied result ≡ backing_at resource self.now }
+    {
+        match self.get(resource) {
+            Some(backing) => Some(backing.entries()),
+            None => None,
+        }
+    }
+
     /// How many bytes a resource's backing has. None where it has no backing.
     pub fn length(&self, resource: u32) -> Option<u64>
         ensures { result ≡ option_map total (backing_at resource self.now) }
