@@ -270,6 +270,7 @@ def why_too_much(given, answer):
 
 def checked(program, given, seconds):
     """What isn't right of the check of a journal that a run has written, as it is or spoiled."""
+    seconds += len(given.given) / 1_000_000
     answer, wanted = answer_of(program, given, seconds), wanted_of(given)
     if answer.status is None:
         return [Find(f"it hasn't ended after {seconds:.0f} seconds", given, wanted)]
