@@ -63,8 +63,7 @@ fn outline_of(scanned: Scanned) -> Outline
 fn accepted_of(out: LeftOut) -> u64
     ensures { result ≡ accepted_of out }
 {
-    KEPT
-        - left_out(out.edid, EDID)
+    KEPT - left_out(out.edid, EDID)
         - left_out(out.uuid, RESOURCE_UUID)
         - left_out(out.blob, RESOURCE_BLOB)
         - left_out(out.context, VIRGL + CONTEXT_INIT)

@@ -136,8 +136,7 @@ fn journal_of(state: State, entries: History, frames: Vec<Frame>) -> Journal
 fn accepted_of(out: LeftOut) -> u64
     ensures { result ≡ accepted_of out }
 {
-    KEPT
-        - left_out(out.edid, EDID)
+    KEPT - left_out(out.edid, EDID)
         - left_out(out.uuid, RESOURCE_UUID)
         - left_out(out.blob, RESOURCE_BLOB)
         - left_out(out.context, VIRGL + CONTEXT_INIT)

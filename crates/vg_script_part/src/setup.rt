@@ -30,8 +30,7 @@ fn accepted_of(without: &[Feature]) -> u64
 {
     let (edid, uuid) = (has_edid(without), has_uuid(without));
     let (blob, context) = (has_blob(without), has_context(without));
-    KEPT
-        - left_out(edid, EDID)
+    KEPT - left_out(edid, EDID)
         - left_out(uuid, RESOURCE_UUID)
         - left_out(blob, RESOURCE_BLOB)
         - left_out(context, VIRGL + CONTEXT_INIT)
