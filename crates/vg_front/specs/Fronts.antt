@@ -1,5 +1,5 @@
 -- What the calls of a front do.
-use Rattle.std.specs.Prelude.{◌≡◌, ℕ, ◌+◌, ◌⊎◌, ◌<◌, Bool, true, false, not, if◌then◌else◌, Some, None, List, [], ◌++◌, map, length, get_or}
+use Rattle.std.specs.Prelude.{◌≡◌, ℕ, ◌+◌, ◌⊎◌, ◌<◌, Bool, true, false, not, Some, None, List, [], ◌++◌, map, length, get_or}
 use Rattle.vg_notify.specs.Halves.{SleeperData, Listens}
 use Rattle.vg_ring.specs.Cargo.{CargoData}
 use Rattle.vg_ring.specs.Entries.{entries, Has}
@@ -55,8 +55,12 @@ abbrev pub SameDesks : {P T : Type 0} → FrontData P T → FrontData P T → Ty
 SameDesks old new = (new.control ≡ old.control) × (new.cursor ≡ old.cursor)
 
 -- A bell is asked for a kick where it is asleep, and it is awake then where there was one; else it is left alone.
+abbrev pub AsksWhere : Bool → SleeperData → SleeperData → Type 0
+AsksWhere true old new = Listens old (not new.asleep) new
+AsksWhere false old new = new ≡ old
+
 abbrev pub Asks : SleeperData → SleeperData → Type 0
-Asks old new = if old.asleep then Listens old (not new.asleep) new else (new ≡ old)
+Asks old new = AsksWhere old.asleep old new
 
 abbrev pub IsLent : {P T N : Type 0} → FrontData P T → Loan N → Type 0
 IsLent f (loans.Control right) = Has right.entry f.control.lists.lent
