@@ -20,6 +20,8 @@ tell-requires g c =
 pub invariant_of-self-in-Some : goal.invariant_of-self-in-Some
 invariant_of-self-in-Some g c =
     let d = c.self.inside in
-    let small = lane_small c.in-Some.field-0.cargo.parcel.queue c.tag-lane.result.lane c.tag-lane.ensures.lane in
-    (half_reaped g.M.Machine g.Q.OfQueue.queue d.end d.heard.items c.self.invariant.0 (carried.is_wanted_pass g.M.Machine) c.in-Some.field-0.head c.in-Some.field-0.len c.in-Some.field-0.cargo c.reap.new.self c.in-Some.ensures
-    c.tag-lane.result.lane c.tag-lane.result.ordinal c.tag-lane.ensures.tag.0 c.tag-lane.ensures.tag.1 small c.index_mut.result.now c.tell.new.heard c.index_mut.ensures.value c.of-reply.result (ap (carried.tag_of g.M.Machine) c.of-reply.ensures.pass ∙ c.tag-lane.ensures.pass) c.of-reply.ensures.asked c.tell.ensures.hears, c.self.invariant.1 ∙ sym (ap {B = ℕ} length c.in-Some.ensures.published))
+    let small = lane_small c.in-Some.field-0.cargo.parcel.queue c.tag-lane.result.lane c.tag-lane.ensures.lane in (
+      half_reaped g.M.Machine g.Q.OfQueue.queue d.end d.heard.items c.self.invariant.0 (carried.is_wanted_pass g.M.Machine) c.in-Some.field-0.head c.in-Some.field-0.len c.in-Some.field-0.cargo c.reap.new.self c.in-Some.ensures
+          c.tag-lane.result.lane c.tag-lane.result.ordinal c.tag-lane.ensures.tag.0 c.tag-lane.ensures.tag.1 small c.index_mut.result.now c.tell.new.heard c.index_mut.ensures.value c.of-reply.result (ap (carried.tag_of g.M.Machine) c.of-reply.ensures.pass ∙ c.tag-lane.ensures.pass) c.of-reply.ensures.asked c.tell.ensures.hears,
+      c.self.invariant.1 ∙ sym (ap {B = ℕ} length c.in-Some.ensures.published),
+    )
