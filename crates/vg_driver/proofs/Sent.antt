@@ -11,6 +11,7 @@ use Rattle.vg_book.proofs.Sent.{done_send, note_send, pass_send}
 use Rattle.vg_list.specs.contracts.seq.Seq as seq
 use Rattle.vg_ring.specs.declared.naming.Naming as ring
 use Rattle.vg_ring.specs.declared.rings.OfQueue as OfQueue
+use Rattle.vg_notify.proofs.Sent.{ringer_send}
 use Rattle.vg_ring.proofs.Sent.{driver_send}
 use Rattle.vg_driver.specs.contracts.back.Back as back
 use Rattle.vg_driver.specs.contracts.back.Back.TheInside as back_in
@@ -74,4 +75,4 @@ module _ (M S A R Q P H W : RattleType) (m : IsSend M) (a : IsSend A) (r : IsSen
   module _ (N : RattleType) (gn : ring.Ghosts N.Denot) (gq : OfQueue.Ghosts N.Denot) (n : IsSend N) where
     pub half_send : IsSend (half.the_row M B N S A R Q P H W gm gb gn gq)
     half_send = let T = half_in.the_type M B N S A R Q P H W gm gb gn gq in
-        view_send _ _ _ _ _ (recorded_send _ _ _ T.to_one (struct_send (shape T) (driver_send _ N _ gn carried_send n, (replies_send, (search (sendable, crosses, heard_send) depth 20, tt)))))
+        view_send _ _ _ _ _ (recorded_send _ _ _ T.to_one (struct_send (shape T) (driver_send _ N _ gn carried_send n, (ringer_send, (replies_send, (search (sendable, crosses, heard_send) depth 20, tt))))))

@@ -25,6 +25,7 @@ use vg_client_holds::Act;
 use vg_fence::Fence;
 use vg_list::Seq;
 use vg_machine::{Display, Reply};
+use vg_notify::Ringer;
 use vg_ring::{ControlOf, CursorOf, DriverEnd, OfQueue, Rings};
 use vg_wire::Queue;
 
@@ -204,17 +205,20 @@ fn settle<B: vg_book::Naming>(
 }
 
 impl<B: vg_book::Naming, N: Rings> Driver<B, N> {
-    /// A driver over two ends that have published nothing.
+    /// A driver over two ends that have published nothing, with a bell for each, by which it kicks who serves that ring and dozes.
     pub fn new(
         alloc: Global,
         control: DriverEnd<Carried<Display, B>, ControlOf<N>>,
         cursor: DriverEnd<Carried<Display, B>, CursorOf<N>>,
+        control_bell: Ringer,
+        cursor_bell: Ringer,
     ) -> Result<Driver<B, N>, AllocError>
         requires control { (size : ℕ) × IsNewDriver queues.Control size control }
         requires cursor { (size : ℕ) × IsNewDriver queues.Cursor size cursor }
+        requires bells { (control_bell.count ≡ 0) × (cursor_bell.count ≡ 0) }
     {
-        let control = Half::new(alloc, control)?;
-        let cursor = Half::new(alloc, cursor)?;
+        let control = Half::new(alloc, control, control_bell)?;
+        let cursor = Half::new(alloc, cursor, cursor_bell)?;
         Ok(Driver {
             control: Mutex::new(control),
             cursor: Mutex::new(cursor),

@@ -19,20 +19,24 @@ use vg_book::{Book, Carried, ClientToken, Root};
 use vg_chain::Shape;
 use vg_fence::Fence;
 use vg_history::Machine;
+use vg_notify::Ringer;
 use vg_ring::{DriverEnd, OfQueue, Parcel, Reaped, Tag};
 
 /// The most cargoes that a ring carries.
 const MOST_PUBLISHED: u64 = 9223372036854775807;
 
-/// The driver's end of a queue, what came back and nobody has taken yet, and how far each lane has come.
+/// The driver's end of a queue with the bell of its device, what came back and nobody has taken yet, and how far each lane has come.
 #[derive(Drop)]
 pub struct Half<M: Machine, B: vg_book::Naming, Q: vg_ring::Naming + OfQueue> {
     end: DriverEnd<Carried<M, B>, Q>,
+    /// It is told of all that was published.
+    bell: Ringer,
     replies: Replies<M, B>,
     heard: Vec<Heard<M, B>>,
 }
 
 impl<M: Machine, B: vg_book::Naming, Q: vg_ring::Naming + OfQueue> Model for Half<M, B, Q> {
+    ghost use Rattle.std.specs.Prelude.{◌≡◌, length};
     ghost use Rattle.vg_ring.specs.Ends.{DriverLists};
     ghost use Rattle.vg_driver.specs.Halves.{IsHalf};
 
@@ -40,7 +44,7 @@ impl<M: Machine, B: vg_book::Naming, Q: vg_ring::Naming + OfQueue> Model for Hal
 
     ghost view = { λ h. h.end };
 
-    ghost invariant = { λ h. IsHalf M.Machine Q.queue h.end h.heard.items };
+    ghost invariant = { λ h. IsHalf M.Machine Q.queue h.end h.heard.items × (h.bell.count ≡ length h.end.published) };
 }
 
 /// Each lane, of which nothing came back.
@@ -55,16 +59,19 @@ fn all_lanes<M: Machine, B: vg_book::Naming>(alloc: Global) -> Result<Vec<Heard<
 }
 
 impl<M: Machine, B: vg_book::Naming, Q: vg_ring::Naming + OfQueue> Half<M, B, Q> {
-    /// A half over an end that has published nothing.
+    /// A half over an end that has published nothing, and a bell that was told of nothing.
     pub(crate) fn new(
         alloc: Global,
         end: DriverEnd<Carried<M, B>, Q>,
+        bell: Ringer,
     ) -> Result<Half<M, B, Q>, AllocError>
-        requires { (size : ℕ) × IsNewDriver Q.queue size end }
+        requires end { (size : ℕ) × IsNewDriver Q.queue size end }
+        requires bell { bell.count ≡ 0 }
         ensures { IfOk result (λ half. half ≡ end) }
     {
         Ok(Half {
             end,
+            bell,
             replies: Replies::new(alloc),
             heard: all_lanes(alloc)?,
         })
@@ -100,8 +107,8 @@ impl<M: Machine, B: vg_book::Naming, Q: vg_ring::Naming + OfQueue> Half<M, B, Q>
         self.end.next_head()
     }
 
-    /// Publishes the parcel of this request with a pass for it, and gives the client's number for it and the place of its reply.
-    /// For want of memory nothing was published.
+    /// Publishes the parcel of this request with a pass for it, tells the bell, and gives the client's number for it and the place of its
+    /// reply. For want of memory nothing was published.
     pub(crate) fn send(
         &mut self,
         book: &Book<M, B>,
@@ -122,6 +129,8 @@ impl<M: Machine, B: vg_book::Naming, Q: vg_ring::Naming + OfQueue> Half<M, B, Q>
         let pass = token.pass_of(book, request, (lane, ordinal));
         let call = pass.call();
         self.end.publish(shape, parcel.load(Carried::Wanted(pass)));
+        let count = self.end.published();
+        self.bell.published(count);
         Ok((call, place))
     }
 

@@ -6,6 +6,7 @@ use Rattle.std.proofs.Crossing.{crosses}
 use Rattle.vg_history.specs.declared.machine.Tagged as Tagged
 use Rattle.vg_history.specs.declared.machine.Turn as Turn
 use Rattle.vg_ring.specs.declared.naming.Naming as Naming
+use Rattle.vg_notify.proofs.Sent.{sleeper_send}
 use Rattle.vg_ring.proofs.Sent.{cargo_send, device_send}
 use Rattle.vg_ring.specs.declared.rings.Rings as Rings
 use Rattle.vg_ring.specs.contracts.rings.ControlOf as control
@@ -29,4 +30,4 @@ module _ (P T N : RattleType) (gp : Tagged.Ghosts P.Denot) (gt : Turn.Ghosts T.D
 
   pub front_send : IsSend (front.the_row P T N gp gt gn)
   front_send = let F = front_in.the_type P T N gp gt gn in
-      view_send _ _ _ _ _ (recorded_send _ _ _ F.to_one (struct_send (shape F) (desk_send P T (control.the_row N) gp gt _ p t control_send, (desk_send P T (cursor.the_row N) gp gt _ p t cursor_send, (search (sendable, crosses) depth 20, tt)))))
+      view_send _ _ _ _ _ (recorded_send _ _ _ F.to_one (struct_send (shape F) (desk_send P T (control.the_row N) gp gt _ p t control_send, (desk_send P T (cursor.the_row N) gp gt _ p t cursor_send, (sleeper_send, (sleeper_send, (search (sendable, crosses) depth 20, tt)))))))

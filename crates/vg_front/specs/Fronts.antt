@@ -1,5 +1,6 @@
 -- What the calls of a front do.
-use Rattle.std.specs.Prelude.{◌≡◌, ℕ, ◌+◌, ◌⊎◌, ◌<◌, Bool, true, false, Some, None, List, [], ◌++◌, map, length, get_or}
+use Rattle.std.specs.Prelude.{◌≡◌, ℕ, ◌+◌, ◌⊎◌, ◌<◌, Bool, true, false, not, Some, None, List, [], ◌++◌, map, length, get_or}
+use Rattle.vg_notify.specs.Halves.{SleeperData, Listens}
 use Rattle.vg_ring.specs.Cargo.{CargoData}
 use Rattle.vg_ring.specs.Entries.{entries, Has}
 use Rattle.vg_ring.specs.DeviceEnds.{DeviceLists}
@@ -10,10 +11,12 @@ use Rattle.vg_front.specs.declared.front.Work.TheVariants.{Fetched, Run, Idle}
 use Rattle.vg_front.specs.Loans.{right_of}
 use Rattle.vg_front.specs.Desks.{DeskData, Finishes, HasFetched, HasNone, HasRunAll, IsIdle, Takes}
 
--- Both queues of a device.
+-- Both queues of a device, and for each a half of a bell, by which its driver kicks who dozes.
 pub record FrontData (P T : Type 0) : Type 0 where
   pub control : DeskData P T
   pub cursor : DeskData P T
+  pub control_bell : SleeperData
+  pub cursor_bell : SleeperData
 
 pub record IsNewFront {P T : Type 0} (control cursor : DeviceLists) (tokens : List T) (f : FrontData P T) : Type 0 where
   pub lists : (f.control.lists ≡ control) × (f.cursor.lists ≡ cursor)
@@ -43,6 +46,22 @@ Steps wanted lane_of count_of old Fetched new = StepsOn wanted old new
 Steps {P} {T} {N} wanted lane_of count_of old (Run token right cargo) new = (mid : FrontData P T) × HasNothing old mid × TakesOf wanted lane_of count_of mid token right cargo new × IsNext count_of old.control.halted token right
 Steps wanted lane_of count_of old Idle new = HasNothing old new × IsIdle new.control × IsIdle new.cursor
 
+-- Neither bell was asked for anything.
+abbrev pub SameBells : {P T : Type 0} → FrontData P T → FrontData P T → Type 0
+SameBells old new = (new.control_bell ≡ old.control_bell) × (new.cursor_bell ≡ old.cursor_bell)
+
+-- Both queues are as they were: neither ring was looked at, and nothing was taken or completed.
+abbrev pub SameDesks : {P T : Type 0} → FrontData P T → FrontData P T → Type 0
+SameDesks old new = (new.control ≡ old.control) × (new.cursor ≡ old.cursor)
+
+-- A bell is asked for a kick where it is asleep, and it is awake then where there was one; else it is left alone.
+abbrev pub AsksWhere : Bool → SleeperData → SleeperData → Type 0
+AsksWhere true old new = Listens old (not new.asleep) new
+AsksWhere false old new = new ≡ old
+
+abbrev pub Asks : SleeperData → SleeperData → Type 0
+Asks old new = AsksWhere old.asleep old new
+
 abbrev pub IsLent : {P T N : Type 0} → FrontData P T → Loan N → Type 0
 IsLent f (loans.Control right) = Has right.entry f.control.lists.lent
 IsLent f (loans.Cursor right) = Has right.entry f.cursor.lists.lent
@@ -60,7 +79,7 @@ HasFinished old token (loans.Control right) len cargo new = Finishes old.control
 HasFinished old token (loans.Cursor right) len cargo new = Finishes old.cursor token right len cargo new.cursor × (new.control ≡ old.control)
 
 abbrev pub Halts : {P T : Type 0} → FrontData P T → FrontData P T → Type 0
-Halts old new = new ≡ record { control = record old.control { halted = true }; cursor = record old.cursor { halted = true } }
+Halts old new = new ≡ record old { control = record old.control { halted = true }; cursor = record old.cursor { halted = true } }
 
 -- The tokens in the order of their lanes, and both ends as they are.
 pub record Closes {P T : Type 0} (lane_of count_of : T → ℕ) (f : FrontData P T) (tokens : List T) (control cursor : DeviceLists) : Type 0 where

@@ -70,6 +70,13 @@ impl<P: Tagged, T: Turn + Drop, N: Naming> Desk<P, T, N> {
         Some((token, right, cargo))
     }
 
+    /// How many cargoes were fetched.
+    pub(crate) fn fetched(&self) -> u64
+        ensures { result ≡ length self.now.lists.fetched }
+    {
+        self.end.fetched()
+    }
+
     /// The chain of a command that was taken, or its fault.
     pub(crate) fn chain(
         &mut self,

@@ -9,6 +9,7 @@ use std::marker::Brand;
 use std::process::Abort;
 use vg_chain::Shape;
 use vg_front::Front;
+use vg_notify::Bell;
 use vg_ring::{ControlOf, CursorOf, DriverEnd, Made, Ring, Rings};
 use vg_ring_uses::Ticket;
 use vg_wire::Queue;
@@ -87,7 +88,9 @@ fn run_lanes<N: Rings, R: Abort>(
 {
     let (mut driver, device) = control.named::<ControlOf<N>>();
     let (mut pointer, other) = cursor.named::<CursorOf<N>>();
-    let mut front = new_front(alloc, device, other)?;
+    let (_control_ringer, control_bell) = Bell::make(alloc)?;
+    let (_cursor_ringer, cursor_bell) = Bell::make(alloc)?;
+    let mut front = new_front(alloc, device, other, control_bell, cursor_bell)?;
     assert!(rt; ask_four(alloc, &mut driver, &mut pointer)?);
     run_three(rt, alloc, &mut front)?;
     assert_eq!(rt; back(&mut driver), Some((5, 1, Some(5))));

@@ -13,6 +13,7 @@ use std::marker::Model;
 use vg_chain::{Chain, ChainFault, Shape};
 use vg_front::{Front, Loan, Work};
 use vg_history::Turn;
+use vg_notify::Sleeper;
 use vg_ring::{Cargo, ControlOf, CursorOf, DeviceEnd, DriverEnd, Naming, Rings, Tag};
 use vg_ring_uses::{Ticket, answered, ticketed, unanswered};
 use vg_wire::Queue;
@@ -49,17 +50,19 @@ fn tokens(alloc: Global) -> Result<Vec<Token>, AllocError>
     Ok(tokens)
 }
 
-/// A front of two new rings.
+/// A front of two new rings, with a bell for each.
 pub fn new_front<N: Rings>(
     alloc: Global,
     control: DeviceEnd<Ticket, ControlOf<N>>,
     cursor: DeviceEnd<Ticket, CursorOf<N>>,
+    control_bell: Sleeper,
+    cursor_bell: Sleeper,
 ) -> Result<Front<Ticket, Token, N>, AllocError>
     requires control { (size : ℕ) × IsNewDevice Control size control }
     requires cursor { (size : ℕ) × IsNewDevice Cursor size cursor }
 {
     let tokens = tokens(alloc)?;
-    Front::new(alloc, control, cursor, tokens)
+    Front::new(alloc, control, cursor, control_bell, cursor_bell, tokens)
 }
 
 /// A command of a lane goes onto a ring in this shape.

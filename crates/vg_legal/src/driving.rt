@@ -22,6 +22,7 @@ use vg_front::Front;
 use vg_history::Turn;
 use vg_journal::Journal;
 use vg_machine::{Display, Setup};
+use vg_notify::Bell;
 use vg_ring::{ControlOf, CursorOf, DeviceEnd, Made, Ring, Rings};
 use vg_run_threads::{Closed, Shared, close, run_threads};
 use vg_script::Script;
@@ -173,7 +174,7 @@ pub fn drive_in<B: Naming + Send + Sync, N: Rings + Send + Sync, G: Gate, R: Thr
     })
 }
 
-/// The driver's side of both rings and the device's, which has all lanes.
+/// The driver's side of both rings and the device's, which has all lanes, with a bell for each ring.
 fn ends<B: Naming, N: Rings>(
     alloc: Global,
     control: Made<Carried<Display, B>>,
@@ -192,7 +193,9 @@ fn ends<B: Naming, N: Rings>(
 {
     let (control, device) = control.named::<ControlOf<N>>();
     let (cursor, pointer) = cursor.named::<CursorOf<N>>();
-    let driver = Driver::new(alloc, control, cursor)?;
-    let front = Front::new(alloc, device, pointer, tokens)?;
+    let (control_bell, device_bell) = Bell::make(alloc)?;
+    let (cursor_bell, pointer_bell) = Bell::make(alloc)?;
+    let driver = Driver::new(alloc, control, cursor, control_bell, cursor_bell)?;
+    let front = Front::new(alloc, device, pointer, device_bell, pointer_bell, tokens)?;
     Ok((driver, front))
 }

@@ -3,6 +3,7 @@
 
 mod answering;
 mod gate;
+mod resting;
 mod serving;
 mod taken;
 mod threads;
@@ -11,5 +12,6 @@ mod worker;
 pub use answering::answer;
 pub use gate::{FreeGate, Gate, Passage};
 pub use serving::serve;
+pub use taken::{Found, look};
 pub use threads::workers_may_be_sent;
 pub use worker::Worker;

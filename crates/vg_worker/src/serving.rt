@@ -4,13 +4,13 @@ ghost use Rattle.std.specs.Prelude.{◌≡◌, ◌+◌, true, false};
 ghost use Rattle.vg_ring.specs.DeviceEnds.{IsCargoOf};
 ghost use Rattle.vg_ring.specs.Walked.{IsWalkOf};
 ghost use Rattle.vg_front.specs.Loans.{right_of};
-ghost use Rattle.vg_worker.specs.TakingWithin.{IsOut, IsReady, IsReadyIf};
+ghost use Rattle.vg_worker.specs.Taking.{IsOut, IsReady, IsReadyIf};
 
 use crate::answering::{Back, answer_measured, unrun};
 use crate::gate::{Gate, Passage};
+use crate::resting::Rest;
 use crate::taken::{Found, give_back, give_up, take};
 use crate::worker::Worker;
-use crossbeam_utils::Backoff;
 use std::alloc::Global;
 use std::sync::atomic::{AtomicBool, Ordering};
 use std::sync::{Mutex, Wait};
@@ -22,8 +22,9 @@ use vg_machine::Display;
 use vg_ring::{Cargo, Rings, Tag};
 
 /// Takes commands, runs them and completes them, until the flag is up and there is nothing to do and nobody works on a lane.
-/// It waits for work, for the front's lock and for the turn of the book. After want of memory the front is halted: from then
-/// on each command goes back unrun, with no bytes.
+/// It waits for work, for the front's lock and for the turn of the book: once nothing is in either ring it dozes, and asks the
+/// front's bells alone until one of them was rung or the flag is up. After want of memory the front is halted: from then on each
+/// command goes back unrun, with no bytes.
 pub fn serve<G: Gate, B: Naming, N: Rings, R: Wait>(
     rt: &R,
     alloc: Global,
@@ -40,11 +41,15 @@ pub(crate) fn serve_past<G: Passage, B: Naming, N: Rings, R: Wait>(
     rt: &R,
     worker: &Worker<'_, G, B, N>,
 ) {
-    let backoff = Backoff::new();
+    let mut rest = Rest::new();
+    let mut dozing = false;
     for _turn in rt.forever() {
         let stopped = worker.stop.load(Ordering::SeqCst);
-        match take(worker.alloc, worker.front, stopped) {
-            Found::Fetched => backoff.reset(),
+        match take(worker.alloc, worker.front, stopped, dozing) {
+            Found::Fetched => {
+                dozing = false;
+                rest.end();
+            }
             Found::Run {
                 token,
                 right,
@@ -52,13 +57,18 @@ pub(crate) fn serve_past<G: Passage, B: Naming, N: Rings, R: Wait>(
                 chain,
             } => {
                 work(rt, worker, token, right, cargo, chain);
-                backoff.reset();
+                dozing = false;
+                rest.end();
             }
-            Found::Idle { ended } => {
+            Found::Idle {
+                ended,
+                dozing: asleep,
+            } => {
                 if ended {
                     return;
                 }
-                backoff.snooze();
+                dozing = asleep;
+                rest.go_on(rt, dozing);
             }
         }
     }

@@ -5,7 +5,7 @@ ghost use Rattle.vg_ring.specs.DeviceEnds.{IsCargoOf};
 ghost use Rattle.vg_ring.specs.Walked.{IsWalkOf};
 ghost use Rattle.vg_front.specs.Loans.{right_of};
 ghost use Rattle.vg_front.specs.Fronts.{HasWalked, IsLent};
-ghost use Rattle.vg_worker.specs.TakingWithin.{EndsIf, IsFound, IsOutOf, says_ended};
+ghost use Rattle.vg_worker.specs.Taking.{Dozes, DozesIf, EndsIf, IsFound, IsOutOf, says_ended};
 
 use std::alloc::Global;
 use std::sync::{Mutex, Wait};
@@ -14,9 +14,9 @@ use vg_front::{Front, Loan, Work};
 use vg_history::{Tagged, Turn};
 use vg_ring::{Cargo, Rings};
 
-/// What a worker finds in one step.
+/// What a worker finds in one look.
 #[derive(Drop)]
-pub(crate) enum Found<P: Tagged, T: Turn + Drop, N: Rings> {
+pub enum Found<P: Tagged, T: Turn + Drop, N: Rings> {
     /// A command more waits.
     Fetched,
     /// A command, with its chain or the chain's fault. None where it is to go back unrun.
@@ -26,18 +26,21 @@ pub(crate) enum Found<P: Tagged, T: Turn + Drop, N: Rings> {
         cargo: Cargo<P>,
         chain: Option<Result<Chain, ChainFault>>,
     },
-    /// There is nothing to do now; and, where the worker is to stop, whether nothing waits and nobody works on a lane.
+    /// There is nothing to do now; where the worker is to stop, whether nothing waits and nobody works on a lane; and whether it may doze:
+    /// then it needs to look at no ring until it is kicked.
     Idle {
         ended: bool,
+        dozing: bool,
     },
 }
 
-/// Takes a step, all of it under one lock. Where somebody else has the lock there is nothing to do now: a worker that looks for
+/// Looks for work, all of it under one lock. Where somebody else has the lock there is nothing to do now: a worker that looks for
 /// work doesn't sleep on the lock, so nobody has to wake it.
 pub(crate) fn take<P: Tagged, T: Turn + Drop, N: Rings>(
     alloc: Global,
     front: &Mutex<Front<P, T, N>>,
     stopped: bool,
+    dozing: bool,
 ) -> Found<P, T, N>
     ensures found { IsFound P.is_wanted T.lane_of T.count_of result }
     ensures ended { says_ended result ≡ true → stopped ≡ true }
@@ -45,10 +48,49 @@ pub(crate) fn take<P: Tagged, T: Turn + Drop, N: Rings>(
     match front.try_lock() {
         Some(front) => {
             let mut front = front;
-            step(alloc, &mut front, stopped)
+            look(alloc, &mut front, stopped, dozing)
         }
-        None => Found::Idle { ended: false },
+        None => Found::Idle {
+            ended: false,
+            dozing,
+        },
     }
+}
+
+/// Looks for work: a worker that dozes asks for a kick alone, until there was one or it is to stop; any other takes a step.
+pub fn look<P: Tagged, T: Turn + Drop, N: Rings>(
+    alloc: Global,
+    front: &mut Front<P, T, N>,
+    stopped: bool,
+    dozing: bool,
+) -> Found<P, T, N>
+    ensures found { IsFound P.is_wanted T.lane_of T.count_of result }
+    ensures ended { EndsIf stopped front.new result }
+    ensures dozes { DozesIf stopped dozing front.old result front.new }
+{
+    if dozing && !stopped {
+        wake(alloc, front)
+    } else {
+        step(alloc, front, stopped)
+    }
+}
+
+/// Asks for a kick, and takes a step where there was one.
+fn wake<P: Tagged, T: Turn + Drop, N: Rings>(
+    alloc: Global,
+    front: &mut Front<P, T, N>,
+) -> Found<P, T, N>
+    ensures found { IsFound P.is_wanted T.lane_of T.count_of result }
+    ensures goes_on { says_ended result ≡ false }
+    ensures dozes { Dozes front.old result front.new }
+{
+    if !front.called() {
+        return Found::Idle {
+            ended: false,
+            dozing: true,
+        };
+    }
+    step(alloc, front, false)
 }
 
 /// Takes a step, and one more where that fetched a command: mostly it is the one that is given out.
@@ -69,6 +111,7 @@ fn step<P: Tagged, T: Turn + Drop, N: Rings>(
         } => given_out(alloc, front, token, right, cargo),
         Work::Idle => Found::Idle {
             ended: stopped && !front.busy(),
+            dozing: !stopped && front.doze(),
         },
     }
 }

@@ -14,15 +14,18 @@ use vg_client_holds::denied;
 use vg_history::Tagged;
 use vg_list::Seq;
 use vg_machine::{Display, Request, lane_of};
+use vg_notify::Ringer;
 use vg_ring::{ControlOf, CursorOf, DriverEnd, Parcel, Reaped, Rings, Tag};
 use vg_wire::Queue;
 
-/// A client, with the driver's ends of both rings.
+/// A client, with the driver's ends of both rings and their bells.
 #[derive(Drop)]
 pub struct Guest<B: Naming, N: Rings> {
     pub client: ClientToken<Display, B>,
     pub control: DriverEnd<Carried<Display, B>, ControlOf<N>>,
     pub cursor: DriverEnd<Carried<Display, B>, CursorOf<N>>,
+    pub control_bell: Ringer,
+    pub cursor_bell: Ringer,
 }
 
 /// How a request goes onto a ring.
@@ -133,6 +136,14 @@ fn publish<B: Naming, N: vg_ring::Naming>(
     Ok(true)
 }
 
+/// Tells a bell how much was published on its ring.
+fn tell<P: Tagged, N: vg_ring::Naming>(bell: &mut Ringer, driver: &DriverEnd<P, N>) {
+    let count = driver.published();
+    if bell.count() <= count && count - bell.count() <= 1000 {
+        bell.published(count);
+    }
+}
+
 /// The request whose pass goes with these bytes.
 fn request_of(alloc: Global, way: Way, tag: Tag, bytes: &[u8]) -> Result<Request, AllocError>
     ensures tag { IfOk result (λ request. (request.lane ≡ tag.lane) × (request.ordinal ≡ tag.ordinal)) }
@@ -213,10 +224,13 @@ impl<B: Naming, N: Rings> Guest<B, N> {
         ensures number { self.new.client.account.number ≡ self.old.client.account.number }
     {
         let client = &mut self.client;
-        match way.queue {
+        let asked = match way.queue {
             Queue::Control => publish(alloc, book, client, &mut self.control, way, bytes),
             Queue::Cursor => publish(alloc, book, client, &mut self.cursor, way, bytes),
-        }
+        };
+        tell(&mut self.control_bell, &self.control);
+        tell(&mut self.cursor_bell, &self.cursor);
+        asked
     }
 
     /// What comes back next on a ring. None where nothing does, or it comes back without having been run.

@@ -20,6 +20,7 @@ use vg_history::{Machine, Tagged, Turn};
 use vg_jobs::each;
 use vg_list::Seq;
 use vg_machine::{Display, History, Holds, Setup};
+use vg_notify::Bell;
 use vg_ring::{ControlOf, CursorOf, Made, Rings};
 use vg_text::Packed;
 use vg_wire::Queue;
@@ -82,11 +83,15 @@ impl<B: Naming, N: Rings> Rig<B, N> {
         let client = root.client(&book, holds);
         let (control, device) = control.named::<ControlOf<N>>();
         let (cursor, pointer) = cursor.named::<CursorOf<N>>();
-        let front = Front::new(alloc, device, pointer, lanes)?;
+        let (control_bell, device_bell) = Bell::make(alloc)?;
+        let (cursor_bell, pointer_bell) = Bell::make(alloc)?;
+        let front = Front::new(alloc, device, pointer, device_bell, pointer_bell, lanes)?;
         let guest = Guest {
             client,
             control,
             cursor,
+            control_bell,
+            cursor_bell,
         };
         Ok(Rig {
             book,

@@ -7,4 +7,4 @@ pub returns-clause-back : goal.returns-clause-back
 returns-clause-back g c =
     let d = c.half.inside in
     let all = subst (λ (o : DriverLists). length o.reaped ≡ length o.published) (sym c.half.view_is) c.reap_rest.ensures in
-    back_by g.M.Machine g.Q.OfQueue.queue d.end d.heard.items c.args.root.now c.join_lanes.new.root c.half.invariant all c.in_ok-join_lanes.ensures.joined
+    back_by g.M.Machine g.Q.OfQueue.queue d.end d.heard.items c.args.root.now c.join_lanes.new.root c.half.invariant.0 all c.in_ok-join_lanes.ensures.joined

@@ -16,7 +16,7 @@ publish-requires-clause-room g c =
 pub invariant_of-self-2 : goal.invariant_of-self-2
 invariant_of-self-2 g c =
     let d = c.self.inside in
-    half_sent g.M.Machine g.Q.OfQueue.queue d.end d.heard.items c.self.invariant c.args.shape c.load.result c.publish.new.self c.publish.ensures.published
+    (half_sent g.M.Machine g.Q.OfQueue.queue d.end d.heard.items c.self.invariant.0 c.args.shape c.load.result c.publish.new.self c.publish.ensures.published, c.published.ensures.count_is ∙ c.published-count.ensures)
 
 pub returns : goal.returns
 returns g c = ((c.pass_of-pass.result, c.pass_of-pass.ensures), c.call-call.ensures ∙ ap (λ p. p.order.call) c.pass_of-pass.ensures.pass)
