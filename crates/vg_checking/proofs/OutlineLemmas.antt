@@ -11,7 +11,8 @@ use Rattle.vg_journal_read.specs.declared.lines.Scanned.{Scanned}
 use Rattle.vg_journal_read.specs.Scans.{IsScanned, StandsAt}
 use Rattle.vg_judge.specs.Outline.{IsOutline}
 use Rattle.vg_judge.specs.Outline as outlines
-use Rattle.vg_checking.specs.OutliningWithin.{IsOutlined, accepted_of, outline_of}
+use Rattle.vg_journal_read.specs.Features.{accepted_of}
+use Rattle.vg_checking.specs.Outlining.{IsOutlined, outline_of}
 
 -- each entry's line takes a byte at least
 lines_long : (n : ℕ) (entries : List Entry) → length entries ≤ length (whole (numbered_pieces entry_pieces n entries))

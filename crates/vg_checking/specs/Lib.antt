@@ -1,2 +1,2 @@
 pub mod Checking
-pub mod OutliningWithin
+pub mod Outlining

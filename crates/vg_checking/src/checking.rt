@@ -3,7 +3,7 @@
 ghost use Rattle.std.specs.Prelude.{◌≤◌, length, IfOk, IfErr};
 ghost use Rattle.vg_journal_lines.specs.Refusals.{IsRefusedAt};
 ghost use Rattle.vg_checking.specs.Checking.{IsFound};
-ghost use Rattle.vg_checking.specs.OutliningWithin.{IsOutlined};
+ghost use Rattle.vg_checking.specs.Outlining.{IsOutlined};
 
 use crate::outlining::outlined;
 use std::alloc::{AllocError, Global};
@@ -39,7 +39,7 @@ fn judged(alloc: Global, bytes: &[u8], outline: Outline) -> Result<Checked, Allo
 {
     let entries = outline.entries;
     let frames = outline.frames;
-    match judge(alloc, bytes, outline)? {
+    match judge(alloc, bytes, &outline)? {
         Verdict::Legal => Ok(Checked::Legal { entries, frames }),
         Verdict::Wrong { entry } => Ok(Checked::Wrong { entry }),
     }

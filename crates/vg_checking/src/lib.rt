@@ -5,3 +5,4 @@ mod checking;
 mod outlining;
 
 pub use checking::{Checked, check};
+pub use outlining::outlined;

@@ -13,7 +13,8 @@ use Rattle.vg_journal_lines.proofs.StepLemmas.{accepted_told}
 use Rattle.vg_journal_read.specs.declared.pieces.Part.{Part}
 use Rattle.vg_journal_read.specs.PiecesWithin.{WentOn, item_of}
 use Rattle.vg_journal_read.specs.ScansWithin.{Passed}
-use Rattle.vg_journal_read.specs.JournalsWithin.{accepted_of, journal_of}
+use Rattle.vg_journal_read.specs.Features.{accepted_of}
+use Rattle.vg_journal_read.specs.JournalsWithin.{journal_of}
 use Rattle.vg_journal_read.proofs.RunLemmas.{IsAt, at_more, at_start}
 
 -- How far a reader is that keeps entries and frames.

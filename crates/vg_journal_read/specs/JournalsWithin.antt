@@ -1,15 +1,10 @@
 -- A journal from what its lines say.
-use Rattle.std.specs.Prelude.{ℕ, List}
-use Rattle.vg_client_holds.specs.Setup.{features_without}
+use Rattle.std.specs.Prelude.{List}
 use Rattle.vg_machine.specs.Entries.{Entry}
 use Rattle.vg_scanout.specs.declared.scanout.Frame.{Frame}
 use Rattle.vg_journal.specs.declared.journal.Journal.{Journal}
-use Rattle.vg_journal_lines.specs.declared.state.LeftOut.{LeftOut}
 use Rattle.vg_journal_lines.specs.declared.state.State.{State}
-
--- The features that are accepted where these are left out.
-abbrev pub accepted_of : LeftOut → ℕ
-accepted_of out = features_without out.edid out.uuid out.blob out.context
+use Rattle.vg_journal_read.specs.Features.{accepted_of}
 
 -- The journal whose lines say this, with these entries and frames.
 abbrev pub journal_of : State → List Entry → List Frame → Journal

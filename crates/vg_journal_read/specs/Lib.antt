@@ -1,3 +1,4 @@
+pub mod Features
 pub mod PiecesWithin
 pub mod Scans
 pub mod ScansWithin

@@ -4,10 +4,12 @@
 //! pixels. [`scan`] reads as much and keeps no entry and no frame, but says where they begin.
 #![tactic(auto)]
 
+mod features;
 mod lines;
 mod pieces;
 mod start;
 mod whole;
 
+pub use features::accepted_of;
 pub use lines::{Scanned, scan};
 pub use whole::read;

@@ -1,22 +1,20 @@
 //! A journal read whole.
 
-ghost use Rattle.std.specs.Prelude.{◌≡◌, ◌≤◌, ◌++◌, [], ◌∷◌, length, ℕ, if◌then◌else◌, Ok, Err, IfOk, IfErr, OnOk};
+ghost use Rattle.std.specs.Prelude.{◌≡◌, ◌≤◌, ◌++◌, [], ◌∷◌, length, ℕ, Ok, Err, IfOk, IfErr, OnOk};
 ghost use Rattle.vg_journal.specs.declared.journal.Journal.{Journal as Journals};
 ghost use Rattle.vg_journal_lines.specs.Pieces.{entries_in, frames_in};
 ghost use Rattle.vg_journal_lines.specs.Refusals.{IsJournal, IsRefusedAt};
 ghost use Rattle.vg_journal_lines.specs.States.{frame_with};
 ghost use Rattle.vg_journal_read.specs.PiecesWithin.{item_of};
-ghost use Rattle.vg_journal_read.specs.JournalsWithin.{accepted_of, journal_of};
+ghost use Rattle.vg_journal_read.specs.JournalsWithin.{journal_of};
 
+use crate::features::accepted_of;
 use crate::lines::is_over;
 use crate::pieces::{Part, go_on};
 use crate::start::start;
 use std::alloc::{AllocError, Global};
-use vg_config::features::{CONTEXT_INIT, EDID, KEPT, RESOURCE_BLOB, RESOURCE_UUID, VIRGL};
 use vg_journal::Journal;
-use vg_journal_lines::{
-    FrameHead, LeftOut, State, journals_and_their_refusals, journals_and_their_text,
-};
+use vg_journal_lines::{FrameHead, State, journals_and_their_refusals, journals_and_their_text};
 use vg_list::Seq;
 use vg_machine::{Frame, History, Setup};
 use vg_shared_bytes::Strips;
@@ -130,22 +128,4 @@ fn journal_of(state: State, entries: History, frames: Vec<Frame>) -> Journal
         cursor,
         frames: Seq::from_vec(frames),
     }
-}
-
-/// The features that are accepted where these are left out (VIRTIO 1.2, 5.7.3).
-fn accepted_of(out: LeftOut) -> u64
-    ensures { result ≡ accepted_of out }
-{
-    KEPT - left_out(out.edid, EDID)
-        - left_out(out.uuid, RESOURCE_UUID)
-        - left_out(out.blob, RESOURCE_BLOB)
-        - left_out(out.context, VIRGL + CONTEXT_INIT)
-}
-
-/// These bits, where their feature is left out.
-fn left_out(out: bool, bits: u64) -> u64
-    ensures value { result ≡ (if out then bits else 0) }
-    ensures at_most { result ≤ bits }
-{
-    if out { bits } else { 0 }
 }

@@ -7,7 +7,7 @@ use Rattle.vg_journal_lines.specs.Entries.{EntryInRange, entry_of, entry_words}
 use Rattle.vg_journal_lines.specs.Ranges.{IsCount}
 use Rattle.vg_journal_lines.specs.Words.{joined}
 use Rattle.vg_journal_lines.specs.Pieces.{whole}
-use Rattle.vg_judge.specs.JudgingWithin.{StandsNext}
+use Rattle.vg_judge.specs.EntriesWithin.{StandsNext}
 use Rattle.vg_judge.proofs.LineLemmas.{before_end, behind_end}
 
 -- What the law of the crate below says of an entry's line.

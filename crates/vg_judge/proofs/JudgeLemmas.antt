@@ -45,7 +45,7 @@ all_done bytes journal outline judging n is end found =
     let count = is.entries in
     let number = found.1 in
     let few : length journal.entries ≤ length found.0 = omega (arith, count, end, number) in
-    subst (λ es. IsJudging journal es judging) (are_all journal found.0 found.2.left found.2.place few) found.2
+    subst (λ es. IsJudging journal es judging) (are_all journal found.0 found.2.read.left found.2.read.place few) found.2
 
 -- The four tests of what is said beside the entries.
 four_hold : (p q l m : Bool) → (p && q && l && m) ≡ true → (p ≡ true) × (q ≡ true) × (l ≡ true) × (m ≡ true)

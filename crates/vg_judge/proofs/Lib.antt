@@ -3,6 +3,7 @@ pub mod LineLemmas
 pub mod FrameLemmas
 pub mod MeetLemmas
 pub mod EntryLemmas
+pub mod NextLemmas
 pub mod TurnLemmas
 pub mod VerdictLemmas
 pub mod JudgeLemmas

@@ -1,5 +1,6 @@
 -- Bytes that are cut behind a line.
-use Rattle.std.proofs.Common.{◌≡◌, ℕ, ◌+◌, ◌==◌, true, not, List, ◌∷◌, ◌++◌, length, get_or, take, drop, arith, ap, ◌∙◌, length-append}
+use Rattle.std.proofs.Common.{◌≡◌, ℕ, ◌+◌, ◌-◌, ◌==◌, true, not, List, ◌∷◌, ◌++◌, length, get_or, take, drop, arith, ap, ◌∙◌, length-append}
+use Rattle.std.proofs.lemmas.List.{drop_at, take_all}
 use Rattle.std.proofs.Math.ListN.{get_or-append}
 use Rattle.std.proofs.Math.Seq.{drop-append-add, get_or-append_seam, take-append_seam}
 use Rattle.std.proofs.lemmas.Bool.{not-true}
@@ -20,3 +21,10 @@ before_end bytes p v is lacking =
 pub behind_end : (bytes p v : List ℕ) → bytes ≡ p ++ 10 ∷ v → lacks 10 p ≡ true → after_first (λ b. b == 10) bytes ≡ v
 behind_end bytes p v is lacking =
     ap (after_first (λ b. b == 10)) is ∙ ap (λ n. drop (n + 1) (p ++ 10 ∷ v)) (ends_at p v lacking) ∙ drop-append-add p (10 ∷ v) 1
+
+-- What stands behind so many bytes.
+pub behind_at : (bytes front text : List ℕ) (at : ℕ) → length front ≡ at → bytes ≡ front ++ text → take (length bytes - at) (drop at bytes) ≡ text
+behind_at bytes front text at long is =
+    let size : length bytes ≡ length front + length text = ap length is ∙ length-append front text in
+    let rest : drop at bytes ≡ text = ap (drop at) is ∙ drop_at front text at long in
+    ap (take (length bytes - at)) rest ∙ take_all (length bytes - at) text (omega (arith, size, long))

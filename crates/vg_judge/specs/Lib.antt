@@ -1,4 +1,6 @@
 pub mod Outline
 pub mod Verdicts
+pub mod Entries
+pub mod EntriesWithin
 pub mod FramesWithin
 pub mod JudgingWithin

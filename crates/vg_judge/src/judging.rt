@@ -5,28 +5,23 @@ ghost use Rattle.vg_machine.specs.Entries.{Entry as AnyEntry};
 ghost use Rattle.vg_journal.specs.declared.journal.Journal.{Journal};
 ghost use Rattle.vg_journal_lines.specs.Pieces.{JournalInRange};
 ghost use Rattle.vg_check.specs.Right.{IsWrongAt};
-ghost use Rattle.vg_judge.specs.JudgingWithin.{IsJudging, IsNext, StandsNext};
+ghost use Rattle.vg_judge.specs.JudgingWithin.{IsJudging, IsNext};
 ghost use Rattle.vg_judge.specs.Outline.{IsOutline};
 ghost use Rattle.vg_judge.specs.Verdicts.{FitsEntries};
 
+use crate::entries::Entries;
 use crate::frames::Frames;
 use crate::verdicts::Outline;
 use std::alloc::{AllocError, Global};
 use vg_check::{Checker, frames_stay, right_entries_go_on};
-use vg_journal_lines::{entries_and_their_words, read_entry};
-use vg_line_words::put_parts;
-use vg_machine::Entry;
-use vg_script_words::cut;
 
 /// The entries of a journal, gone over one after another beside its frames.
 #[derive(Drop)]
 pub(crate) struct Judging<'a> {
-    /// How many clients there are.
-    pub(crate) clients: u32,
-    /// What stands behind the entries that were gone over.
-    pub(crate) rest: &'a [u8],
+    pub(crate) entries: Entries<'a>,
     pub(crate) checker: Checker,
     pub(crate) frames: Frames<'a>,
+    /// Room for the words of a frame's line.
     pub(crate) words: Vec<&'a [u8]>,
 }
 
@@ -43,8 +38,7 @@ impl<'a> Judging<'a> {
     {
         Ok(Judging {
             checker: Checker::new(alloc, &outline.setup)?,
-            clients: outline.setup.clients,
-            rest: &bytes[outline.entries_at..],
+            entries: Entries::new(alloc, bytes, outline),
             frames: Frames {
                 rest: &bytes[outline.frames_at..],
                 met: 0,
@@ -64,9 +58,7 @@ impl<'a> Judging<'a> {
     {
         right_entries_go_on();
         frames_stay();
-        let n = self.checker.entries() + 1;
-        let (entry, after) = entry_in_front(alloc, n, self.clients, &mut self.words, self.rest)?;
-        self.rest = after;
+        let entry = self.entries.next(alloc)?;
         if !self.checker.next(alloc, &entry)? {
             return Ok(false);
         }
@@ -87,23 +79,4 @@ impl<'a> Judging<'a> {
         let met = self.frames.are_all_met();
         control & cursor & left & met
     }
-}
-
-/// Entry n, whose line stands in front of some bytes, and what stands behind it.
-fn entry_in_front<'a>(
-    alloc: Global,
-    n: u64,
-    clients: u32,
-    words: &mut Vec<&'a [u8]>,
-    bytes: &'a [u8],
-) -> Result<(Entry, &'a [u8]), AllocError>
-    requires { (entry : AnyEntry) × (more : List ℕ) × StandsNext n clients bytes.now entry more }
-    ensures { IfOk result (λ read. (entry : AnyEntry) (more : List ℕ) → StandsNext n clients bytes.now entry more
-        → (read.0 ≡ entry) × (read.1.now ≡ more)) }
-{
-    entries_and_their_words();
-    let (line, after) = cut(bytes, b'\n');
-    put_parts(words, line)?;
-    let entry = read_entry(alloc, n, clients, words.as_slice())?.unwrap();
-    Ok((entry, after))
 }

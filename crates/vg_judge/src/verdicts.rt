@@ -41,22 +41,22 @@ pub enum Verdict {
 
 /// Whether a journal is that of a legal history, or else what is wrong first. Its entries and frames are read from its text, and
 /// nothing is kept of them but what the replay keeps.
-pub fn judge(alloc: Global, bytes: &[u8], outline: Outline) -> Result<Verdict, AllocError>
-    requires journal { (journal : Journal) × JournalInRange journal × IsOutline bytes.now journal outline }
-    requires few { outline.entries ≤ 2 ^ 31 - 1 }
-    ensures legal { IfOk result (λ verdict. verdict ≡ Legal → (journal : Journal) → JournalInRange journal → IsOutline bytes.now journal outline
+pub fn judge(alloc: Global, bytes: &[u8], outline: &Outline) -> Result<Verdict, AllocError>
+    requires journal { (journal : Journal) × JournalInRange journal × IsOutline bytes.now journal outline.now }
+    requires few { outline.now.entries ≤ 2 ^ 31 - 1 }
+    ensures legal { IfOk result (λ verdict. verdict ≡ Legal → (journal : Journal) → JournalInRange journal → IsOutline bytes.now journal outline.now
         → IsLegal journal) }
     ensures wrong { IfOk result (λ verdict. (n : ℕ) → verdict ≡ Wrong n → (journal : Journal) → JournalInRange journal
-        → IsOutline bytes.now journal outline → IsWrong journal n) }
+        → IsOutline bytes.now journal outline.now → IsWrong journal n) }
 {
     right_is_sound();
-    let mut judging = Judging::new(alloc, bytes, &outline)?;
+    let mut judging = Judging::new(alloc, bytes, outline)?;
     for n in 0..outline.entries {
         if !judging.next_is_right(alloc)? {
             return Ok(Verdict::Wrong { entry: n + 1 });
         }
     }
-    if judging.fits(&outline) {
+    if judging.fits(outline) {
         Ok(Verdict::Legal)
     } else {
         Ok(Verdict::Wrong { entry: 0 })

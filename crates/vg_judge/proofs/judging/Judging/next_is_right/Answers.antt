@@ -1,46 +1,41 @@
-use Rattle.std.proofs.Common.{refl}
-use Rattle.vg_judge.proofs.TurnLemmas.{LawsOfRight, goes_on, not_rightly, other_frames, stands_next, turn}
+use Rattle.std.proofs.Common.{arith}
+use Rattle.vg_check.proofs.CheckerLemmas.{entries-all}
+use Rattle.vg_judge.proofs.TurnLemmas.{LawsOfRight, goes_on, has_next, not_rightly, other_frames}
 use Rattle.vg_judge.proofs.judging.Judging.next_is_right.Goals as goal
 
-pub entry_in_front-requires : goal.entry_in_front-requires
-entry_in_front-requires c =
-    let next = c.requires.2 in
-    let t = turn _ _ _ next in
-    (t.entry, _, stands_next _ _ _ _ t (c.entries-n.ensures.all _ _ next.going.checked))
+pub next-requires : goal.next-requires
+next-requires c = (_, _, has_next _ _ _ c.requires.2)
 
-pub next-requires-clause-client : goal.next-requires-clause-client
-next-requires-clause-client c =
+pub next-requires-2-clause-entries : goal.next-requires-2-clause-entries
+next-requires-2-clause-entries c =
     let next = c.requires.2 in
-    let t = turn _ _ _ next in
-    let read = c.in_ok-entry.ensures t.entry _ (stands_next _ _ _ _ t (c.entries-n.ensures.all _ _ next.going.checked)) in
-    rw read.0 t.one
+    let count = entries-all _ _ _ next.going.checked in
+    let more = next.more in
+    let few = next.few in
+    omega (arith, count, more, few)
 
-pub next-requires-clause-call : goal.next-requires-clause-call
-next-requires-clause-call c =
-    let next = c.requires.2 in
-    let t = turn _ _ _ next in
-    let read = c.in_ok-entry.ensures t.entry _ (stands_next _ _ _ _ t (c.entries-n.ensures.all _ _ next.going.checked)) in
-    rw read.0 t.call
+pub next-requires-2-clause-client : goal.next-requires-2-clause-client
+next-requires-2-clause-client c = (c.in_ok-entry.ensures _ _ (has_next _ _ _ c.requires.2)).one
+
+pub next-requires-2-clause-call : goal.next-requires-2-clause-call
+next-requires-2-clause-call c = (c.in_ok-entry.ensures _ _ (has_next _ _ _ c.requires.2)).call
 
 pub returns-then-not-branch-clause-wrong : goal.returns-then-not-branch-clause-wrong
 returns-then-not-branch-clause-wrong c = λ is journal done next.
     let laws : LawsOfRight = record { right = c.right_entries_go_on.ensures.right; wrong = c.right_entries_go_on.ensures.wrong; stay = c.frames_stay.ensures } in
-    let t = turn _ _ _ next in
-    let read = c.in_ok-entry.ensures t.entry _ (stands_next _ _ _ _ t (c.entries-n.ensures.all _ _ next.going.checked)) in
-    not_rightly _ _ _ _ laws next t read.0 (c.in_ok-next.ensures.wrong c.if-not-branch.true)
+    let gone = c.in_ok-entry.ensures _ _ (has_next _ _ _ next) in
+    not_rightly _ _ _ _ _ laws next gone (c.in_ok-next.ensures.wrong c.if-not-branch.true)
 
 pub returns-clause-right : goal.returns-clause-right
 returns-clause-right c = λ is journal done next.
     let laws : LawsOfRight = record { right = c.right_entries_go_on.ensures.right; wrong = c.right_entries_go_on.ensures.wrong; stay = c.frames_stay.ensures } in
-    let t = turn _ _ _ next in
-    let read = c.in_ok-entry.ensures t.entry _ (stands_next _ _ _ _ t (c.entries-n.ensures.all _ _ next.going.checked)) in
-    let gone = c.in_ok-next.ensures.right c.if-not-branch.false _ _ next.going.checked in
-    (c.in_ok-entry.entry, goes_on _ _ _ _ _ _ laws next t read.0 refl read.1 gone (c.frames.ensures _ _ gone.checked) (c.in_ok-met.ensures.met is))
+    let gone = c.in_ok-entry.ensures _ _ (has_next _ _ _ next) in
+    let checked = c.in_ok-next.ensures.right c.if-not-branch.false _ _ next.going.checked in
+    (c.in_ok-entry.entry, goes_on _ _ _ _ _ _ laws next gone checked (c.frames.ensures _ _ checked.checked) (c.in_ok-met.ensures.met is))
 
 pub returns-clause-wrong : goal.returns-clause-wrong
 returns-clause-wrong c = λ is journal done next.
     let laws : LawsOfRight = record { right = c.right_entries_go_on.ensures.right; wrong = c.right_entries_go_on.ensures.wrong; stay = c.frames_stay.ensures } in
-    let t = turn _ _ _ next in
-    let read = c.in_ok-entry.ensures t.entry _ (stands_next _ _ _ _ t (c.entries-n.ensures.all _ _ next.going.checked)) in
-    let gone = c.in_ok-next.ensures.right c.if-not-branch.false _ _ next.going.checked in
-    other_frames _ _ _ _ _ laws next t read.0 (c.frames.ensures _ _ gone.checked) (c.in_ok-met.ensures.other is)
+    let gone = c.in_ok-entry.ensures _ _ (has_next _ _ _ next) in
+    let checked = c.in_ok-next.ensures.right c.if-not-branch.false _ _ next.going.checked in
+    other_frames _ _ _ _ _ _ laws next gone (c.frames.ensures _ _ checked.checked) (c.in_ok-met.ensures.other is)

@@ -1,16 +1,11 @@
 -- What is said of a journal beside its entries and frames, from what its lines say.
 use Rattle.std.specs.Prelude.{◌≤◌, ◌-◌, ◌^◌, ℕ, List}
-use Rattle.vg_client_holds.specs.Setup.{features_without}
 use Rattle.vg_journal.specs.declared.journal.Journal.{Journal}
-use Rattle.vg_journal_lines.specs.declared.state.LeftOut.{LeftOut}
 use Rattle.vg_journal_lines.specs.Refusals.{IsJournal}
 use Rattle.vg_journal_read.specs.declared.lines.Scanned.{Scanned}
+use Rattle.vg_journal_read.specs.Features.{accepted_of}
 use Rattle.vg_judge.specs.declared.verdicts.Outline.{Outline}
 use Rattle.vg_judge.specs.Outline.{IsOutline}
-
--- The features that are accepted where these are left out.
-abbrev pub accepted_of : LeftOut → ℕ
-accepted_of out = features_without out.edid out.uuid out.blob out.context
 
 abbrev pub outline_of : Scanned → Outline
 outline_of scanned = record {

@@ -1,6 +1,6 @@
 use Rattle.std.proofs.Common.{◌∙◌, ap, map, sym, rules}
 use Rattle.vg_judge.proofs.EntryLemmas.{EntriesAreSaid, is_read, is_some, the_same}
-use Rattle.vg_judge.proofs.judging.entry_in_front.Goals as goal
+use Rattle.vg_judge.proofs.entries.entry_in_front.Goals as goal
 
 pub unwrap-entry-requires : goal.unwrap-entry-requires
 unwrap-entry-requires c =
