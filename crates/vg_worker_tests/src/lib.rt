@@ -2,8 +2,6 @@
 #![tactic(auto)]
 
 #[cfg(test)]
-mod dozing;
-#[cfg(test)]
 mod gate;
 #[cfg(test)]
 mod guest;
