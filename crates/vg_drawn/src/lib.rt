@@ -2,11 +2,9 @@
 #![tactic(auto)]
 
 mod clients;
-mod drawn;
 mod frame;
 mod laws;
 
 pub use clients::clients_of;
-pub use drawn::Drawn;
 pub use frame::{Spot, frame_clients};
 pub use laws::{a_frames_clients_are_of_its_tags, words_are_the_sets};

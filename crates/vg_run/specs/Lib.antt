@@ -1,10 +1,9 @@
 pub mod Headline
 pub mod Checks
-pub mod Origins
 pub mod Generates
 pub mod Status
 pub mod Asked
-pub mod JournalsWithin
+pub mod CheckingWithin
 pub mod PrintingWithin
 pub mod SummingWithin
 pub mod Codes

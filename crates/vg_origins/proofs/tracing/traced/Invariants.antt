@@ -1,9 +1,0 @@
-use Rattle.std.proofs.Common.{◌≡◌}
-use Rattle.vg_journal.specs.declared.journal.Journal.{Journal}
-use Rattle.vg_journal_lines.specs.Pieces.{JournalInRange}
-use Rattle.vg_judge.specs.Outline.{IsOutline}
-use Rattle.vg_origins.specs.TracingWithin.{AreTraced}
-use Rattle.vg_origins.proofs.tracing.traced.Given as goal
-
-abbrev pub invariant-loop-n : goal.invariant-loop-n
-invariant-loop-n l = (journal : Journal) → JournalInRange journal → IsOutline l.bytes journal l.outline → AreTraced journal l.n l.entries l.drawn
