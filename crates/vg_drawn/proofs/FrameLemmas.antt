@@ -1,5 +1,5 @@
 -- The words of a frame, row by row.
-use Rattle.std.proofs.Common.{◌≡◌, ℕ, suc, ◌+◌, ◌*◌, ◌/◌, ◌%◌, ◌<◌, ◌&&◌, Bool, true, false, cond, not, nat_lt, List, get_or, slice_index, take, drop, bit_or, Option, Some, None, refl, sym, ap, ◌∙◌, arith}
+use Rattle.std.proofs.Common.{◌≡◌, ℕ, suc, ◌+◌, ◌*◌, ◌/◌, ◌%◌, ◌<◌, ◌&&◌, Bool, true, false, cond, nat_lt, List, get_or, slice_index, take, drop, bit_or, Option, Some, None, refl, sym, ap, ◌∙◌, arith}
 use Rattle.std.specs.Prelude.{ℤ, pos, negsuc}
 use Rattle.std.proofs.lemmas.List.{get_or-drop, get_or-take}
 use Rattle.std.proofs.lemmas.Nat.{div-mul-add, mod-mul-add}
@@ -90,7 +90,3 @@ row-is cursor spot width y from m c screen image is shown start size below =
 pub hidden-is : (cursor : Cursor) (spot : Spot) (width : ℕ) (screen image : List ℕ) (place : ℕ) → IsSpot cursor spot → spot.visible ≡ false → frame_word cursor width screen image place ≡ slice_index screen place
 hidden-is cursor spot width screen image place is hidden =
     ap (λ b. cond b (covered_at words (image_place cursor.x cursor.hot_x (place % (4 * width) / 4)) (image_place cursor.y cursor.hot_y (place / (4 * width))) (place % 4) (λ k. get_or image k 0) (get_or screen place 0)) (get_or screen place 0)) (sym is.visible ∙ hidden)
-
-pub not-true : (b : Bool) → not b ≡ true → b ≡ false
-not-true true is = sym is
-not-true false is = refl

@@ -1,6 +1,6 @@
 -- Words are the sets of clients.
 use Rattle.std.proofs.Common.{◌≡◌, ◌↔◌, ◌⊎◌, inl, inr, ⊎_elim, ℕ, zero, suc, ◌+◌, ◌<◌, ◌≤◌, ◌||◌, Bool, true, false, List, [], ◌∷◌, refl, sym, ap, ◌∙◌, arith}
-use Rattle.std.proofs.lemmas.Bool.{cases_lt}
+use Rattle.std.proofs.lemmas.Bool.{cases_lt, or_left, or_right}
 use Rattle.vg_client_holds.specs.declared.setup.Setup.{Setup}
 use Rattle.vg_machine.specs.Entries.{Entry}
 use Rattle.vg_painted.specs.Clients.{clients}
@@ -41,14 +41,6 @@ either-true : (a b : Bool) → (a || b) ≡ true → (a ≡ true) ⊎ (b ≡ tru
 either-true true b is = inl refl
 either-true false b is = inr is
 
-left-true : (a b : Bool) → a ≡ true → (a || b) ≡ true
-left-true true b is = refl
-left-true false b is = cc
-
-right-true : (a b : Bool) → b ≡ true → (a || b) ≡ true
-right-true true b is = refl
-right-true false b is = is
-
 none-true : (client : ℕ) → has_client 0 client ≡ true → ⊥
 none-true client is = apart (sym is ∙ has-none client)
   where
@@ -77,8 +69,8 @@ is-one at (suc n) client place within is =
     last place n within = elim (cases_lt place n) [ inl before ↦ inl before | inr past ↦ inr (omega (arith, within, past)) ]
 
     go : (place < n → has_client (union_below at n) client ≡ true) → (place < n) ⊎ (place ≡ n) → (has_client (union_below at n) client || has_client (at n) client) ≡ true
-    go rest (inl before) = left-true (has_client (union_below at n) client) (has_client (at n) client) (rest before)
-    go rest (inr here) = right-true (has_client (union_below at n) client) (has_client (at n) client) (ap (λ k. has_client (at k) client) (sym here) ∙ is)
+    go rest (inl before) = or_left (has_client (union_below at n) client) (has_client (at n) client) (rest before)
+    go rest (inr here) = or_right (has_client (union_below at n) client) (has_client (at n) client) (ap (λ k. has_client (at k) client) (sym here) ∙ is)
 
 pub frames-agree : (setup : Setup) (H : List Entry) (n count client : ℕ) → AreNumbered H
     → has_client (union_below ((painting words setup H).frames n) count) client ≡ true ↔ AreTagsBelow H client ((painting tags setup H).frames n) count

@@ -1,7 +1,8 @@
 use Rattle.std.proofs.Common.{◌≡◌, ◌+◌, length, refl, ap, ◌∙◌, arith}
 use Rattle.vg_drawn.specs.Frames.{frame_word}
 use Rattle.vg_drawn.specs.Words.{union_below}
-use Rattle.vg_drawn.proofs.FrameLemmas.{hidden-is, not-true}
+use Rattle.std.proofs.lemmas.Bool.{not-true}
+use Rattle.vg_drawn.proofs.FrameLemmas.{hidden-is}
 use Rattle.vg_drawn.proofs.frame.frame_clients.Goals as goal
 
 pub returns-then-not-spot : goal.returns-then-not-spot
