@@ -146,6 +146,14 @@ screen_of None = None
 abbrev pub screen_at : ℕ → ScanoutState → Option Screen
 screen_at scanout state = screen_of (slice_get state.screens scanout)
 
+abbrev pub pixels_of_screen : Option Screen → List ℕ
+pixels_of_screen (Some screen) = screen.pixels
+pixels_of_screen None = []
+
+-- The pixels of a scanout's screen as it is; none where it is disabled, or where there is no such scanout.
+abbrev pub screen_pixels : ℕ → ScanoutState → List ℕ
+screen_pixels scanout state = pixels_of_screen (screen_at scanout state)
+
 -- How many bytes a frame of a screen has.
 abbrev pub bytes_of_screen : Option Screen → ℕ
 bytes_of_screen (Some screen) = length screen.pixels

@@ -6,7 +6,7 @@ ghost use Rattle.vg_cursor.specs.Cursor.{IsWhole, cursor_of};
 ghost use Rattle.vg_cursor.specs.Look.{cursor_like};
 ghost use Rattle.vg_scanout.specs.Fits.{FitSurface, IsScreen};
 ghost use Rattle.vg_scanout.specs.Panels.{unbound_panel};
-ghost use Rattle.vg_scanout.specs.Scanout.{bind, binding_at, flush, snap, unbound, unbound_from};
+ghost use Rattle.vg_scanout.specs.Scanout.{bind, binding_at, flush, screen_pixels, snap, unbound, unbound_from};
 
 use crate::flush::{Flush, bytes_after, frame_of, make_frames, reground_each};
 use crate::panel::{Ground, Panel};
@@ -194,6 +194,17 @@ impl Scanouts {
         self.frames.push(frame)?;
         self.bytes = bytes;
         Ok(Ok(()))
+    }
+
+    /// A copy of a scanout's screen as it is, without a cursor: rows of four bytes a pixel. Nothing where it is disabled, or where
+    /// there is no such scanout.
+    pub fn screen_pixels(&self, alloc: Global, scanout: u32) -> Result<Vec<u8>, AllocError>
+        ensures { IfOk result (λ pixels. pixels.items ≡ screen_pixels scanout self.now) }
+    {
+        match self.panels.get(scanout as usize) {
+            Some(Some(panel)) => panel.pixels(alloc, self.frames.as_slice()),
+            _ => Ok(Vec::new(alloc)),
+        }
     }
 
     /// A law, and no work: each screen has the pixels of its rectangle.
