@@ -35,7 +35,7 @@ use Rattle.vg_drawers.proofs.HistoryLemmas.{after-alike}
 use Rattle.vg_drawers.proofs.PaintLemmas.{framed-alike, moved-alike}
 
 -- Each byte that is stored has the value of its client's number.
-abbrev drawers : Ink ℕ ℕ
+abbrev pub drawers : Ink ℕ ℕ
 drawers = record numbers { stored = λ entry client page byte. client }
 
 get-replicated : (n x k : ℕ) → k < n → slice_index (replicate n x) k ≡ x
@@ -140,7 +140,7 @@ from-same s z (entry ∷ more) p e =
     ap (painting_from numbers (after z (by_client entry)) (map by_client more)) (painted-same s z entry p e)
     ∙ from-same (after s entry) (after z (by_client entry)) more (painted drawers s entry p) (after-alike s z entry e)
 
-painting-same : (setup : Setup) (H : List Entry) → painting numbers setup (map by_client H) ≡ painting drawers setup H
+pub painting-same : (setup : Setup) (H : List Entry) → painting numbers setup (map by_client H) ≡ painting drawers setup H
 painting-same setup H = from-same (start setup) (start setup) H (fresh numbers) refl
 
 -- ---- numbers and sets

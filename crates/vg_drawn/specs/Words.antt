@@ -1,5 +1,5 @@
 -- The clients whose bytes a byte comes from, as one word of 16 bits: that of number c - 1 is client c's.
-use Rattle.std.specs.Prelude.{ℕ, suc, zero, ◌-◌, ◌^◌, ◌==◌, ◌&&◌, Bool, nat_le, List, bit_or}
+use Rattle.std.specs.Prelude.{ℕ, suc, zero, ◌-◌, ◌^◌, ◌==◌, ◌&&◌, Bool, nat_le, if◌then◌else◌, List, bit_or}
 use Rattle.std.specs.List.{filter, range_with_len}
 use Rattle.std.specs.Int.{bit_at}
 use Rattle.vg_painted.specs.Ink.{Ink}
@@ -16,6 +16,10 @@ words = record {
   blended = λ screen image a. bit_or screen (bit_or image a);
   solid = 0;
 }
+
+-- The set of the client whose number a byte is, from 1 to 16. Another byte is no one's.
+abbrev pub word_of : ℕ → ℕ
+word_of byte = if nat_le 1 byte && nat_le byte 16 then 2 ^ (byte - 1) else 0
 
 -- The client is in the set of this word.
 abbrev pub has_client : ℕ → ℕ → Bool

@@ -1,4 +1,4 @@
--- The command `check`, which reads a journal and says whether it is that of a legal history.
+-- The commands that read a journal, and `check`, which says whether it is that of a legal history.
 use Rattle.std.specs.Prelude.{◌≡◌, ◌≤◌, ◌⊎◌, ℕ, List, [], ◌∷◌, ◌++◌, length, codes, decimal, Option, IfSome}
 use Rattle.vg_io.specs.Streams.{IsAtEnd, Takes, TakesSome}
 use Rattle.vg_journal.specs.declared.journal.Journal.{Journal}
@@ -14,11 +14,19 @@ use Rattle.vg_run.specs.Generates.{IsGenOfSome}
 abbrev pub IsCheck : List (List ℕ) → Type 0
 IsCheck words = words ≡ codes "check" ∷ []
 
+-- They are `origins`.
+abbrev pub IsOrigins : List (List ℕ) → Type 0
+IsOrigins words = words ≡ codes "origins" ∷ []
+
+-- They are those of a command that reads a journal.
+abbrev pub ReadsJournal : List (List ℕ) → Type 0
+ReadsJournal words = IsCheck words ⊎ IsOrigins words
+
 -- They are those of a command.
 abbrev pub IsCommand : List (List ℕ) → Type 0
-IsCommand words = IsRun words ⊎ IsCheck words ⊎ IsGenOfSome words
+IsCommand words = IsRun words ⊎ IsCheck words ⊎ IsGenOfSome words ⊎ IsOrigins words
 
--- No more bytes than a journal may have that is checked.
+-- No more bytes than a journal may have that is read.
 abbrev pub IsCheckable : List ℕ → Type 0
 IsCheckable bytes = length bytes ≤ 1073741824
 

@@ -1,9 +1,10 @@
 pub mod Headline
 pub mod Checks
+pub mod Origins
 pub mod Generates
 pub mod Status
 pub mod Asked
-pub mod CheckingWithin
+pub mod JournalsWithin
 pub mod PrintingWithin
 pub mod SummingWithin
 pub mod Codes

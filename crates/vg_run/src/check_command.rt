@@ -5,16 +5,14 @@ ghost use Rattle.vg_io.specs.Streams.{GivesUpTo, IsAtEnd, Rose};
 ghost use Rattle.vg_journal_lines.specs.Refusals.{IsRefusedAt};
 ghost use Rattle.vg_checking.specs.Checking.{IsFound};
 ghost use Rattle.vg_run.specs.Checks.{Checks, ChecksPartly, ChecksWrong, IsCheckable, checked_text};
-ghost use Rattle.vg_run.specs.CheckingWithin.{Told, Unchecked, status_of};
+ghost use Rattle.vg_run.specs.JournalsWithin.{Told, Unchecked, status_of};
 ghost use Rattle.vg_run.specs.Status.{EndsCheck, IsFaultless};
 
+use crate::journals::{journal_bytes, write_found};
 use crate::top::Status;
 use std::alloc::{AllocError, Global};
 use vg_checking::{Checked, check};
-use vg_io::{ReadError, Sink, Source, read_all, write_all};
-
-/// How many bytes a journal has at most that is checked.
-const LIMIT: usize = 1_073_741_824;
+use vg_io::{Sink, Source};
 
 /// Reads a journal, and says whether it is that of a legal history.
 pub(crate) fn check_from<S: Source, K: Sink>(alloc: Global, source: &mut S, sink: &mut K) -> Status
@@ -56,12 +54,7 @@ fn read_checked<S: Source>(alloc: Global, source: &mut S) -> Result<Checked, Sta
     ensures early { result ≡ Err Status.ReadFault → GivesUpTo (S.left source.old) (S.left source.new) 1073741824 }
     ensures count { S.faults source.old ≤ S.faults source.new }
 {
-    let bytes = match read_all(alloc, source, LIMIT) {
-        Ok(bytes) => bytes,
-        Err(ReadError::Memory) => return Err(Status::NoMemory),
-        Err(ReadError::Fault) => return Err(Status::ReadFault),
-        Err(ReadError::TooLong) => return Err(Status::TooLong),
-    };
+    let bytes = journal_bytes(alloc, source)?;
     match check(alloc, bytes.as_slice()) {
         Ok(Ok(checked)) => Ok(checked),
         Ok(Err(line)) => Err(Status::Journal { line }),
@@ -71,17 +64,14 @@ fn read_checked<S: Source>(alloc: Global, source: &mut S) -> Result<Checked, Sta
 
 /// Writes what was found.
 fn tell<K: Sink>(alloc: Global, checked: Checked, sink: &mut K) -> Status
-    ensures told { (Told result checked (K.held sink.old) (K.held sink.new) (K.faults sink.old) (K.faults sink.new))
+    ensures told { (Told result (status_of checked) (checked_text checked) (K.held sink.old) (K.held sink.new) (K.faults sink.old) (K.faults sink.new))
         ⊎ ((result ≡ Status.NoMemory) × (sink.new ≡ sink.old)) }
     ensures count { K.faults sink.old ≤ K.faults sink.new }
 {
     let Ok(line) = line_of(alloc, checked) else {
         return Status::NoMemory;
     };
-    match write_all(sink, line.as_bytes()) {
-        Ok(()) => status_of(checked),
-        Err(_) => Status::WriteFault,
-    }
+    write_found(sink, line.as_bytes(), status_of(checked))
 }
 
 /// The line that says what was found.

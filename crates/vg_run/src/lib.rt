@@ -1,10 +1,13 @@
 //! The program's one call: a script is read, its clients run, and the journal is written; or a journal is read, and it is said
-//! whether it is that of a legal history; or a workload is made and run, and it is said what came of it.
+//! whether it is that of a legal history, or whose bytes its frames have; or a workload is made and run, and it is said what came
+//! of it.
 #![tactic(auto)]
 
 mod check_command;
 mod fault;
 mod gen_command;
+mod journals;
+mod origins_command;
 mod run_command;
 mod top;
 mod words;

@@ -3,7 +3,7 @@
 ghost use Rattle.std.specs.Prelude.{◌≡◌, ◌≤◌, ◌<◌, ◌+◌, ◌^◌, ◌↔◌, ℕ, [], ◌∷◌, map, string_bytes, decimal, IsTrue, MatchOption};
 ghost use Rattle.vg_run.specs.Asked.{IsAsked};
 ghost use Rattle.vg_run.specs.Headline.{IsRun};
-ghost use Rattle.vg_run.specs.Checks.{IsCheck, IsCommand};
+ghost use Rattle.vg_run.specs.Checks.{IsCheck, IsCommand, IsOrigins};
 ghost use Rattle.vg_run.specs.Generates.{IsGen, IsGenOfSome};
 
 use vg_script_words::is_number;
@@ -17,16 +17,21 @@ pub enum Command {
     Check,
     /// To run the workload of a number with so many clients, from 1 to 16.
     Gen { number: u64, clients: u32 },
+    /// To say of a journal whose bytes its frames have.
+    Origins,
 }
 
-/// What the words after the program's name ask for: `run`, `run --workers N` (2 where the words don't say), `check`, or
-/// `gen --number N --clients C`, in this order. Numbers are decimal digits without a sign and without a leading zero. None where the
+/// What the words after the program's name ask for: `run`, `run --workers N` (2 where the words don't say), `check`,
+/// `gen --number N --clients C`, in this order, or `origins`. Numbers are decimal digits without a sign and without a leading zero. None where the
 /// words are others.
 pub fn command_of(words: &[String]) -> Option<Command>
     ensures { MatchOption result (¬ IsCommand (map string_bytes words.now)) (IsAsked (map string_bytes words.now)) }
 {
     if is_check(words) {
         return Some(Command::Check);
+    }
+    if is_origins(words) {
+        return Some(Command::Origins);
     }
     if let Some((number, clients)) = numbers_of(words) {
         return Some(Command::Gen { number, clients });
@@ -125,6 +130,22 @@ fn is_check_word(word: &str) -> bool
     ensures { IsTrue result ↔ IsCheck (word.now ∷ []) }
 {
     word == "check"
+}
+
+/// Whether the words are `origins` alone.
+fn is_origins(words: &[String]) -> bool
+    ensures { IsTrue result ↔ IsOrigins (map string_bytes words.now) }
+{
+    match words {
+        [word] => is_origins_word(word.as_str()),
+        _ => false,
+    }
+}
+
+fn is_origins_word(word: &str) -> bool
+    ensures { IsTrue result ↔ IsOrigins (word.now ∷ []) }
+{
+    word == "origins"
 }
 
 /// How many workers the words ask for, which are `run` or `run --workers N`: N, from 1 to 8, and 2 where it is absent. None where

@@ -16,7 +16,7 @@ static CLIENTS: [&str; 16] = [
 /// Some of the numbers that there may be, with the least and the greatest.
 static NUMBERS: [u64; 6] = [0, 7, 10, 4_294_967_296, 9_223_372_036_854_775_808, u64::MAX];
 
-/// The three commands, as clap is told of them.
+/// The four commands, as clap is told of them.
 fn commands<'a>(alloc: Global) -> Result<Command<'a>, AllocError> {
     let workers = Arg::new(alloc, "workers")
         .long("workers")
@@ -34,7 +34,8 @@ fn commands<'a>(alloc: Global) -> Result<Command<'a>, AllocError> {
         .subcommand_required(true)
         .subcommand(Command::new(alloc, "run").arg(workers)?)?
         .subcommand(Command::new(alloc, "check"))?
-        .subcommand(Command::new(alloc, "gen").arg(number)?.arg(clients)?)
+        .subcommand(Command::new(alloc, "gen").arg(number)?.arg(clients)?)?
+        .subcommand(Command::new(alloc, "origins"))
 }
 
 /// What clap makes of the words. None where it refuses them.
@@ -50,6 +51,7 @@ fn asked(matches: &ArgMatches<'_>) -> Option<Asked> {
     let (name, found) = matches.subcommand()?;
     match name {
         "check" => Some(Asked::Check),
+        "origins" => Some(Asked::Origins),
         "run" => Some(Asked::Run {
             workers: found.get_one("workers").unwrap_or(2),
         }),
@@ -79,10 +81,12 @@ fn by_both(alloc: Global, words: &[&str]) -> Result<(Option<Asked>, Option<Asked
 }
 
 #[test]
-fn words_of_run_and_check(rt: HostRuntime) -> Result<(), Fail> {
+fn words_of_run_and_of_what_reads_journals(rt: HostRuntime) -> Result<(), Fail> {
     let check = Some(Asked::Check);
     let two = Some(Asked::Run { workers: 2 });
+    let origins = Some(Asked::Origins);
     assert_eq!(rt; by_both(rt.alloc(), &["check"])?, (check, check));
+    assert_eq!(rt; by_both(rt.alloc(), &["origins"])?, (origins, origins));
     assert_eq!(rt; by_both(rt.alloc(), &["run"])?, (two, two));
     for (at, said) in WORKERS.iter().enumerate() {
         let workers = Some(Asked::Run {
@@ -167,9 +171,10 @@ fn words_that_clap_alone_reads(rt: HostRuntime) -> Result<(), Fail> {
 }
 
 /// Words that both read.
-static FORMS: [&[&str]; 4] = [
+static FORMS: [&[&str]; 5] = [
     &["run"],
     &["check"],
+    &["origins"],
     &["run", "--workers", "3"],
     &["gen", "--number", "7", "--clients", "3"],
 ];

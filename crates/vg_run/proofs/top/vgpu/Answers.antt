@@ -1,6 +1,6 @@
-use Rattle.std.proofs.Common.{rules, map, string_bytes, subst}
+use Rattle.std.proofs.Common.{rules, inl, inr, map, string_bytes, subst}
 use Rattle.vg_run.specs.Headline.{IsRun}
-use Rattle.vg_run.specs.Checks.{IsCheck}
+use Rattle.vg_run.specs.Checks.{IsCheck, IsOrigins}
 use Rattle.vg_run.specs.Generates.{IsGen, Sums, SumsPartly}
 use Rattle.vg_run.proofs.WordLemmas.{gen-once}
 use Rattle.vg_run.proofs.top.vgpu.Goals as goal
@@ -14,13 +14,24 @@ returns-in-Some-Run-clause-script g c = λ line kind is.
 pub returns-in-Some-Check-clause-wrong : goal.returns-in-Some-Check-clause-wrong
 returns-in-Some-Check-clause-wrong g c = λ entry is.
     let asked : IsCheck (map string_bytes c.args.words.now) = search rules in
-    (asked, c.check_from.ensures.wrong entry is)
+    (inl asked, c.check_from.ensures.wrong entry is)
 
 pub returns-in-Some-Check-clause-journal : goal.returns-in-Some-Check-clause-journal
 returns-in-Some-Check-clause-journal g c = λ line is.
     let asked : IsCheck (map string_bytes c.args.words.now) = search rules in
     let told = c.check_from.ensures.journal line is in
-    (asked, told.0, told.1)
+    (inl asked, told.0, told.1)
+
+pub returns-in-Some-Origins-clause-wrong : goal.returns-in-Some-Origins-clause-wrong
+returns-in-Some-Origins-clause-wrong g c = λ entry is.
+    let asked : IsOrigins (map string_bytes c.args.words.now) = search rules in
+    (inr asked, c.origins_from.ensures.wrong entry is)
+
+pub returns-in-Some-Origins-clause-journal : goal.returns-in-Some-Origins-clause-journal
+returns-in-Some-Origins-clause-journal g c = λ line is.
+    let asked : IsOrigins (map string_bytes c.args.words.now) = search rules in
+    let told = c.origins_from.ensures.journal line is in
+    (inr asked, told.0, told.1)
 
 pub returns-in-Some-Gen-clause-done_gen : goal.returns-in-Some-Gen-clause-done_gen
 returns-in-Some-Gen-clause-done_gen g c = λ number clients is done.

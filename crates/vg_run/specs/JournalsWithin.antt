@@ -1,0 +1,51 @@
+-- How the reading of a journal ended, and how the writing of what was found.
+use Rattle.std.specs.Prelude.{◌≡◌, ◌<◌, ℕ, length, List, Option, IfSome}
+use Rattle.vg_io.specs.Streams.{Rose, Takes, TakesSome}
+use Rattle.vg_journal_lines.specs.Refusals.{IsRefusedAt}
+use Rattle.vg_checking.specs.declared.checking.Checked.{Checked}
+use Rattle.vg_checking.specs.declared.checking.Checked.TheVariants as checkeds
+use Rattle.vg_tracing.specs.declared.found.Found.{Found}
+use Rattle.vg_tracing.specs.declared.found.Found.TheVariants as found
+use Rattle.vg_run.specs.declared.top.Status.{Status}
+use Rattle.vg_run.specs.declared.top.Status.TheVariants.{Done, Usage, ReadFault, WriteFault, TooLong, NoMemory}
+use Rattle.vg_run.specs.declared.top.Status.TheVariants as statuses
+use Rattle.vg_run.specs.Checks.{IsCheckable}
+
+-- Why nothing was found of what a source had.
+abbrev pub Unchecked : Status → Option (List ℕ) → ℕ → ℕ → Type 0
+Unchecked (statuses.Journal line) left faults faults' = IfSome left (λ bytes. IsCheckable bytes × IsRefusedAt bytes line) × (faults' ≡ faults)
+Unchecked ReadFault left faults faults' = Rose faults faults'
+Unchecked TooLong left faults faults' = IfSome left (λ bytes. 1073741824 < length bytes) × (faults' ≡ faults)
+Unchecked NoMemory left faults faults' = faults' ≡ faults
+Unchecked (statuses.Script line kind) left faults faults' = ⊥
+Unchecked (statuses.Wrong entry) left faults faults' = ⊥
+Unchecked Done left faults faults' = ⊥
+Unchecked Usage left faults faults' = ⊥
+Unchecked WriteFault left faults faults' = ⊥
+
+-- How the call ends where all that was found is written.
+abbrev pub status_of : Checked → Status
+status_of (checkeds.Legal entries frames) = Done
+status_of (checkeds.Wrong entry) = statuses.Wrong entry
+
+abbrev pub status_of_origins : Found → Status
+status_of_origins (found.Drawn frames) = Done
+status_of_origins (found.Wrong entry) = statuses.Wrong entry
+
+-- It ends with what was found.
+abbrev pub EndsFound : Status → Type 0
+EndsFound Done = Unit {0}
+EndsFound (statuses.Wrong entry) = Unit {0}
+EndsFound status = ⊥
+
+-- How the writing of a text ended: with all of it and this status, or with a fault behind a front of it.
+abbrev pub Told : Status → Status → List ℕ → Option (List ℕ) → Option (List ℕ) → ℕ → ℕ → Type 0
+Told Done all text held held' faults faults' = (all ≡ Done) × Takes held held' text × (faults' ≡ faults)
+Told (statuses.Wrong entry) all text held held' faults faults' = (all ≡ statuses.Wrong entry) × Takes held held' text × (faults' ≡ faults)
+Told WriteFault all text held held' faults faults' = Rose faults faults' × TakesSome held held' text
+Told NoMemory all text held held' faults faults' = ⊥
+Told (statuses.Script line kind) all text held held' faults faults' = ⊥
+Told (statuses.Journal line) all text held held' faults faults' = ⊥
+Told TooLong all text held held' faults faults' = ⊥
+Told ReadFault all text held held' faults faults' = ⊥
+Told Usage all text held held' faults faults' = ⊥
