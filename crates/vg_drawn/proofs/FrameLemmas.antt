@@ -6,13 +6,12 @@ use Rattle.std.proofs.lemmas.Nat.{div-mul-add, mod-mul-add}
 use Rattle.vg_cursor.specs.declared.cursor.Cursor.{Cursor}
 use Rattle.vg_cursor.specs.Blended.{image_place}
 use Rattle.vg_painted.specs.Paint.{covered_at, over_at}
-use Rattle.vg_drawn.specs.declared.frame.Spot.{Spot}
-use Rattle.vg_drawn.specs.Frames.{GoesOn, IsSpot, frame_word, on_image, over_by, row_by, row_word}
-use Rattle.vg_drawn.specs.Words.{union_below, words}
+use Rattle.vg_drawn.specs.Frames.{GoesOn, frame_word, image_word, on_image, over_by, row_by, row_word}
+use Rattle.vg_drawn.specs.Words.{union_below, word_of, words}
 
 -- the words of a part are those at its places
-part-at : (words : List ℕ) (from m k : ℕ) → k < m → get_or (take m (drop from words)) k 0 ≡ get_or words (from + k) 0
-part-at words from m k within = get_or-take m (drop from words) k 0 within ∙ get_or-drop from words k 0
+part-at : (bytes : List ℕ) (from m k : ℕ) → k < m → word_of (get_or (take m (drop from bytes)) k 0) ≡ word_of (get_or bytes (from + k) 0)
+part-at bytes from m k within = ap word_of (get_or-take m (drop from bytes) k 0 within ∙ get_or-drop from bytes k 0)
 
 union-more : (at : ℕ → ℕ) (n : ℕ) → bit_or (union_below at n) (at n) ≡ union_below at (n + 1)
 union-more at n =
@@ -56,37 +55,32 @@ covered-by (pos i) (negsuc n) c image screen = refl
 covered-by (negsuc m) (pos j) c image screen = none-by (nat_lt j 64) j c image screen
 covered-by (negsuc m) (negsuc n) c image screen = refl
 
-row-by : (row : Option ℕ) (spot : Spot) (image screen : ℕ → ℕ) (c : ℕ) → by_row row (on_image (image_place spot.x spot.hot_x (c / 4))) (c % 4) image (screen c) ≡ row_by row spot image screen c
-row-by (Some j) spot image screen c = refl
-row-by None spot image screen c = refl
+row-by : (row : Option ℕ) (cursor : Cursor) (screen : ℕ → ℕ) (c : ℕ) → by_row row (on_image (image_place cursor.x cursor.hot_x (c / 4))) (c % 4) (image_word cursor) (screen c) ≡ row_by row cursor screen c
+row-by (Some j) cursor screen c = refl
+row-by None cursor screen c = refl
 
 -- a place of a frame, by its row
-pub row-is : (cursor : Cursor) (spot : Spot) (width y from m c : ℕ) (screen image : List ℕ) → IsSpot cursor spot → spot.visible ≡ true → from ≡ 4 * width * y → m ≡ 4 * width → c < m
-    → frame_word cursor width screen image (from + c) ≡ row_word spot y (λ k. slice_index image k) (λ k. slice_index (take m (drop from screen)) k) c
-row-is cursor spot width y from m c screen image is shown start size below =
+pub row-is : (cursor : Cursor) (width y from m c : ℕ) (screen : List ℕ) → cursor.visible ≡ true → from ≡ 4 * width * y → m ≡ 4 * width → c < m
+    → frame_word cursor width screen (from + c) ≡ row_word cursor y (λ k. word_of (slice_index (take m (drop from screen)) k)) c
+row-is cursor width y from m c screen shown start size below =
     let place = from + c in
     let split : place ≡ y * (4 * width) + c = omega (arith, start) in
     let low : c < 4 * width = omega (arith, below, size) in
     let column : place % (4 * width) ≡ c = ap (λ n. n % (4 * width)) split ∙ mod-mul-add y (4 * width) c low in
     let row : place / (4 * width) ≡ y = ap (λ n. n / (4 * width)) split ∙ div-mul-add y (4 * width) c low in
     let byte : place % 4 ≡ c % 4 = omega (arith, start) in
-    let at : ℕ → ℕ = λ k. get_or image k 0 in
-    let word = get_or screen place 0 in
-    let z = image_place spot.x spot.hot_x (c / 4) in
-    let w = image_place spot.y spot.hot_y y in
-    let across : image_place cursor.x cursor.hot_x (place % (4 * width) / 4) ≡ z =
-    ap (λ n. image_place cursor.x cursor.hot_x (n / 4)) column ∙ (λ i. image_place (sym is.x i) (sym is.hot_x i) (c / 4))
-    in
-    let down : image_place cursor.y cursor.hot_y (place / (4 * width)) ≡ w =
-    ap (image_place cursor.y cursor.hot_y) row ∙ (λ i. image_place (sym is.y i) (sym is.hot_y i) y)
-    in
-    ap (λ b. cond b (covered_at words (image_place cursor.x cursor.hot_x (place % (4 * width) / 4)) (image_place cursor.y cursor.hot_y (place / (4 * width))) (place % 4) at word) word) (sym is.visible ∙ shown)
-    ∙ (λ i. covered_at words (across i) (down i) (byte i) at word)
+    let at = image_word cursor in
+    let word = word_of (get_or screen place 0) in
+    let z = image_place cursor.x cursor.hot_x (c / 4) in
+    let w = image_place cursor.y cursor.hot_y y in
+    ap (λ b. cond b (covered_at words (image_place cursor.x cursor.hot_x (place % (4 * width) / 4)) (image_place cursor.y cursor.hot_y (place / (4 * width))) (place % 4) at word) word) shown
+    ∙ (λ i. covered_at words (image_place cursor.x cursor.hot_x (column i / 4)) (image_place cursor.y cursor.hot_y (row i)) (byte i) at word)
     ∙ covered-by z w (c % 4) at word
     ∙ ap (by_row (on_image w) (on_image z) (c % 4) at) (sym (part-at screen from m c below))
-    ∙ row-by (on_image w) spot at (λ k. get_or (take m (drop from screen)) k 0) c
+    ∙ row-by (on_image w) cursor (λ k. word_of (get_or (take m (drop from screen)) k 0)) c
 
 -- a frame without its cursor
-pub hidden-is : (cursor : Cursor) (spot : Spot) (width : ℕ) (screen image : List ℕ) (place : ℕ) → IsSpot cursor spot → spot.visible ≡ false → frame_word cursor width screen image place ≡ slice_index screen place
-hidden-is cursor spot width screen image place is hidden =
-    ap (λ b. cond b (covered_at words (image_place cursor.x cursor.hot_x (place % (4 * width) / 4)) (image_place cursor.y cursor.hot_y (place / (4 * width))) (place % 4) (λ k. get_or image k 0) (get_or screen place 0)) (get_or screen place 0)) (sym is.visible ∙ hidden)
+pub hidden-is : (cursor : Cursor) (width : ℕ) (screen : List ℕ) (place : ℕ) → cursor.visible ≡ false → frame_word cursor width screen place ≡ word_of (slice_index screen place)
+hidden-is cursor width screen place hidden =
+    let word = word_of (get_or screen place 0) in
+    ap (λ b. cond b (covered_at words (image_place cursor.x cursor.hot_x (place % (4 * width) / 4)) (image_place cursor.y cursor.hot_y (place / (4 * width))) (place % 4) (image_word cursor) word) word) hidden

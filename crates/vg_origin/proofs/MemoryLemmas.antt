@@ -32,6 +32,7 @@ use Rattle.vg_painted.specs.Paint.{acted, cleared_at, fresh, painted, painting, 
 use Rattle.vg_origin.proofs.FitLemmas.{Fits, entry-fits, page-of-one, start-fits, stored-page}
 use Rattle.vg_origin.proofs.KeptLemmas.{requested-memory, shaped-beside}
 use Rattle.vg_painted.proofs.OnceLemmas.{Once, insert_itself, removed}
+use Rattle.vg_painted.proofs.RelatedLemmas.{painting-more}
 
 -- ---- pages of buffers
 
@@ -229,10 +230,6 @@ take-next (x ∷ xs) (suc i) =
       | inr more ↦ inr (more.0, more.1, ap (λ (es : List Entry). x ∷ es) more.2, ap suc more.3)
     ]
 
-painting-more : (xs : List Entry) (entry : Entry) (state : State) (p : Painting Tag (List Tag)) → painting_from tags state (xs ++ entry ∷ []) p ≡ painted tags (replay_from state xs) entry (painting_from tags state xs p)
-painting-more [] entry state p = refl
-painting-more (x ∷ xs) entry state p = painting-more xs entry (after state x) (painted tags state x p)
-
 one-more : (state : State) (entry : Entry) → (after state entry).entries ≡ state.entries + 1
 one-more state (entries.Act client call act reply) = act-counts state client act
 one-more state (entries.Command client call request reply) = request-counts state request
@@ -259,7 +256,7 @@ next-moment setup H i =
             record {
               there = there;
               state = ap (replay setup) is ∙ replay_append display (start setup) (take i H) (entry ∷ []);
-              tags = ap (painting tags setup) is ∙ painting-more (take i H) entry (start setup) (fresh tags);
+              tags = ap (painting tags setup) is ∙ painting-more tags (take i H) entry (start setup) (fresh tags);
               count = omega (arith, all, long);
             },
           )

@@ -1,5 +1,5 @@
 -- Inks whose bytes are related paint related things.
-use Rattle.std.proofs.Common.{◌≡◌, ℕ, ◌+◌, ◌-◌, ◌*◌, ◌/◌, ◌%◌, ◌==◌, ◌&&◌, Bool, true, false, cond, nat_le, nat_lt, List, [], ◌∷◌, length, drop, Option, Some, None, slice_get, slice_index, subst, sym}
+use Rattle.std.proofs.Common.{◌≡◌, ℕ, ◌+◌, ◌-◌, ◌*◌, ◌/◌, ◌%◌, ◌==◌, ◌&&◌, Bool, true, false, cond, nat_le, nat_lt, List, [], ◌∷◌, ◌++◌, length, drop, Option, Some, None, slice_get, slice_index, refl, subst, sym}
 use Rattle.std.specs.Prelude.{ℤ, pos, negsuc}
 use Rattle.vg_formats.specs.declared.entry.MemEntry.{MemEntry}
 use Rattle.vg_formats.specs.declared.format.Format.{Format}
@@ -42,7 +42,7 @@ use Rattle.vg_device.specs.Step.{create_2d_refusals, cursor_refusals, flush_refu
 use Rattle.vg_machine.specs.CountedWithin.{act-counts, request-counts}
 use Rattle.vg_machine.specs.Entries.{Entry}
 use Rattle.vg_machine.specs.Order.{client_of}
-use Rattle.vg_machine.specs.Replay.{after}
+use Rattle.vg_machine.specs.Replay.{after, replay_from}
 use Rattle.vg_painted.specs.Ink.{Ink, Painting}
 use Rattle.vg_painted.specs.Paint.{acted, bound, byte_of_entries, cleared_at, commanded, commanded_2d, covered_at, created, filled_at, flushed, flushed_at, framed, framed_at, fresh, image_at, moved, over_at, painted, painting, painting_from, pointed, ran, received, requested, reserved, shown_at, stored, stored_at, surface, transferred, unless, with_one}
 use Rattle.vg_painted.specs.Painted.{AreRelated}
@@ -372,3 +372,9 @@ module _ {X Z Y W : Type 0} (By : ℕ → ℕ → Type 0) (R : X → Y → Type 
 
   pub painting-related : (setup : Setup) (H : List Entry) → AreBy By 0 H → AreRelated R S (painting i setup H) (painting j setup H)
   painting-related setup H by = from-related H (start setup) (fresh i) (fresh j) by fresh-related
+
+-- with one entry more what it writes is painted behind the others
+pub painting-more : {X Z : Type 0} (ink : Ink X Z) (H : List Entry) (entry : Entry) (state : State) (p : Painting X Z)
+    → painting_from ink state (H ++ entry ∷ []) p ≡ painted ink (replay_from state H) entry (painting_from ink state H p)
+painting-more ink [] entry state p = refl
+painting-more ink (x ∷ more) entry state p = painting-more ink more entry (after state x) (painted ink state x p)

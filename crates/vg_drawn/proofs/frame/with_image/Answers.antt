@@ -2,6 +2,7 @@
 use Rattle.std.proofs.Common.{◌≡◌, ◌+◌, ◌-◌, ◌*◌, ◌≤◌, length, take, drop, ap, sym, ◌∙◌, arith}
 use Rattle.std.proofs.lemmas.List.{length-take, length-drop}
 use Rattle.std.proofs.lemmas.Nat.{row_fits}
+use Rattle.vg_cursor.specs.Look.{cursor_like}
 use Rattle.vg_drawn.specs.Frames.{frame_word}
 use Rattle.vg_drawn.specs.Words.{union_below}
 use Rattle.vg_drawn.proofs.FrameLemmas.{row-is}
@@ -11,7 +12,7 @@ pub loop-y-preserved : goal.loop-y-preserved
 loop-y-preserved c =
     let width = c.args.width in
     let screen = c.args.screen.now in
-    let image = c.args.image.now in
+    let cursor = cursor_like c.args.look.now in
     let y = c.loop-y.y in
     let from = c.loop-y.from in
     let was = c.loop-y.invariant in
@@ -23,14 +24,14 @@ loop-y-preserved c =
     in
     record {
       from = omega (arith, was.from);
-      all = λ cursor is.
-          c.row-all.ensures (frame_word cursor width screen image) from (was.all cursor is)
-          (λ k below. row-is cursor c.args.spot width y from m k screen image is c.requires.shown was.from size (omega (arith, below, long, size)))
-          ∙ ap (λ n. union_below (frame_word cursor width screen image) (from + n)) long;
+      all =
+          c.row-all.ensures (frame_word cursor width screen) from was.all
+          (λ k below. row-is cursor width y from m k screen c.requires.shown was.from size (omega (arith, below, long, size)))
+          ∙ ap (λ n. union_below (frame_word cursor width screen) (from + n)) long;
     }
 
 pub returns : goal.returns
-returns c = λ cursor is.
+returns c =
     let y : c.loop-y.y ≡ c.args.height = omega (arith, c.loop-y-test.false, c.loop-y.auto.y-end) in
     let end : c.loop-y.from ≡ length c.args.screen.now = c.loop-y.invariant.from ∙ ap (λ n. 4 * c.args.width * n) y ∙ sym c.requires.whole in
-    c.loop-y.invariant.all cursor is ∙ ap (union_below (frame_word cursor c.args.width c.args.screen.now c.args.image.now)) end
+    c.loop-y.invariant.all ∙ ap (union_below (frame_word (cursor_like c.args.look.now) c.args.width c.args.screen.now)) end
