@@ -152,7 +152,7 @@ AreMade m from z = (n : ℕ) (frame : Frame) → from ≤ n → slice_get z.scan
 are-made : (m : ℕ) (old new : State) → Makes m old new → AreMade m (length old.scanouts.frames) new
 are-made m old new makes n frame from is =
     ⊎_elim (λ first. let low : n < length old.scanouts.frames = first.0 in absurd (omega (arith, low, from)))
-    (λ behind. makes.made behind.2.0 frame behind.2.1)
+    (λ behind. makes.made behind.1 frame behind.2)
     (first-or-behind old.scanouts.frames makes.more n frame (ap (λ (fs : List Frame). slice_get fs n) (sym makes.frames) ∙ is))
 
 of-now : (m from : ℕ) (z : State) → AreMade m from z → AreOfNow z from
@@ -235,13 +235,19 @@ goes-over entry old new stepped setup H is = record {
       (subst (λ (q : Painting ℕ ℕ). FramesHave s'.scanouts.frames new.frames.items q.frames) (sym (painting-over setup H entry)) (frames-over s s' z new.display P p old.frames.items new.frames.items go));
 }
   where
-    s s' z : State
+    s : State
     s = replay setup H
+
+    s' : State
     s' = after s entry
+
+    z : State
     z = replay setup (map by_client H)
 
-    P p : Painting ℕ ℕ
+    P : Painting ℕ ℕ
     P = painting words setup H
+
+    p : Painting ℕ ℕ
     p = moved words (counted s) entry P
 
     few : All IsOfFew (H ++ entry ∷ [])

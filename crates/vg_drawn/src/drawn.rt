@@ -10,10 +10,10 @@ ghost use Rattle.vg_drawn.specs.Drawn.{GoesOver, HasRoom, IsDrawn, IsOfFew};
 use crate::made::add_sets;
 use std::alloc::{AllocError, Global};
 use vg_device::{Act, Device, Holds, Setup};
-use vg_drawers::bytes_are_their_clients;
 use vg_linked::replayed_states_are_consistent;
 use vg_list::Seq;
 use vg_machine::Entry;
+use vg_painted::numbers_are_the_bytes;
 
 /// A display that goes through a history again, in which each client stores its own number in place of its bytes, and the clients of
 /// each frame so far. So each of the display's bytes tells who stored the byte that is there in truth.
@@ -46,9 +46,10 @@ impl Drawn {
         ensures { OnOk result (GoesOver self.old entry.now self.new) }
     {
         replayed_states_are_consistent();
-        bytes_are_their_clients();
+        numbers_are_the_bytes();
         step(alloc, &mut self.display, &mut self.holds, entry)?;
-        add_sets(alloc, &self.display, &mut self.frames)
+        add_sets(alloc, &self.display, &mut self.frames)?;
+        Ok(())
     }
 
     /// Of each frame so far, the set of the clients whose bytes it has.
