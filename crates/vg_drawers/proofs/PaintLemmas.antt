@@ -165,13 +165,14 @@ module _ {X Z : Type 0} (ink : Ink X Z) where
   framed-same : (t : State) (n : ℕ) (p : Painting X Z) (old : ℕ → Z) → framed_at ink (shape t) (slice_get (shape t).scanouts.frames n) p old ≡ framed_at ink t (slice_get t.scanouts.frames n) p old
   framed-same t n p old = ap (λ found. framed_at ink (shape t) found p old) (shapes.get-mapped frame_shape t.scanouts.frames n) ∙ framed-by t (slice_get t.scanouts.frames n) p old
 
-  count-alike : (s z : State) → Alike s z → length s.scanouts.frames ≡ length z.scanouts.frames
+  pub count-alike : (s z : State) → Alike s z → length s.scanouts.frames ≡ length z.scanouts.frames
   count-alike s z e = sym (length-map s.scanouts.frames frame_shape) ∙ ap (λ (t : State). length t.scanouts.frames) e ∙ length-map z.scanouts.frames frame_shape
 
+  pub framed_at-alike : (s z : State) (n : ℕ) (p : Painting X Z) (old : ℕ → Z) → Alike s z
+      → framed_at ink s (slice_get s.scanouts.frames n) p old ≡ framed_at ink z (slice_get z.scanouts.frames n) p old
+  framed_at-alike s z n p old e =
+      sym (framed-same s n p old) ∙ ap (λ (t : State). framed_at ink t (slice_get t.scanouts.frames n) p old) e ∙ framed-same z n p old
+
   pub framed-alike : (old old' new new' : State) (p : Painting X Z) → Alike old old' → Alike new new' → framed ink old new p ≡ framed ink old' new' p
-  framed-alike old old' new new' p e after = λ i. record p { frames = λ n. cond (nat_lt n (count-alike old old' e i)) (p.frames n) (made n i) }
-    where
-      made : (n : ℕ) → framed_at ink new (slice_get new.scanouts.frames n) p (p.frames n) ≡ framed_at ink new' (slice_get new'.scanouts.frames n) p (p.frames n)
-      made n =
-          sym (framed-same new n p (p.frames n)) ∙ ap (λ (t : State). framed_at ink t (slice_get t.scanouts.frames n) p (p.frames n)) after
-          ∙ framed-same new' n p (p.frames n)
+  framed-alike old old' new new' p e after = λ i.
+      record p { frames = λ n. cond (nat_lt n (count-alike old old' e i)) (p.frames n) (framed_at-alike new new' n p (p.frames n) after i) }

@@ -45,6 +45,7 @@ pub record IsMade (n : ℕ) (cursors : List Cursor) (screens : List (Option Scre
   pub screen : Screen
   pub there : slice_get screens frame.scanout ≡ Some (Some screen)
   pub width : frame.width ≡ screen.binding.rect.width
+  pub height : frame.height ≡ screen.binding.rect.height
   pub pixels : frame.pixels ≡ blended (cursor_of cursors frame.scanout) screen.binding.rect.width screen.pixels
 
 -- The frames are those of before and new ones, each made so.
@@ -61,7 +62,7 @@ AllMade n cursors screens more = (k : ℕ) (frame : Frame) → slice_get more k 
 frame-made : (entry : ℕ) (cursors : List Cursor) (screens : List (Option Screen)) (scanout : ℕ) (screen : Option Screen) → slice_get screens scanout ≡ Some screen → AllMade entry cursors screens (frame_of entry cursors scanout screen)
 frame-made entry cursors screens scanout None at k frame there = cc
 frame-made entry cursors screens scanout (Some screen) at zero frame there =
-    subst (IsMade entry cursors screens) (same there) (record { number = refl; screen = screen; there = at; width = refl; pixels = refl })
+    subst (IsMade entry cursors screens) (same there) (record { number = refl; screen = screen; there = at; width = refl; height = refl; pixels = refl })
   where
     same : {x y : Frame} → ◌≡◌ {A = Option Frame} (Some x) (Some y) → x ≡ y
     same eq = cc
