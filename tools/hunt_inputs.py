@@ -12,6 +12,7 @@ import toolbox
 
 histories = toolbox.module("check-history")
 judges = toolbox.module("check-journals")
+clients = toolbox.module("check-clients")
 gen = toolbox.module("gen")
 TOP = pathlib.Path(__file__).resolve().parent.parent
 HEAVY = re.compile(rb"^(?:display|buffer) +\S* *(?:640|[3-6]\d\d) ", re.MULTILINE)
@@ -311,8 +312,15 @@ def reader(some):
     return [some.choice(("check", "origins"))]
 
 
+def journal_to_read(words, some):
+    """A journal for this word. In few of the scripts anything is drawn that is shown, so for `origins` mostly pictures are made."""
+    is_picture = words == ["origins"] and some.random() < 0.7
+    return journal_of(clients.random_pictures(some.randrange(2**32)) if is_picture else a_script(some), some)
+
+
 def of_journal(some):
-    return Input("journal", reader(some), journal_of(a_script(some), some))
+    words = reader(some)
+    return Input("journal", words, journal_to_read(words, some))
 
 
 def numbered(lines):
@@ -396,7 +404,8 @@ def spoiled_journal(text, some):
 
 
 def of_spoiled(some):
-    return Input("spoiled journal", reader(some), spoiled_journal(journal_of(a_script(some), some), some))
+    words = reader(some)
+    return Input("spoiled journal", words, spoiled_journal(journal_to_read(words, some), some))
 
 
 def of_run(given, text):
