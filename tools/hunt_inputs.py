@@ -12,6 +12,7 @@ import toolbox
 
 histories = toolbox.module("check-history")
 judges = toolbox.module("check-journals")
+clients = toolbox.module("check-clients")
 gen = toolbox.module("gen")
 TOP = pathlib.Path(__file__).resolve().parent.parent
 HEAVY = re.compile(rb"^(?:display|buffer) +\S* *(?:640|[3-6]\d\d) ", re.MULTILINE)
@@ -306,8 +307,20 @@ def of_faulty(some):
     return Input("faulty script", run_words(some), spoiled(a_script(some), some))
 
 
+def reader(some):
+    """A word that reads a journal."""
+    return [some.choice(("check", "origins"))]
+
+
+def journal_to_read(words, some):
+    """A journal for this word. In few of the scripts anything is drawn that is shown, so for `origins` mostly pictures are made."""
+    is_picture = words == ["origins"] and some.random() < 0.7
+    return journal_of(clients.random_pictures(some.randrange(2**32)) if is_picture else a_script(some), some)
+
+
 def of_journal(some):
-    return Input("journal", ["check"], journal_of(a_script(some), some))
+    words = reader(some)
+    return Input("journal", words, journal_to_read(words, some))
 
 
 def numbered(lines):
@@ -391,15 +404,16 @@ def spoiled_journal(text, some):
 
 
 def of_spoiled(some):
-    return Input("spoiled journal", ["check"], spoiled_journal(journal_of(a_script(some), some), some))
+    words = reader(some)
+    return Input("spoiled journal", words, spoiled_journal(journal_to_read(words, some), some))
 
 
 def of_run(given, text):
     """The journal that a run has written, and, of a short one, the same spoiled."""
-    found = [Input("journal of a run", ["check"], text, by_pipe=not given.by_pipe)]
+    some = random.Random(given.chance)
+    found = [Input("journal of a run", reader(some), text, by_pipe=not given.by_pipe)]
     if len(text) < 200_000:
-        some = random.Random(given.chance)
-        found.append(Input("spoiled journal of a run", ["check"], spoiled_journal(text, some), by_pipe=given.by_pipe))
+        found.append(Input("spoiled journal of a run", reader(some), spoiled_journal(text, some), by_pipe=given.by_pipe))
     return found
 
 
@@ -416,12 +430,12 @@ def of_kept(some):
     """A row's or an example's input with one thing changed, as a script or as a journal."""
     text = changed_bytes(some.choice(kept_files()), some)
     is_journal = text.startswith(b"vgpu-journal") or some.random() < 0.03
-    return Input("kept", ["check"] if is_journal else run_words(some), text)
+    return Input("kept", reader(some) if is_journal else run_words(some), text)
 
 
 MOST_NUMBER = 2**64 - 1
-LISTS = ["run", "run --workers 2", "check", "gen --number 7 --clients 2", f"gen --number {MOST_NUMBER} --clients 1"]
-NEAR = ["", "''", "run", "Run", "runs", "check", "gen", "--workers", "--workers=2", "--number", "--clients", "--help", "-h", "-", "--", "0", "00", "1", "2", "8", "08", "9"]
+LISTS = ["run", "run --workers 2", "check", "origins", "gen --number 7 --clients 2", f"gen --number {MOST_NUMBER} --clients 1"]
+NEAR = ["", "''", "run", "Run", "runs", "check", "origins", "origin", "gen", "--workers", "--workers=2", "--number", "--clients", "--help", "-h", "-", "--", "0", "00", "1", "2", "8", "08", "9"]
 NEAR += ["16", "17", "-1", "+1", "1.0", "x", "2 ", "' 2'", "18446744073709551615", "18446744073709551616", 40 * "1", "\udcff", "run\n", "é"]
 
 
@@ -441,7 +455,7 @@ def of_words(some):
             words[at], words[other] = words[other], words[at]
     if words[:1] == ["gen"] or some.random() < 0.3:
         return Input("words", words, b"", reads_fail=True)
-    return Input("words", words, a_script(some) if "check" not in words else journal_of(a_script(some), some))
+    return Input("words", words, journal_of(a_script(some), some) if {"check", "origins"} & set(words) else a_script(some))
 
 
 def of_gen(some):
@@ -450,11 +464,11 @@ def of_gen(some):
 
 
 def of_memory(some):
-    """A run, a check or a workload in little memory: in less than 4 MB the program is never begun, since its libraries lack room."""
+    """A run, a workload, or what reads a journal in little memory: in less than 4 MB the program is never begun, since its libraries lack room."""
     script = hunt_scripts.Script(some, clients=some.choice((1, 1, 1, 2, 4))).text()
     memory = some.choice((some.randrange(4_000_000, 30_000_000), some.randrange(4_000_000, 250_000_000)))
     if some.random() < 0.3:
-        return Input("little memory", ["check"], journal_of(script, some), memory=memory)
+        return Input("little memory", reader(some), journal_of(script, some), memory=memory)
     if some.random() < 0.15:
         return Input("little memory", ["gen", "--number", "7", "--clients", str(some.choice((1, 2, 4)))], b"", memory=memory, reads_fail=True)
     return Input("little memory", run_words(some), script, memory=memory)
@@ -464,7 +478,7 @@ def of_room(some):
     """An output that takes so many bytes and no more."""
     script, room = a_script(some), some.choice((0, 1, 15, some.randrange(300), some.randrange(100_000)))
     if some.random() < 0.3:
-        return Input("little room", ["check"], journal_of(script, some), room=some.randrange(30))
+        return Input("little room", reader(some), journal_of(script, some), room=some.randrange(30))
     return Input("little room", run_words(some), script, room=room)
 
 

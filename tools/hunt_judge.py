@@ -1,8 +1,8 @@
 """Runs a program on an input of tools/hunt, and says what of its answer isn't as the rules have it.
 
 The rules are read a second time: the words by `meant`, the faults of a script by tools/script_faults.py, histories by tools/check-history
-and journals by tools/check-journals, the sums of a workload from docs/JOURNAL.md. Nothing is taken from what the program itself says,
-but that where a run writes the journal of several clients, which is one of many, that journal has to be legal, and `check` to say so.
+and journals by tools/check-journals, the clients of frames by tools/check-history too, the sums of a workload from docs/JOURNAL.md. Nothing is taken from what the program itself says,
+but that where a run writes the journal of several clients, which is one of many, that journal has to be legal, and `check` and `origins` to say so.
 """
 import contextlib
 import dataclasses
@@ -26,7 +26,7 @@ histories = toolbox.module("check-history")
 judges = toolbox.module("check-journals")
 TOP = pathlib.Path(__file__).resolve().parent.parent
 LAUNCH = TOP / "bench" / "launch.py"
-USAGE = "usage: vgpu run | run --workers N | check | gen --number N --clients C"
+USAGE = "usage: vgpu run | run --workers N | check | gen --number N --clients C | origins"
 SAID = {4: "read fault", 5: "write fault", 6: "too long", 7: "out of memory"}
 MOST_PIXELS = 134_217_728
 MADE = re.compile(rb" 01010000[0-9a-f]{56}([0-9a-f]{16})")  # the sizes in a RESOURCE_CREATE_2D
@@ -81,8 +81,8 @@ def is_number(word, least, most):
 
 
 def meant(words):
-    """What the words ask for: `run`, `check`, `gen`, or nothing."""
-    if words in (["run"], ["check"]):
+    """What the words ask for: `run`, `check`, `origins`, `gen`, or nothing."""
+    if words in (["run"], ["check"], ["origins"]):
         return words[0]
     if len(words) == 3 and words[:2] == ["run", "--workers"] and is_number(words[2], 1, 8):
         return "run"
@@ -109,8 +109,10 @@ def wanted_of(given):
         return Wanted(0, "", sums(int(given.words[4])))
     if given.reads_fail:
         return Wanted(4, SAID[4])
-    if word == "check":
+    if word in ("check", "origins"):
         status, written, said = judges.expected(given.given)
+        if word == "origins" and status == 0:
+            written = histories.told_clients(given.given) + "\n"
         return Wanted(status, said, written.encode())
     fault = script_faults.first(given.given)
     if fault == script_faults.TOO_LONG:
@@ -243,7 +245,7 @@ def why_short(given, wanted, answer):
 
 
 def finds_of(program, given, seconds):
-    """The status of a run, and what isn't as it has to be: of the run, and of a check of the journal that it has written."""
+    """The status of a run, and what isn't as it has to be: of the run, and of what is said of the journal that it has written."""
     seconds += len(given.given) / 1_000_000
     answer, wanted = answer_of(program, given, seconds), wanted_of(given)
     if answer.status is None:
@@ -269,7 +271,7 @@ def why_too_much(given, answer):
 
 
 def checked(program, given, seconds):
-    """What isn't right of the check of a journal that a run has written, as it is or spoiled."""
+    """What isn't right of what is said of a journal that a run has written, as it is or spoiled."""
     seconds += len(given.given) / 1_000_000
     answer, wanted = answer_of(program, given, seconds), wanted_of(given)
     if answer.status is None:
