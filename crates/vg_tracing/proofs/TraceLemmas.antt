@@ -1,27 +1,23 @@
 -- The entries of a journal are gone over one after another.
-use Rattle.std.proofs.Common.{◌≡◌, ℕ, ◌+◌, ◌-◌, ◌^◌, ◌<◌, ◌≤◌, ◌↔◌, true, List, [], ◌∷◌, ◌++◌, length, Some, arith, sym, ap, refl, subst, ◌∙◌, append-nil, length-append}
-use Rattle.std.specs.Prelude.{slice_get, slice_index}
+use Rattle.std.proofs.Common.{◌≡◌, ℕ, ◌+◌, ◌-◌, ◌^◌, ◌<◌, ◌≤◌, ◌↔◌, true, List, [], ◌∷◌, ◌++◌, length, arith, sym, ap, subst, ◌∙◌, append-nil, length-append}
 use Rattle.std.specs.List.{All}
 use Rattle.std.proofs.lemmas.List.Elements.{All-weaker}
-use Rattle.vg_client_holds.specs.Setup.{IsSetup}
 use Rattle.vg_history.specs.declared.entry.Entry.TheVariants as entries
-use Rattle.vg_scanout.specs.declared.scanout.Frame.{Frame}
 use Rattle.vg_machine.specs.Entries.{Entry}
 use Rattle.vg_machine.specs.Order.{client_of}
-use Rattle.vg_machine.specs.Replay.{replay}
 use Rattle.vg_check.specs.Right.{frames_after}
 use Rattle.vg_journal.specs.declared.journal.Journal.{Journal}
 use Rattle.vg_journal_lines.specs.Entries.{EntryInRange}
 use Rattle.vg_journal_lines.specs.Pieces.{JournalInRange}
 use Rattle.vg_judge.specs.declared.entries.Entries.{Entries}
 use Rattle.vg_judge.specs.declared.verdicts.Outline.{Outline}
-use Rattle.vg_judge.specs.Entries.{AreRead, HasGone, HasNext}
+use Rattle.vg_judge.specs.Entries.{HasGone, HasNext}
 use Rattle.vg_judge.specs.Outline.{IsOutline}
 use Rattle.vg_judge.specs.Verdicts.{IsLegal}
 use Rattle.vg_painted.specs.Inks.{tags}
 use Rattle.vg_painted.specs.Paint.{painting}
 use Rattle.vg_drawn.specs.declared.drawn.Drawn.{Drawn}
-use Rattle.vg_drawn.specs.Drawn.{FramesHave, GoesOver, HasRoom, IsDrawn, IsOfFew}
+use Rattle.vg_drawn.specs.Drawn.{FramesHave, GoesOver, IsDrawn, IsOfFew}
 use Rattle.vg_drawn.specs.Sets.{AreNumbered, AreTagsBelow}
 use Rattle.vg_drawn.specs.Words.{has_client, union_below, words}
 use Rattle.vg_tracing.specs.Origins.{AreClientsOf}
@@ -31,11 +27,6 @@ pub has_next : (journal : Journal) (n : ℕ) (now : Entries) (drawn : Drawn) →
 has_next journal n now drawn in_range few more t =
     let count = t.count in
     record { in_range = in_range; few = few; more = omega (arith, count, more); read = t.read }
-
-pub has_room : (journal : Journal) (n : ℕ) (now : Entries) (drawn : Drawn) → length journal.entries ≤ 2 ^ 31 - 1 → n < length journal.entries → AreTraced journal n now drawn → HasRoom drawn
-has_room journal n now drawn few more t =
-    let count = t.count in
-    record { setup = journal.setup; done = t.done; is = t.is_drawn; room = omega (arith, count, few, more) }
 
 pub is_of_few : (journal : Journal) (done : List Entry) (entry : Entry) (new : Entries) → JournalInRange journal → HasGone journal done entry new → IsOfFew entry
 is_of_few journal done entry new in_range gone =
@@ -52,12 +43,6 @@ goes_on journal n now new drawn drawn' entry t gone over = record {
 }
 
 -- ---- from the text
-
-pub is_setup : (bytes : List ℕ) (journal : Journal) (outline : Outline) → JournalInRange journal → IsOutline bytes journal outline → IsSetup outline.setup
-is_setup bytes journal outline in_range is = subst IsSetup (sym is.setup) in_range.setup
-
-pub starts : (bytes : List ℕ) (journal : Journal) (outline : Outline) (now : Entries) (drawn : Drawn) → IsOutline bytes journal outline → AreRead journal [] now → IsDrawn outline.setup [] drawn → AreTraced journal 0 now drawn
-starts bytes journal outline now drawn is read empty = record { done = []; count = refl; read = read; is_drawn = subst (λ setup. IsDrawn setup [] drawn) is.setup empty }
 
 pub few_are : (bytes : List ℕ) (journal : Journal) (outline : Outline) → IsOutline bytes journal outline → outline.entries ≤ 2 ^ 31 - 1 → length journal.entries ≤ 2 ^ 31 - 1
 few_are bytes journal outline is few = let count = is.entries in omega (arith, count, few)

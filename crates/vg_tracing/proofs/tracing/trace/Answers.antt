@@ -1,16 +1,11 @@
 use Rattle.std.proofs.lemmas.Result.{on_ok_weaker}
-use Rattle.vg_tracing.proofs.TraceLemmas.{goes_on, has_next, has_room, is_of_few}
+use Rattle.vg_tracing.proofs.TraceLemmas.{goes_on, has_next, is_of_few}
 use Rattle.vg_tracing.proofs.tracing.trace.Goals as goal
 
 pub next-requires : goal.next-requires
 next-requires c =
     let (journal, in_range, few, more, t) = c.requires.journal in
     (journal, t.done, has_next _ _ _ _ in_range few more t)
-
-pub next-requires-2-clause-before : goal.next-requires-2-clause-before
-next-requires-2-clause-before c =
-    let (journal, in_range, few, more, t) = c.requires.journal in
-    has_room _ _ _ _ few more t
 
 pub next-requires-2-clause-client : goal.next-requires-2-clause-client
 next-requires-2-clause-client c =
