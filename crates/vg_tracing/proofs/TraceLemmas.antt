@@ -1,26 +1,23 @@
 -- The entries of a journal are gone over one after another.
-use Rattle.std.proofs.Common.{◌≡◌, ℕ, ◌+◌, ◌-◌, ◌^◌, ◌<◌, ◌≤◌, ◌↔◌, true, List, [], ◌∷◌, ◌++◌, length, Some, arith, sym, ap, subst, ◌∙◌, append-nil, length-append}
-use Rattle.std.specs.Prelude.{slice_get, slice_index}
+use Rattle.std.proofs.Common.{◌≡◌, ℕ, ◌+◌, ◌-◌, ◌^◌, ◌<◌, ◌≤◌, ◌↔◌, true, List, [], ◌∷◌, ◌++◌, length, arith, sym, ap, subst, ◌∙◌, append-nil, length-append}
 use Rattle.std.specs.List.{All}
-use Rattle.std.proofs.lemmas.List.Elements.{All-head, All-tail}
+use Rattle.std.proofs.lemmas.List.Elements.{All-weaker}
 use Rattle.vg_history.specs.declared.entry.Entry.TheVariants as entries
-use Rattle.vg_scanout.specs.declared.scanout.Frame.{Frame}
 use Rattle.vg_machine.specs.Entries.{Entry}
 use Rattle.vg_machine.specs.Order.{client_of}
-use Rattle.vg_machine.specs.Replay.{replay}
 use Rattle.vg_check.specs.Right.{frames_after}
 use Rattle.vg_journal.specs.declared.journal.Journal.{Journal}
 use Rattle.vg_journal_lines.specs.Entries.{EntryInRange}
 use Rattle.vg_journal_lines.specs.Pieces.{JournalInRange}
 use Rattle.vg_judge.specs.declared.entries.Entries.{Entries}
 use Rattle.vg_judge.specs.declared.verdicts.Outline.{Outline}
-use Rattle.vg_judge.specs.Entries.{AreRead, HasGone, HasNext}
+use Rattle.vg_judge.specs.Entries.{HasGone, HasNext}
 use Rattle.vg_judge.specs.Outline.{IsOutline}
 use Rattle.vg_judge.specs.Verdicts.{IsLegal}
 use Rattle.vg_painted.specs.Inks.{tags}
 use Rattle.vg_painted.specs.Paint.{painting}
 use Rattle.vg_drawn.specs.declared.drawn.Drawn.{Drawn}
-use Rattle.vg_drawn.specs.Drawn.{FramesHave, GoesOver, IsDrawn}
+use Rattle.vg_drawn.specs.Drawn.{FramesHave, GoesOver, IsDrawn, IsOfFew}
 use Rattle.vg_drawn.specs.Sets.{AreNumbered, AreTagsBelow}
 use Rattle.vg_drawn.specs.Words.{has_client, union_below, words}
 use Rattle.vg_tracing.specs.Origins.{AreClientsOf}
@@ -31,6 +28,12 @@ has_next journal n now drawn in_range few more t =
     let count = t.count in
     record { in_range = in_range; few = few; more = omega (arith, count, more); read = t.read }
 
+pub is_of_few : (journal : Journal) (done : List Entry) (entry : Entry) (new : Entries) → JournalInRange journal → HasGone journal done entry new → IsOfFew entry
+is_of_few journal done entry new in_range gone =
+    let client = gone.client in
+    let clients = in_range.setup.clients in
+    (gone.one, omega (arith, client, clients))
+
 pub goes_on : (journal : Journal) (n : ℕ) (now new : Entries) (drawn drawn' : Drawn) (entry : Entry) → (t : AreTraced journal n now drawn) → HasGone journal t.done entry new → GoesOver drawn entry drawn' → AreTraced journal (n + 1) new drawn'
 goes_on journal n now new drawn drawn' entry t gone over = record {
   done = t.done ++ entry ∷ [];
@@ -38,6 +41,14 @@ goes_on journal n now new drawn drawn' entry t gone over = record {
   read = gone.read;
   is_drawn = over journal.setup t.done t.is_drawn;
 }
+
+-- ---- from the text
+
+pub few_are : (bytes : List ℕ) (journal : Journal) (outline : Outline) → IsOutline bytes journal outline → outline.entries ≤ 2 ^ 31 - 1 → length journal.entries ≤ 2 ^ 31 - 1
+few_are bytes journal outline is few = let count = is.entries in omega (arith, count, few)
+
+pub more_are : (bytes : List ℕ) (journal : Journal) (outline : Outline) (n : ℕ) → IsOutline bytes journal outline → n < outline.entries → n < length journal.entries
+more_are bytes journal outline n is more = let count = is.entries in omega (arith, count, more)
 
 -- ---- all of them
 
@@ -59,8 +70,7 @@ numbered-one clients (entries.Act client call act reply) range = range.0
 numbered-one clients (entries.Command client call request reply) range = range.0
 
 numbered : (clients : ℕ) (H : List Entry) → All (EntryInRange clients) H → AreNumbered H
-numbered clients [] all = tt
-numbered clients (entry ∷ more) all = (numbered-one clients entry (All-head (EntryInRange clients) entry more all), numbered clients more (All-tail (EntryInRange clients) entry more all))
+numbered clients H all = All-weaker (EntryInRange clients) (λ entry. 1 ≤ client_of entry) (numbered-one clients) H all
 
 -- What the law of the crate below says of frames.
 abbrev pub FramesAreOfTags : Journal → Type 0
@@ -79,3 +89,11 @@ are_clients journal sets in_range legal law have =
           law n (length frame.pixels) client (numbered journal.setup.clients journal.entries in_range.entries) in
           subst (λ word. has_client word client ≡ true ↔ AreTagsBelow journal.entries client ((painting tags journal.setup journal.entries).frames n) (length frame.pixels)) (sym (same.1 n frame is)) of;
     }
+
+pub clients_are : (bytes : List ℕ) (journal : Journal) (outline : Outline) (n : ℕ) (now : Entries) (drawn : Drawn) (sets : List ℕ) → JournalInRange journal → IsOutline bytes journal outline → IsLegal journal → FramesAreOfTags journal
+    → outline.entries ≤ n → AreTraced journal n now drawn → sets ≡ drawn.frames.items → AreClientsOf journal sets
+clients_are bytes journal outline n now drawn sets in_range is legal law end t same =
+    let count = is.entries in
+    let all = all_drawn journal n now drawn (omega (arith, count, end)) t in
+    are_clients journal sets in_range legal law
+        (subst (λ list. FramesHave (frames_after journal.setup journal.entries) list (painting words journal.setup journal.entries).frames) (sym same) all.frames)
