@@ -35,10 +35,5 @@ fn set_of(alloc: Global, display: &Device, frame: &Frame) -> Result<u16, AllocEr
     display.scanouts().are_screens();
     let screen = display.scanouts().screen_pixels(alloc, frame.scanout)?;
     let look = display.cursors().look(frame.scanout);
-    Ok(frame_clients(
-        &look,
-        frame.width,
-        frame.height,
-        screen.as_slice(),
-    ))
+    Ok(frame_clients(&look, frame.width, frame.height, screen.as_slice()))
 }

@@ -16,7 +16,11 @@ use vg_io::{Sink, Source};
 use vg_tracing::{Found, origins, origins_text};
 
 /// Reads a journal, and says whose bytes its frames have.
-pub(crate) fn origins_from<S: Source, K: Sink>(alloc: Global, source: &mut S, sink: &mut K) -> Status
+pub(crate) fn origins_from<S: Source, K: Sink>(
+    alloc: Global,
+    source: &mut S,
+    sink: &mut K,
+) -> Status
     ensures done { result ≡ Status.Done
         → Tells (S.left source.old) (S.left source.new) (K.held sink.old) (K.held sink.new) }
     ensures wrong { (entry : ℕ) → result ≡ Status.Wrong entry

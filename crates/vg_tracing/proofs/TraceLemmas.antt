@@ -96,4 +96,4 @@ clients_are bytes journal outline n now drawn sets in_range is legal law end t s
     let count = is.entries in
     let all = all_drawn journal n now drawn (omega (arith, count, end)) t in
     are_clients journal sets in_range legal law
-        (subst (λ list. FramesHave (frames_after journal.setup journal.entries) list (painting words journal.setup journal.entries).frames) (sym same) all.frames)
+    (subst (λ list. FramesHave (frames_after journal.setup journal.entries) list (painting words journal.setup journal.entries).frames) (sym same) all.frames)

@@ -15,4 +15,4 @@ loop-n-preserved c = λ journal in_range is.
 pub returns : goal.returns
 returns c = λ journal in_range is legal.
     clients_are _ journal _ _ _ _ _ in_range is legal (λ n count client. c.a_frames_clients_are_of_its_tags.ensures journal.setup journal.entries n count client) c.loop-n-test.false
-        (c.loop-n.invariant journal in_range is) c.into_frames.ensures
+    (c.loop-n.invariant journal in_range is) c.into_frames.ensures
