@@ -1,5 +1,5 @@
 -- A display that stores clients' numbers goes over one entry more: the frames that it makes have the words of its screens and images.
-use Rattle.std.proofs.Common.{◌≡◌, ◌⊎◌, inl, inr, ⊎_elim, ℕ, zero, suc, ◌+◌, ◌-◌, ◌^◌, ◌<◌, ◌≤◌, ◌&&◌, Bool, true, false, cond, nat_le, nat_lt, List, [], ◌∷◌, ◌++◌, length, map, replicate, take, get_or, Option, Some, None, slice_get, slice_index, refl, sym, ap, subst, ◌∙◌, arith}
+use Rattle.std.proofs.Common.{◌≡◌, ◌⊎◌, inl, inr, ⊎_elim, ℕ, suc, ◌+◌, ◌-◌, ◌^◌, ◌<◌, ◌≤◌, ◌&&◌, true, false, cond, nat_le, List, [], ◌∷◌, ◌++◌, length, map, Option, Some, None, slice_get, slice_index, refl, sym, ap, subst, ◌∙◌, arith}
 use Rattle.std.specs.List.{All}
 use Rattle.std.specs.Option.{option_map}
 use Rattle.std.proofs.lemmas.Bool.{cases_lt, le-ltb, lt-ltb}
@@ -19,12 +19,11 @@ use Rattle.vg_device.specs.State.{IsConsistent, State, counted, start}
 use Rattle.vg_history.proofs.HistoryLemmas.{count_replay}
 use Rattle.vg_machine.specs.CountedWithin.{act-counts, request-counts}
 use Rattle.vg_machine.specs.Entries.{Entry}
-use Rattle.vg_machine.specs.Order.{client_of}
 use Rattle.vg_machine.specs.Replay as machine
 use Rattle.vg_machine.specs.Replay.{after, replay}
 use Rattle.vg_linked.specs.Consistent.{IsReplayed}
 use Rattle.vg_linked.proofs.SoundLemmas.{replay-more}
-use Rattle.vg_painted.specs.Ink.{Ink, Painting}
+use Rattle.vg_painted.specs.Ink.{Painting}
 use Rattle.vg_painted.specs.Inks.{numbers}
 use Rattle.vg_painted.specs.Paint.{blended_at, framed, framed_at, fresh, moved, painted, painting}
 use Rattle.vg_painted.specs.Painted.{AreRelated, IsPainted}
@@ -41,7 +40,7 @@ use Rattle.vg_drawers.proofs.ShapeLemmas.{get-mapped}
 use Rattle.vg_drawn.specs.declared.drawn.Drawn.{Drawn}
 use Rattle.vg_drawn.specs.Drawn.{FramesHave, HasRoom, IsDrawn, IsOfFew}
 use Rattle.vg_drawn.specs.Frames.{frame_word, image_word}
-use Rattle.vg_drawn.specs.NewFramesWithin.{AreAdded, AreOfNow, IsOfNow, set_of}
+use Rattle.vg_drawn.specs.NewFramesWithin.{AreAdded, AreOfNow, set_of}
 use Rattle.vg_drawn.specs.Words.{union_below, word_of, words}
 
 -- ---- numbers and words

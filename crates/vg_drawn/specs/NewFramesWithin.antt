@@ -1,6 +1,5 @@
 -- What is told of the frames that a display has made since.
-use Rattle.std.specs.Prelude.{◌≡◌, ◌≤◌, ◌*◌, ℕ, List, length, take, slice_get, slice_index, Some}
-use Rattle.vg_cursor.specs.Blended.{blended}
+use Rattle.std.specs.Prelude.{◌≡◌, ◌≤◌, ℕ, List, length, take, slice_get, slice_index, Some}
 use Rattle.vg_cursor.specs.Cursor.{cursor_of}
 use Rattle.vg_device.specs.State.{State}
 use Rattle.vg_scanout.specs.declared.scanout.Frame.{Frame}

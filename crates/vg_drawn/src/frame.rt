@@ -3,7 +3,7 @@
 ghost use Rattle.std.specs.Prelude.{◌≡◌, ◌<◌, ◌+◌, ◌*◌, ◌^◌, ◌/◌, ◌%◌, true, IfSome, length, slice_index};
 ghost use Rattle.vg_cursor.specs.Blended.{image_place};
 ghost use Rattle.vg_cursor.specs.Look.{cursor_like};
-ghost use Rattle.vg_drawn.specs.Frames.{GoesOn, frame_word, image_word, on_image, over_by, row_by, row_word};
+ghost use Rattle.vg_drawn.specs.Frames.{GoesOn, frame_word, on_image, over_by, row_by, row_word};
 ghost use Rattle.vg_drawn.specs.Words.{union_below, word_of};
 
 use crate::bytes::{union, word_of};

@@ -28,7 +28,7 @@ use Rattle.vg_machine.specs.Replay.{after, display, replay, replay_from}
 use Rattle.vg_painted.specs.Ink.{Painting}
 use Rattle.vg_painted.specs.Inks.{From, Opaque, Tag, Zero, tags}
 use Rattle.vg_origin.specs.Origin.{HadPage, HasPage, IsOfBuffer, IsStore, Stores, state_at, tags_at}
-use Rattle.vg_painted.specs.Paint.{acted, cleared_at, fresh, painted, painting, painting_from, stored_at, unless}
+use Rattle.vg_painted.specs.Paint.{acted, cleared_at, fresh, painted, painting, stored_at, unless}
 use Rattle.vg_origin.proofs.FitLemmas.{Fits, entry-fits, page-of-one, start-fits, stored-page}
 use Rattle.vg_origin.proofs.KeptLemmas.{requested-memory, shaped-beside}
 use Rattle.vg_painted.proofs.OnceLemmas.{Once, insert_itself, removed}

@@ -1,6 +1,6 @@
 //! The entries of a legal journal, gone over once more for the clients of each byte.
 
-ghost use Rattle.std.specs.Prelude.{◌≡◌, ◌≤◌, ◌<◌, ◌+◌, ◌-◌, ◌^◌, ℕ, length, IfOk, OnOk};
+ghost use Rattle.std.specs.Prelude.{◌≤◌, ◌<◌, ◌+◌, ◌-◌, ◌^◌, length, IfOk, OnOk};
 ghost use Rattle.vg_journal.specs.declared.journal.Journal.{Journal};
 ghost use Rattle.vg_journal_lines.specs.Pieces.{JournalInRange};
 ghost use Rattle.vg_judge.specs.Outline.{IsOutline};

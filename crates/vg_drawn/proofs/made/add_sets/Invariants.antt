@@ -1,4 +1,3 @@
-use Rattle.std.proofs.Common.{◌≡◌, length}
 use Rattle.vg_drawn.proofs.MadeLemmas.{AreAddedBelow}
 use Rattle.vg_drawn.proofs.made.add_sets.Given as goal
 
