@@ -1,5 +1,5 @@
 -- The command `origins`, which reads a journal and says whose bytes its frames have.
-use Rattle.std.specs.Prelude.{◌≡◌, ◌⊎◌, ℕ, List, [], ◌∷◌, codes, Option, IfSome}
+use Rattle.std.specs.Prelude.{ℕ, List, Option, IfSome}
 use Rattle.vg_io.specs.Streams.{IsAtEnd, Takes, TakesSome}
 use Rattle.vg_journal.specs.declared.journal.Journal.{Journal}
 use Rattle.vg_journal_lines.specs.Refusals.{IsJournal}

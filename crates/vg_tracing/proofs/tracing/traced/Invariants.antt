@@ -1,4 +1,3 @@
-use Rattle.std.proofs.Common.{◌≡◌}
 use Rattle.vg_journal.specs.declared.journal.Journal.{Journal}
 use Rattle.vg_journal_lines.specs.Pieces.{JournalInRange}
 use Rattle.vg_judge.specs.Outline.{IsOutline}
