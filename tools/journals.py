@@ -1,10 +1,13 @@
 """Reads a journal strictly: tools/frames, tools/explain and tools/check-history stand on it.
 
 Each byte counts. Where a journal is broken, `Broken` is raised, and the `number` of its `Lines` is that of the line:
-one less is the most whole lines of it with which some journal begins. A frame's raw bytes count as one line.
+one less is the most whole lines of it with which some journal begins. A frame's raw bytes count as one line. What `Broken`
+says is what should stand there, by docs/JOURNAL.md; `why` makes a sentence of it.
 """
 import collections
 import re
+
+from toolbox import listed
 
 LAST_32 = 2**32 - 1
 LAST_63 = 2**63 - 1
@@ -67,12 +70,16 @@ Frame = collections.namedtuple("Frame", "number scanout width height entry start
 
 
 class Broken(Exception):
-    """The line that is being read is one with which no journal goes on here."""
+    """The line that is being read is one with which no journal goes on here: what should stand there."""
 
 
-def need(holds):
+class BrokenBytes(Broken):
+    """It isn't a line of words: what is wrong, in a sentence."""
+
+
+def need(holds, wanted="", *values):
     if not holds:
-        raise Broken
+        raise Broken(wanted.format(*values))
 
 
 def is_number(word, least, most):
@@ -101,6 +108,10 @@ KINDS = {
 }
 
 
+def told(words):
+    return b" ".join(words).decode()
+
+
 def forms(table):
     """The table's lines as words, by their first word."""
     found = {}
@@ -123,19 +134,29 @@ def fits(found, words):
     )
 
 
+def need_fit(found, words, what):
+    """The words have one of these forms; else it is told which of them begin with the first word, or which first words there are."""
+    if not fits(found, words):
+        alike = found.get(words[0] if words else b"")
+        if alike is None:
+            raise Broken(f"{what}, which begins with {' or '.join(map(bytes.decode, found))}")
+        raise Broken(f"{what} as {' or '.join(f'`{told(form)}`' for form in alike)}, with N below 2^32 and COUNT below 2^63")
+
+
 class Lines:
-    """The lines of a journal in turn. `number` is that of the line that is being read, from 1."""
+    """The lines of a journal in turn. `number` is that of the line that is being read, from 1, and `start` the place of its first byte."""
 
     def __init__(self, journal):
         self.journal = journal
-        self.at = 0
+        self.at = self.start = 0
         self.number = 0
 
-    def words(self):
+    def words(self, wanted):
         """The words of the next line: two spaces side by side, or one at an end, make an empty word, which fits nothing."""
         self.number += 1
+        self.start = self.at
         end = self.journal.find(b"\n", self.at)
-        need(end >= 0)
+        need(end >= 0, wanted)
         line = self.journal[self.at : end]
         self.at = end + 1
         return line.split(b" ")
@@ -143,78 +164,112 @@ class Lines:
     def pixels(self, size):
         """Where the next line begins, which has so many bytes, whatever they are."""
         self.number += 1
-        start = self.at
-        self.at = start + size + 1
-        need(self.journal[start + size : self.at] == b"\n")
-        return start
+        self.start = self.at
+        self.at = self.start + size + 1
+        found = self.journal[self.start + size : self.at]
+        if not found:
+            raise BrokenBytes(f"the frame has {size} bytes of pixels and a line end, and the text {self.left()}")
+        if found != b"\n":
+            raise BrokenBytes(f"behind the frame's {size} bytes of pixels is byte {found[0]}, not 10")
+        return self.start
+
+    def left(self):
+        """What there is from the start of the line on, in words."""
+        count = len(self.journal) - self.start
+        return f"has {count} byte{'s' * (count != 1)} more"
 
     def end(self):
         self.number += 1
-        need(self.at == len(self.journal))
+        self.start = self.at
+        if self.at != len(self.journal):
+            raise BrokenBytes(f"nothing stands behind `end`, and the text {self.left()}")
 
 
-def numbers(words, name, *ranges):
-    """The numbers of a line: its first word is the name, and each other has its range."""
-    need(words[0] == name and len(words) == 1 + len(ranges))
-    need(all(is_number(word, least, most) for word, (least, most) in zip(words[1:], ranges)))
+def told_range(least, most):
+    return f"{least}" if least == most else "below 2^32" if most == LAST_32 else "below 2^63" if most == LAST_63 else f"{least} to {most}"
+
+
+def numbers(words, form, *ranges):
+    """The numbers of a line of this form: its first word is the name, and each other stands for a number that has its range."""
+    name, *letters = form.split()
+    fit = words[0] == name.encode() and len(words) == 1 + len(ranges)
+    if not fit or not all(is_number(word, least, most) for word, (least, most) in zip(words[1:], ranges)):
+        raise Broken(f"`{form}`, with {listed((f'{letter} {told_range(*its)}' for letter, its in zip(letters, ranges)), 'and')}")
     return [int(word) for word in words[1:]]
 
 
 def read_head(lines):
     """Reads up to the first line of the history. Gives the displays, the pages, the features left out, the clients."""
-    need(lines.words() == [b"vgpu-journal", b"1"])
-    displays = [numbers(lines.words(), b"display", (0, 0), (1, 640), (1, 480))[1:]]
-    words = lines.words()
+    need(lines.words("`vgpu-journal 1`") == [b"vgpu-journal", b"1"], "`vgpu-journal 1`")
+    displays = [numbers(lines.words("`display 0 W H`"), "display S W H", (0, 0), (1, 640), (1, 480))[1:]]
+    more = "`display S W H` or `memory P`"
+    words = lines.words(more)
     while len(displays) < 16 and words[0] == b"display":
-        displays.append(numbers(words, b"display", (len(displays), len(displays)), (1, 640), (1, 480))[1:])
-        words = lines.words()
-    (pages,) = numbers(words, b"memory", (1, 16_384))
-    words = lines.words()
+        displays.append(numbers(words, "display S W H", (len(displays), len(displays)), (1, 640), (1, 480))[1:])
+        words = lines.words(more)
+    need(words[0] == b"memory" or len(displays) == 16, more)
+    (pages,) = numbers(words, "memory P", (1, 16_384))
+    more = "`clients C`, or `without F` with F edid, uuid, blob or context, in this order"
+    words = lines.words(more)
     without = []
     for feature in FEATURES:
         if words == [b"without", feature]:
             without.append(feature)
-            words = lines.words()
-    (clients,) = numbers(words, b"clients", (0, 16))
+            words = lines.words(more)
+    need(words[0] == b"clients", more)
+    (clients,) = numbers(words, "clients C", (0, 16))
     return displays, pages, without, clients
+
+
+ENTRY = "entry {0}, which is `{0} C K act .. = ..` or `{0} C K cmd .. = ..`, or `rings A B`"
 
 
 def read_entry(words, number, clients):
     """Reads a line of the history: who, and an act or a request with its reply."""
-    need(b"=" in words)
+    need(b"=" in words, ENTRY, number)
     sign = words.index(b"=")
     asked, reply = words[:sign], words[sign + 1 :]
-    need(len(asked) > 4 and asked[0] == b"%d" % number)
-    need(is_number(asked[1], 1, clients) and is_number(asked[2], 0, LAST_63))
+    need(len(asked) > 4 and asked[0] == b"%d" % number, ENTRY, number)
+    need(is_number(asked[1], 1, clients), "a client's number as the second word, 1 to {}", clients)
+    need(is_number(asked[2], 0, LAST_63), "a call's number as the third word, below 2^63")
     is_act = asked[3] == b"act"
     if is_act:
-        need(fits(ACT_FORMS, asked[4:]) and fits(REPLY_FORMS, reply))
+        need_fit(ACT_FORMS, asked[4:], "an act")
+        need_fit(REPLY_FORMS, reply, "a reply to an act")
     else:
-        need(asked[3] == b"cmd" and len(asked) == 9)
-        lane, ordinal, room, shape, request = asked[4:]
-        need(is_number(lane, 0, 65) and is_number(ordinal, 0, LAST_63) and is_number(room, 0, 8_192))
-        need(shape in SHAPES and is_hex(request, MOST_REQUEST))
-        if len(reply) == 1:
-            need(is_hex(reply[0], MOST_RESPONSE))
-        else:
-            need(len(reply) == 2 and reply[0] == b"fault" and reply[1] in FAULTS)
+        read_request(asked, reply)
     return Entry(number, int(asked[1]), int(asked[2]), is_act, asked[4:], reply)
+
+
+def read_request(asked, reply):
+    need(asked[3] == b"cmd" and len(asked) == 9, "`act` and its words as the fourth word, or `cmd LANE ORDINAL ROOM SHAPE HEX`")
+    lane, ordinal, room, shape, request = asked[4:]
+    need(is_number(lane, 0, 65), "a lane of 0 to 65")
+    need(is_number(ordinal, 0, LAST_63), "an ordinal below 2^63")
+    need(is_number(room, 0, 8_192), "a room of 0 to 8192")
+    need(shape in SHAPES, "a shape, which is one of those in docs/JOURNAL.md, Requests")
+    need(is_hex(request, MOST_REQUEST), "a request as HEX in small letters, two a byte, of at most {} bytes, or - for none", MOST_REQUEST)
+    if len(reply) == 1:
+        need(is_hex(reply[0], MOST_RESPONSE), "a response as HEX in small letters, two a byte, of at most {} bytes, or - for none", MOST_RESPONSE)
+    else:
+        is_fault = len(reply) == 2 and reply[0] == b"fault" and reply[1] in FAULTS
+        need(is_fault, "a response as HEX, or `fault SHAPE` with one of the shapes that have a fault")
 
 
 def read_frames(lines):
     """Reads the frames and the end."""
-    (count,) = numbers(lines.words(), b"frames", (0, LAST_63))
+    (count,) = numbers(lines.words("`frames M`"), "frames M", (0, LAST_63))
     frames = []
     room = MOST_FRAMES
     for number in range(1, count + 1):
-        fields = numbers(lines.words(), b"frame", (number, number), (0, LAST_32), (0, LAST_32), (0, LAST_32), (0, LAST_63))
-        _, scanout, width, height, entry = fields
+        ranges = (number, number), (0, LAST_32), (0, LAST_32), (0, LAST_32), (0, LAST_63)
+        _, scanout, width, height, entry = numbers(lines.words("`frame I S W H E`"), "frame I S W H E", *ranges)
         line = lines.number
         size = 4 * width * height
         room -= size
-        need(size <= MOST_SCREEN and room >= 0)
+        need(size <= MOST_SCREEN and room >= 0, "a frame of at most {} bytes, with which all have at most {}", MOST_SCREEN, MOST_FRAMES)
         frames.append(Frame(number, scanout, width, height, entry, lines.pixels(size), line))
-    need(lines.words() == [b"end"])
+    need(lines.words("`end`") == [b"end"], "`end`")
     lines.end()
     return frames
 
@@ -223,11 +278,28 @@ def read(lines):
     """Reads a journal from its first byte to its last."""
     displays, pages, without, clients = read_head(lines)
     entries = []
-    words = lines.words()
+    words = lines.words(ENTRY.format(1))
     while words[0] != b"rings":
         entries.append(read_entry(words, len(entries) + 1, clients))
-        words = lines.words()
-    control, cursor = numbers(words, b"rings", (0, LAST_63), (0, LAST_63))
+        words = lines.words("an entry, or `rings A B`")
+    control, cursor = numbers(words, "rings A B", (0, LAST_63), (0, LAST_63))
     rings_line = lines.number
     frames = read_frames(lines)
     return Journal(displays, pages, without, clients, entries, control, cursor, frames, rings_line, rings_line + 1)
+
+
+def why(lines, broken):
+    """What is wrong with the line that is being read, in a sentence."""
+    wanted, (line, end, _) = str(broken), lines.journal[lines.start :].partition(b"\n")
+    if isinstance(broken, BrokenBytes):
+        return wanted
+    if not line and not end:
+        return f"the text ends, where there should be {wanted}"
+    found = line[:100].decode("ascii", "backslashreplace") + (".." if len(line) > 100 else "")
+    if not end:
+        return f"the text ends within the line `{found}`, where there should be {wanted}"
+    if line.endswith(b"\r"):
+        return "the line ends with a carriage return (byte 13): the file has Windows line ends, and a line ends with byte 10 alone"
+    if b"" in line.split(b" ") and line:
+        return f"one blank stands between two words and none at an end, and the line is `{found}`"
+    return f"there should be {wanted}, and the line is `{found}`"

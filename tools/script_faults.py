@@ -1,8 +1,9 @@
-"""Reads a script for its first fault alone: tools/hunt lays what the program says beside it.
+"""Reads a script for its first fault, and says what is wrong in a sentence: tools/why tells it, and tools/hunt lays what the program says beside
+the line and the kind.
 
 It is written from the grammar of scripts in README.md (the table of lines) and docs/DECISIONS.md (The grammar of scripts), without a
-look at the crates or at tools/check-history, whose reader tells a fault's line and not its kind. `first` gives the line and the kind of
-the first fault, or None. The rules that it follows:
+look at the crates or at tools/check-history, whose reader tells a fault's line and not its kind. `first` gives the line, the kind and the
+sentence of the first fault, or None. The rules that it follows:
 
   - A text has at most 16,777,216 bytes. Its lines end with byte 10, the last one perhaps without.
   - Kinds in rising order: `text` (a byte that isn't 32 to 126, or more than 16,384 of them), `word` (an unknown word, a wrong count of words,
@@ -14,87 +15,239 @@ the first fault, or None. The rules that it follows:
 
 A word of the script that comes later is a line more in `LINES`, or in `BODIES`.
 """
+import collections
+import difflib
+import functools
 import re
+
+from toolbox import listed
 
 MOST_BYTES = 16_777_216
 MOST_LINE = 16_384
 MOST_LINES = 100_000
 MOST_CLIENTS = MOST_DISPLAYS = 16
 MOST_CONTEXTS = 255
+MOST_HEX = 4_096
 STORED = 1_228_800
 TEXT, WORD, NUMBER, LIMIT, NAME, CYCLE = range(1, 7)
 KINDS = {TEXT: "text", WORD: "word", NUMBER: "number", LIMIT: "limit", NAME: "name", CYCLE: "wait cycle"}
 TOO_LONG = "too long"
 
 U32 = "0..4294967295"
-FORMATS = (1, 2, 3, 4, 67, 68, 121, 134)
+FORMAT_NAMES = {1: "BGRA", 2: "BGRX", 3: "ARGB", 4: "XRGB", 67: "RGBA", 68: "XBGR", 121: "ABGR", 134: "RGBX"}
+FORMATS = tuple(FORMAT_NAMES)
 FEATURES = ("edid", "uuid", "blob", "context")
 QUEUES = ("control", "cursor")
 SHAPES = ["plain", "indirect", "mixed", *(f"pieces{n}" for n in range(2, 9))]
 SHAPES += ["index", "loop", "nested", "nextindirect", "tablelength", "order", "range"]
 
-# What stands behind each word of a client. A..B is a number in a range, `scanout` one below the number of displays, `place` one that may
-# be negative; `buffer` and `context` use a name, `new-` and `end-` define one and end it; `token` and `fence` use a label, `new-` defines it.
+# What stands behind each word of a client: what it is called, and its kind. A..B is a number in a range, `scanout` one below the number of
+# displays, `place` one that may be negative; `buffer` and `context` use a name, `new-` and `end-` define one and end it; `token` and `fence`
+# use a label, `new-` defines it.
+RECTANGLE = f"X={U32} Y={U32} WIDTH={U32} HEIGHT={U32}"
+SURFACE = f"SURFACEWIDTH={U32} SURFACEHEIGHT={U32} FORMAT={U32} STRIDE={U32} OFFSET={U32}"
 LINES = {
     "info": "",
-    "edid": U32,
-    "buffer": "new-buffer 1..640 1..480 format",
-    "blob": "new-buffer 1..1228800",
-    "store": "buffer 0..1228799 bytes 1..307200",
-    "load": "buffer 0..1228799 1..1024",
-    "send": f"buffer {U32} {U32} {U32} {U32}",
-    "flush": f"buffer {U32} {U32} {U32} {U32}",
-    "take": "scanout",
-    "drop": "scanout",
-    "hide": "scanout",
-    "show": f"scanout buffer {U32} {U32} {U32} {U32}",
-    "showblob": f"scanout buffer {' '.join([U32] * 9)}",
-    "flip": "scanout buffer",
-    "cursor": f"scanout buffer-or-none place place {U32} {U32}",
-    "move": "scanout place place",
-    "context": "new-context",
-    "endcontext": "end-context",
-    "attach": "context buffer",
-    "detach": "context buffer",
-    "submit": "context 0..63",
-    "uuid": "buffer",
-    "export": "buffer new-token",
-    "import": "token new-buffer",
-    "close": "end-buffer",
-    "begin": "new-fence timeline body",  # and behind the body's word what that one has
-    "await": "fence",
-    "raw": "queue 0..8192 shape request",
+    "edid": f"SCANOUT={U32}",
+    "buffer": "NAME=new-buffer WIDTH=1..640 HEIGHT=1..480 FORMAT=format",
+    "blob": "NAME=new-buffer SIZE=1..1228800",
+    "store": "NAME=buffer OFFSET=0..1228799 HEX=bytes TIMES=1..307200",
+    "load": "NAME=buffer OFFSET=0..1228799 LENGTH=1..1024",
+    "send": f"NAME=buffer {RECTANGLE}",
+    "flush": f"NAME=buffer {RECTANGLE}",
+    "take": "SCANOUT=scanout",
+    "drop": "SCANOUT=scanout",
+    "hide": "SCANOUT=scanout",
+    "show": f"SCANOUT=scanout NAME=buffer {RECTANGLE}",
+    "showblob": f"SCANOUT=scanout NAME=buffer {RECTANGLE} {SURFACE}",
+    "flip": "SCANOUT=scanout NAME=buffer",
+    "cursor": f"SCANOUT=scanout NAME=buffer-or-none X=place Y=place HOTX={U32} HOTY={U32}",
+    "move": "SCANOUT=scanout X=place Y=place",
+    "context": "CONTEXT=new-context",
+    "endcontext": "CONTEXT=end-context",
+    "attach": "CONTEXT=context NAME=buffer",
+    "detach": "CONTEXT=context NAME=buffer",
+    "submit": "CONTEXT=context RING=0..63",
+    "uuid": "NAME=buffer",
+    "export": "NAME=buffer LABEL=new-token",
+    "import": "LABEL=token NAME=new-buffer",
+    "close": "NAME=end-buffer",
+    "begin": "LABEL=new-fence TIMELINE=timeline BODY=body",  # and behind the body's word what that one has
+    "await": "LABEL=fence",
+    "raw": "QUEUE=queue ROOM=0..8192 SHAPE=shape HEX=request",
 }
 BODIES = ("info", "send", "flush", "submit")
-HEAD = {"display": 2, "memory": 1, "without": 1, "client": 0}
+HEAD = {"display": "WIDTH HEIGHT", "memory": "PAGES", "without": "FEATURE", "client": ""}
+FORMS = {**HEAD, **LINES}
+BEGINS = "a script begins with: display WIDTH HEIGHT"
+NEAR = 0.65  # how alike a word is that may be meant
 WELL_SPELLED = re.compile("[A-Za-z][A-Za-z0-9]{0,15}")
+
+# What is wrong with a line, of its kind; and the first such fault of a text, with its line and the kind in words.
+Fault = collections.namedtuple("Fault", "kind why")
+First = collections.namedtuple("First", "line kind why")
+
+
+def least(faults):
+    """Of some faults, or None for each that isn't one, the first of the least kind."""
+    return min(filter(None, faults), key=lambda fault: fault.kind, default=None)
+
+
+# What is said of words
+
+
+def short(word):
+    return word if len(word) <= 40 else f"{word[:30]}.. ({len(word)} letters)"
+
+
+def meant(word, known):
+    """What is said behind a word that isn't known."""
+    near = difflib.get_close_matches(word[:40].lower(), known, 1, NEAR)
+    return f"; did you mean {near[0]}?" if near else ""
+
+
+def plural(count, thing):
+    return f"{count} {thing}{'' if count == 1 else 's'}"
+
+
+@functools.cache
+def names_of(form):
+    return [part.partition("=")[0] for part in form.split()]
+
+
+@functools.cache
+def kinds_of(form):
+    return [part.partition("=")[2] for part in form.split()]
+
+
+def form_of(word, args):
+    """What a word takes; where something is begun, behind it what that takes."""
+    is_body = word == "begin" and len(args) > 2 and args[2] in BODIES
+    return f"{FORMS[word]} {FORMS[args[2]]}" if is_body else FORMS[word]
+
+
+def why_no_number(name, word):
+    if name == "FORMAT":
+        return f"a format is told by its number, not {short(word)}: {formats()}"
+    if re.fullmatch("0[0-9]+", word):
+        return f"{name} is {short(word)}, and numbers have no leading zeros"
+    if re.fullmatch("[+-][0-9]+", word):
+        return f"{name} is {short(word)}, and has no sign"
+    if re.fullmatch("0[xX][0-9a-fA-F]+", word):
+        return f"{name} is {short(word)}, and numbers are decimal"
+    return f"{name} is a number, not {short(word) or 'nothing'}"
+
+
+def formats():
+    return ", ".join(f"{code} is {name}" for code, name in FORMAT_NAMES.items())
+
+
+def why_no_hex(word):
+    if word == "-":
+        return "HEX of a store has at least one byte, and - stands for none"
+    if re.fullmatch("0[xX][0-9a-fA-F]*", word):
+        return f"HEX is {short(word)}, and has no 0x in front"
+    if not re.fullmatch("[0-9a-fA-F]+", word):
+        odd = re.search("[^0-9a-fA-F]", word)
+        return f"HEX has digits from 0 to 9 and a to f, and {short(word)} has {odd[0]}"
+    if word != word.lower():
+        return f"HEX has small letters: {short(word.lower())}"
+    return f"HEX has two digits a byte, and {short(word)} has {plural(len(word), 'digit')}, an odd count"
+
+
+def why_no_text(line):
+    if len(line) > MOST_LINE:
+        return f"the line has {len(line)} bytes, and may have {MOST_LINE}"
+    at = next(at for at, byte in enumerate(line) if not 32 <= byte <= 126)
+    column = f"in column {at + 1}"
+    if line[at] == 9:
+        return f"a tab (byte 9) {column}: words are parted by spaces"
+    if line[at] == 13:
+        why = "the file has Windows line ends, and a line ends with byte 10 alone" if at + 1 == len(line) else "a line ends with byte 10 alone"
+        return f"a carriage return (byte 13) {column}: {why}"
+    if line.startswith(b"\xef\xbb\xbf"):
+        return "the file begins with a byte order mark (bytes ef bb bf), and a script is ASCII text"
+    return f"byte {line[at]} {column}: a script is ASCII text, of bytes 32 to 126"
+
+
+def why_unknown(word, is_begun):
+    if word == "vgpu-journal":
+        return "this is a journal and no script: check and origins read it"
+    if word.lower() in FORMS:
+        return f"there is no word {word}: words have small letters, {word.lower()}"
+    begins = "" if is_begun else f"; {BEGINS}"
+    return f"there is no word {short(word)}{meant(word, FORMS) or begins}"
+
+
+def why_count(word, args):
+    """What is said of a word with too few words behind it, or too many."""
+    names = names_of(form_of(word, args))
+    takes = f"{word} takes {' '.join(names) or 'nothing behind it'}"
+    if any(arg.startswith("#") for arg in args):
+        return f"{takes}; a comment stands on a line of its own"
+    if len(args) < len(names):
+        return f"{takes}; {listed(names[len(args):], 'and')} {'is' if len(args) + 1 == len(names) else 'are'} missing"
+    return f"{takes}; {short(args[len(names)])} is one word too many" if len(args) == len(names) + 1 else f"{takes}, and not {len(args)} words"
+
+
+def why_no_line(word, args):
+    """What is said of words that make no line: too few or too many, or a `begin` of what can't be begun, or on no timeline."""
+    if word == "begin" and len(args) > 2:
+        if args[2] not in BODIES:
+            return f"what can be begun is {listed(BODIES, 'or')}, not {short(args[2])}"
+        if not is_timeline(args[1]):
+            return f"TIMELINE is CONTEXT:RING, or - for none, not {short(args[1])}"
+    return why_count(word, args)
+
+
+# How words are spelled
 
 
 def is_name(word):
     return WELL_SPELLED.fullmatch(word) is not None
 
 
-def of_number(word, least, most):
-    """The kind of a number's fault, or 0."""
+def is_timeline(word):
+    return word == "-" or ":" in word
+
+
+def of_number(name, word, low, high):
+    """The fault of a number, or None."""
     if not re.fullmatch("0|[1-9][0-9]*", word):
-        return NUMBER
+        return Fault(NUMBER, why_no_number(name, word))
     # One of many digits is past every limit.
-    return 0 if len(word) < 12 and least <= int(word) <= most else LIMIT
+    if len(word) < 12 and low <= int(word) <= high:
+        return None
+    return Fault(LIMIT, f"{name} is {short(word)}, and may be {low} to {high}")
 
 
-def of_place(word):
+def of_place(name, word):
     """Likewise of a cursor's position, which may be negative."""
-    if word.startswith("-"):
-        return NUMBER if word == "-0" else of_number(word[1:], 0, 32_768)
-    return of_number(word, 0, 32_767)
+    number = word[1:] if word.startswith("-") else word
+    if word == "-0" or not re.fullmatch("0|[1-9][0-9]*", number):
+        return Fault(NUMBER, f"{name} is 0, without a sign" if word == "-0" else why_no_number(name, word))
+    if of_number(name, number, 0, 32_767 + word.startswith("-")):
+        return Fault(LIMIT, f"{name} is {short(word)}, and may be -32768 to 32767")
+    return None
+
+
+def of_format(word):
+    fault = of_number("FORMAT", word, 0, 2**32)
+    if fault and fault.kind == NUMBER or not fault and int(word) in FORMATS:
+        return fault
+    return Fault(LIMIT, f"there is no format {short(word)}: {formats()}")
 
 
 def of_bytes(word, may_lack):
     if word == "-" and may_lack:
-        return 0
+        return None
     if len(word) % 2 or not re.fullmatch("[0-9a-f]+", word):
-        return NUMBER
-    return LIMIT if len(word) > 2 * 4096 else 0
+        return Fault(NUMBER, why_no_hex(word))
+    return Fault(LIMIT, f"HEX has {len(word) // 2} bytes, and may have {MOST_HEX}") if len(word) > 2 * MOST_HEX else None
+
+
+def of_choice(name, word, known):
+    return None if word in known else Fault(WORD, f"{name} is {listed(known, 'or')}, not {short(word)}{meant(word, known)}")
 
 
 def lines_of(text):
@@ -114,12 +267,13 @@ def parts_of(word, args):
     """The kinds of a line's words, or None where there is no such line."""
     if word not in LINES:
         return None
-    kinds = LINES[word].split()
-    if word == "begin":
-        if len(args) < 3 or args[2] not in BODIES or not (args[1] == "-" or ":" in args[1]):
-            return None
-        kinds += LINES[args[2]].split()
+    if word == "begin" and (len(args) < 3 or args[2] not in BODIES or not is_timeline(args[1])):
+        return None
+    kinds = kinds_of(form_of(word, args))
     return kinds if len(kinds) == len(args) else None
+
+
+# Names and labels
 
 
 class Labels:
@@ -132,131 +286,220 @@ class Labels:
                 label, kind = (words[2], "token") if words[0] == "export" else (words[1], "fence")
                 self.first.setdefault(label, (number, kind))
 
-    def defines(self, label, number):
-        """Whether it is that line which defines it."""
-        return self.first[label][0] == number
+    def fault(self, kind, label, number):
+        """What is wrong with a label in a line, or None."""
+        line, is_kind = self.first.get(label, (0, ""))
+        if kind.startswith("new-"):
+            return None if line == number else f"the label {label} is defined on line {line} already"
+        if is_kind == kind:
+            return None
+        giver, user = ("exports", "import") if kind == "token" else ("begins", "await")
+        if is_kind:
+            other = "a begin line" if is_kind == "fence" else "an export line"
+            return f"{label} is the label of {other}, line {line}, and {user} takes that of a line which {giver}"
+        known = [name for name, (_, its) in self.first.items() if its == kind]
+        return f"no line {giver} {label}{meant(label, known)}"
 
-    def has(self, label, kind):
-        return self.first.get(label, (0, ""))[1] == kind
+
+class Names:
+    """The names of a client, and who ended them or has them beside it."""
+
+    def __init__(self, lines):
+        self.lines = lines  # of the whole text, by their words
+        self.known = {}  # by names the kind, and the line that defines it
+        self.ended = {}  # by names that are ended the line
+        self.others = {}  # by names of the clients before: the client, and the line
+        self.client = 0
+
+    def next_client(self):
+        self.others |= {name: (self.client, line) for name, (_, line) in self.known.items()}
+        self.known, self.ended, self.client = {}, {}, self.client + 1
+
+    def add(self, kind, name, number):
+        if kind.startswith("new-"):
+            self.known[name] = (kind.removeprefix("new-"), number)
+        else:
+            del self.known[name]
+            self.ended[name] = number
+
+    def fault(self, kind, name, number):
+        """What is wrong with a name in a line, or None."""
+        its, line = self.known.get(name, ("", 0))
+        if kind.startswith("new-"):
+            return f"{name} is defined on line {line} already" if its else None
+        kind = kind.removeprefix("end-")
+        if its == kind:
+            return None
+        if its:
+            return f"{name}, of line {line}, is a {its}, and a {kind} is wanted"
+        return self.why_unknown(kind, name, number)
+
+    def why_unknown(self, kind, name, number):
+        if name in self.ended:
+            return f"{name} was {'closed' if kind == 'buffer' else 'ended'} on line {self.ended[name]}"
+        below = self.defined_below(name, number)
+        if below:
+            return f"{name} is defined below, on line {below}, and may be used behind it"
+        if name in self.others:
+            client, line = self.others[name]
+            return f"{name} is client {client}'s, of line {line}, and a name is its client's alone"
+        known = [other for other, (its, _) in self.known.items() if its == kind]
+        return f"{name} isn't defined on a line above{meant_name(name, known)}"
+
+    def defined_below(self, name, number):
+        """The line behind this one on which the same client defines the name, or None."""
+        for below, words in enumerate(self.lines[number:], number + 1):
+            if words and words[0] == "client":
+                return None
+            kinds = parts_of(words[0], words[1:]) if words else None
+            if kinds and any(kind in ("new-buffer", "new-context") and word == name for kind, word in zip(kinds, words[1:])):
+                return below
+        return None
+
+
+def meant_name(name, known):
+    """Likewise of a name: one that has other capitals, or is alike."""
+    near = [other for other in known if other.lower() == name.lower()] or difflib.get_close_matches(name, known, 1, NEAR)
+    return f"; did you mean {near[0]}?" if near else ""
+
+
+# The lines
 
 
 class Reader:
     """Goes through the lines, each of which is told by its words."""
 
-    def __init__(self, labels):
-        self.labels = labels
-        self.displays, self.features, self.has_memory = 0, set(), False
+    def __init__(self, lines):
+        self.labels, self.names = Labels(lines), Names(lines)
+        self.displays, self.features, self.memory = 0, {}, 0  # by features the line that leaves it out; the line of `memory`
         self.clients = []  # of each the lines of calls: their numbers and words
-        self.calls = 0
-        self.names, self.contexts = {}, 0  # of this client: the kind of each name, and how many contexts it has made
+        self.first_client = 0  # its line
+        self.calls, self.contexts = 0, 0  # how many; those that this client has made
 
     def fault(self, number, words):
-        """The least kind of a line's faults, or 0; the line counts then."""
-        if words is None:
-            return TEXT
+        """The fault of the least kind of a line of words, or None; the line counts then."""
         if not words:
-            return 0
+            return None
         word, *args = words
+        if word not in FORMS:
+            return Fault(WORD, why_unknown(word, self.displays > 0))
         if word in HEAD:
-            return WORD if len(args) != HEAD[word] else self.of_head(word, args)
+            return self.of_head(number, word, args)
+        if not self.clients:
+            return Fault(WORD, f"{word} is a client's, and stands behind a line: client" if self.displays else BEGINS)
         kinds = parts_of(word, args)
-        if kinds is None or not self.clients:
-            return WORD
-        found = [self.of_part(kind, arg, number) for kind, arg in zip(kinds, args)]
-        found += self.of_whole(word, args, min(filter(None, found), default=0))
-        least = min(filter(None, found), default=0)
-        if not least:
+        if kinds is None:
+            return Fault(WORD, why_no_line(word, args))
+        names = names_of(form_of(word, args))
+        faults = [self.of_part(kind, name, arg, number) for kind, name, arg in zip(kinds, names, args)]
+        fault = least([*faults, *self.of_whole(word, args, least(faults))])
+        if fault is None:
             self.add(number, word, args, kinds)
-        return least
+        return fault
 
-    def of_head(self, word, args):
-        behind = bool(self.clients)
+    def of_head(self, number, word, args):
+        if len(args) != len(names_of(HEAD[word])):
+            return Fault(WORD, why_count(word, args))
         if word == "display":
-            return self.of_display(args, behind)
+            return self.of_display(args)
         if self.displays == 0:
-            return WORD
+            return Fault(WORD, BEGINS)
         if word == "memory":
-            if self.has_memory or self.features or behind:
-                return WORD
-            self.has_memory = True
-            return of_number(args[0], 1, 16_384)
+            return self.of_memory(number, args)
         if word == "without":
-            if args[0] not in FEATURES or behind:
-                return WORD
-            again = args[0] in self.features
-            self.features.add(args[0])
-            return LIMIT if again else 0
+            return self.of_feature(number, args[0])
+        self.first_client = self.first_client or number
         self.clients.append([])
-        self.names, self.contexts = {}, 0
-        return LIMIT if len(self.clients) > MOST_CLIENTS else 0
+        self.names.next_client()
+        self.contexts = 0
+        return Fault(LIMIT, f"a script has at most {MOST_CLIENTS} clients") if len(self.clients) > MOST_CLIENTS else None
 
-    def of_display(self, args, behind):
-        if self.has_memory or self.features or behind:
-            return WORD
+    def of_display(self, args):
+        behind = self.memory or min(self.features.values(), default=0) or self.first_client
+        if behind:
+            return Fault(WORD, f"displays stand before memory, without and client, and line {behind} is one of these")
         self.displays += 1
-        found = [of_number(args[0], 1, 640), of_number(args[1], 1, 480), LIMIT if self.displays > MOST_DISPLAYS else 0]
-        return min(filter(None, found), default=0)
+        many = Fault(LIMIT, f"a script has at most {MOST_DISPLAYS} displays") if self.displays > MOST_DISPLAYS else None
+        return least([of_number("WIDTH", args[0], 1, 640), of_number("HEIGHT", args[1], 1, 480), many])
 
-    def of_part(self, kind, word, number):
-        """The kind of fault of one word of a call, or 0."""
+    def of_memory(self, number, args):
+        if self.memory:
+            return Fault(WORD, f"memory stands once, and does on line {self.memory}")
+        behind = min(self.features.values(), default=0) or self.first_client
+        if behind:
+            return Fault(WORD, f"memory stands before without and client, and line {behind} is one of these")
+        self.memory = number
+        return of_number("PAGES", args[0], 1, 16_384)
+
+    def of_feature(self, number, feature):
+        if self.first_client:
+            return Fault(WORD, f"without stands before the clients, of whom the first begins on line {self.first_client}")
+        again = self.features.setdefault(feature, number)
+        unknown = of_choice("FEATURE", feature, FEATURES)
+        return unknown or (Fault(LIMIT, f"{feature} is left out on line {again} already") if again != number else None)
+
+    def of_part(self, kind, name, word, number):
+        """The fault of one word of a call, or None."""
         if ".." in kind:
-            return of_number(word, *map(int, kind.split("..")))
+            return of_number(name, word, *map(int, kind.split("..")))
         if kind == "scanout":
-            return of_number(word, 0, self.displays - 1)
+            return self.of_scanout(word)
         if kind == "format":
-            return of_number(word, 0, 2**32) or (0 if int(word) in FORMATS else LIMIT)
+            return of_format(word)
         if kind == "place":
-            return of_place(word)
+            return of_place(name, word)
         if kind in ("bytes", "request"):
             return of_bytes(word, kind == "request")
         if kind in ("queue", "shape"):
-            return 0 if word in (QUEUES if kind == "queue" else SHAPES) else WORD
+            return of_choice(name, word, QUEUES if kind == "queue" else SHAPES)
         if kind == "timeline":
-            return self.of_timeline(word)
-        if kind == "body":
-            return 0
-        return 0 if self.is_right_name(kind, word, number) else NAME
+            return self.of_timeline(word, number)
+        return None if kind == "body" else self.of_name(kind, word, number)
 
-    def of_timeline(self, word):
+    def of_scanout(self, word):
+        fault = of_number("SCANOUT", word, 0, self.displays - 1)
+        if fault is None or fault.kind == NUMBER:
+            return fault
+        there = f"there are {self.displays} displays, so SCANOUT is 0 to {self.displays - 1}"
+        return Fault(LIMIT, f"{there if self.displays > 1 else 'there is one display, so SCANOUT is 0'}, not {short(word)}")
+
+    def of_timeline(self, word, number):
         if word == "-":
-            return 0
+            return None
         context, _, ring = word.partition(":")
-        return of_number(ring, 0, 63) or (0 if self.is_right_name("context", context, 0) else NAME)
+        return of_number("RING", ring, 0, 63) or self.of_name("context", context, number)
 
-    def is_right_name(self, kind, word, number):
+    def of_name(self, kind, word, number):
         if kind == "buffer-or-none":
-            return word == "-" or self.is_right_name("buffer", word, number)
+            return None if word == "-" else self.of_name("buffer", word, number)
         if not is_name(word):
-            return False
-        if kind in ("new-token", "new-fence"):
-            return self.labels.defines(word, number)
-        if kind in ("token", "fence"):
-            return self.labels.has(word, kind)
-        if kind.startswith("new-"):
-            return word not in self.names
-        return self.names.get(word) == kind.removeprefix("end-")
+            return Fault(NAME, f"{short(word) or 'nothing'} spells no name, which is a letter and up to 15 letters or digits")
+        why = (self.labels if kind.removeprefix("new-") in ("token", "fence") else self.names).fault(kind, word, number)
+        return Fault(NAME, why) if why else None
 
-    def of_whole(self, word, args, least):
+    def of_whole(self, word, args, fault):
         """The faults of a line that no single word of it has: all are of limits."""
         if self.calls >= MOST_LINES:
-            yield LIMIT
+            yield Fault(LIMIT, f"a script has at most {MOST_LINES} lines of calls, and this is one more")
         if word == "context" and self.contexts >= MOST_CONTEXTS:
-            yield LIMIT
-        if word == "store" and least != NUMBER and len(args[3]) < 12 and len(args[2]) // 2 * int(args[3]) > STORED:
-            yield LIMIT
+            yield Fault(LIMIT, f"a client has at most {MOST_CONTEXTS} context lines, and this is one more")
+        if word == "store" and not (fault and fault.kind == NUMBER) and len(args[3]) < 12 and len(args[2]) // 2 * int(args[3]) > STORED:
+            size = len(args[2]) // 2
+            yield Fault(LIMIT, f"{plural(size, 'byte')} {args[3]} times are {size * int(args[3])} bytes, and a store has at most {STORED}")
         if word == "begin" and args[2] == "submit" and args[1] != f"{args[3]}:{args[4]}":
-            yield LIMIT
+            yield Fault(LIMIT, f"a submit is begun on its own context and ring, {short(args[3])}:{short(args[4])}, and not on {short(args[1])}")
 
     def add(self, number, word, args, kinds):
         self.calls += 1
         self.contexts += word == "context"
         for kind, name in zip(kinds, args):
-            if kind in ("new-buffer", "new-context"):
-                self.names[name] = kind.removeprefix("new-")
-            elif kind in ("end-buffer", "end-context"):
-                del self.names[name]
+            if kind in ("new-buffer", "new-context", "end-buffer", "end-context"):
+                self.names.add(kind, name, number)
         label = args[0] if word in ("await", "import") else None
         self.clients[-1].append((number, label))
+
+
+# Lines that wait
 
 
 def in_cycles(waits):
@@ -286,8 +529,37 @@ def in_cycles(waits):
     return found
 
 
+def way_back(line, waits):
+    """The shortest way from a line through what it waits for to itself, with it at both ends."""
+    came, queue = {}, collections.deque([line])
+    while line not in came:
+        here = queue.popleft()
+        for other in waits[here]:
+            if other not in came:
+                came[other] = here
+                queue.append(other)
+    way = [line, came[line]]
+    while way[-1] != line:
+        way.append(came[way[-1]])
+    return way[::-1]
+
+
+def told_cycle(line, waits, labels):
+    """A cycle in words, where `labels` has the label that a line waits for. Lines that are only stood behind aren't told."""
+    way = way_back(line, waits)
+    told = f"line {line}"
+    for here, other, behind in zip(way, way[1:], [*way[2:], way[1]]):
+        if labels.get(here) and waits[here][-1] == other:
+            told += f" waits for {labels[here]} of line {other}"
+            told += ", which" if other != line else ""
+        elif other == line or labels.get(other) and waits[other][-1] == behind:
+            told += f" comes behind line {other}"
+            told += ", which" if other != line else ""
+    return told
+
+
 def cycle(clients, labels):
-    """The first line that waits for itself, or None."""
+    """The first line that waits for itself, and how it does, or None."""
     if not any(label for lines in clients for _, label in lines):
         return None
     waits = {}
@@ -296,21 +568,22 @@ def cycle(clients, labels):
             waits[number] = [lines[place - 1][0]] if place else []
             if label:
                 waits[number].append(labels.first[label][0])
-    waiting = {number for lines in clients for number, label in lines if label}
-    return min(in_cycles(waits) & waiting, default=None)
+    waiting = {number: label for lines in clients for number, label in lines if label}
+    line = min(in_cycles(waits) & set(waiting), default=None)
+    return None if line is None else First(line, KINDS[CYCLE], told_cycle(line, waits, waiting))
 
 
 def first(text):
-    """The line and the kind of the first fault, `too long`, or None where the text is a script."""
+    """The first fault, `too long`, or None where the text is a script."""
     if len(text) > MOST_BYTES:
         return TOO_LONG
-    lines = [words_of(line) for line in lines_of(text)]
-    reader = Reader(Labels(lines))
-    for number, words in enumerate(lines, 1):
-        kind = reader.fault(number, words)
-        if kind:
-            return number, KINDS[kind]
+    lines = lines_of(text)
+    words = [words_of(line) for line in lines]
+    reader = Reader(words)
+    for number, (line, its) in enumerate(zip(lines, words), 1):
+        fault = Fault(TEXT, why_no_text(line)) if its is None else reader.fault(number, its)
+        if fault:
+            return First(number, KINDS[fault.kind], fault.why)
     if reader.displays == 0:
-        return len(lines) + 1, KINDS[WORD]
-    number = cycle(reader.clients, reader.labels)
-    return None if number is None else (number, KINDS[CYCLE])
+        return First(len(lines) + 1, KINDS[WORD], f"there is no display; {BEGINS}")
+    return cycle(reader.clients, reader.labels)

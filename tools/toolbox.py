@@ -1,4 +1,4 @@
-"""A tool as a module of another."""
+"""What tools share: a tool as a module of another, and words in a row."""
 import importlib.machinery
 import importlib.util
 import pathlib
@@ -13,3 +13,9 @@ def module(name):
         sys.modules[known] = importlib.util.module_from_spec(importlib.util.spec_from_loader(known, loader))
         loader.exec_module(sys.modules[known])
     return sys.modules[known]
+
+
+def listed(words, last):
+    """Words with commas, and `last` before the last."""
+    *words, end = map(str, words)
+    return f"{', '.join(words)} {last} {end}" if words else end
