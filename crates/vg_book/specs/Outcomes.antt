@@ -1,6 +1,6 @@
 -- What can be asked of a pass on its way.
 use Rattle.std.specs.Prelude.{ℕ, Bool, true, false, List, Option, Some, None}
-use Rattle.vg_asks.specs.declared.asked.Asked.{Asked}
+use Rattle.vg_chain.specs.declared.asked.Asked.{Asked}
 use Rattle.vg_history.specs.declared.machine.Machine.{Ghosts}
 use Rattle.vg_book.specs.declared.outcome.Carried.{Carried}
 use Rattle.vg_book.specs.declared.outcome.Carried.TheVariants as carried

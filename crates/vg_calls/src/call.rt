@@ -1,7 +1,7 @@
 //! A call of a client, and the names that calls speak of.
 
 use vg_chain::Shape;
-use vg_fence::Fence;
+use vg_history::Fence;
 use vg_formats::Rect;
 use vg_list::Seq;
 use vg_wire::Queue;

@@ -5,3 +5,4 @@ pub mod Fault
 pub mod Walk
 pub mod TourWithin
 pub mod Made
+pub mod Asks

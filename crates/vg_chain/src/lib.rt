@@ -1,7 +1,9 @@
-//! Chains of descriptors of a split virtqueue (VIRTIO 1.2, 2.7.5), and the shapes in which a request
-//! and the room for its response are laid out.
+//! Chains of descriptors of a split virtqueue (VIRTIO 1.2, 2.7.5), the shapes in which a request and the room for its
+//! response are laid out, and what is asked of the device: all that the guest makes available for one command and all that
+//! the device reads of it.
 #![tactic(auto)]
 
+mod asked;
 mod chain;
 mod descriptor;
 mod fault;
@@ -12,6 +14,7 @@ mod shape;
 mod space;
 mod tour;
 
+pub use asked::Asked;
 pub use chain::{Chain, ChainFault, Parts};
 pub use descriptor::{Descriptor, Segment};
 pub use laws::{a_layout_is_walked, a_walk_has_one_result};

@@ -22,7 +22,7 @@ use Rattle.vg_machine.specs.Order.{by_call, call_of, client_of, is_leave, of_cli
 use Rattle.vg_book.specs.Places.{HasCall, IsCurrent, IsPlaced, begun_of}
 use Rattle.vg_book.specs.Tokens.{Acted, TakesBack, Watched, finished_of}
 use Rattle.vg_book.specs.Views.{IsEntryOf, drawn, entry_of, order_call, ordered_of, settled, without}
-use Rattle.vg_fence.specs.Fences.{FenceData}
+use Rattle.vg_history.specs.Fences.{FenceData}
 use Rattle.vg_driver.specs.declared.ticket.Answer.{Answer}
 use Rattle.vg_driver.specs.declared.ticket.Ticket.{Ticket}
 use Rattle.vg_driver.specs.Tickets.{Account, Awaited, DonePass, Finished, IsOf, IsOut, Order, Spent, Submitted, Token}

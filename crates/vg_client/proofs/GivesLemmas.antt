@@ -11,7 +11,7 @@ use Rattle.vg_calls.specs.declared.call.NameRef.{NameRef}
 use Rattle.vg_calls.specs.declared.call.Body.{Body}
 use Rattle.vg_calls.specs.declared.call.Body.TheVariants as bodies
 use Rattle.vg_driver.specs.declared.request.Way.{Way}
-use Rattle.vg_fence.specs.Fences.{FenceData}
+use Rattle.vg_history.specs.Fences.{FenceData}
 use Rattle.vg_client.specs.Calls.{Gives, GivesTasks}
 use Rattle.vg_tasks.specs.Known.{Known}
 use Rattle.vg_names.specs.Names.{NamesState, found, has_one_name}

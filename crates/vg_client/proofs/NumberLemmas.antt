@@ -12,7 +12,7 @@ use Rattle.vg_calls.specs.declared.call.NameRef.{NameRef}
 use Rattle.vg_calls.specs.declared.call.Body.{Body}
 use Rattle.vg_calls.specs.declared.call.Body.TheVariants as bodies
 use Rattle.vg_driver.specs.declared.request.Way.{Way}
-use Rattle.vg_fence.specs.Fences.{FenceData}
+use Rattle.vg_history.specs.Fences.{FenceData}
 use Rattle.vg_names.specs.declared.names.Held.{Held}
 use Rattle.vg_names.specs.Names.{NamesState, found, has_one_name, without_name}
 use Rattle.vg_names.specs.Contexts.{ContextsState, is_current, with_context, with_no_context}

@@ -22,7 +22,7 @@ use Rattle.vg_client_holds.specs.declared.act.What.{What}
 use Rattle.vg_driver.specs.Asks.{denied_for, request_for}
 use Rattle.vg_driver.specs.declared.ask.Ask.{Ask}
 use Rattle.vg_driver.specs.declared.ticket.Ticket.{Ticket}
-use Rattle.vg_fence.specs.Fences.{FenceData}
+use Rattle.vg_history.specs.Fences.{FenceData}
 use Rattle.vg_client.specs.declared.outcome.Last.{Last}
 use Rattle.vg_client.specs.declared.outcome.Last.TheVariants as lasts
 use Rattle.vg_client.specs.declared.outcome.Outcome.{Outcome}

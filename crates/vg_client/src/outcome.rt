@@ -10,7 +10,7 @@ use std::alloc::{AllocError, Global};
 use std::marker::Model;
 use vg_calls::{ContextRef, NameRef};
 use vg_driver::Answer;
-use vg_fence::Fence;
+use vg_history::Fence;
 use vg_machine::ActReply;
 
 /// What the last entry of a call was answered, where it has one.

@@ -30,7 +30,7 @@ use std::alloc::{AllocError, Global};
 use std::sync::Wait;
 use vg_book::{Book, Naming};
 use vg_driver::{Ask, Driver};
-use vg_fence::Fence;
+use vg_history::Fence;
 use vg_machine::{Act, ActReply, Display, What};
 use vg_ring::Rings;
 use vg_tasks::{Deed, Task, Tasks};

@@ -13,7 +13,7 @@ use std::alloc::{AllocError, Global};
 use std::sync::Wait;
 use vg_book::{Book, ClientToken, Naming, calls_stand_behind};
 use vg_driver::{Answer, Ask, Driver, Ticket};
-use vg_fence::Fence;
+use vg_history::Fence;
 use vg_machine::{Act, ActReply, Display};
 use vg_ring::Rings;
 

@@ -10,7 +10,7 @@ use Rattle.vg_refusals.specs.Refusals.{refusal_of, unless_refused}
 use Rattle.vg_resource.specs.declared.resource.Resource.{Resource}
 use Rattle.vg_resource.specs.Resource.{IsWhole}
 use Rattle.vg_scanout.specs.Scanout.{ScanoutState, is_past_limit, snap, snapped}
-use Rattle.vg_shown.specs.Shown.{shown_byte, shown_row}
+use Rattle.vg_formats.specs.Shown.{shown_byte, shown_row}
 use Rattle.vg_wire_ext.specs.declared.response.Response.TheVariants as responses
 use Rattle.vg_device.specs.ChangeWithin.{IsImage, pointed_step}
 use Rattle.vg_device.specs.State.{State}

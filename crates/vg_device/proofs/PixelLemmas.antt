@@ -17,8 +17,8 @@ use Rattle.vg_formats.specs.declared.format.Format.{Format}
 use Rattle.vg_formats.specs.declared.rect.Rect.{Rect}
 use Rattle.vg_formats.specs.Formats.{shown_bytes}
 use Rattle.vg_formats.specs.Pixels.{Covers, are_meeting, common_of, is_inside}
-use Rattle.vg_shown.specs.Shown.{pixel_at, shown_byte}
-use Rattle.vg_shown.proofs.ShownLemmas.{length-shown_bytes}
+use Rattle.vg_formats.specs.Shown.{pixel_at, shown_byte}
+use Rattle.vg_formats.proofs.ShownLemmas.{length-shown_bytes}
 use Rattle.vg_pages.specs.Memory.{Memory}
 use Rattle.vg_wire_ext.specs.declared.response.Response.TheVariants as responses
 use Rattle.vg_resource.specs.declared.resource.Resource.{Resource}

@@ -34,7 +34,7 @@ use Rattle.vg_pages.specs.Memory.{Memory}
 use Rattle.vg_config.specs.Features.{CONTEXT_INIT}
 use Rattle.vg_cursor.specs.declared.cursor.Cursor.{Cursor}
 use Rattle.vg_cursor.specs.Cursor.{changed, hidden_at, placed_at, shown_as}
-use Rattle.vg_shown.specs.Shown.{shown_row}
+use Rattle.vg_formats.specs.Shown.{shown_row}
 use Rattle.vg_scanout.specs.Scanout.{ScanoutState, are_too_many, bound, flushed, is_past_limit, is_too_large, snapped, unbound, unbound_from}
 use Rattle.vg_device.specs.Features.{has_feature, is_usable}
 use Rattle.vg_blob.specs.Uuids.{assign_refusals, assigned, forgotten, number_for, uuid_bytes}

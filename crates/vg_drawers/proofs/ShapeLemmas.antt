@@ -11,7 +11,7 @@ use Rattle.std.specs.Map.{lookup, remove_entry, set_value, values_of}
 use Rattle.std.specs.BTreeMap.{insert_entry}
 use Rattle.vg_formats.specs.declared.rect.Rect.{Rect}
 use Rattle.vg_places.proofs.Places.{length-tabulate}
-use Rattle.vg_shown.specs.Shown.{shown_byte, shown_row}
+use Rattle.vg_formats.specs.Shown.{shown_byte, shown_row}
 use Rattle.vg_cursor.specs.declared.cursor.Cursor.{Cursor}
 use Rattle.vg_cursor.specs.Cursor.{cursor_of}
 use Rattle.vg_resource.specs.declared.resource.Resource.{Resource}

@@ -14,8 +14,8 @@ use Rattle.vg_book.specs.declared.outcome.Carried.TheVariants as carried
 use Rattle.vg_book.specs.Outcomes.{asks_of, tag_of}
 use Rattle.vg_book.specs.Tokens.{Client, Done, Noted, Rooted, TakesIn, Watched, finished_of}
 use Rattle.vg_book.specs.Views.{entry_of}
-use Rattle.vg_fence.specs.Fences.{FenceData}
-use Rattle.vg_asks.specs.declared.asked.Asked.{Asked}
+use Rattle.vg_history.specs.Fences.{FenceData}
+use Rattle.vg_chain.specs.declared.asked.Asked.{Asked}
 use Rattle.vg_chain.specs.declared.shape.Shape.{Shape}
 use Rattle.vg_chain.specs.Made.{IsNeeded}
 use Rattle.vg_wire.specs.declared.request.Queue.{Queue}

@@ -9,7 +9,7 @@ use Rattle.vg_history.proofs.ListLemmas.{has_map, prefix_trans, times_append, ti
 use Rattle.vg_book.specs.Outcomes.{asks_of, told_by}
 use Rattle.vg_book.specs.Tokens.{TakesBack, TakesUnrun, Watched, finished_of}
 use Rattle.vg_book.specs.Views.{calls, entry_of, given_up, order_call, settled, without}
-use Rattle.vg_fence.specs.Fences.{FenceData}
+use Rattle.vg_history.specs.Fences.{FenceData}
 use Rattle.vg_client_holds.specs.declared.act.Act.{Act}
 use Rattle.vg_client_holds.specs.declared.act.ActReply.{ActReply}
 use Rattle.vg_device.specs.declared.request.Reply.{Reply}

@@ -10,14 +10,14 @@ use Rattle.vg_book.specs.declared.outcome.Carried.{Carried}
 use Rattle.vg_book.specs.declared.outcome.Carried.TheVariants as carried
 use Rattle.vg_book.specs.Outcomes.{asks_of, tag_of}
 use Rattle.vg_book.specs.Tokens.{Client, Drawn, Noted, Passed, Rooted, Watched}
-use Rattle.vg_fence.specs.Fences.{FenceData}
+use Rattle.vg_history.specs.Fences.{FenceData}
 use Rattle.vg_chain.specs.declared.shape.Shape.{Shape}
 use Rattle.vg_chain.specs.Made.{IsCount, IsNeeded}
 use Rattle.vg_wire.specs.declared.request.Queue.{Queue}
 use Rattle.vg_ring.specs.declared.views.Answer.{Answer}
 use Rattle.vg_ring.specs.declared.views.Entry as ring
-use Rattle.vg_asks.specs.declared.asked.Asked.{Asked}
-use Rattle.vg_asks.specs.Asks.{asked}
+use Rattle.vg_chain.specs.declared.asked.Asked.{Asked}
+use Rattle.vg_chain.specs.Asks.{asked}
 use Rattle.vg_ring.specs.Cargo.{ParcelData}
 use Rattle.vg_ring.specs.Ends.{DriverLists, HasRoom}
 use Rattle.vg_ring.specs.Entries.{lane_count}

@@ -6,7 +6,7 @@ use Rattle.vg_book.specs.declared.board.Account as books
 use Rattle.vg_book.specs.declared.board.Order as orders
 use Rattle.vg_book.specs.Tokens as tokens
 use Rattle.vg_book.specs.Tokens.{Acted, Drawn, TakesBack, TakesUnrun, Watched}
-use Rattle.vg_fence.specs.Fences.{FenceData}
+use Rattle.vg_history.specs.Fences.{FenceData}
 use Rattle.vg_client_holds.specs.declared.act.Act.{Act}
 use Rattle.vg_client_holds.specs.declared.act.Act.TheVariants.{Await}
 use Rattle.vg_client_holds.specs.declared.act.ActReply.{ActReply}

@@ -22,7 +22,7 @@ use std::sync::{Mutex, Wait};
 use vg_book::{Book, Carried, ClientToken, Root};
 use vg_chain::Shape;
 use vg_client_holds::Act;
-use vg_fence::Fence;
+use vg_history::Fence;
 use vg_list::Seq;
 use vg_machine::{Display, Reply};
 use vg_notify::Ringer;

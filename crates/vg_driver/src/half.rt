@@ -17,8 +17,7 @@ use std::snapshot::Snapshot;
 use std::sync::Wait;
 use vg_book::{Book, Carried, ClientToken, Root};
 use vg_chain::Shape;
-use vg_fence::Fence;
-use vg_history::Machine;
+use vg_history::{Fence, Machine};
 use vg_notify::Ringer;
 use vg_ring::{DriverEnd, OfQueue, Parcel, Reaped, Tag};
 

@@ -9,8 +9,7 @@ ghost use Rattle.vg_driver.specs.Halves.{HasHeard, Hears, Signals, seen_by, unhe
 use std::alloc::AllocError;
 use std::marker::Model;
 use vg_book::{Book, Carried, ClientToken, Naming, Note, Root};
-use vg_fence::Fence;
-use vg_history::Machine;
+use vg_history::{Fence, Machine};
 
 /// A lane's greatest ordinal that came back, run or not, a note that knows the lane's commands up to some ordinal and all that
 /// came back of it run, and whether something came back unrun.

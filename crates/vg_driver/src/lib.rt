@@ -18,4 +18,4 @@ pub use half::Half;
 pub use request::Way;
 pub use threads::{drivers_may_be_shared, halves_may_be_sent};
 pub use ticket::{Answer, Ticket};
-pub use vg_fence::Fence;
+pub use vg_history::Fence;

@@ -14,7 +14,7 @@ use crate::ticket::Ticket;
 use std::alloc::{AllocError, Global};
 use std::snapshot::Snapshot;
 use vg_book::{Book, ClientToken};
-use vg_fence::Fence;
+use vg_history::Fence;
 use vg_machine::{Display, Request};
 use vg_ring::{OfQueue, Parcel, Tag};
 

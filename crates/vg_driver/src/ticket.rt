@@ -1,6 +1,6 @@
 //! What a submitted command is known by, and what it is answered.
 
-use vg_fence::Fence;
+use vg_history::Fence;
 use vg_machine::Reply;
 
 /// A command that was submitted, by its fence and by its client's number for it.

@@ -1,3 +1,4 @@
+pub mod Fences
 pub mod Lists
 pub mod Jobs
 pub mod Begins

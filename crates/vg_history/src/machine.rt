@@ -1,7 +1,7 @@
 //! The machine that a history is about, and what can be asked of what travels to it.
 
 ghost use Rattle.std.specs.Prelude.{◌≡◌, ℕ, ◌+◌, ◌<◌, ◌^◌, ◌-◌, Bool, true, false, Option, List, [], ◌∷◌, ◌++◌, IfOk, OnOk, OnErr};
-ghost use Rattle.vg_asks.specs.declared.asked.Asked.{Asked};
+ghost use Rattle.vg_chain.specs.declared.asked.Asked.{Asked};
 ghost use Rattle.vg_list.specs.Front.{HasFront};
 ghost use Rattle.vg_history.specs.Jobs.{IsBack, of_lane, but_lane, lane_by};
 ghost use Rattle.vg_history.specs.Begins.{IfLent, IfWhole};

@@ -2,8 +2,8 @@
 use Rattle.std.specs.Prelude.{◌≡◌, ℕ, ◌+◌, ◌%◌, ◌^◌, List, [], ◌∷◌, Option, Some, None, refl}
 use Rattle.vg_wire.specs.declared.request.Queue.TheVariants.{Control}
 use Rattle.vg_chain.specs.declared.shape.Shape.TheVariants.{Plain}
-use Rattle.vg_asks.specs.declared.asked.Asked.{Asked}
-use Rattle.vg_asks.specs.Asks.{asked}
+use Rattle.vg_chain.specs.declared.asked.Asked.{Asked}
+use Rattle.vg_chain.specs.Asks.{asked}
 use Rattle.vg_lend.specs.declared.waiter.Request.{Request}
 use Rattle.vg_lend.specs.declared.waiter.Sums.{Sums}
 

@@ -1,7 +1,7 @@
 -- What crosses with a command: what its request asks for, what its reply writes into the room, and the reply that is read there.
 use Rattle.std.specs.Prelude.{ℕ, List, [], length, take, min}
-use Rattle.vg_asks.specs.declared.asked.Asked.{Asked}
-use Rattle.vg_asks.specs.Asks.{asked}
+use Rattle.vg_chain.specs.declared.asked.Asked.{Asked}
+use Rattle.vg_chain.specs.Asks.{asked}
 use Rattle.vg_chain.specs.declared.shape.Shape.{Shape}
 use Rattle.vg_chain.specs.declared.shape.Shape.TheVariants.{Bad}
 use Rattle.vg_device.specs.declared.request.Request.{Request}

@@ -19,7 +19,7 @@ use Rattle.vg_share.proofs.CellLemmas.{length-repeated}
 use Rattle.vg_backing.specs.Backing.{AreHeld, backing_bytes}
 use Rattle.vg_cursor.specs.declared.cursor.Cursor.{Cursor}
 use Rattle.vg_cursor.specs.Blended.{blended, blended_place, covered, image_place, mixed, over}
-use Rattle.vg_shown.specs.Shown.{shown_byte, shown_row}
+use Rattle.vg_formats.specs.Shown.{shown_byte, shown_row}
 use Rattle.vg_resource.specs.declared.resource.Resource.{Resource}
 use Rattle.vg_painted.specs.Inks.{numbers}
 use Rattle.vg_painted.specs.Paint.{blended_at, byte_of_entries, cleared_at, covered_at, filled_at, image_at, over_at, shown_at, stored_at}

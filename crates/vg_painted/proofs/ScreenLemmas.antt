@@ -4,7 +4,7 @@ use Rattle.std.proofs.lemmas.List.{length-set}
 use Rattle.std.proofs.lemmas.Option.{slice_get-get_or, slice_get_within}
 use Rattle.vg_formats.specs.declared.rect.Rect.{Rect}
 use Rattle.vg_formats.specs.Pixels.{common_of}
-use Rattle.vg_shown.specs.Shown.{shown_byte}
+use Rattle.vg_formats.specs.Shown.{shown_byte}
 use Rattle.vg_cursor.specs.declared.cursor.Cursor.{Cursor}
 use Rattle.vg_cursor.specs.Cursor.{cursor_of, unset}
 use Rattle.vg_scanout.specs.declared.scanout.Binding.{Binding}

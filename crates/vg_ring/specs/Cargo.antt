@@ -2,8 +2,8 @@ use Rattle.std.specs.Prelude.{◌≡◌, ℕ, ◌+◌, ◌*◌, ◌^◌, ◌≤�
 use Rattle.vg_chain.specs.declared.shape.Shape.{Shape}
 use Rattle.vg_chain.specs.Space.{space, most_request, most_room}
 use Rattle.vg_chain.specs.Made.{AreTables, IsMeasured}
-use Rattle.vg_asks.specs.declared.asked.Asked.{Asked}
-use Rattle.vg_asks.specs.Asks.{asked}
+use Rattle.vg_chain.specs.declared.asked.Asked.{Asked}
+use Rattle.vg_chain.specs.Asks.{asked}
 use Rattle.vg_wire.specs.declared.request.Queue.{Queue}
 use Rattle.vg_wire.specs.declared.request.Queue.TheVariants.{Control, Cursor}
 

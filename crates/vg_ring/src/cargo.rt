@@ -1,7 +1,7 @@
 //! What goes over a ring: a request with its room, and the pass that goes with it.
 
 ghost use Rattle.std.specs.Prelude.{◌≡◌, false, true, length, IfErr, IfOk};
-ghost use Rattle.vg_asks.specs.Asks.{asked};
+ghost use Rattle.vg_chain.specs.Asks.{asked};
 ghost use Rattle.vg_ring.specs.Cargo.{IsLane, IsExtent, Tells, asked_of, base_of};
 ghost use Rattle.vg_ring.specs.Walked.{IsWalkOf};
 ghost use Rattle.vg_chain.specs.Made.{AreTables};

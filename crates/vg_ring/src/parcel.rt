@@ -1,7 +1,7 @@
 //! A request with the room for its response.
 
 ghost use Rattle.std.specs.Prelude.{◌≡◌, ◌+◌, ◌≤◌, ◌^◌, Ok, false, [], length, take, min, IfErr, IfOk};
-ghost use Rattle.vg_asks.specs.Asks.{asked};
+ghost use Rattle.vg_chain.specs.Asks.{asked};
 ghost use Rattle.vg_chain.specs.Space.{most_request, most_room, IsPlaced};
 ghost use Rattle.vg_chain.specs.Made.{Covers, IsCount, AreTables};
 ghost use Rattle.vg_ring.specs.Cargo.{IsLane, IsExtent, Tells, asked_of};

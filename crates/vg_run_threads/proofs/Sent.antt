@@ -9,7 +9,7 @@ use Rattle.vg_list.specs.contracts.seq.Seq as seq
 use Rattle.vg_script.specs.contracts.types.Line as line
 use Rattle.vg_calls.specs.contracts.call.Body as body
 use Rattle.vg_calls.specs.contracts.call.Call as call
-use Rattle.vg_fence.specs.contracts.fence.Fence as fence
+use Rattle.vg_history.specs.contracts.fence.Fence as fence
 use Rattle.vg_book.specs.declared.board.Naming as Naming
 use Rattle.vg_ring.specs.declared.rings.Rings as Rings
 use Rattle.vg_driver.specs.contracts.driver.Driver as driver

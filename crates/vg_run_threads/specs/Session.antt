@@ -7,8 +7,8 @@ use Rattle.vg_history.specs.Lists.{Has, upto}
 use Rattle.vg_book.specs.declared.board.Counted.{Counted}
 use Rattle.vg_book.specs.Tokens.{IsClosed, Rooted}
 use Rattle.vg_book.specs.Tokens as tokens
-use Rattle.vg_asks.specs.declared.asked.Asked.{Asked}
-use Rattle.vg_asks.specs.Asks.{asked}
+use Rattle.vg_chain.specs.declared.asked.Asked.{Asked}
+use Rattle.vg_chain.specs.Asks.{asked}
 use Rattle.vg_ring.specs.declared.views.Answer.{Answer}
 use Rattle.vg_ring.specs.declared.views.Entry as ring
 use Rattle.vg_ring.specs.DeviceEnds.{DeviceLists}

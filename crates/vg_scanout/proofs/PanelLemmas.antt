@@ -14,7 +14,7 @@ use Rattle.vg_places.specs.Places.{tabulate}
 use Rattle.vg_places.specs.Rectangles.{filled, place_of}
 use Rattle.vg_places.proofs.Filled.{filled-inside, filled_whole, row-fits}
 use Rattle.vg_formats.specs.declared.format.Format.TheVariants.{B8G8R8A8}
-use Rattle.vg_shown.specs.Shown.{shown_byte, shown_rows}
+use Rattle.vg_formats.specs.Shown.{shown_byte, shown_rows}
 use Rattle.vg_formats.specs.declared.rect.Rect.{Rect}
 use Rattle.vg_cursor.specs.declared.cursor.Cursor.{Cursor}
 use Rattle.vg_cursor.specs.Blended.{blended}

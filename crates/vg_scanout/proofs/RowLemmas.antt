@@ -11,7 +11,7 @@ use Rattle.vg_places.specs.declared.rectangles.Area.{Area}
 use Rattle.vg_places.specs.Rectangles.{filled, filled_place, is_inside}
 use Rattle.vg_places.proofs.Filled.{length-filled}
 use Rattle.vg_places.proofs.Places.{get_or-tabulate, tabulate_from_places}
-use Rattle.vg_shown.specs.Shown.{shown_byte}
+use Rattle.vg_formats.specs.Shown.{shown_byte}
 use Rattle.vg_scanout.specs.declared.scanout.Binding.{Binding}
 use Rattle.vg_scanout.specs.Fits.{FitsSurface}
 use Rattle.vg_scanout.specs.Panels.{rows_touched}

@@ -7,7 +7,7 @@ use Rattle.vg_cursor.specs.Cursor.{cursor_of}
 use Rattle.vg_formats.specs.declared.rect.Rect.{Rect}
 use Rattle.vg_formats.specs.Pixels.{are_meeting, common_of}
 use Rattle.vg_places.specs.declared.rectangles.Area.{Area}
-use Rattle.vg_shown.specs.Shown.{shown_rows}
+use Rattle.vg_formats.specs.Shown.{shown_rows}
 use Rattle.vg_scanout.specs.declared.scanout.Binding.{Binding}
 use Rattle.vg_scanout.specs.declared.scanout.Frame.{Frame}
 use Rattle.vg_wire.specs.Kinds.{ERR_OUT_OF_MEMORY}

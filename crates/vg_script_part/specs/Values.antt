@@ -7,7 +7,7 @@ use Rattle.vg_calls.specs.declared.call.Call.TheVariants as calls
 use Rattle.vg_client_holds.specs.declared.act.ActReply.{ActReply}
 use Rattle.vg_client_holds.specs.declared.act.ActReply.TheVariants as act_replies
 use Rattle.vg_history.specs.declared.entry.Entry.TheVariants as entries
-use Rattle.vg_fence.specs.Fences.{FenceData}
+use Rattle.vg_history.specs.Fences.{FenceData}
 use Rattle.vg_machine.specs.Entries.{Entry}
 use Rattle.vg_machine.specs.Replay.{display}
 use Rattle.vg_machine.specs.Order.{call_of, client_of}

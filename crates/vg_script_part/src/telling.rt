@@ -12,7 +12,7 @@ use std::alloc::AllocError;
 use std::sync::Wait;
 use vg_book::{Book, Naming, Note};
 use vg_client::{Call, Client, Last};
-use vg_fence::Fence;
+use vg_history::Fence;
 use vg_labels::{Gift, Given, Label, Shown, Told};
 use vg_machine::{ActReply, Display};
 

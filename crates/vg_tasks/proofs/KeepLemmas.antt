@@ -9,7 +9,7 @@ use Rattle.vg_calls.specs.declared.call.Call.{Call}
 use Rattle.vg_calls.specs.declared.call.Call.TheVariants as calls
 use Rattle.vg_calls.specs.declared.call.NameRef.{NameRef}
 use Rattle.vg_driver.specs.declared.request.Way.{Way}
-use Rattle.vg_fence.specs.Fences.{FenceData}
+use Rattle.vg_history.specs.Fences.{FenceData}
 use Rattle.vg_names.specs.declared.names.Held.{Held}
 use Rattle.vg_names.specs.Names.{NamesState, found}
 use Rattle.vg_names.specs.Contexts.{is_current}

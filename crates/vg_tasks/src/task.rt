@@ -10,7 +10,7 @@ use vg_calls::ContextRef;
 use vg_chain::Shape;
 use vg_client_holds::{Act, What};
 use vg_driver::{Ask, Way};
-use vg_fence::Fence;
+use vg_history::Fence;
 use vg_formats::{MemEntry, Rect};
 use vg_list::Seq;
 use vg_names::Held;

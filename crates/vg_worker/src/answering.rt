@@ -1,7 +1,7 @@
 //! A command is read through its chain and run on its lane, and its response written through the chain.
 
 ghost use Rattle.std.specs.Prelude.{◌≡◌, ◌+◌, true, false, [], None, length};
-ghost use Rattle.vg_asks.specs.Asks.{asked};
+ghost use Rattle.vg_chain.specs.Asks.{asked};
 ghost use Rattle.vg_ring.specs.Cargo.{asked_of};
 ghost use Rattle.vg_ring.specs.Walked.{IsWalkOf};
 ghost use Rattle.vg_machine.specs.Written.{asks_of, read_by, written_in};

@@ -1,5 +1,5 @@
-use Rattle.vg_shown.proofs.ShownLemmas.{length-shown_row, pixel_at-shown_row}
-use Rattle.vg_shown.proofs.laws.show_each_pixel.Goals as goal
+use Rattle.vg_formats.proofs.ShownLemmas.{length-shown_row, pixel_at-shown_row}
+use Rattle.vg_formats.proofs.laws.show_each_pixel.Goals as goal
 
 pub returns-clause-length : goal.returns-clause-length
 returns-clause-length c = length-shown_row

@@ -3,9 +3,9 @@ use Rattle.std.proofs.Common.{◌≡◌, ℕ, ◌≤◌, ◌+◌, ◌*◌, ◌-�
 use borrow.Rule.Slice.PartMut.{put_mid}
 use Rattle.vg_places.specs.declared.rectangles.Area.{Area}
 use Rattle.vg_places.proofs.Filled.{filled_empty, row-fits}
-use Rattle.vg_shown.specs.Shown.{shown_byte}
-use Rattle.vg_shown.proofs.ShownLemmas.{shown_rows-more}
-use Rattle.vg_shown.proofs.rows.show_each_row.Goals as goal
+use Rattle.vg_formats.specs.Shown.{shown_byte}
+use Rattle.vg_formats.proofs.ShownLemmas.{shown_rows-more}
+use Rattle.vg_formats.proofs.rows.show_each_row.Goals as goal
 
 pub loop-i-init : goal.loop-i-init
 loop-i-init c =

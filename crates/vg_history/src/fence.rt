@@ -12,7 +12,7 @@ pub struct Fence {
 }
 
 impl Model for Fence {
-    ghost use Rattle.vg_fence.specs.Fences.{FenceData, IsFence};
+    ghost use Rattle.vg_history.specs.Fences.{FenceData, IsFence};
 
     ghost Value = { FenceData };
 

@@ -2,8 +2,8 @@
 use Rattle.std.proofs.Common.{◌≡◌, ◌+◌, ◌-◌, ◌*◌, ◌/◌, ◌≤◌, length, ap, ◌∙◌, refl, arith}
 use Rattle.std.proofs.lemmas.Nat.{div-add-mod'}
 use borrow.Rule.Slice.PartMut.{put_mid}
-use Rattle.vg_shown.proofs.ShownLemmas.{shown_front, shown-none, shown-more, shown-all, length-shown_bytes}
-use Rattle.vg_shown.proofs.rows.show_each.Goals as goal
+use Rattle.vg_formats.proofs.ShownLemmas.{shown_front, shown-none, shown-more, shown-all, length-shown_bytes}
+use Rattle.vg_formats.proofs.rows.show_each.Goals as goal
 
 pub loop-i-init : goal.loop-i-init
 loop-i-init g c = shown-none g.O.Order.format c.args.pixels.now c.args.shown.now

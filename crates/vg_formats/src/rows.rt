@@ -1,10 +1,10 @@
 //! Rows of pixels as they are shown.
 
 ghost use Rattle.std.specs.Prelude.{◌≡◌, ℕ, ◌+◌, ◌-◌, ◌*◌, ◌%◌, ◌<◌, ◌≤◌, length};
-ghost use Rattle.vg_shown.specs.Shown.{shown_row, shown_rows};
+ghost use Rattle.vg_formats.specs.Shown.{shown_row, shown_rows};
 
+use crate::format::Format;
 use crate::order::{Abgr, Argb, Bgrx, Order, Rgba, Rgbx, Xbgr, Xrgb};
-use vg_formats::Format;
 use vg_places::Area;
 
 /// Writes pixels of four bytes each as they are shown, each as its bytes B, G, R and A. A is 255 where the

@@ -1,6 +1,6 @@
 //! One command as it is asked for.
 
-use vg_chain::Shape;
+use crate::shape::Shape;
 use vg_list::Seq;
 use vg_wire::Queue;
 

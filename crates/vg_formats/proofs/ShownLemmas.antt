@@ -11,7 +11,7 @@ use Rattle.vg_places.proofs.Filled.{filled_empty, filled_more, filled_whole}
 use Rattle.vg_formats.specs.declared.format.Format.{Format}
 use Rattle.vg_formats.specs.declared.format.Format.TheVariants.{B8G8R8A8, B8G8R8X8, A8R8G8B8, X8R8G8B8, R8G8B8A8, X8B8G8R8, A8B8G8R8, R8G8B8X8}
 use Rattle.vg_formats.specs.Formats.{shown_bytes}
-use Rattle.vg_shown.specs.Shown.{pixel_at, shown_byte, shown_row, shown_rows}
+use Rattle.vg_formats.specs.Shown.{pixel_at, shown_byte, shown_row, shown_rows}
 
 next-element : (xs : List ℕ) (k j : ℕ) → j ≡ k + 1 → k < length xs → drop k xs ≡ get_or xs k 0 ∷ drop j xs
 next-element xs k j next within =

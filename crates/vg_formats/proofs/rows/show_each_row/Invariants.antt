@@ -1,6 +1,6 @@
 use Rattle.std.proofs.Common.{◌≡◌, ◌+◌, ◌*◌}
-use Rattle.vg_shown.specs.Shown.{shown_rows}
-use Rattle.vg_shown.proofs.rows.show_each_row.Given as goal
+use Rattle.vg_formats.specs.Shown.{shown_rows}
+use Rattle.vg_formats.proofs.rows.show_each_row.Given as goal
 
 abbrev pub invariant-loop-i : goal.invariant-loop-i
 invariant-loop-i l = record {

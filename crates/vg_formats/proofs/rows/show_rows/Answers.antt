@@ -1,9 +1,9 @@
 -- An empty rectangle changes nothing; of one that isn't, each row of pixels ends no later than the last.
 use Rattle.std.proofs.Common.{ℕ, ◌+◌, ◌*◌, length, drop, inl, inr, arith}
 use Rattle.vg_places.proofs.Filled.{filled_empty, row-ends}
-use Rattle.vg_shown.specs.Shown.{shown_byte}
-use Rattle.vg_shown.proofs.rows.show_rows.Goals as goal
-use Rattle.vg_shown.proofs.rows.show_rows.Goals.{then-area-eq0-via-then-area-eq0, then-area-eq0-via-else-area-eq0+then-area-eq0-2}
+use Rattle.vg_formats.specs.Shown.{shown_byte}
+use Rattle.vg_formats.proofs.rows.show_rows.Goals as goal
+use Rattle.vg_formats.proofs.rows.show_rows.Goals.{then-area-eq0-via-then-area-eq0, then-area-eq0-via-else-area-eq0+then-area-eq0-2}
 
 pub returns-then-area-eq0 : goal.returns-then-area-eq0
 returns-then-area-eq0 c =

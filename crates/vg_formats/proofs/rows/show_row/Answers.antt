@@ -1,7 +1,7 @@
 use Rattle.std.proofs.Common.{◌∙◌, ap, sym}
-use Rattle.vg_shown.specs.Shown.{shown_row}
-use Rattle.vg_shown.proofs.ShownLemmas.{shown-as-it-is}
-use Rattle.vg_shown.proofs.rows.show_row.Goals as goal
+use Rattle.vg_formats.specs.Shown.{shown_row}
+use Rattle.vg_formats.proofs.ShownLemmas.{shown-as-it-is}
+use Rattle.vg_formats.proofs.rows.show_row.Goals as goal
 
 pub returns-in-B8G8R8A8 : goal.returns-in-B8G8R8A8
 returns-in-B8G8R8A8 c =
