@@ -12,6 +12,7 @@ use crate::rows::known;
 use std::alloc::Global;
 use vg_calls::Call;
 use vg_formats::Format;
+use vg_limits::{MOST_BYTES, MOST_TIMES};
 use vg_script_words::{
     Kind, Stop, both_spelled, hex_bytes, is_name, is_number, limited, size, spelled, value,
 };
@@ -56,7 +57,7 @@ pub(crate) fn blob<'a>(names: &mut Names<'a>, name: &'a [u8], size: &[u8]) -> Re
     ensures count { (table_of names.new).count ≤ (table_of names.old).count + 1 }
 {
     spelled(size)?;
-    let size = limited(size, 1, 1_228_800)?;
+    let size = limited(size, 1, MOST_BYTES)?;
     if !is_name(name) || names.has(name) {
         return Err(Stop::Fault(Kind::Name));
     }
@@ -79,7 +80,7 @@ pub(crate) fn store(
 {
     both_spelled(offset, times)?;
     let bytes = hex_bytes(alloc, hex)?;
-    let offset = limited(offset, 0, 1_228_799)?;
+    let offset = limited(offset, 0, MOST_BYTES - 1)?;
     let times = times_of(hex.len() / 2, times)?;
     let name = known(names, name)?;
     Ok(Call::Store {
@@ -98,8 +99,8 @@ fn times_of(count: usize, number: &[u8]) -> Result<u32, Kind>
     if count < 1 || count > 4_096 {
         return Err(Kind::Limit);
     }
-    let times = limited(number, 1, 307_200)?;
-    if count * times as usize > 1_228_800 {
+    let times = limited(number, 1, MOST_TIMES)?;
+    if count * times as usize > MOST_BYTES as usize {
         return Err(Kind::Limit);
     }
     Ok(times)
@@ -112,7 +113,7 @@ pub(crate) fn load(names: &Names, name: &[u8], offset: &[u8], size: &[u8]) -> Re
         (judged_row (load_row (table_of names.now) name.now offset.now size.now)) }
 {
     both_spelled(offset, size)?;
-    let offset = limited(offset, 0, 1_228_799)?;
+    let offset = limited(offset, 0, MOST_BYTES - 1)?;
     let length = limited(size, 1, 1_024)?;
     let name = known(names, name)?;
     Ok(Call::Load {

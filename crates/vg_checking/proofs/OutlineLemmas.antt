@@ -13,6 +13,7 @@ use Rattle.vg_judge.specs.Outline.{IsOutline}
 use Rattle.vg_judge.specs.Outline as outlines
 use Rattle.vg_journal_read.specs.Features.{accepted_of}
 use Rattle.vg_checking.specs.Outlining.{IsOutlined, outline_of}
+use Rattle.vg_limits.specs.Limits.{version_1}
 
 -- each entry's line takes a byte at least
 lines_long : (n : ℕ) (entries : List Entry) → length entries ≤ length (whole (numbered_pieces entry_pieces n entries))
@@ -33,7 +34,7 @@ part_short bytes part at (front, rest, is, count) =
 stands : (bytes part : List ℕ) (at : ℕ) → StandsAt bytes part at → outlines.StandsAt bytes at part
 stands bytes part at (front, rest, is, count) = record { front = front; rest = rest; count = count; place = is ∙ append_assoc front part rest }
 
-pub is_outlined : (bytes : List ℕ) (scanned : Scanned) → length bytes ≤ 1073741824 → IsScanned bytes scanned → IsOutlined bytes (outline_of scanned)
+pub is_outlined : (bytes : List ℕ) (scanned : Scanned) → length bytes ≤ version_1.journal → IsScanned bytes scanned → IsOutlined bytes (outline_of scanned)
 is_outlined bytes scanned short is =
     let journal : Journal = is.journal in
     let known : scanned.state ≡ done_of journal = is.state in

@@ -1,6 +1,7 @@
 use Rattle.std.specs.Prelude.{◌≡◌, ◌≤◌, ◌+◌, ◌-◌, ℕ, Bool, if◌then◌else◌, List, [], ◌∷◌, length}
 use Rattle.vg_config.specs.Features.{CONTEXT_INIT, EDID, RESOURCE_BLOB, RESOURCE_UUID, VIRGL, kept}
 use Rattle.vg_client_holds.specs.declared.setup.Setup.{Setup}
+use Rattle.vg_limits.specs.Limits.{version_1}
 
 -- The features that are accepted, of those that a setup keeps, where some are left out (VIRTIO 1.2, 5.7.3): EDID, RESOURCE_UUID,
 -- RESOURCE_BLOB, and contexts, which are VIRGL and CONTEXT_INIT.
@@ -19,7 +20,7 @@ pub record AreAccepted (accepted : ℕ) : Type 0 where
 
 -- A display's width and height in pixels.
 abbrev pub IsDisplay : ℕ × ℕ → Type 0
-IsDisplay (width, height) = (1 ≤ width) × (width ≤ 640) × (1 ≤ height) × (height ≤ 480)
+IsDisplay (width, height) = (1 ≤ width) × (width ≤ version_1.width) × (1 ≤ height) × (height ≤ version_1.height)
 
 abbrev pub AreDisplays : List (ℕ × ℕ) → Type 0
 AreDisplays [] = Unit {0}
@@ -33,4 +34,4 @@ pub record IsSetup (setup : Setup) : Type 0 where
   pub one_page : 1 ≤ setup.pages
   pub pages : setup.pages ≤ 16384
   pub accepted : AreAccepted setup.accepted
-  pub clients : setup.clients ≤ 16
+  pub clients : setup.clients ≤ version_1.clients

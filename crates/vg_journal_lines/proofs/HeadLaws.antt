@@ -1,5 +1,5 @@
 -- The lines before the entries, and their words.
-use Rattle.std.proofs.Common.{◌≡◌, ℕ, ◌≤◌, ◌==◌, ◌&&◌, Bool, true, false, List, [], ◌∷◌, ◌++◌, bit_and, decimal, bytes_eq, codes, if◌then◌else◌, Some, None, arith, refl, sym, ap, ◌∙◌, append_assoc}
+use Rattle.std.proofs.Common.{◌≡◌, ℕ, ◌+◌, ◌≤◌, ◌==◌, ◌&&◌, Bool, true, false, List, [], ◌∷◌, ◌++◌, bit_and, decimal, bytes_eq, codes, if◌then◌else◌, Some, None, arith, refl, sym, ap, ◌∙◌, append_assoc}
 use Rattle.std.proofs.lemmas.Bool.{and_from, and_parts, false≢true}
 use Rattle.std.proofs.lemmas.List.Sums.{AllPass-from_list_all}
 use Rattle.std.specs.List.{All, list_all}
@@ -15,6 +15,7 @@ use Rattle.vg_journal_lines.specs.Words.{clients_words, display_words, feature_n
 use Rattle.vg_journal_lines.specs.Read.{clients_of, display_of, feature_of, from_one, is_this, is_title, memory_of, without_of}
 use Rattle.vg_journal_lines.specs.Ranges.{IsCount}
 use Rattle.vg_journal_lines.proofs.TestLaws.{from_one_back, from_one_only, known_this, passes, this_back}
+use Rattle.vg_limits.specs.Limits.{version_1}
 
 -- The title.
 pub text_title : title_text ≡ line_of title_words
@@ -57,21 +58,21 @@ pub display_back : (n : ℕ) (size : ℕ × ℕ) → IsCount n → IsDisplay siz
 unfolding display_of
 display_back n size small r =
     let low : 1 ≤ size.0 = r.0 in
-    let high : size.0 ≤ 640 = r.1 in
+    let high : size.0 ≤ version_1.width = r.1 in
     let low' : 1 ≤ size.1 = r.2 in
-    let high' : size.1 ≤ 480 = r.3 in
-    let width = from_one_back 641 size.0 low (omega (arith, high)) (omega arith) in
-    let height = from_one_back 481 size.1 low' (omega (arith, high')) (omega arith) in
-    ap (λ b. if b then both (from_one 641 (decimal size.0)) (from_one 481 (decimal size.1)) else None) (this_back n small) ∙ (λ i. both (width i) (height i))
+    let high' : size.1 ≤ version_1.height = r.3 in
+    let width = from_one_back (version_1.width + 1) size.0 low (omega (arith, high)) (omega arith) in
+    let height = from_one_back (version_1.height + 1) size.1 low' (omega (arith, high')) (omega arith) in
+    ap (λ b. if b then both (from_one (version_1.width + 1) (decimal size.0)) (from_one (version_1.height + 1) (decimal size.1)) else None) (this_back n small) ∙ (λ i. both (width i) (height i))
 
 pub display_only : (n : ℕ) (size : ℕ × ℕ) (words : List (List ℕ)) → display_of n words ≡ Some size → (words ≡ display_words n size) × IsCount n × IsDisplay size
 unfolding display_of
 display_only n size (word ∷ number ∷ width ∷ height ∷ []) is =
-    let told = passes (bytes_eq word (codes "display") && is_this n number) (both (from_one 641 width) (from_one 481 height)) size is in
+    let told = passes (bytes_eq word (codes "display") && is_this n number) (both (from_one (version_1.width + 1) width) (from_one (version_1.height + 1) height)) size is in
     let front = known_this word (codes "display") number n told.0 in
-    let sides = both_parts (from_one 641 width) (from_one 481 height) size told.1 in
-    let first = from_one_only 641 size.0 width (omega arith) sides.0 in
-    let second = from_one_only 481 size.1 height (omega arith) sides.1 in
+    let sides = both_parts (from_one (version_1.width + 1) width) (from_one (version_1.height + 1) height) size told.1 in
+    let first = from_one_only (version_1.width + 1) size.0 width (omega arith) sides.0 in
+    let second = from_one_only (version_1.height + 1) size.1 height (omega arith) sides.1 in
     let high = first.2 in
     let high' = second.2 in
     (λ i. front.0 i ∷ front.1 i ∷ first.0 i ∷ second.0 i ∷ [], front.2, (first.1, omega (arith, high), second.1, omega (arith, high')))
@@ -153,20 +154,20 @@ without_only feature words is = no_more feature is
 pub text_clients : (clients : ℕ) → codes "clients " ++ decimal clients ++ codes "\n" ≡ line_of (clients_words clients)
 text_clients clients = refl
 
-pub plain_clients : (clients : ℕ) → clients ≤ 16 → All (λ w. is_plain w ≡ true) (clients_words clients)
+pub plain_clients : (clients : ℕ) → clients ≤ version_1.clients → All (λ w. is_plain w ≡ true) (clients_words clients)
 unfolding is_plain
 plain_clients clients few = AllPass-from_list_all is_plain (clients_words clients) (last_plain _ (plain_decimal clients (omega (arith, few))))
 
-pub clients_back : (clients : ℕ) → clients ≤ 16 → clients_of (clients_words clients) ≡ Some clients
+pub clients_back : (clients : ℕ) → clients ≤ version_1.clients → clients_of (clients_words clients) ≡ Some clients
 unfolding clients_of
-clients_back clients few = number_back 17 clients (omega (arith, few)) (omega arith)
+clients_back clients few = number_back (version_1.clients + 1) clients (omega (arith, few)) (omega arith)
 
-pub clients_only : (clients : ℕ) (words : List (List ℕ)) → clients_of words ≡ Some clients → (words ≡ clients_words clients) × (clients ≤ 16)
+pub clients_only : (clients : ℕ) (words : List (List ℕ)) → clients_of words ≡ Some clients → (words ≡ clients_words clients) × (clients ≤ version_1.clients)
 unfolding clients_of
 clients_only clients (word ∷ number ∷ []) is =
-    let told = passes (bytes_eq word (codes "clients")) (number_of 17 number) clients is in
+    let told = passes (bytes_eq word (codes "clients")) (number_of (version_1.clients + 1) number) clients is in
     let this = word_is word (codes "clients") told.0 in
-    let read = number_only 17 clients number (omega arith) told.1 in
-    let high = number_range 17 clients number told.1 in
+    let read = number_only (version_1.clients + 1) clients number (omega arith) told.1 in
+    let high = number_range (version_1.clients + 1) clients number told.1 in
     (λ i. this i ∷ read i ∷ [], omega (arith, high))
 clients_only clients words is = no_more clients is

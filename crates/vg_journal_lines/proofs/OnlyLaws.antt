@@ -28,6 +28,7 @@ use Rattle.vg_journal_lines.proofs.CountLaws.{frames_only, rings_only}
 use Rattle.vg_journal_lines.proofs.EntryLaws.{CommandsAreSaid, entry_only}
 use Rattle.vg_journal_lines.proofs.StepLemmas.{at_displays, at_entries, at_features, at_frame, at_frames, features_but}
 use Rattle.vg_journal_lines.proofs.BackLemmas.{Bytes, IsOver, at_start, either, first_step, frames_left, left_behind, line_is, words_of}
+use Rattle.vg_limits.specs.Limits.{version_1}
 
 -- The count of frames, and all behind it.
 record CountLeft (pieces : List (List ℕ)) : Type 0 where
@@ -115,7 +116,7 @@ rings_left state clients count piece pieces all next none none' small below is o
     }
 
 -- An entry comes.
-entry_left : CommandsAreSaid → (state : State) (clients count : ℕ) (piece : List ℕ) (pieces : List (List ℕ)) (all : State × List Item) (next : Next) → clients ≤ 16
+entry_left : CommandsAreSaid → (state : State) (clients count : ℕ) (piece : List ℕ) (pieces : List (List ℕ)) (all : State × List Item) (next : Next) → clients ≤ version_1.clients
     → run (at_entries state clients count) (piece ∷ pieces) ≡ Some all → step (at_entries state clients count) piece ≡ Some next
     → entry_step (at_entries state clients count) (parts_at 32 piece) ≡ Some next
     → ((js : List Item) → IsCount (count + 1) → run (at_entries state clients (count + 1)) pieces ≡ Some (all.0, js) → EntriesLeft clients (count + 1) pieces)
@@ -143,7 +144,7 @@ entry_left commands state clients count piece pieces all next most is goes said 
       few = rest.few;
     }
 
-entries_by : CommandsAreSaid → (state : State) (clients count : ℕ) (piece : List ℕ) (pieces : List (List ℕ)) (all : State × List Item) (next : Next) → state.frames ≡ 0 → state.bytes ≡ 0 → clients ≤ 16 → IsCount count → Bytes (piece ∷ pieces)
+entries_by : CommandsAreSaid → (state : State) (clients count : ℕ) (piece : List ℕ) (pieces : List (List ℕ)) (all : State × List Item) (next : Next) → state.frames ≡ 0 → state.bytes ≡ 0 → clients ≤ version_1.clients → IsCount count → Bytes (piece ∷ pieces)
     → run (at_entries state clients count) (piece ∷ pieces) ≡ Some all → IsOver all.0 → step (at_entries state clients count) piece ≡ Some next
     → ((js : List Item) → IsCount (count + 1) → run (at_entries state clients (count + 1)) pieces ≡ Some (all.0, js) → EntriesLeft clients (count + 1) pieces)
     → (rings_step (at_entries state clients count) (parts_at 32 piece) ≡ Some next) ⊎ (entry_step (at_entries state clients count) (parts_at 32 piece) ≡ Some next)
@@ -151,7 +152,7 @@ entries_by : CommandsAreSaid → (state : State) (clients count : ℕ) (piece : 
 entries_by commands state clients count piece pieces all next none none' most small below is over goes on (inl said) = rings_left state clients count piece pieces all next none none' small below is over goes said
 entries_by commands state clients count piece pieces all next none none' most small below is over goes on (inr said) = entry_left commands state clients count piece pieces all next most is goes said on
 
-entries_left : CommandsAreSaid → (state : State) (clients count : ℕ) (pieces : List (List ℕ)) (all : State × List Item) → state.frames ≡ 0 → state.bytes ≡ 0 → clients ≤ 16 → IsCount count → Bytes pieces
+entries_left : CommandsAreSaid → (state : State) (clients count : ℕ) (pieces : List (List ℕ)) (all : State × List Item) → state.frames ≡ 0 → state.bytes ≡ 0 → clients ≤ version_1.clients → IsCount count → Bytes pieces
     → run (at_entries state clients count) pieces ≡ Some all → IsOver all.0 → EntriesLeft clients count pieces
 entries_left commands state clients count [] all none none' most small below is over = absurd (not_over_entries state clients count all is over)
 entries_left commands state clients count (piece ∷ pieces) all none none' most small below is over =
@@ -225,7 +226,7 @@ out_accepted true true true true = refl
 record FeaturesLeft (out : LeftOut) (pieces : List (List ℕ)) : Type 0 where
   last : LeftOut
   clients : ℕ
-  most : clients ≤ 16
+  most : clients ≤ version_1.clients
   rest : List (List ℕ)
   are : out_pieces out ++ pieces ≡ out_pieces last ++ joined (clients_words clients) ∷ rest
   entries : EntriesLeft clients 0 rest

@@ -27,6 +27,7 @@ use Rattle.vg_journal_lines.proofs.CountLaws.{end_back, frame_back, frames_back,
 use Rattle.vg_journal_lines.proofs.EntryLaws.{CommandsAreSaid, entry_are_words, entry_back}
 use Rattle.vg_journal_lines.proofs.JoinLemmas.{AreWords, plain_words, words_line, words_parts}
 use Rattle.vg_journal_lines.proofs.CutLemmas.{goes_more, goes_one}
+use Rattle.vg_limits.specs.Limits.{version_1}
 
 -- A stage at which a line comes.
 abbrev pub HasLine : Stage → Type 0
@@ -169,7 +170,7 @@ no_feature : (state : State) (clients : ℕ) → without_step state (clients_wor
 unfolding without_of
 no_feature state clients = refl
 
-pub clients_go : (state : State) (pages : ℕ) (out : LeftOut) (clients : ℕ) → clients ≤ 16
+pub clients_go : (state : State) (pages : ℕ) (out : LeftOut) (clients : ℕ) → clients ≤ version_1.clients
     → run (at_features state pages out) (joined (clients_words clients) ∷ []) ≡ Some (at_entries (at_features state pages out) clients state.entries, Nothing ∷ [])
 clients_go state pages out clients few =
     let before = at_features state pages out in
@@ -185,7 +186,7 @@ unfolding rings_of
 no_rings state n (entries.Act client call act reply) = refl
 no_rings state n (entries.Command client call request reply) = refl
 
-entry_goes : CommandsAreSaid → (state : State) (clients count n : ℕ) (entry : Entry) → n ≡ count + 1 → clients ≤ 16 → IsCount n → EntryInRange clients entry
+entry_goes : CommandsAreSaid → (state : State) (clients count n : ℕ) (entry : Entry) → n ≡ count + 1 → clients ≤ version_1.clients → IsCount n → EntryInRange clients entry
     → step (at_entries state clients count) (joined (entry_words n entry)) ≡ Some (at_entries state clients (count + 1), AnEntry entry)
 entry_goes commands state clients count n entry place most small r =
     let before = at_entries state clients count in
@@ -194,7 +195,7 @@ entry_goes commands state clients count n entry place most small r =
     ∙ ap (λ k. option_map (with_entry before) (entry_of k clients (entry_words n entry))) (sym place)
     ∙ ap (option_map (with_entry before)) (entry_back commands n clients entry most small r)
 
-pub entries_go : CommandsAreSaid → (state : State) (clients count n : ℕ) (es : List Entry) → n ≡ count + 1 → clients ≤ 16 → IsCount (count + length es) → All (EntryInRange clients) es
+pub entries_go : CommandsAreSaid → (state : State) (clients count n : ℕ) (es : List Entry) → n ≡ count + 1 → clients ≤ version_1.clients → IsCount (count + length es) → All (EntryInRange clients) es
     → run (at_entries state clients count) (numbered_pieces entry_pieces n es) ≡ Some (at_entries state clients (count + length es), map AnEntry es)
 entries_go commands state clients count n [] place most small r = let same : count ≡ count + 0 = omega arith in ap (λ k. Some (at_entries state clients k, [])) same
 entries_go commands state clients count n (entry ∷ es) place most small r =

@@ -1,10 +1,11 @@
 -- What the words of a journal's line say, or nothing where they are no such words.
-use Rattle.std.specs.Prelude.{ℕ, ◌*◌, ◌^◌, ◌==◌, ◌&&◌, nat_le, Bool, false, if◌then◌else◌, List, [], ◌∷◌, Option, Some, None, option_map, option_and_then, bytes_eq, codes}
+use Rattle.std.specs.Prelude.{ℕ, ◌+◌, ◌*◌, ◌^◌, ◌==◌, ◌&&◌, nat_le, Bool, false, if◌then◌else◌, List, [], ◌∷◌, Option, Some, None, option_map, option_and_then, bytes_eq, codes}
 use Rattle.vg_line_words.specs.Words.{number_of}
 use Rattle.vg_act_lines.specs.Read.{both, short, two}
 use Rattle.vg_journal_lines.specs.declared.head.Feature.{Feature}
 use Rattle.vg_journal_lines.specs.declared.head.Feature.TheVariants.{Edid, Uuid, Blob, Context}
 use Rattle.vg_journal_lines.specs.declared.counts.FrameHead.{FrameHead}
+use Rattle.vg_limits.specs.Limits.{version_1}
 
 -- A word is this number, which is below 2 ^ 63.
 abbrev pub says : ℕ → Option ℕ → Bool
@@ -29,7 +30,7 @@ is_title words = false
 -- `display S W H`, where S is expected
 unfoldable pub display_of : ℕ → List (List ℕ) → Option (ℕ × ℕ)
 display_of n (word ∷ number ∷ width ∷ height ∷ []) =
-    if bytes_eq word (codes "display") && is_this n number then both (from_one 641 width) (from_one 481 height) else None
+    if bytes_eq word (codes "display") && is_this n number then both (from_one (version_1.width + 1) width) (from_one (version_1.height + 1) height) else None
 display_of n words = None
 
 -- `memory P`
@@ -52,7 +53,7 @@ without_of words = None
 
 -- `clients C`
 unfoldable pub clients_of : List (List ℕ) → Option ℕ
-clients_of (word ∷ clients ∷ []) = if bytes_eq word (codes "clients") then number_of 17 clients else None
+clients_of (word ∷ clients ∷ []) = if bytes_eq word (codes "clients") then number_of (version_1.clients + 1) clients else None
 clients_of words = None
 
 -- `rings A B`

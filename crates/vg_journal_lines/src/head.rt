@@ -1,11 +1,13 @@
 //! The lines before the entries.
 
-ghost use Rattle.std.specs.Prelude.{◌≡◌, ◌&&◌, map, if◌then◌else◌, bytes_eq, codes, None};
+ghost use Rattle.std.specs.Prelude.{◌≡◌, ◌+◌, ◌&&◌, map, if◌then◌else◌, bytes_eq, codes, None};
 ghost use Rattle.vg_line_words.specs.Words.{number_of};
 ghost use Rattle.vg_act_lines.specs.Read.{both};
 ghost use Rattle.vg_journal_lines.specs.Read.{clients_of, display_of, feature_of, from_one, is_this, is_title, memory_of, without_of};
+ghost use Rattle.vg_limits.specs.Limits.{version_1};
 
 use crate::numbers::{from_one, is_this};
+use vg_limits::{MOST_CLIENTS, MOST_HEIGHT, MOST_WIDTH};
 use vg_line_words::short_number;
 use vg_script_words::is;
 
@@ -49,12 +51,15 @@ pub fn display_of(n: u64, words: &[&[u8]]) -> Option<(u32, u32)>
 
 fn display(n: u64, word: &[u8], number: &[u8], width: &[u8], height: &[u8]) -> Option<(u32, u32)>
     ensures { result ≡ (if bytes_eq word.now (codes "display") && is_this n number.now
-        then both (from_one 641 width.now) (from_one 481 height.now) else None) }
+        then both (from_one (version_1.width + 1) width.now) (from_one (version_1.height + 1) height.now) else None) }
 {
     if !is(word, b"display") || !is_this(n, number) {
         return None;
     }
-    Some((from_one(width, 641)?, from_one(height, 481)?))
+    Some((
+        from_one(width, MOST_WIDTH as u64 + 1)?,
+        from_one(height, MOST_HEIGHT as u64 + 1)?,
+    ))
 }
 
 /// `memory P`: how many pages there are.
@@ -127,10 +132,10 @@ pub fn clients_of(words: &[&[u8]]) -> Option<u32>
 }
 
 fn clients_in(word: &[u8], clients: &[u8]) -> Option<u32>
-    ensures { result ≡ (if bytes_eq word.now (codes "clients") then number_of 17 clients.now else None) }
+    ensures { result ≡ (if bytes_eq word.now (codes "clients") then number_of (version_1.clients + 1) clients.now else None) }
 {
     if is(word, b"clients") {
-        short_number(clients, 17)
+        short_number(clients, MOST_CLIENTS as u64 + 1)
     } else {
         None
     }

@@ -21,6 +21,7 @@ ghost use Rattle.vg_journal_lines.specs.Moves.{IsKept};
 ghost use Rattle.vg_journal_lines.specs.Refusals.{GoesNoMore, IsJournal, IsRefusedAt};
 ghost use Rattle.vg_journal_lines.specs.Pieces.{IsReadAs, JournalInRange, pieces_of, whole};
 ghost use Rattle.vg_journal_lines.specs.Ranges.{HeadInRange, IsCount};
+ghost use Rattle.vg_limits.specs.Limits.{version_1};
 
 use vg_command_lines::{command_replies_and_their_text, requests_and_their_text};
 
@@ -62,25 +63,25 @@ pub fn features_and_their_words()
 /// The same of the line of the clients.
 pub fn clients_and_their_words()
     ensures text { (clients : ℕ) → codes "clients " ++ decimal clients ++ codes "\n" ≡ line_of (clients_words clients) }
-    ensures plain { (clients : ℕ) → clients ≤ 16 → All (λ word. is_plain word ≡ true) (clients_words clients) }
-    ensures back { (clients : ℕ) → clients ≤ 16 → clients_of (clients_words clients) ≡ Some clients }
+    ensures plain { (clients : ℕ) → clients ≤ version_1.clients → All (λ word. is_plain word ≡ true) (clients_words clients) }
+    ensures back { (clients : ℕ) → clients ≤ version_1.clients → clients_of (clients_words clients) ≡ Some clients }
     ensures only { (clients : ℕ) (words : List (List ℕ)) → clients_of words ≡ Some clients
-        → (words ≡ clients_words clients) × (clients ≤ 16) }
+        → (words ≡ clients_words clients) × (clients ≤ version_1.clients) }
 {}
 
 /// The line of entry n of so many clients is its words; the entry is read from them, and from no other words. So two entries have
 /// the same line only where they are the same.
 pub fn entries_and_their_words()
     ensures text { (n : ℕ) (entry : Entry) → entry_line n entry ≡ line_of (entry_words n entry) }
-    ensures parts { (n clients : ℕ) (entry : Entry) → clients ≤ 16 → IsCount n → EntryInRange clients entry
+    ensures parts { (n clients : ℕ) (entry : Entry) → clients ≤ version_1.clients → IsCount n → EntryInRange clients entry
         → parts_at 32 (joined (entry_words n entry)) ≡ entry_words n entry }
-    ensures line { (n clients : ℕ) (entry : Entry) → clients ≤ 16 → IsCount n → EntryInRange clients entry
+    ensures line { (n clients : ℕ) (entry : Entry) → clients ≤ version_1.clients → IsCount n → EntryInRange clients entry
         → lacks 10 (joined (entry_words n entry)) ≡ true }
-    ensures back { (n clients : ℕ) (entry : Entry) → clients ≤ 16 → IsCount n → EntryInRange clients entry
+    ensures back { (n clients : ℕ) (entry : Entry) → clients ≤ version_1.clients → IsCount n → EntryInRange clients entry
         → entry_of n clients (entry_words n entry) ≡ Some entry }
-    ensures only { (n clients : ℕ) (entry : Entry) (words : List (List ℕ)) → clients ≤ 16 → entry_of n clients words ≡ Some entry
+    ensures only { (n clients : ℕ) (entry : Entry) (words : List (List ℕ)) → clients ≤ version_1.clients → entry_of n clients words ≡ Some entry
         → (words ≡ entry_words n entry) × IsCount n × EntryInRange clients entry }
-    ensures one { (n clients : ℕ) (a b : Entry) → clients ≤ 16 → IsCount n → EntryInRange clients a → EntryInRange clients b
+    ensures one { (n clients : ℕ) (a b : Entry) → clients ≤ version_1.clients → IsCount n → EntryInRange clients a → EntryInRange clients b
         → entry_line n a ≡ entry_line n b → a ≡ b }
 {
     requests_and_their_text();

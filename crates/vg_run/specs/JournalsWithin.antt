@@ -10,12 +10,13 @@ use Rattle.vg_run.specs.declared.top.Status.{Status}
 use Rattle.vg_run.specs.declared.top.Status.TheVariants.{Done, Usage, ReadFault, WriteFault, TooLong, NoMemory}
 use Rattle.vg_run.specs.declared.top.Status.TheVariants as statuses
 use Rattle.vg_run.specs.Checks.{IsCheckable}
+use Rattle.vg_limits.specs.Limits.{version_1}
 
 -- Why nothing was found of what a source had.
 abbrev pub Unchecked : Status → Option (List ℕ) → ℕ → ℕ → Type 0
 Unchecked (statuses.Journal line) left faults faults' = IfSome left (λ bytes. IsCheckable bytes × IsRefusedAt bytes line) × (faults' ≡ faults)
 Unchecked ReadFault left faults faults' = Rose faults faults'
-Unchecked TooLong left faults faults' = IfSome left (λ bytes. 1073741824 < length bytes) × (faults' ≡ faults)
+Unchecked TooLong left faults faults' = IfSome left (λ bytes. version_1.journal < length bytes) × (faults' ≡ faults)
 Unchecked NoMemory left faults faults' = faults' ≡ faults
 Unchecked (statuses.Script line kind) left faults faults' = ⊥
 Unchecked (statuses.Wrong entry) left faults faults' = ⊥

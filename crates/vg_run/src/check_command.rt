@@ -1,12 +1,13 @@
 //! The command `check`: a journal is read, and it is said whether it is that of a legal history.
 
-ghost use Rattle.std.specs.Prelude.{◌≡◌, ◌≤◌, ◌<◌, ◌⊎◌, ℕ, length, string_bytes, Err, IfOk, IfErr, OnOk, IfSome};
+ghost use Rattle.std.specs.Prelude.{◌≡◌, ◌≤◌, ◌+◌, ◌<◌, ◌⊎◌, ℕ, length, string_bytes, Err, IfOk, IfErr, OnOk, IfSome};
 ghost use Rattle.vg_io.specs.Streams.{GivesUpTo, IsAtEnd, Rose};
 ghost use Rattle.vg_journal_lines.specs.Refusals.{IsRefusedAt};
 ghost use Rattle.vg_checking.specs.Checking.{IsFound};
 ghost use Rattle.vg_run.specs.Checks.{Checks, ChecksPartly, ChecksWrong, IsCheckable, checked_text};
 ghost use Rattle.vg_run.specs.JournalsWithin.{Told, Unchecked, status_of};
 ghost use Rattle.vg_run.specs.Status.{EndsCheck, IsFaultless};
+ghost use Rattle.vg_limits.specs.Limits.{version_1};
 
 use crate::journals::{journal_bytes, write_found};
 use crate::top::Status;
@@ -25,16 +26,16 @@ pub(crate) fn check_from<S: Source, K: Sink>(alloc: Global, source: &mut S, sink
         → IfSome (S.left source.old) (λ bytes. IsCheckable bytes × IsRefusedAt bytes line) × (sink.new ≡ sink.old) }
     ensures read_fault { result ≡ Status.ReadFault
         → Rose (S.faults source.old) (S.faults source.new) × (sink.new ≡ sink.old) }
-    ensures read_early { result ≡ Status.ReadFault → GivesUpTo (S.left source.old) (S.left source.new) 1073741824 }
+    ensures read_early { result ≡ Status.ReadFault → GivesUpTo (S.left source.old) (S.left source.new) version_1.journal }
     ensures too_long { result ≡ Status.TooLong
-        → IfSome (S.left source.old) (λ bytes. 1073741824 < length bytes) × (sink.new ≡ sink.old) }
+        → IfSome (S.left source.old) (λ bytes. version_1.journal < length bytes) × (sink.new ≡ sink.old) }
     ensures write_fault { result ≡ Status.WriteFault → Rose (K.faults sink.old) (K.faults sink.new)
         × ChecksPartly (S.left source.old) (S.left source.new) (K.held sink.old) (K.held sink.new) }
     ensures no_memory { result ≡ Status.NoMemory → sink.new ≡ sink.old }
     ensures faultless { IsFaultless result
         → (S.faults source.new ≡ S.faults source.old) × (K.faults sink.new ≡ K.faults sink.old) }
     ensures read_before { result ≡ Status.WriteFault → S.faults source.new ≡ S.faults source.old }
-    ensures taken { GivesUpTo (S.left source.old) (S.left source.new) 1073741825 }
+    ensures taken { GivesUpTo (S.left source.old) (S.left source.new) (version_1.journal + 1) }
     ensures read_count { S.faults source.old ≤ S.faults source.new }
     ensures write_count { K.faults sink.old ≤ K.faults sink.new }
 {
@@ -50,8 +51,8 @@ fn read_checked<S: Source>(alloc: Global, source: &mut S) -> Result<Checked, Sta
     ensures found { IfOk result (λ checked. IfSome (S.left source.old) (λ bytes. IsCheckable bytes × IsFound bytes checked)) }
     ensures err { IfErr result (λ status. Unchecked status (S.left source.old) (S.faults source.old) (S.faults source.new)) }
     ensures same { OnOk result (S.faults source.new ≡ S.faults source.old) }
-    ensures taken { GivesUpTo (S.left source.old) (S.left source.new) 1073741825 }
-    ensures early { result ≡ Err Status.ReadFault → GivesUpTo (S.left source.old) (S.left source.new) 1073741824 }
+    ensures taken { GivesUpTo (S.left source.old) (S.left source.new) (version_1.journal + 1) }
+    ensures early { result ≡ Err Status.ReadFault → GivesUpTo (S.left source.old) (S.left source.new) version_1.journal }
     ensures count { S.faults source.old ≤ S.faults source.new }
 {
     let bytes = journal_bytes(alloc, source)?;

@@ -1,16 +1,15 @@
 //! What the commands that read a journal have in common.
 
-ghost use Rattle.std.specs.Prelude.{◌≡◌, ◌≤◌, Err, IfErr, IfOk, IfSome, OnOk};
+ghost use Rattle.std.specs.Prelude.{◌≡◌, ◌≤◌, ◌+◌, Err, IfErr, IfOk, IfSome, OnOk};
 ghost use Rattle.vg_io.specs.Streams.{GivesUpTo, IsAtEnd};
 ghost use Rattle.vg_run.specs.Checks.{IsCheckable};
 ghost use Rattle.vg_run.specs.JournalsWithin.{EndsFound, Told, Unchecked};
+ghost use Rattle.vg_limits.specs.Limits.{version_1};
 
 use crate::top::Status;
 use std::alloc::Global;
 use vg_io::{ReadError, Sink, Source, read_all, write_all};
-
-/// How many bytes a journal has at most that is read.
-const LIMIT: usize = 1_073_741_824;
+use vg_limits::MOST_JOURNAL;
 
 /// All bytes that a source gives, or how the call ends without them.
 pub(crate) fn journal_bytes<S: Source>(alloc: Global, source: &mut S) -> Result<Vec<u8>, Status>
@@ -19,11 +18,11 @@ pub(crate) fn journal_bytes<S: Source>(alloc: Global, source: &mut S) -> Result<
     ensures within { IfOk result (λ bytes. IsCheckable bytes.items) }
     ensures err { IfErr result (λ status. Unchecked status (S.left source.old) (S.faults source.old) (S.faults source.new)) }
     ensures same { OnOk result (S.faults source.new ≡ S.faults source.old) }
-    ensures taken { GivesUpTo (S.left source.old) (S.left source.new) 1073741825 }
-    ensures early { result ≡ Err Status.ReadFault → GivesUpTo (S.left source.old) (S.left source.new) 1073741824 }
+    ensures taken { GivesUpTo (S.left source.old) (S.left source.new) (version_1.journal + 1) }
+    ensures early { result ≡ Err Status.ReadFault → GivesUpTo (S.left source.old) (S.left source.new) version_1.journal }
     ensures count { S.faults source.old ≤ S.faults source.new }
 {
-    match read_all(alloc, source, LIMIT) {
+    match read_all(alloc, source, MOST_JOURNAL) {
         Ok(bytes) => Ok(bytes),
         Err(ReadError::Memory) => Err(Status::NoMemory),
         Err(ReadError::Fault) => Err(Status::ReadFault),

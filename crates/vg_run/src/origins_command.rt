@@ -1,6 +1,6 @@
 //! The command `origins`: a journal is read, and it is said whose bytes its frames have.
 
-ghost use Rattle.std.specs.Prelude.{◌≡◌, ◌≤◌, ◌<◌, ◌⊎◌, ℕ, length, Err, IfOk, IfErr, OnOk, IfSome};
+ghost use Rattle.std.specs.Prelude.{◌≡◌, ◌≤◌, ◌+◌, ◌<◌, ◌⊎◌, ℕ, length, Err, IfOk, IfErr, OnOk, IfSome};
 ghost use Rattle.vg_io.specs.Streams.{GivesUpTo, IsAtEnd, Rose};
 ghost use Rattle.vg_journal_lines.specs.Refusals.{IsRefusedAt};
 ghost use Rattle.vg_tracing.specs.Origins.{AreOrigins};
@@ -8,6 +8,7 @@ ghost use Rattle.vg_run.specs.Checks.{ChecksWrong, IsCheckable, wrong_text};
 ghost use Rattle.vg_run.specs.Origins.{Tells, TellsPartly, found_text};
 ghost use Rattle.vg_run.specs.JournalsWithin.{Told, Unchecked, status_of_origins};
 ghost use Rattle.vg_run.specs.Status.{EndsCheck, IsFaultless};
+ghost use Rattle.vg_limits.specs.Limits.{version_1};
 
 use crate::journals::{journal_bytes, write_found};
 use crate::top::Status;
@@ -30,16 +31,16 @@ pub(crate) fn origins_from<S: Source, K: Sink>(
         → IfSome (S.left source.old) (λ bytes. IsCheckable bytes × IsRefusedAt bytes line) × (sink.new ≡ sink.old) }
     ensures read_fault { result ≡ Status.ReadFault
         → Rose (S.faults source.old) (S.faults source.new) × (sink.new ≡ sink.old) }
-    ensures read_early { result ≡ Status.ReadFault → GivesUpTo (S.left source.old) (S.left source.new) 1073741824 }
+    ensures read_early { result ≡ Status.ReadFault → GivesUpTo (S.left source.old) (S.left source.new) version_1.journal }
     ensures too_long { result ≡ Status.TooLong
-        → IfSome (S.left source.old) (λ bytes. 1073741824 < length bytes) × (sink.new ≡ sink.old) }
+        → IfSome (S.left source.old) (λ bytes. version_1.journal < length bytes) × (sink.new ≡ sink.old) }
     ensures write_fault { result ≡ Status.WriteFault → Rose (K.faults sink.old) (K.faults sink.new)
         × TellsPartly (S.left source.old) (S.left source.new) (K.held sink.old) (K.held sink.new) }
     ensures no_memory { result ≡ Status.NoMemory → sink.new ≡ sink.old }
     ensures faultless { IsFaultless result
         → (S.faults source.new ≡ S.faults source.old) × (K.faults sink.new ≡ K.faults sink.old) }
     ensures read_before { result ≡ Status.WriteFault → S.faults source.new ≡ S.faults source.old }
-    ensures taken { GivesUpTo (S.left source.old) (S.left source.new) 1073741825 }
+    ensures taken { GivesUpTo (S.left source.old) (S.left source.new) (version_1.journal + 1) }
     ensures read_count { S.faults source.old ≤ S.faults source.new }
     ensures write_count { K.faults sink.old ≤ K.faults sink.new }
 {
@@ -55,8 +56,8 @@ fn read_origins<S: Source>(alloc: Global, source: &mut S) -> Result<Found, Statu
     ensures found { IfOk result (λ origins. IfSome (S.left source.old) (λ bytes. IsCheckable bytes × AreOrigins bytes origins)) }
     ensures err { IfErr result (λ status. Unchecked status (S.left source.old) (S.faults source.old) (S.faults source.new)) }
     ensures same { OnOk result (S.faults source.new ≡ S.faults source.old) }
-    ensures taken { GivesUpTo (S.left source.old) (S.left source.new) 1073741825 }
-    ensures early { result ≡ Err Status.ReadFault → GivesUpTo (S.left source.old) (S.left source.new) 1073741824 }
+    ensures taken { GivesUpTo (S.left source.old) (S.left source.new) (version_1.journal + 1) }
+    ensures early { result ≡ Err Status.ReadFault → GivesUpTo (S.left source.old) (S.left source.new) version_1.journal }
     ensures count { S.faults source.old ≤ S.faults source.new }
 {
     let bytes = journal_bytes(alloc, source)?;

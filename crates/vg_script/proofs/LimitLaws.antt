@@ -38,6 +38,7 @@ use Rattle.vg_script.proofs.LabelLaws.{all_labelled}
 use Rattle.vg_script.proofs.NameLaws.{same_bytes}
 use Rattle.vg_script.proofs.FaultLaws.{good_script}
 use Rattle.vg_script.proofs.ClientLists.{length-add_line, lines-add_line}
+use Rattle.vg_limits.specs.Limits.{version_1}
 
 -- ---- the rows
 -- How many contexts a client's lines have made behind a call.
@@ -361,7 +362,7 @@ record Within (seen : Seen) : Type 0 where
   sizes : All DisplayInLimits seen.displays
   pages : IfSome seen.pages (IsBetween 1 16384)
   features : (feature : Feature) → count_by (λ other. is_same other feature) seen.without ≤ 1
-  clients : length seen.clients ≤ 16
+  clients : length seen.clients ≤ version_1.clients
   lines : sum_by length seen.clients ≤ 100000
   calls : All (ClientInLimits (length seen.displays)) seen.clients
   contexts : All FewContexts seen.clients
@@ -455,10 +456,10 @@ unfolding without_form
 without_fits seen w a = feature_fits seen w (feature_of a)
 
 -- One client more, or one line more.
-begun_within : (n : ℕ) (clients : List (List Line)) → nat_lt (length clients) 16 ≡ true → sum_by length clients ≤ 100000 → All (ClientInLimits n) clients
-    → (length (clients ++ [] ∷ []) ≤ 16) × (sum_by length (clients ++ [] ∷ []) ≤ 100000) × All (ClientInLimits n) (clients ++ [] ∷ [])
+begun_within : (n : ℕ) (clients : List (List Line)) → nat_lt (length clients) version_1.clients ≡ true → sum_by length clients ≤ 100000 → All (ClientInLimits n) clients
+    → (length (clients ++ [] ∷ []) ≤ version_1.clients) × (sum_by length (clients ++ [] ∷ []) ≤ 100000) × All (ClientInLimits n) (clients ++ [] ∷ [])
 begun_within n clients few lines calls =
-    let less : length clients < 16 = grind (arith, nat_tests) in
+    let less : length clients < version_1.clients = grind (arith, nat_tests) in
     (omega (arith, less, length-append clients ([] ∷ [])), omega (arith, lines, sum_by-append length clients ([] ∷ [])), All-push (ClientInLimits n) clients [] calls (All-nil (λ line. CallInLimits n line.call)))
 
 All-add_line : (n : ℕ) (clients : List (List Line)) (line : Line) → CallInLimits n line.call → All (ClientInLimits n) clients → All (ClientInLimits n) (add_line clients line)
@@ -468,8 +469,8 @@ All-add_line n (client ∷ []) line fits calls =
 All-add_line n (client ∷ next ∷ more) line fits calls =
     All-cons (ClientInLimits n) client _ (All-head (ClientInLimits n) client (next ∷ more) calls) (All-add_line n (next ∷ more) line fits (All-tail (ClientInLimits n) client (next ∷ more) calls))
 
-added_within : (n : ℕ) (clients : List (List Line)) (line : Line) → length clients ≤ 16 → nat_lt (sum_by length clients) 100000 ≡ true → All (ClientInLimits n) clients → CallInLimits n line.call
-    → (length (add_line clients line) ≤ 16) × (sum_by length (add_line clients line) ≤ 100000) × All (ClientInLimits n) (add_line clients line)
+added_within : (n : ℕ) (clients : List (List Line)) (line : Line) → length clients ≤ version_1.clients → nat_lt (sum_by length clients) 100000 ≡ true → All (ClientInLimits n) clients → CallInLimits n line.call
+    → (length (add_line clients line) ≤ version_1.clients) × (sum_by length (add_line clients line) ≤ 100000) × All (ClientInLimits n) (add_line clients line)
 added_within n clients line few room calls fits =
     let left : sum_by length clients < 100000 = grind (arith, nat_tests) in
     (omega (arith, few, length-add_line clients line), omega (arith, left, lines-add_line clients line), All-add_line n clients line fits calls)

@@ -16,6 +16,7 @@ use Rattle.vg_call_lines.specs.Tables.{without_names}
 use Rattle.vg_call_lines.specs.Rows.{Row, row_of}
 use Rattle.vg_script_words.specs.Kinds.{kind_code}
 use Rattle.vg_script.specs.Features.{feature_of, is_same}
+use Rattle.vg_limits.specs.Limits.{version_1}
 
 pub record Form : Type 0 where
   -- the line may stand where it stands
@@ -34,7 +35,7 @@ unfoldable pub display_form : Seen → (width height : List ℕ) → Option Form
 display_form seen width height = Some (record {
   place = is_none seen.pages && length seen.without == 0 && length seen.clients == 0;
   numbers = is_number width && is_number height;
-  limits = nat_lt (length seen.displays) 16 && is_within 1 640 width && is_within 1 480 height;
+  limits = nat_lt (length seen.displays) 16 && is_within 1 version_1.width width && is_within 1 version_1.height height;
   names = true;
   gives = record seen { displays = seen.displays ++ (value width, value height) ∷ [] };
 })
@@ -68,7 +69,7 @@ unfoldable pub client_form : Seen → Option Form
 client_form seen = Some (record {
   place = not (length seen.displays == 0);
   numbers = true;
-  limits = nat_lt (length seen.clients) 16;
+  limits = nat_lt (length seen.clients) version_1.clients;
   names = true;
   gives = record seen { clients = seen.clients ++ [] ∷ []; table = without_names seen.table };
 })

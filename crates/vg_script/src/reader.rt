@@ -1,6 +1,7 @@
 //! A text's lines, read one after the other.
 
 ghost use Rattle.std.specs.Prelude.{◌≡◌, ◌≤◌, length, sum_by};
+ghost use Rattle.vg_limits.specs.Limits.{version_1};
 
 use crate::calls::{add_line, past_limit};
 use crate::features::{feature_of, is_among};
@@ -9,6 +10,7 @@ use crate::waits::cycle;
 use std::alloc::{AllocError, Global};
 use std::collections::BTreeMap;
 use vg_call_lines::{Label, Names, call_of};
+use vg_limits::MOST_CLIENTS;
 use vg_list::Seq;
 use vg_script_words::{Kind, Stop, both_spelled, is, is_text, limited, put_words, size, spelled};
 
@@ -30,7 +32,7 @@ pub(crate) struct Reader<'a> {
     ghost few: { length displays.items ≤ 16 },
     ghost counted: { count ≡ sum_by length clients.items },
     ghost named: { names.count ≤ lines },
-    ghost clients_few: { length clients.items ≤ 16 },
+    ghost clients_few: { length clients.items ≤ version_1.clients },
     ghost lines_few: { count ≤ 100000 },
 }
 
@@ -199,7 +201,7 @@ impl<'a> Reader<'a> {
         if self.displays.is_empty() {
             return Err(Stop::Fault(Kind::Word));
         }
-        if self.clients.len() >= 16 {
+        if self.clients.len() >= MOST_CLIENTS as usize {
             return Err(Stop::Fault(Kind::Limit));
         }
         self.clients

@@ -9,10 +9,11 @@ use Rattle.vg_tasks.specs.declared.task.Change.TheVariants.{NewBuffer}
 use Rattle.vg_tasks.specs.declared.task.Deed.{Deed}
 use Rattle.vg_tasks.specs.declared.task.Deed.TheVariants as deeds
 use Rattle.vg_tasks.specs.declared.task.Task.{Task}
+use Rattle.vg_limits.specs.Limits.{version_1}
 
 -- The bytes of a buffer that is reserved are those of a screen at the most.
 abbrev pub HasFewBytes : the_act.Act → Type 0
-HasFewBytes (acts.Reserve width height format bytes) = bytes ≤ 1228800
+HasFewBytes (acts.Reserve width height format bytes) = bytes ≤ version_1.bytes
 HasFewBytes act = Unit {0}
 
 -- What is done for a task is no client's first act, nor its last, nor the telling of a denial, but of a name, nor that of a fence, which it
@@ -29,7 +30,7 @@ IsFitDeed (deeds.Wait fence) = Unit {0}
 
 -- A buffer is no larger than a display.
 abbrev pub IsFitChange : Change → Type 0
-IsFitChange (NewBuffer width height format) = (width ≤ 640) × (height ≤ 480)
+IsFitChange (NewBuffer width height format) = (width ≤ version_1.width) × (height ≤ version_1.height)
 IsFitChange change = Unit {0}
 
 -- A task whose numbers are within its limits.

@@ -4,14 +4,15 @@ ghost use Rattle.std.specs.Prelude.{◌≡◌, ◌≤◌, ◌<◌, ◌^◌, ◌+
 ghost use Rattle.vg_client_holds.specs.declared.act.Act.TheVariants as acts;
 ghost use Rattle.vg_tasks.specs.Table as table;
 ghost use Rattle.vg_tasks.specs.Table.{no_rect, page_entry};
+ghost use Rattle.vg_limits.specs.Limits.{version_1};
 
 use std::alloc::{AllocError, Global};
 use vg_calls::ContextRef;
 use vg_chain::Shape;
 use vg_client_holds::{Act, What};
 use vg_driver::{Ask, Way};
-use vg_history::Fence;
 use vg_formats::{MemEntry, Rect};
+use vg_history::Fence;
 use vg_list::Seq;
 use vg_names::Held;
 use vg_pages::{PAGE_BYTES, page_address};
@@ -156,8 +157,8 @@ pub(crate) fn raw_task(queue: Queue, room: u32, shape: Shape, bytes: Seq<u8>) ->
 
 /// Takes guest pages for a buffer of pixels of four bytes.
 pub(crate) fn reserve_task(width: u32, height: u32, format: u32) -> Task
-    requires width { width ≤ 640 }
-    requires height { height ≤ 480 }
+    requires width { width ≤ version_1.width }
+    requires height { height ≤ version_1.height }
     ensures { result ≡ table.reserve_task width height format }
 {
     Task {

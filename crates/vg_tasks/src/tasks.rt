@@ -22,8 +22,8 @@ use crate::task::{
 use std::alloc::{AllocError, Global};
 use vg_calls::{Body, Call, ContextRef, NameRef};
 use vg_client_holds::{Act, Holds, What};
-use vg_history::Fence;
 use vg_formats::Rect;
+use vg_history::Fence;
 use vg_list::Seq;
 use vg_names::{Contexts, Held, Names};
 
