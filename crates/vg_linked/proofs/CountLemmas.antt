@@ -4,7 +4,7 @@ use Rattle.std.specs.Prelude.{nat_lt, count_by}
 use Rattle.std.specs.List.{All, list_any, position_or_len}
 use Rattle.std.proofs.lemmas.Bool.Decides.{nat_tests}
 use Rattle.std.proofs.lemmas.List.Elements.{All-append, All-take, All-drop}
-use Rattle.std.proofs.lemmas.List.Sums.{count_by-le-length, fails_before_first, get_or-le-sum_by, passes_at_first, sum_by-cons, sum_by-le, sum_by-remove, sum_by_push}
+use Rattle.std.proofs.lemmas.List.Sums.{fails_before_first, get_or-le-sum_by, passes_at_first, sum_by-cons, sum_by-le, sum_by-remove, sum_by_push}
 use Rattle.vg_share.specs.Lists.{without_at, without_first}
 use Rattle.vg_linked.specs.Linked.{one_if}
 

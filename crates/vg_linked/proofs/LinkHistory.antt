@@ -2,7 +2,7 @@
 use Rattle.std.proofs.Common.{◌≡◌, ◌≢◌, ◌*◌, ℕ, zero, suc, Bool, true, false, cond, List, [], ◌∷◌, length, drop, take, Option, Some, None, replicate, refl, ap, sym, subst, ◌∙◌, eq-eqb, ne_eqb, take-append-drop}
 use mathlib.Core.Logic.{dite}
 use native.Mathlib.Decide.{ℕ_discrete}
-use Rattle.std.specs.Prelude.{nat_lt, slice_get}
+use Rattle.std.specs.Prelude.{slice_get}
 use Rattle.std.proofs.lemmas.List.Elements.{All-nil}
 use Rattle.vg_share.specs.declared.share.Geometry.{Geometry}
 use Rattle.vg_share.specs.declared.share.ShareRefusal.{ShareRefusal}

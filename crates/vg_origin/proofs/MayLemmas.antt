@@ -1,9 +1,8 @@
 -- What a client may show: resources whose buffers it has, on scanouts that are leased to it.
-use Rattle.std.proofs.Common.{◌≡◌, ◌≢◌, ◌≤◌, ◌<◌, ◌^◌, ℕ, ◌==◌, ◌||◌, ◌&&◌, not, Bool, true, false, cond, List, [], ◌∷◌, ◌++◌, map, take, nat_le, slice_get, zero, suc, Option, Some, None, refl, ap, sym, subst, ◌∙◌, arith, append-nil, append_assoc, ne_eqb}
-use Rattle.std.specs.Prelude.{count_by, nat_lt, ℤ}
+use Rattle.std.proofs.Common.{◌≡◌, ◌≢◌, ◌≤◌, ◌<◌, ◌^◌, ℕ, ◌==◌, ◌||◌, ◌&&◌, not, Bool, true, false, List, [], ◌∷◌, ◌++◌, map, take, nat_le, slice_get, zero, suc, Option, Some, None, refl, ap, sym, subst, ◌∙◌, arith, append-nil, append_assoc, ne_eqb}
+use Rattle.std.specs.Prelude.{nat_lt, ℤ}
 use Rattle.std.specs.List.{list_any}
 use Rattle.std.proofs.lemmas.Bool.Decides.{nat_tests}
-use Rattle.std.proofs.lemmas.List.Sums.{sum_by-cons}
 use Rattle.vg_wire.specs.declared.header.Header.{Header}
 use Rattle.vg_wire.specs.declared.two_d.Command2d.{Command2d}
 use Rattle.vg_wire.specs.declared.two_d.Command2d.TheVariants.{DisplayInfo, Create2d, Unref, SetScanout, Flush, Transfer, Attach, Detach}
