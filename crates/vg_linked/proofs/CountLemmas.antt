@@ -4,7 +4,7 @@ use Rattle.std.specs.Prelude.{nat_lt, count_by}
 use Rattle.std.specs.List.{All, list_any, position_or_len}
 use Rattle.std.proofs.lemmas.Bool.Decides.{nat_tests}
 use Rattle.std.proofs.lemmas.List.Elements.{All-append, All-take, All-drop}
-use Rattle.std.proofs.lemmas.List.Sums.{count_by-le-length, fails_before_first, get_or-le-sum_by, passes_at_first, sum_by-cons, sum_by-le, sum_by-remove, sum_by_push}
+use Rattle.std.proofs.lemmas.List.Sums.{fails_before_first, get_or-le-sum_by, passes_at_first, sum_by-cons, sum_by-le, sum_by-remove, sum_by_push}
 use Rattle.vg_share.specs.Lists.{without_at, without_first}
 use Rattle.vg_linked.specs.Linked.{one_if}
 
@@ -68,11 +68,6 @@ none-counted {X} p xs none = λ k d within. by (p (get_or xs k d)) (subst (λ n.
     by true low = absurd (omega (arith, low))
     by false low = refl
 
--- none of no elements is counted
-pub counted-none : {X : Type 0} (p : X → Bool) (xs : List X) → length xs ≡ 0 → count_by p xs ≡ 0
-counted-none p [] none = refl
-counted-none p (x ∷ xs) none = absurd (omega (arith, none))
-
 -- what is among them is counted
 some-by : {X : Type 0} (p : X → Bool) (x : X) (xs : List X) (b : Bool) → p x ≡ b → (b || list_any p xs) ≡ true → (list_any p xs ≡ true → 1 ≤ count_by p xs) → 1 ≤ count_by p (x ∷ xs)
 some-by {X} p x xs true is any rest = let one : cond (p x) 1 0 ≡ 1 = ap {B = ℕ} (λ b. cond b 1 0) is in omega (arith, sum_by-cons (λ (y : X). cond (p y) 1 0) x xs, one)
@@ -81,7 +76,3 @@ some-by {X} p x xs false is any rest = omega (arith, sum_by-cons (λ (y : X). co
 pub some-counted : {X : Type 0} (p : X → Bool) (xs : List X) → list_any p xs ≡ true → 1 ≤ count_by p xs
 some-counted p [] any = cc
 some-counted p (x ∷ xs) any = some-by p x xs (p x) refl any (some-counted p xs)
-
--- so many pass at most as there are
-pub counted-length : {X : Type 0} (p : X → Bool) (xs : List X) → count_by p xs ≤ length xs
-counted-length p xs = count_by-le-length p xs

@@ -1,24 +1,23 @@
 -- What the acts on buffers and leases leave of the shares: numbers rise, keys were given, and a buffer is held or taken down.
-use Rattle.std.proofs.Common.{◌≡◌, ◌≢◌, ◌≤◌, ◌<◌, ℕ, ◌+◌, ◌==◌, ◌&&◌, not, Bool, true, false, cond, List, [], ◌∷◌, ◌++◌, length, Option, Some, None, refl, ap, sym, subst, ◌∙◌, arith, ne_eqb}
+use Rattle.std.proofs.Common.{◌≡◌, ◌≢◌, ◌≤◌, ℕ, ◌+◌, ◌&&◌, not, Bool, true, false, cond, List, [], ◌∷◌, Option, Some, None, refl, ap, sym, subst, ◌∙◌, arith}
 use mathlib.Core.Logic.{dite}
 use native.Mathlib.Decide.{ℕ_discrete}
-use Rattle.std.specs.Prelude.{is_some, count_by}
+use Rattle.std.specs.Prelude.{is_some}
 use Rattle.std.specs.Ordering.{nat_cmp}
 use Rattle.std.specs.List.{AllByRecursion}
 use Rattle.std.specs.Map.{lookup}
 use Rattle.std.specs.BTreeMap.{is_at}
 use Rattle.std.proofs.lemmas.Bool.Decides.{nat_tests}
-use Rattle.std.proofs.lemmas.List.{length_push}
 use Rattle.vg_device.proofs.MapLemmas.{insert_other, remove_other, set_itself, set_other}
 use Rattle.vg_refusals.specs.Refusals.{refusal_of}
 use Rattle.vg_share.specs.declared.share.Buffer.{Buffer}
 use Rattle.vg_share.specs.declared.share.Geometry.{Geometry}
 use Rattle.vg_share.specs.declared.share.ShareRefusal.TheVariants.{InUse, NotHeld, ResourceLive, UnknownKey}
-use Rattle.vg_share.specs.Share.{ShareState, buffer_at, exported_key, free_refusal, freed, has_holder, holders_without, holds_once, import_refusal, imported, imported_buffer, imported_entries, is_client, is_given, is_holder, key_in, new_buffer, refused_by, refused_token, release_refusal, released, released_buffer, released_entries, scanout_in, some_holder, token_key, with_buffer}
+use Rattle.vg_share.specs.Share.{ShareState, buffer_at, exported_key, free_refusal, freed, has_holder, holds_in, holds_once, import_refusal, imported, imported_buffer, imported_entries, is_given, is_holder, key_in, new_buffer, refused_by, refused_token, release_refusal, released, released_buffer, released_entries, scanout_in, some_hold, some_holder, token_key, with_buffer, with_hold, without_hold}
 use Rattle.vg_linked.specs.Linked.{AreAlone, IsAlone}
 use Rattle.vg_linked.specs.Rising.{AreRising}
-use Rattle.vg_linked.proofs.CountLemmas.{counted-length, some-counted}
 use Rattle.vg_linked.proofs.EntryLemmas.{each-insert, each-remove, each-set, each-weaker, insert-found, none-found, remove-gone, rising-insert, rising-remove, rising-set}
+use Rattle.vg_linked.proofs.HolderLemmas.{holds-more, some-held}
 
 -- ---- what is found of buffers after each act
 
@@ -89,18 +88,18 @@ may-release client key shown share none = held-by client key shown share (buffer
 pub record IsImported (token : ℕ) (share : ShareState) : Type 0 where
   pub buffer : Buffer
   pub found : buffer_at (token_key token share) share ≡ Some buffer
-  pub some : 0 < length buffer.holders
+  pub some : some_hold buffer.holders ≡ true
 
-some-held : (token : ℕ) (share : ShareState) (found : Option Buffer) → buffer_at (token_key token share) share ≡ found → some_holder found ≡ true → IsImported token share
-some-held token share None is held = cc
-some-held token share (Some buffer) is held = record { buffer = buffer; found = is; some = grind (arith, nat_tests) }
+held-import : (token : ℕ) (share : ShareState) (found : Option Buffer) → buffer_at (token_key token share) share ≡ found → some_holder found ≡ true → IsImported token share
+held-import token share None is held = cc
+held-import token share (Some buffer) is held = record { buffer = buffer; found = is; some = held }
 
 imported-by : (token : ℕ) (share : ShareState) (found : Option ℕ) → exported_key token share ≡ found → refused_token found share ≡ None → IsImported token share
 imported-by token share None is none = cc
 imported-by token share (Some key) is none = by (has_holder key share) refl none
   where
     by : (b : Bool) → has_holder key share ≡ b → refusal_of ((not b, UnknownKey) ∷ []) ≡ None → IsImported token share
-    by true held none = some-held token share (buffer_at (token_key token share) share) refl (ap (λ o. has_holder (key_in o) share) is ∙ held)
+    by true held none = held-import token share (buffer_at (token_key token share) share) refl (ap (λ o. has_holder (key_in o) share) is ∙ held)
     by false held none = cc
 
 pub may-import : (token : ℕ) (share : ShareState) → import_refusal token share ≡ None → IsImported token share
@@ -145,15 +144,15 @@ alone-at share now key found is one others alone q = dite (ℕ_discrete q key)
     (λ other. subst IsAlone (sym (others q other)) (alone q))
 
 -- a buffer that has a holder has no taker
-pub no-taker : (buffer : Buffer) → IsAlone (Some buffer) → 0 < length buffer.holders → buffer.taker ≡ None
+pub no-taker : (buffer : Buffer) → IsAlone (Some buffer) → some_hold buffer.holders ≡ true → buffer.taker ≡ None
 no-taker buffer alone some = by buffer.taker refl
   where
     by : (taker : Option ℕ) → buffer.taker ≡ taker → taker ≡ None
     by None is = refl
-    by (Some client) is = let empty : (length buffer.holders == 0) ≡ true = sym (sym (ap is_some is) ∙ alone) in absurd (grind (arith, nat_tests, empty, some))
+    by (Some client) is = let clash : true ≡ false = sym (ap is_some is) ∙ alone ∙ ap not some in absurd (cc)
 
-pub holder-counts : (client : ℕ) (buffer : Buffer) → is_holder client buffer ≡ true → 1 ≤ count_by (is_client client) buffer.holders
-holder-counts client buffer held = some-counted (is_client client) buffer.holders held
+pub holder-counts : (client : ℕ) (buffer : Buffer) → is_holder client buffer ≡ true → 1 ≤ holds_in client buffer.holders
+holder-counts client buffer held = grind (arith, nat_tests, held)
 
 pub stands-reserved : (client : ℕ) (geometry : Geometry) (pages : List ℕ) (share : ShareState) → ShareStands share → ShareStands (with_buffer client geometry pages share)
 stands-reserved client geometry pages share stands = record {
@@ -161,7 +160,7 @@ stands-reserved client geometry pages share stands = record {
   given = each-insert (λ n. n ≤ share.reserved + 1) (share.reserved + 1) (new_buffer client geometry pages) share.buffers (omega arith)
       (each-weaker (λ (entry : ℕ × Buffer). entry.0 ≤ share.reserved) (λ (entry : ℕ × Buffer). entry.0 ≤ share.reserved + 1) (λ entry low. omega (arith, low)) share.buffers stands.given);
   alone = alone-at share (with_buffer client geometry pages share) (share.reserved + 1) (Some (new_buffer client geometry pages))
-      (new-found client geometry pages share) (sym (ne_eqb (length (client ∷ [])) 0 (λ same. omega (arith, same)))) (new-other client geometry pages share) stands.alone;
+      (new-found client geometry pages share) refl (new-other client geometry pages share) stands.alone;
 }
 
 rising-released : (client key : ℕ) (found : Option Buffer) (buffers : List (ℕ × Buffer)) → AreRising buffers → AreRising (released_entries client key found buffers)
@@ -188,27 +187,28 @@ alone-of share key buffer found stands = subst IsAlone found (stands.alone key)
 -- a buffer that the client holds has no taker
 pub held-untaken : (client key : ℕ) (share : ShareState) → ShareStands share → (held : IsHeld client key share) → held.buffer.taker ≡ None
 held-untaken client key share stands held = no-taker held.buffer (alone-of share key held.buffer held.found stands)
-    (omega (arith, holder-counts client held.buffer held.held, counted-length (is_client client) held.buffer.holders))
+    (some-held client held.buffer.holders (holder-counts client held.buffer held.held))
 
 pub imported-untaken : (token : ℕ) (share : ShareState) → ShareStands share → (is : IsImported token share) → is.buffer.taker ≡ None
 imported-untaken token share stands is = no-taker is.buffer (alone-of share (token_key token share) is.buffer is.found stands) is.some
 
 -- a buffer that is taken down has no holder
-pub taken-unheld : (client key : ℕ) (live : Bool) (share : ShareState) → ShareStands share → (taken : IsTaken client key live share) → length taken.buffer.holders ≡ 0
+pub taken-unheld : (client key : ℕ) (live : Bool) (share : ShareState) → ShareStands share → (taken : IsTaken client key live share) → some_hold taken.buffer.holders ≡ false
 taken-unheld client key live share stands taken = by taken.buffer.taker refl taken.taken
   where
-    by : (taker : Option ℕ) → taken.buffer.taker ≡ taker → is_given client taker ≡ true → length taken.buffer.holders ≡ 0
+    not-of : (b : Bool) → true ≡ not b → b ≡ false
+    not-of true is = cc
+    not-of false is = refl
+    by : (taker : Option ℕ) → taken.buffer.taker ≡ taker → is_given client taker ≡ true → some_hold taken.buffer.holders ≡ false
     by None is given = cc
-    by (Some other) is given =
-        let empty : (length taken.buffer.holders == 0) ≡ true = sym (sym (ap is_some is) ∙ alone-of share key taken.buffer taken.found stands) in
-        grind (arith, nat_tests, empty)
+    by (Some other) is given = not-of (some_hold taken.buffer.holders) (sym (ap is_some is) ∙ alone-of share key taken.buffer taken.found stands)
 
 alone-released : (client : ℕ) (buffer : Buffer) → buffer.taker ≡ None → IsAlone (Some (released_buffer client buffer))
-alone-released client buffer none = by (length (holders_without client buffer.holders) == 0)
+alone-released client buffer none = by (some_hold (without_hold client buffer.holders))
   where
-    by : (b : Bool) → is_some (cond b (Some client) buffer.taker) ≡ b
-    by true = refl
-    by false = ap is_some none
+    by : (b : Bool) → is_some (cond b buffer.taker (Some client)) ≡ not b
+    by true = ap is_some none
+    by false = refl
 
 pub stands-released : (client key : ℕ) (share : ShareState) → IsHeld client key share → ShareStands share → ShareStands (released client key share)
 stands-released client key share held stands = record {
@@ -220,7 +220,7 @@ stands-released client key share held stands = record {
 
 alone-imported : (client : ℕ) (buffer : Buffer) → buffer.taker ≡ None → IsAlone (Some (imported_buffer client buffer))
 alone-imported client buffer none =
-    ap is_some none ∙ sym (ne_eqb (length (buffer.holders ++ client ∷ [])) 0 (λ same. omega (arith, same, length_push buffer.holders client)))
+    ap is_some none ∙ sym (ap not (some-held client (with_hold client buffer.holders) (omega (arith, holds-more client buffer.holders))))
 
 pub stands-imported : (client token : ℕ) (share : ShareState) → IsImported token share → ShareStands share → ShareStands (imported client (token_key token share) share)
 stands-imported client token share is stands =

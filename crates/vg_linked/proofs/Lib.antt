@@ -1,5 +1,6 @@
 pub mod CountLemmas
 pub mod EntryLemmas
+pub mod HolderLemmas
 pub mod HeldLemmas
 pub mod LinkLemmas
 pub mod MoveLemmas

@@ -2,11 +2,11 @@
 use Rattle.std.proofs.Common.{◌≡◌, ◌≢◌, ◌*◌, ℕ, zero, suc, Bool, true, false, cond, List, [], ◌∷◌, length, drop, take, Option, Some, None, replicate, refl, ap, sym, subst, ◌∙◌, eq-eqb, ne_eqb, take-append-drop}
 use mathlib.Core.Logic.{dite}
 use native.Mathlib.Decide.{ℕ_discrete}
-use Rattle.std.specs.Prelude.{nat_lt, slice_get}
+use Rattle.std.specs.Prelude.{slice_get}
 use Rattle.std.proofs.lemmas.List.Elements.{All-nil}
 use Rattle.vg_share.specs.declared.share.Geometry.{Geometry}
 use Rattle.vg_share.specs.declared.share.ShareRefusal.{ShareRefusal}
-use Rattle.vg_share.specs.Share.{ShareState, drop_refusal, export_refusal, free_refusal, has_holder, holders_without, import_refusal, is_lease_of, new_pages, pages_at, place_refusal, release_refusal, released, reserve_refusal, some_holder, take_refusal}
+use Rattle.vg_share.specs.Share.{ShareState, drop_refusal, export_refusal, free_refusal, has_holder, import_refusal, is_lease_of, new_pages, pages_at, place_refusal, release_refusal, released, reserve_refusal, some_hold, some_holder, take_refusal, without_hold}
 use Rattle.vg_client_holds.specs.declared.act.Act.{Act}
 use Rattle.vg_client_holds.specs.declared.act.Act.TheVariants.{Enter, Reserve, Store, Load, Export, Import, Release, Free, Take, Drop, Await, Denied, Leave}
 use Rattle.vg_client_holds.specs.declared.act.ActReply.{ActReply}
@@ -69,7 +69,7 @@ released-own : (client key : ℕ) (holds : Holds) (share : ShareState) → Share
 released-own client key holds share stand held linked b is =
     by b (sym (ap some_holder (released-found client key share held.buffer held.found)) ∙ is)
   where
-    by : (b : Bool) → nat_lt 0 (length (holders_without client held.buffer.holders)) ≡ b
+    by : (b : Bool) → some_hold (without_hold client held.buffer.holders) ≡ b
         → Linked client (update holds (Release key) (cond b act_replies.Kept act_replies.Last)) (released client key share)
     by true is = linked-kept client key holds share stand held is linked
     by false is = linked-last client key holds share stand held is linked

@@ -1,8 +1,8 @@
 -- What a client holds and what the shares say of it go on to agree over each act, its own or another's.
-use Rattle.std.proofs.Common.{◌≡◌, ◌≢◌, ℕ, zero, suc, ◌+◌, ◌==◌, not, Bool, true, false, cond, List, [], ◌∷◌, ◌++◌, length, get_or, Option, Some, None, refl, ap, sym, subst, ◌∙◌, arith, eq-eqb, ne_eqb}
+use Rattle.std.proofs.Common.{◌≡◌, ◌≢◌, ℕ, zero, suc, ◌+◌, ◌==◌, not, Bool, true, false, cond, List, [], ◌∷◌, ◌++◌, get_or, Option, Some, None, refl, ap, sym, subst, ◌∙◌, arith, eq-eqb, ne_eqb}
 use mathlib.Core.Logic.{dite}
 use native.Mathlib.Decide.{ℕ_discrete}
-use Rattle.std.specs.Prelude.{nat_lt, slice_get, count_by}
+use Rattle.std.specs.Prelude.{slice_get, count_by}
 use Rattle.std.specs.List.{All, slice_set}
 use Rattle.std.proofs.lemmas.Bool.Decides.{nat_tests}
 use Rattle.std.proofs.lemmas.List.Elements.{All-push}
@@ -11,22 +11,16 @@ use Rattle.vg_share.specs.declared.share.Buffer.{Buffer}
 use Rattle.vg_share.specs.declared.share.Geometry.{Geometry}
 use Rattle.vg_share.specs.declared.share.ShareRefusal.TheVariants.{InUse, NotHeld}
 use Rattle.vg_share.specs.Lists.{is_number, without_first}
-use Rattle.vg_share.specs.Share.{ShareState, buffer_at, drop_refusal, freed, holders_without, imported, imported_buffer, is_client, is_given, is_lease_of, is_leased, leased, new_buffer, pages_at, pages_in, refused_lease, released, released_buffer, take_refusal, token_key, unleased, with_buffer}
+use Rattle.vg_share.specs.Share.{ShareState, buffer_at, drop_refusal, freed, holds_in, imported, imported_buffer, is_given, is_lease_of, is_leased, leased, new_buffer, pages_at, pages_in, refused_lease, released, released_buffer, some_hold, take_refusal, token_key, unleased, with_buffer, without_hold}
 use Rattle.vg_client_holds.specs.declared.holds.Holds.{Holds}
 use Rattle.vg_client_holds.specs.Holds.{has_key}
 use Rattle.vg_linked.specs.Linked.{Linked, is_taken_by, one_if, parts_of}
-use Rattle.vg_linked.proofs.CountLemmas.{all-without, count-no, count-without-other, count-without-same, count-yes, counted-none, none-counted}
+use Rattle.vg_linked.proofs.CountLemmas.{all-without, count-no, count-without-other, count-without-same, count-yes, none-counted}
 use Rattle.vg_linked.proofs.HeldLemmas.{IsHeld, IsImported, IsTaken, ShareStands, freed-gone, freed-other, held-untaken, holder-counts, imported-found, imported-other, new-found, new-other, next-none, released-found, released-other, taken-unheld}
+use Rattle.vg_linked.proofs.HolderLemmas.{holds-less, holds-more, none-held, one-only, other-less, other-more}
 
 apart-of : (n m : ℕ) → (n == m) ≡ false → n ≢ m
 apart-of n m is same = grind (arith, nat_tests)
-
--- what counts one number counts no other
-one-only : (a b n : ℕ) → a ≢ b → (n == a) ≡ true → (n == b) ≡ false
-one-only a b n apart is = ne_eqb n b (λ same. apart (sym (eq_of n a is) ∙ same))
-  where
-    eq_of : (n m : ℕ) → (n == m) ≡ true → n ≡ m
-    eq_of n m is = grind (arith, nat_tests)
 
 -- ---- one buffer of the shares changes
 
@@ -82,7 +76,7 @@ linked-reserved client geometry pages holds share stands linked =
     let pair : ℕ × List ℕ = (key, pages) in
     let none = next-none share stands in
     let before : count_by (has_key key) holds.buffers ≡ 0 = linked.buffers key ∙ ap (parts_of client) none in
-    let one : count_by (is_client client) (client ∷ []) ≡ 1 = count-yes (is_client client) [] client (eq-eqb client client refl) in
+    let one : holds_in client ((client, 1) ∷ []) ≡ 1 = ap {B = ℕ} (λ b. cond b 1 0) (eq-eqb client client refl) in
     link-at client key holds _ share now (Some (new_buffer client geometry pages)) (new-found client geometry pages share) (new-other client geometry pages share) refl
     (record {
       buffers = count-yes (has_key key) holds.buffers pair (eq-eqb key key refl) ∙ omega (arith, before, one);
@@ -101,7 +95,7 @@ other-reserved client other geometry pages holds share apart stands linked =
     let now = with_buffer other geometry pages share in
     let none = next-none share stands in
     let before : count_by (has_key key) holds.buffers ≡ 0 = linked.buffers key ∙ ap (parts_of client) none in
-    let zero_of : count_by (is_client client) (other ∷ []) ≡ 0 = count-no (is_client client) [] other (ne_eqb other client apart) in
+    let zero_of : holds_in client ((other, 1) ∷ []) ≡ 0 = ap {B = ℕ} (λ b. cond b 1 0) (ne_eqb other client apart) in
     link-at client key holds holds share now (Some (new_buffer other geometry pages)) (new-found other geometry pages share) (new-other other geometry pages share) refl
     (record {
       buffers = omega (arith, before, zero_of);
@@ -128,22 +122,20 @@ without-key key holds q other = count-without-other (has_key key) (has_key q) ho
 
 -- what the client has of the buffer where others hold it still, and where no one does
 pub linked-kept : (client key : ℕ) (holds : Holds) (share : ShareState) → ShareStands share → (held : IsHeld client key share)
-    → nat_lt 0 (length (holders_without client held.buffer.holders)) ≡ true → Linked client holds share
+    → some_hold (without_hold client held.buffer.holders) ≡ true → Linked client holds share
     → Linked client (record holds { buffers = without_first (has_key key) holds.buffers }) (released client key share)
 linked-kept client key holds share stands held more linked =
     let buffer = held.buffer in
-    let left = holders_without client buffer.holders in
     let now = released client key share in
     let free : buffer.taker ≡ None = held-untaken client key share stands held in
-    let none : (length left == 0) ≡ false = grind (arith, nat_tests, more) in
-    let taker : (released_buffer client buffer).taker ≡ None = ap (λ b. cond b (Some client) buffer.taker) none ∙ free in
+    let taker : (released_buffer client buffer).taker ≡ None = ap (λ b. cond b buffer.taker (Some client)) more ∙ free in
     let old_part : one_if (is_given client buffer.taker) ≡ 0 = ap {B = ℕ} (λ t. one_if (is_given client t)) free in
     let new_part : one_if (is_given client (released_buffer client buffer).taker) ≡ 0 = ap {B = ℕ} (λ t. one_if (is_given client t)) taker in
     let had = count-of client key holds share buffer held.found linked in
     let some = holder-counts client buffer held.held in
     link-at client key holds _ share now (Some (released_buffer client buffer)) (released-found client key share buffer held.found) (released-other client key share) refl
     (record {
-      buffers = omega (arith, count-without-same (has_key key) holds.buffers (0, []) (omega (arith, had, some)), count-without-same (is_client client) buffer.holders 0 some, had, old_part, new_part);
+      buffers = omega (arith, count-without-same (has_key key) holds.buffers (0, []) (omega (arith, had, some)), holds-less client buffer.holders, some, had, old_part, new_part);
       other_buffers = without-key key holds;
       taking_down = taking-of client key holds share buffer held.found linked ∙ old_part ∙ sym new_part;
       other_taking = λ q other. refl;
@@ -155,26 +147,23 @@ linked-kept client key holds share stands held more linked =
     linked
 
 pub linked-last : (client key : ℕ) (holds : Holds) (share : ShareState) → ShareStands share → (held : IsHeld client key share)
-    → nat_lt 0 (length (holders_without client held.buffer.holders)) ≡ false → Linked client holds share
+    → some_hold (without_hold client held.buffer.holders) ≡ false → Linked client holds share
     → Linked client (record holds { taking_down = holds.taking_down ++ key ∷ [] }) (released client key share)
 linked-last client key holds share stands held more linked =
     let buffer = held.buffer in
-    let left = holders_without client buffer.holders in
     let now = released client key share in
     let free : buffer.taker ≡ None = held-untaken client key share stands held in
-    let empty : length left ≡ 0 = grind (arith, nat_tests, more) in
-    let none : (length left == 0) ≡ true = eq-eqb (length left) 0 empty in
-    let taker : (released_buffer client buffer).taker ≡ Some client = ap (λ b. cond b (Some client) buffer.taker) none in
+    let taker : (released_buffer client buffer).taker ≡ Some client = ap (λ b. cond b buffer.taker (Some client)) more in
     let old_part : one_if (is_given client buffer.taker) ≡ 0 = ap {B = ℕ} (λ t. one_if (is_given client t)) free in
     let new_part : one_if (is_given client (released_buffer client buffer).taker) ≡ 1 =
     ap {B = ℕ} (λ t. one_if (is_given client t)) taker ∙ ap {B = ℕ} one_if (eq-eqb client client refl)
     in
     let had = count-of client key holds share buffer held.found linked in
     let some = holder-counts client buffer held.held in
-    let nobody = counted-none (is_client client) left empty in
+    let nobody = none-held client (without_hold client buffer.holders) more in
     link-at client key holds _ share now (Some (released_buffer client buffer)) (released-found client key share buffer held.found) (released-other client key share) refl
     (record {
-      buffers = omega (arith, count-without-same (is_client client) buffer.holders 0 some, nobody, had, old_part, new_part);
+      buffers = omega (arith, holds-less client buffer.holders, some, nobody, had, old_part, new_part);
       other_buffers = λ q other. refl;
       taking_down = omega (arith, count-yes (is_number key) holds.taking_down key (eq-eqb key key refl), taking-of client key holds share buffer held.found linked, old_part, new_part);
       other_taking = λ q other. count-no (is_number q) holds.taking_down key (ne_eqb key q (λ same. other (sym same)));
@@ -188,14 +177,12 @@ pub other-released : (client other key : ℕ) (holds : Holds) (share : ShareStat
     → Linked client holds (released other key share)
 other-released client other key holds share apart stands held linked =
     let buffer = held.buffer in
-    let left = holders_without other buffer.holders in
+    let left = without_hold other buffer.holders in
     let now = released other key share in
     let free : buffer.taker ≡ None = held-untaken other key share stands held in
     let old_part : one_if (is_given client buffer.taker) ≡ 0 = ap {B = ℕ} (λ t. one_if (is_given client t)) free in
-    let new_part : one_if (is_given client (released_buffer other buffer).taker) ≡ 0 = by buffer free (length left == 0) in
-    let same : count_by (is_client client) left ≡ count_by (is_client client) buffer.holders =
-    count-without-other (is_client other) (is_client client) buffer.holders 0 (λ n is. one-only other client n apart is)
-    in
+    let new_part : one_if (is_given client (released_buffer other buffer).taker) ≡ 0 = by buffer free (some_hold left) in
+    let same : holds_in client left ≡ holds_in client buffer.holders = other-less client other buffer.holders apart in
     link-at client key holds holds share now (Some (released_buffer other buffer)) (released-found other key share buffer held.found) (released-other other key share) refl
     (record {
       buffers = omega (arith, count-of client key holds share buffer held.found linked, same, old_part, new_part);
@@ -208,9 +195,9 @@ other-released client other key holds share apart stands held linked =
     (pages-same key share now buffer (released_buffer other buffer) held.found (released-found other key share buffer held.found) refl (released-other other key share)) linked.pages)
     linked
   where
-    by : (buffer : Buffer) → buffer.taker ≡ None → (b : Bool) → one_if (is_given client (cond b (Some other) buffer.taker)) ≡ 0
-    by buffer free true = ap {B = ℕ} one_if (ne_eqb other client apart)
-    by buffer free false = ap {B = ℕ} (λ t. one_if (is_given client t)) free
+    by : (buffer : Buffer) → buffer.taker ≡ None → (b : Bool) → one_if (is_given client (cond b buffer.taker (Some other))) ≡ 0
+    by buffer free true = ap {B = ℕ} (λ t. one_if (is_given client t)) free
+    by buffer free false = ap {B = ℕ} one_if (ne_eqb other client apart)
 
 -- ---- a hold more
 
@@ -224,7 +211,7 @@ linked-imported client token holds share is linked =
     let same = pages-same key share now buffer (imported_buffer client buffer) is.found (imported-found client key share buffer is.found) refl (imported-other client key share) in
     link-at client key holds _ share now (Some (imported_buffer client buffer)) (imported-found client key share buffer is.found) (imported-other client key share) refl
     (record {
-      buffers = omega (arith, count-yes (has_key key) holds.buffers pair (eq-eqb key key refl), count-yes (is_client client) buffer.holders client (eq-eqb client client refl), count-of client key holds share buffer is.found linked);
+      buffers = omega (arith, count-yes (has_key key) holds.buffers pair (eq-eqb key key refl), holds-more client buffer.holders, count-of client key holds share buffer is.found linked);
       other_buffers = λ q other. count-no (has_key q) holds.buffers pair (ne_eqb key q (λ equal. other (sym equal)));
       taking_down = taking-of client key holds share buffer is.found linked;
       other_taking = λ q other. refl;
@@ -241,7 +228,7 @@ other-imported client other token holds share apart is linked =
     let same = pages-same key share now buffer (imported_buffer other buffer) is.found (imported-found other key share buffer is.found) refl (imported-other other key share) in
     link-at client key holds holds share now (Some (imported_buffer other buffer)) (imported-found other key share buffer is.found) (imported-other other key share) refl
     (record {
-      buffers = omega (arith, count-no (is_client client) buffer.holders other (ne_eqb other client apart), count-of client key holds share buffer is.found linked);
+      buffers = omega (arith, other-more client other buffer.holders apart, count-of client key holds share buffer is.found linked);
       other_buffers = λ q differs. refl;
       taking_down = taking-of client key holds share buffer is.found linked;
       other_taking = λ q differs. refl;
@@ -256,7 +243,7 @@ pub linked-freed : (client key : ℕ) (live : Bool) (holds : Holds) (share : Sha
 linked-freed client key live holds share stands taken linked =
     let buffer = taken.buffer in
     let now = freed key share in
-    let nobody = counted-none (is_client client) buffer.holders (taken-unheld client key live share stands taken) in
+    let nobody = none-held client buffer.holders (taken-unheld client key live share stands taken) in
     let part : one_if (is_given client buffer.taker) ≡ 1 = ap {B = ℕ} one_if taken.taken in
     let had = count-of client key holds share buffer taken.found linked in
     let took = taking-of client key holds share buffer taken.found linked in
@@ -284,7 +271,7 @@ pub other-freed : (client other key : ℕ) (live : Bool) (holds : Holds) (share 
 other-freed client other key live holds share apart stands taken linked =
     let buffer = taken.buffer in
     let now = freed key share in
-    let nobody = counted-none (is_client client) buffer.holders (taken-unheld other key live share stands taken) in
+    let nobody = none-held client buffer.holders (taken-unheld other key live share stands taken) in
     let part : one_if (is_given client buffer.taker) ≡ 0 = ap {B = ℕ} one_if (given-one client other buffer.taker apart taken.taken) in
     let none : count_by (has_key key) holds.buffers ≡ 0 = omega (arith, count-of client key holds share buffer taken.found linked, nobody, part) in
     link-at client key holds holds share now None (freed-gone key share stands) (freed-other key share) refl

@@ -1,9 +1,9 @@
 -- What a client holds by its own acts, and what the shares of the display say of it.
-use Rattle.std.specs.Prelude.{◌≡◌, ℕ, ◌+◌, ◌==◌, Bool, false, is_some, if◌then◌else◌, List, [], length, count_by, Option, Some, None}
+use Rattle.std.specs.Prelude.{◌≡◌, ℕ, ◌+◌, Bool, false, not, is_some, if◌then◌else◌, List, [], length, count_by, Option, Some, None}
 use Rattle.std.specs.List.{All}
 use Rattle.vg_share.specs.declared.share.Buffer.{Buffer}
 use Rattle.vg_share.specs.Lists.{is_number}
-use Rattle.vg_share.specs.Share.{ShareState, buffer_at, is_client, is_given, is_leased, pages_at}
+use Rattle.vg_share.specs.Share.{ShareState, buffer_at, holds_in, is_given, is_leased, pages_at, some_hold}
 use Rattle.vg_client_holds.specs.Holds.{has_key}
 use Rattle.vg_client_holds.specs.declared.holds.Holds.{Holds}
 use Rattle.vg_client_holds.specs.declared.setup.Setup.{Setup}
@@ -11,7 +11,7 @@ use Rattle.vg_client_holds.specs.declared.setup.Setup.{Setup}
 abbrev pub one_if : Bool → ℕ
 one_if holds = if holds then 1 else 0
 
-abbrev pub holders_in : Option Buffer → List ℕ
+abbrev pub holders_in : Option Buffer → List (ℕ × ℕ)
 holders_in (Some buffer) = buffer.holders
 holders_in None = []
 
@@ -22,7 +22,7 @@ is_taken_by client None = false
 
 -- How often the client holds the buffer, and once more where it takes it down.
 abbrev pub parts_of : ℕ → Option Buffer → ℕ
-parts_of client found = count_by (is_client client) (holders_in found) + one_if (is_taken_by client found)
+parts_of client found = holds_in client (holders_in found) + one_if (is_taken_by client found)
 
 -- The client has a pair of each buffer for each hold of it, and one of a buffer that it takes down, each with the buffer's pages; it knows
 -- which it takes down; and it knows which scanouts are leased to it, each once.
@@ -38,7 +38,7 @@ AreOf setup client holds = (holds.client ≡ client) × (holds.displays ≡ leng
 
 -- Someone takes the buffer down exactly where no one holds it.
 abbrev pub IsAlone : Option Buffer → Type 0
-IsAlone (Some buffer) = is_some buffer.taker ≡ (length buffer.holders == 0)
+IsAlone (Some buffer) = is_some buffer.taker ≡ not (some_hold buffer.holders)
 IsAlone None = Unit {0}
 
 -- That is so of each buffer.

@@ -1,25 +1,24 @@
 -- A client that has the buffer of a resource to which its scanout is bound goes on to have it, whatever act is done.
-use Rattle.std.proofs.Common.{◌≡◌, ◌≢◌, ◌≤◌, ◌<◌, ℕ, zero, suc, ◌+◌, ◌==◌, ◌||◌, ◌&&◌, not, Bool, true, false, cond, List, [], ◌∷◌, ◌++◌, length, Option, Some, None, refl, ap, sym, subst, ◌∙◌, arith, ne_eqb}
+use Rattle.std.proofs.Common.{◌≡◌, ◌≤◌, ◌<◌, ℕ, zero, suc, ◌+◌, ◌==◌, ◌||◌, ◌&&◌, not, Bool, true, false, cond, List, [], ◌∷◌, length, Option, Some, None, refl, ap, sym, subst, ◌∙◌, arith}
 use mathlib.Core.Logic.{dite}
 use native.Mathlib.Decide.{ℕ_discrete}
-use Rattle.std.specs.Prelude.{count_by, is_some}
-use Rattle.std.specs.List.{find, list_any, range_with_len}
+use Rattle.std.specs.Prelude.{is_some}
+use Rattle.std.specs.List.{find, range_with_len}
 use Rattle.std.proofs.lemmas.Bool.Decides.{nat_tests}
 use Rattle.vg_refusals.specs.Refusals.{refusal_of}
 use Rattle.vg_share.specs.declared.share.Buffer.{Buffer}
 use Rattle.vg_share.specs.declared.share.ShareRefusal.TheVariants.{InUse, NotHeld}
-use Rattle.vg_share.specs.Lists.{without_first}
-use Rattle.vg_share.specs.Share.{ShareState, buffer_at, holders_without, holds_once, imported, imported_buffer, is_client, is_given, is_holder, is_leased, new_pages, refused_by, release_refusal, released, released_buffer, scanout_in, token_key}
+use Rattle.vg_share.specs.Share.{ShareState, buffer_at, holds_in, holds_once, imported, imported_buffer, is_given, is_holder, is_leased, new_pages, refused_by, release_refusal, released, released_buffer, scanout_in, token_key, with_hold, without_hold}
 use Rattle.vg_scanout.specs.Scanout.{binding_at}
 use Rattle.vg_device.specs.ActStep.{is_shown_on, shown_at, shows_key}
 use Rattle.vg_device.specs.State.{State, has_resource}
-use Rattle.vg_linked.proofs.CountLemmas.{count-without-other, count-without-same, some-counted}
 use Rattle.vg_linked.proofs.FitLemmas.{none-first, none-rest}
-use Rattle.vg_linked.proofs.HeldLemmas.{ShareStands, freed-other, held-untaken, imported-found, imported-other, may-free, may-import, may-release, new-other, next-none, released-found, released-other}
+use Rattle.vg_linked.proofs.HeldLemmas.{ShareStands, freed-other, held-untaken, holder-counts, imported-found, imported-other, may-free, may-import, may-release, new-other, next-none, released-found, released-other}
+use Rattle.vg_linked.proofs.HolderLemmas.{holds-less, holds-more, other-less, other-more}
 use Rattle.vg_linked.proofs.MoveLemmas.{ActMoves}
 use Rattle.vg_origin.specs.Shown.{keeps_buffer}
 use Rattle.vg_origin.proofs.BindLemmas.{Bound}
-use Rattle.vg_origin.proofs.MayLemmas.{any-counted}
+use Rattle.vg_origin.proofs.MayLemmas.{holder-by}
 
 -- the scanout is bound to the resource, and leased to a client that has its buffer
 pub record Had (client scanout key : ℕ) (s : State) : Type 0 where
@@ -40,14 +39,6 @@ no-buffer client (Some buffer) none keeps = cc
 not-both : {P : Type 0} (b : Bool) → b ≡ true → b ≡ false → P
 not-both true is isnt = cc
 not-both false is isnt = cc
-
-any-more : {X : Type 0} (p : X → Bool) (xs ys : List X) → list_any p xs ≡ true → list_any p (xs ++ ys) ≡ true
-any-more p [] ys any = cc
-any-more p (x ∷ xs) ys any = by (p x) any (any-more p xs ys)
-  where
-    by : (b : Bool) → (b || list_any p xs) ≡ true → (list_any p xs ≡ true → list_any p (xs ++ ys) ≡ true) → (b || list_any p (xs ++ ys)) ≡ true
-    by true any rest = refl
-    by false any rest = rest any
 
 or-weaker : (a now b : Bool) → (a ≡ true → now ≡ true) → (a || b) ≡ true → (now || b) ≡ true
 or-weaker true now b weaker is = ap (λ c. c || b) (weaker refl)
@@ -95,26 +86,20 @@ held-of client buffer none keeps = by (is_holder client buffer) (sym (ap (λ o. 
     by true is = refl
     by false is = is
 
-one-only : (a b n : ℕ) → a ≢ b → (n == a) ≡ true → (n == b) ≡ false
-one-only a b n apart is = ne_eqb n b (λ same. apart (sym (eq_of n a is) ∙ same))
-  where
-    eq_of : (n m : ℕ) → (n == m) ≡ true → n ≡ m
-    eq_of n m is = grind (arith, nat_tests)
-
-still-holder : (client actor : ℕ) (holders : List ℕ) → list_any (is_client client) holders ≡ true → (actor ≡ client → (count_by (is_client actor) holders == 1) ≡ false)
-    → 1 ≤ count_by (is_client client) (without_first (is_client actor) holders)
+still-holder : (client actor : ℕ) (holders : List (ℕ × ℕ)) → 1 ≤ holds_in client holders → (actor ≡ client → (holds_in actor holders == 1) ≡ false)
+    → 1 ≤ holds_in client (without_hold actor holders)
 still-holder client actor holders held more = dite (ℕ_discrete actor client)
     (λ same.
-    let again : 1 ≤ count_by (is_client actor) holders = some-counted (is_client actor) holders (ap (λ n. list_any (is_client n) holders) same ∙ held) in
-    let several : (count_by (is_client actor) holders == 1) ≡ false = more same in
-    let two : 2 ≤ count_by (is_client actor) holders = grind (arith, nat_tests, again, several) in
-    subst (λ n. 1 ≤ count_by (is_client n) (without_first (is_client actor) holders)) same
-    (omega (arith, count-without-same (is_client actor) holders 0 again, two)))
-    (λ apart. omega (
-      arith,
-      count-without-other (is_client actor) (is_client client) holders 0 (λ n is. one-only actor client n apart is),
-      some-counted (is_client client) holders held,
-    ))
+    let again : 1 ≤ holds_in actor holders = subst (λ n. 1 ≤ holds_in n holders) (sym same) held in
+    let several : (holds_in actor holders == 1) ≡ false = more same in
+    let two : 2 ≤ holds_in actor holders = grind (arith, nat_tests, again, several) in
+    subst (λ n. 1 ≤ holds_in n (without_hold actor holders)) same (omega (arith, holds-less actor holders, two)))
+    (λ apart. omega (arith, other-less client actor holders apart, held))
+
+holder-more : (client actor : ℕ) (holders : List (ℕ × ℕ)) → 1 ≤ holds_in client holders → 1 ≤ holds_in client (with_hold actor holders)
+holder-more client actor holders held = dite (ℕ_discrete actor client)
+    (λ same. subst (λ n. 1 ≤ holds_in n (with_hold actor holders)) same (omega (arith, holds-more actor holders)))
+    (λ apart. omega (arith, other-more client actor holders apart, held))
 
 released-keeps : (client scanout key actor : ℕ) (s : State) → release_refusal actor key (shown_at actor key s) s.share ≡ None → Had client scanout key s
     → keeps_buffer client (buffer_at key (released actor key s.share)) ≡ true
@@ -122,11 +107,11 @@ released-keeps client scanout key actor s none had =
     let is = may-release actor key (shown_at actor key s) s.share none in
     let buffer = is.buffer in
     let holder = held-of client buffer (held-untaken actor key s.share had.stand is) (sym (ap (keeps_buffer client) is.found) ∙ had.keeps) in
-    let some = still-holder client actor buffer.holders holder (λ same.
+    let some = still-holder client actor buffer.holders (holder-counts client buffer holder) (λ same.
     first-of (holds_once actor buffer) (is_some (shown_at actor key s)) (unused actor key (shown_at actor key s) s.share buffer is.found none)
     (ap (λ n. is_some (shown_at n key s)) same ∙ shown-some client scanout key s had))
     in
-    let now : is_holder client (released_buffer actor buffer) ≡ true = any-counted (is_client client) (holders_without actor buffer.holders) some in
+    let now : is_holder client (released_buffer actor buffer) ≡ true = holder-by client (without_hold actor buffer.holders) some in
     ap (keeps_buffer client) (released-found actor key s.share buffer is.found) ∙ ap (λ b. b || is_given client (released_buffer actor buffer).taker) now
 
 -- ---- acts
@@ -148,7 +133,8 @@ keep_acts client scanout key = record {
       (λ same.
       let was : keeps_buffer client (Some buffer) ≡ true = sym (ap (λ n. keeps_buffer client (buffer_at n s.share)) same ∙ ap (keeps_buffer client) is.found) ∙ had.keeps in
       let now : keeps_buffer client (Some (imported_buffer actor buffer)) ≡ true =
-      or-weaker (is_holder client buffer) (is_holder client (imported_buffer actor buffer)) (is_given client buffer.taker) (any-more (is_client client) buffer.holders (actor ∷ [])) was
+      or-weaker (is_holder client buffer) (is_holder client (imported_buffer actor buffer)) (is_given client buffer.taker)
+      (λ held. holder-by client (with_hold actor buffer.holders) (holder-more client actor buffer.holders (holder-counts client buffer held))) was
       in
       ap (λ n. keeps_buffer client (buffer_at n (imported actor at s.share))) same ∙ ap (keeps_buffer client) (imported-found actor at s.share buffer is.found) ∙ now)
       (λ apart. ap (keeps_buffer client) (imported-other actor at s.share key apart) ∙ had.keeps);

@@ -1,9 +1,8 @@
 -- What a client may show: resources whose buffers it has, on scanouts that are leased to it.
-use Rattle.std.proofs.Common.{◌≡◌, ◌≢◌, ◌≤◌, ◌<◌, ◌^◌, ℕ, ◌==◌, ◌||◌, ◌&&◌, not, Bool, true, false, cond, List, [], ◌∷◌, ◌++◌, map, take, nat_le, slice_get, zero, suc, Option, Some, None, refl, ap, sym, subst, ◌∙◌, arith, append-nil, append_assoc, ne_eqb}
-use Rattle.std.specs.Prelude.{count_by, ℤ}
+use Rattle.std.proofs.Common.{◌≡◌, ◌≢◌, ◌≤◌, ◌<◌, ◌^◌, ℕ, ◌==◌, ◌||◌, ◌&&◌, not, Bool, true, false, List, [], ◌∷◌, ◌++◌, map, take, nat_le, slice_get, zero, suc, Option, Some, None, refl, ap, sym, subst, ◌∙◌, arith, append-nil, append_assoc, ne_eqb}
+use Rattle.std.specs.Prelude.{nat_lt, ℤ}
 use Rattle.std.specs.List.{list_any}
 use Rattle.std.proofs.lemmas.Bool.Decides.{nat_tests}
-use Rattle.std.proofs.lemmas.List.Sums.{sum_by-cons}
 use Rattle.vg_wire.specs.declared.header.Header.{Header}
 use Rattle.vg_wire.specs.declared.two_d.Command2d.{Command2d}
 use Rattle.vg_wire.specs.declared.two_d.Command2d.TheVariants.{DisplayInfo, Create2d, Unref, SetScanout, Flush, Transfer, Attach, Detach}
@@ -11,7 +10,7 @@ use Rattle.vg_wire_ext.specs.declared.command.Command.{Command}
 use Rattle.vg_wire_ext.specs.declared.command.Command.TheVariants.{TwoD, CapsetInfo, Capset, Edid, AssignUuid, CreateBlob, SetScanoutBlob, CtxCreate, CtxDestroy, CtxAttach, CtxDetach, Submit, UpdateCursor, MoveCursor}
 use Rattle.vg_share.specs.declared.share.Buffer.{Buffer}
 use Rattle.vg_share.specs.Lists.{is_number}
-use Rattle.vg_share.specs.Share.{ShareState, buffer_at, is_client, is_given, is_holder, is_leased}
+use Rattle.vg_share.specs.Share.{ShareState, buffer_at, holds_in, is_given, is_holder, is_leased}
 use Rattle.vg_client_holds.specs.declared.act.What.TheVariants.{Page, Resource, Scanout}
 use Rattle.vg_client_holds.specs.declared.holds.Holds.{Holds}
 use Rattle.vg_client_holds.specs.declared.setup.Setup.{Setup}
@@ -24,17 +23,10 @@ use Rattle.vg_linked.proofs.SoundLemmas.{both-allowed, either-of, one-allowed}
 use Rattle.vg_origin.specs.Shown.{IsFair, keeps_buffer}
 use Rattle.vg_origin.proofs.BindLemmas.{Binds, Binds2d}
 
--- ---- what is counted is there
+-- ---- who has a part of a buffer keeps it
 
-any-by : {X : Type 0} (p : X → Bool) (x : X) (xs : List X) (b : Bool) → p x ≡ b → 1 ≤ count_by p (x ∷ xs) → (1 ≤ count_by p xs → list_any p xs ≡ true) → (b || list_any p xs) ≡ true
-any-by p x xs true is some rest = refl
-any-by {X} p x xs false is some rest =
-    let none : cond (p x) 1 0 ≡ 0 = ap {B = ℕ} (λ b. cond b 1 0) is in
-    rest (omega (arith, sum_by-cons (λ (y : X). cond (p y) 1 0) x xs, none, some))
-
-pub any-counted : {X : Type 0} (p : X → Bool) (xs : List X) → 1 ≤ count_by p xs → list_any p xs ≡ true
-any-counted p [] some = absurd (omega (arith, some))
-any-counted p (x ∷ xs) some = any-by p x xs (p x) refl some (any-counted p xs)
+pub holder-by : (client : ℕ) (holders : List (ℕ × ℕ)) → 1 ≤ holds_in client holders → nat_lt 0 (holds_in client holders) ≡ true
+holder-by client holders some = grind (arith, nat_tests, some)
 
 or-true : (b : Bool) → (b || true) ≡ true
 or-true true = refl
@@ -44,7 +36,7 @@ keeps-by : (client : ℕ) (buffer : Buffer) (b : Bool) → is_given client buffe
 keeps-by client buffer true is some = ap (λ b. is_holder client buffer || b) is ∙ or-true (is_holder client buffer)
 keeps-by client buffer false is some =
     let none : one_if (is_given client buffer.taker) ≡ 0 = ap {B = ℕ} one_if is in
-    ap (λ b. b || is_given client buffer.taker) (any-counted (is_client client) buffer.holders (omega (arith, some, none)))
+    ap (λ b. b || is_given client buffer.taker) (holder-by client buffer.holders (omega (arith, some, none)))
 
 keeps-of : (client : ℕ) (found : Option Buffer) → 1 ≤ parts_of client found → keeps_buffer client found ≡ true
 keeps-of client (Some buffer) some = keeps-by client buffer (is_given client buffer.taker) refl some

@@ -1,3 +1,4 @@
 pub mod RemoveLemmas
 pub mod CellLemmas
 pub mod ShareLemmas
+pub mod HolderLemmas

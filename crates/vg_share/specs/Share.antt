@@ -1,6 +1,6 @@
 -- What clients share beside the device: buffers of guest pages, and the leases of scanouts. All of it is our own.
 use Rattle.std.specs.Prelude.{◌≡◌, ℕ, ◌+◌, ◌-◌, ◌≤◌, ◌==◌, ◌&&◌, Bool, true, false, not, nat_lt, if◌then◌else◌, List, [], ◌∷◌, ◌++◌, length, take, Option, Some, None, is_some, slice_get}
-use Rattle.std.specs.List.{count_by, list_any, slice_set, All, AllPairs}
+use Rattle.std.specs.List.{list_any, slice_set, All, AllPairs}
 use Rattle.std.specs.Ordering.{nat_cmp}
 use Rattle.std.specs.Map.{lookup, remove_entry, set_value}
 use Rattle.std.specs.BTreeMap.{insert_entry, is_at}
@@ -10,7 +10,6 @@ use Rattle.vg_share.specs.declared.share.Geometry.{Geometry}
 use Rattle.vg_share.specs.declared.share.ShareRefusal.{ShareRefusal}
 use Rattle.vg_share.specs.declared.share.ShareRefusal.TheVariants.{GuestFull, UnknownKey, NotHeld, ScanoutHeld, OutOfRange, InUse, ResourceLive}
 use Rattle.vg_share.specs.Cells.{pages_of}
-use Rattle.vg_share.specs.Lists.{without_first}
 use Rattle.vg_refusals.specs.Refusals.{refusal_of}
 
 -- What the clients share: the live buffers by their keys, rising; how many buffers were reserved so far; of each token that was
@@ -34,15 +33,21 @@ pages_in None = []
 abbrev pub pages_at : ℕ → ShareState → List ℕ
 pages_at key share = pages_in (buffer_at key share)
 
-abbrev pub is_client : ℕ → ℕ → Bool
-is_client client other = other == client
+-- How many holds of a buffer the client has. Its holders are clients, each with how many holds it has.
+abbrev pub holds_in : ℕ → List (ℕ × ℕ) → ℕ
+holds_in client [] = 0
+holds_in client (holder ∷ holders) = if holder.0 == client then holder.1 else holds_in client holders
 
 abbrev pub is_holder : ℕ → Buffer → Bool
-is_holder client buffer = list_any (is_client client) buffer.holders
+is_holder client buffer = nat_lt 0 (holds_in client buffer.holders)
 
 -- The client holds the buffer, and only once.
 abbrev pub holds_once : ℕ → Buffer → Bool
-holds_once client buffer = count_by (is_client client) buffer.holders == 1
+holds_once client buffer = holds_in client buffer.holders == 1
+
+-- Some client has a hold.
+abbrev pub some_hold : List (ℕ × ℕ) → Bool
+some_hold holders = list_any (λ holder. nat_lt 0 holder.1) holders
 
 -- The refusal of an act on a buffer: a key without a live buffer, else what the buffer says.
 abbrev pub refused_by : Option Buffer → (Buffer → Option ShareRefusal) → Option ShareRefusal
@@ -54,7 +59,7 @@ abbrev pub new_pages : ℕ → Memory → List ℕ
 new_pages bytes memory = take (pages_of bytes) (free_pages memory.taken)
 
 abbrev pub new_buffer : ℕ → Geometry → List ℕ → Buffer
-new_buffer client geometry pages = record { geometry = geometry; pages = pages; holders = client ∷ []; taker = None }
+new_buffer client geometry pages = record { geometry = geometry; pages = pages; holders = (client, 1) ∷ []; taker = None }
 
 abbrev pub with_buffer : ℕ → Geometry → List ℕ → ShareState → ShareState
 with_buffer client geometry pages share = record share {
@@ -88,14 +93,15 @@ release_refusal client key shown share =
     ∷ []))
 
 -- The holders with one hold of the client less.
-abbrev pub holders_without : ℕ → List ℕ → List ℕ
-holders_without client holders = without_first (is_client client) holders
+abbrev pub without_hold : ℕ → List (ℕ × ℕ) → List (ℕ × ℕ)
+without_hold client [] = []
+without_hold client (holder ∷ holders) = if holder.0 == client then (client, holder.1 - 1) ∷ holders else holder ∷ without_hold client holders
 
--- Where no holder is left the client takes the buffer down.
+-- Where no hold is left the client takes the buffer down.
 abbrev pub released_buffer : ℕ → Buffer → Buffer
 released_buffer client buffer = record buffer {
-  holders = holders_without client buffer.holders;
-  taker = if length (holders_without client buffer.holders) == 0 then Some client else buffer.taker;
+  holders = without_hold client buffer.holders;
+  taker = if some_hold (without_hold client buffer.holders) then buffer.taker else Some client;
 }
 
 -- The buffers after the client gave up a hold of the key's.
@@ -107,7 +113,7 @@ abbrev pub released : ℕ → ℕ → ShareState → ShareState
 released client key share = record share { buffers = released_entries client key (buffer_at key share) share.buffers }
 
 abbrev pub some_holder : Option Buffer → Bool
-some_holder (Some buffer) = nat_lt 0 (length buffer.holders)
+some_holder (Some buffer) = some_hold buffer.holders
 some_holder None = false
 
 -- Whether the buffer of the key has a holder.
@@ -158,9 +164,14 @@ geometry_in None = no_geometry
 abbrev pub geometry_at : ℕ → ShareState → Geometry
 geometry_at key share = geometry_in (buffer_at key share)
 
+-- The holders with one hold of the client more, behind the others where it had none before.
+abbrev pub with_hold : ℕ → List (ℕ × ℕ) → List (ℕ × ℕ)
+with_hold client [] = (client, 1) ∷ []
+with_hold client (holder ∷ holders) = if holder.0 == client then (client, holder.1 + 1) ∷ holders else holder ∷ with_hold client holders
+
 -- The client holds the buffer once more.
 abbrev pub imported_buffer : ℕ → Buffer → Buffer
-imported_buffer client buffer = record buffer { holders = buffer.holders ++ client ∷ [] }
+imported_buffer client buffer = record buffer { holders = with_hold client buffer.holders }
 
 -- The buffers after the client came to hold the key's once more.
 abbrev pub imported_entries : ℕ → ℕ → Option Buffer → List (ℕ × Buffer) → List (ℕ × Buffer)

@@ -3,6 +3,7 @@
 #![tactic(auto)]
 
 mod cells;
+mod holders;
 mod lists;
 mod share;
 

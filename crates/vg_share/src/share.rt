@@ -7,9 +7,9 @@ ghost use Rattle.std.specs.Prelude.{◌≡◌, ◌==◌, ◌+◌, ◌^◌, ◌-�
 ghost use Rattle.std.specs.Option.{option_map};
 ghost use Rattle.vg_pages.specs.Memory.{AreTakeable, Memory, after_taking, fresh_memory};
 ghost use Rattle.vg_share.specs.Cells.{pages_of};
-ghost use Rattle.vg_share.specs.Share.{SharesPages, buffer_at, drop_refusal, ended, entered, export_refusal, exported, exported_key, free_refusal, freed, geometry_at, geometry_in, given_back, has_entered, has_holder, holds_once, import_refusal, imported, imported_buffer, imported_entries, is_holder, is_leased, leased, new_buffer, pages_at, place_refusal, release_refusal, released, released_buffer, released_entries, some_holder, take_refusal, token_key, unleased, with_buffer};
+ghost use Rattle.vg_share.specs.Share.{SharesPages, buffer_at, drop_refusal, ended, entered, export_refusal, exported, exported_key, free_refusal, freed, geometry_at, geometry_in, given_back, has_entered, has_holder, holds_once, import_refusal, imported, imported_buffer, imported_entries, some_hold, is_holder, is_leased, leased, new_buffer, pages_at, place_refusal, release_refusal, released, released_buffer, released_entries, some_holder, take_refusal, token_key, unleased, with_buffer};
 
-use crate::lists::remove_number;
+use crate::holders::{add_hold, holds_in, some_hold, take_hold};
 use std::alloc::{AllocError, Global};
 use std::collections::BTreeMap;
 use std::marker::Model;
@@ -51,8 +51,8 @@ pub struct Buffer {
     pub geometry: Geometry,
     /// Its guest pages, rising.
     pub pages: Seq<u32>,
-    /// The clients that hold it; one may stand several times.
-    pub holders: Seq<u32>,
+    /// The clients that hold it, each with how many holds it has, which are none where it has given up all.
+    pub holders: Seq<(u32, u64)>,
     /// The client that takes it down.
     pub taker: Option<u32>,
 }
@@ -402,7 +402,7 @@ impl Share {
         ensures { result ≡ has_holder key self.now }
     {
         match self.buffers.get(&key) {
-            Some(buffer) => !buffer.holders.is_empty(),
+            Some(buffer) => some_hold(buffer.holders.as_slice()),
             None => false,
         }
     }
@@ -429,15 +429,14 @@ impl Buffer {
     fn is_held_by(&self, client: u32) -> bool
         ensures { result ≡ is_holder client self.now }
     {
-        self.holders.as_slice().iter().any(|other| *other == client)
+        holds_in(self.holders.as_slice(), client) > 0
     }
 
     /// Whether the client holds the buffer exactly once.
     fn is_held_once_by(&self, client: u32) -> bool
         ensures { result ≡ holds_once client self.now }
     {
-        let holds = self.holders.as_slice().iter();
-        holds.filter(|other| **other == client).count() == 1
+        holds_in(self.holders.as_slice(), client) == 1
     }
 
     /// Gives the client one more hold.
@@ -445,20 +444,20 @@ impl Buffer {
         ensures ok { OnOk result (self.new ≡ imported_buffer client self.old) }
         ensures err { OnErr result (self.new ≡ self.old) }
     {
-        self.holders.push(client)
+        add_hold(&mut self.holders, client)
     }
 
     /// Takes one hold of the client away, and tells whether no hold is left: the client takes the buffer down then.
     fn release(&mut self, client: u32) -> bool
         ensures after { self.new ≡ released_buffer client self.old }
-        ensures last { result ≡ (length self.new.holders == 0) }
+        ensures last { result ≡ not (some_hold self.new.holders) }
     {
-        remove_number(&mut self.holders, client);
-        let last = self.holders.is_empty();
-        if last {
-            self.taker = Some(client);
+        take_hold(&mut self.holders, client);
+        if some_hold(self.holders.as_slice()) {
+            return false;
         }
-        last
+        self.taker = Some(client);
+        true
     }
 }
 
@@ -472,7 +471,7 @@ fn new_buffer(
     ensures { IfOk result (λ buffer. buffer ≡ new_buffer client geometry.now pages.now) }
 {
     let pages = Seq::from_vec(pages.to_vec(alloc)?);
-    let holders = Seq::from_vec(vec![in alloc; client]?);
+    let holders = Seq::from_vec(vec![in alloc; (client, 1)]?);
     Ok(Buffer {
         geometry: *geometry,
         pages,
