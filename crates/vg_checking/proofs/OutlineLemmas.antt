@@ -11,7 +11,7 @@ use Rattle.vg_journal_read.specs.declared.lines.Scanned.{Scanned}
 use Rattle.vg_journal_read.specs.Scans.{IsScanned, StandsAt}
 use Rattle.vg_judge.specs.Outline.{IsOutline}
 use Rattle.vg_judge.specs.Outline as outlines
-use Rattle.vg_journal_read.specs.Features.{accepted_of}
+use Rattle.vg_journal_read.specs.Features.{accepted_by_lines}
 use Rattle.vg_checking.specs.Outlining.{IsOutlined, outline_of}
 use Rattle.vg_limits.specs.Limits.{version_1}
 
@@ -38,7 +38,7 @@ pub is_outlined : (bytes : List ℕ) (scanned : Scanned) → length bytes ≤ ve
 is_outlined bytes scanned short is =
     let journal : Journal = is.journal in
     let known : scanned.state ≡ done_of journal = is.state in
-    let accepted : accepted_of scanned.state.left_out ≡ journal.setup.accepted = ap (λ (s : State). accepted_of s.left_out) known ∙ accepted_told journal.setup.accepted is.is_journal.in_range.setup.accepted in
+    let accepted : accepted_by_lines scanned.state.left_out ≡ journal.setup.accepted = ap (λ (s : State). accepted_by_lines s.left_out) known ∙ accepted_told journal.setup.accepted is.is_journal.in_range.setup.accepted in
     let setup : (outline_of scanned).setup ≡ journal.setup = λ i. record { displays = (known i).displays; pages = (known i).pages; accepted = accepted i; clients = (known i).clients } in
     let entries : scanned.state.entries ≡ length journal.entries = ap (λ (s : State). s.entries) known in
     let long = lines_long 1 journal.entries in

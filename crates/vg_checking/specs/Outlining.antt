@@ -3,7 +3,7 @@ use Rattle.std.specs.Prelude.{◌≤◌, ◌-◌, ◌^◌, ℕ, List}
 use Rattle.vg_journal.specs.declared.journal.Journal.{Journal}
 use Rattle.vg_journal_lines.specs.Refusals.{IsJournal}
 use Rattle.vg_journal_read.specs.declared.lines.Scanned.{Scanned}
-use Rattle.vg_journal_read.specs.Features.{accepted_of}
+use Rattle.vg_journal_read.specs.Features.{accepted_by_lines}
 use Rattle.vg_judge.specs.declared.verdicts.Outline.{Outline}
 use Rattle.vg_judge.specs.Outline.{IsOutline}
 
@@ -12,7 +12,7 @@ outline_of scanned = record {
   setup = record {
     displays = scanned.state.displays;
     pages = scanned.state.pages;
-    accepted = accepted_of scanned.state.left_out;
+    accepted = accepted_by_lines scanned.state.left_out;
     clients = scanned.state.clients;
   };
   entries = scanned.state.entries;

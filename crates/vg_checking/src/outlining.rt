@@ -7,7 +7,7 @@ ghost use Rattle.vg_limits.specs.Limits.{version_1};
 
 use std::alloc::{AllocError, Global};
 use vg_journal_lines::State;
-use vg_journal_read::{Scanned, accepted_of, scan};
+use vg_journal_read::{Scanned, accepted_by_lines, scan};
 use vg_judge::Outline;
 use vg_machine::Setup;
 
@@ -48,7 +48,7 @@ fn outline_of(scanned: Scanned) -> Outline
         setup: Setup {
             displays,
             pages,
-            accepted: accepted_of(left_out),
+            accepted: accepted_by_lines(left_out),
             clients,
         },
         entries,

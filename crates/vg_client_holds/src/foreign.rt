@@ -102,12 +102,12 @@ fn mark_pair(own: &mut [bool], key: u32, pair: &(u32, Seq<u32>))
     ensures { AreMarked own.old (λ page. has_page key page pair.now) own.new }
 {
     if pair.0 == key {
-        mark(own, pair.1.as_slice());
+        mark_those_there(own, pair.1.as_slice());
     }
 }
 
 /// Marks these pages, as far as the table has them.
-fn mark(own: &mut [bool], pages: &[u32])
+fn mark_those_there(own: &mut [bool], pages: &[u32])
     ensures { AreMarked own.old (is_among pages.now) own.new }
 {
     for page in pages {

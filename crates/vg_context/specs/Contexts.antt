@@ -1,4 +1,4 @@
--- The contexts by their ids, rising (VIRTIO 1.2, 5.7.6.8, CTX_CREATE, CTX_DESTROY, CTX_ATTACH_RESOURCE, CTX_DETACH_RESOURCE and
+-- The contexts by their ids, rising (VIRTIO 1.2, 5.7.6.9, CTX_CREATE, CTX_DESTROY, CTX_ATTACH_RESOURCE, CTX_DETACH_RESOURCE and
 -- SUBMIT_3D).
 use Rattle.std.specs.Prelude.{ℕ, ◌==◌, ◌||◌, ◌%◌, Bool, false, not, nat_lt, is_some, List, [], ◌∷◌, map, Option, Some, None, Result}
 use Rattle.std.specs.List.{filter, list_any}

@@ -1,4 +1,4 @@
-//! The contexts by their ids (VIRTIO 1.2, 5.7.6.8).
+//! The contexts by their ids (VIRTIO 1.2, 5.7.6.9).
 
 ghost use Rattle.std.specs.Prelude.{◌≡◌, [], IfOk, OnErr};
 ghost use Rattle.std.specs.List.{list_any};

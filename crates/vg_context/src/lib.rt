@@ -1,4 +1,4 @@
-//! Contexts, and the resources that are attached to them (VIRTIO 1.2, 5.7.6.8).
+//! Contexts, and the resources that are attached to them (VIRTIO 1.2, 5.7.6.9).
 #![tactic(auto)]
 
 mod contexts;

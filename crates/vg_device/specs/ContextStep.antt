@@ -1,4 +1,4 @@
--- What the commands of contexts do and answer (VIRTIO 1.2, 5.7.6.8, CTX_CREATE to SUBMIT_3D). The context is the header's.
+-- What the commands of contexts do and answer (VIRTIO 1.2, 5.7.6.9, CTX_CREATE to SUBMIT_3D). The context is the header's.
 use Rattle.std.specs.Prelude.{ℕ, Bool, not, List, [], ◌∷◌}
 use Rattle.vg_refusals.specs.Refusals.{refusal_of}
 use Rattle.vg_wire.specs.Kinds.{ERR_INVALID_CONTEXT_ID, ERR_INVALID_RESOURCE_ID}

@@ -1,4 +1,4 @@
-//! What the commands of contexts do (VIRTIO 1.2, 5.7.6.8). Each is for the context of its header.
+//! What the commands of contexts do (VIRTIO 1.2, 5.7.6.9). Each is for the context of its header.
 
 ghost use Rattle.std.specs.Prelude.{◌≡◌};
 ghost use Rattle.vg_device.specs.ContextStep.{ctx_attach_step, ctx_create_step, ctx_destroy_step, ctx_detach_step, submit_step};

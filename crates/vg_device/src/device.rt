@@ -1,6 +1,6 @@
 //! The device on one thread.
 
-ghost use Rattle.std.specs.Prelude.{◌≡◌, ◌==◌, ◌<◌, ◌-◌, ◌^◌, if◌then◌else◌, bit_and, IfErr, IfOk, None, OnErr, OnOk, Some};
+ghost use Rattle.std.specs.Prelude.{◌≡◌, ◌==◌, ◌<◌, ◌-◌, ◌^◌, [], if◌then◌else◌, bit_and, IfErr, IfOk, None, OnErr, OnOk, Some};
 ghost use Rattle.vg_wire_ext.specs.Commands.{FitsEntries};
 ghost use Rattle.vg_client_holds.specs.Setup.{IsSetup};
 ghost use Rattle.vg_device.specs.State.{counted, start};
@@ -135,6 +135,16 @@ impl Device {
         ensures { result.now ≡ self.now.share }
     {
         &self.share
+    }
+
+    /// Gives the frames so far, in the order in which they were made, and leaves none; all else stays. How many bytes the frames of a
+    /// run may have is counted of those that there are, so there is room for as many bytes again.
+    pub fn take_frames(&mut self, alloc: Global) -> Result<Vec<Frame>, AllocError>
+        ensures frames { IfOk result (λ frames. frames.items ≡ self.old.scanouts.frames) }
+        ensures done { OnOk result (self.new ≡ record self.old { scanouts = record self.old.scanouts { frames = [] } }) }
+        ensures err { OnErr result (self.new ≡ self.old) }
+    {
+        self.scanouts.take_frames(alloc)
     }
 
     /// The frames, which the display gives up.

@@ -13,7 +13,7 @@ use Rattle.vg_journal_lines.proofs.StepLemmas.{accepted_told}
 use Rattle.vg_journal_read.specs.declared.pieces.Part.{Part}
 use Rattle.vg_journal_read.specs.PiecesWithin.{WentOn, item_of}
 use Rattle.vg_journal_read.specs.ScansWithin.{Passed}
-use Rattle.vg_journal_read.specs.Features.{accepted_of}
+use Rattle.vg_journal_read.specs.Features.{accepted_by_lines}
 use Rattle.vg_journal_read.specs.JournalsWithin.{journal_of}
 use Rattle.vg_journal_read.proofs.RunLemmas.{IsAt, at_more, at_start}
 
@@ -61,7 +61,7 @@ read_is bytes state pieces rest es fs r journal is read =
     let known : state ≡ done_of journal = ap (λ (a : State × List Item). a.0) same in
     let entries : es ≡ journal.entries = sym r.entries_are ∙ ap (λ (a : State × List Item). entries_in a.1) same ∙ read.entries in
     let frames : fs ≡ journal.frames = sym r.frames_are ∙ ap (λ (a : State × List Item). frames_in a.1) same ∙ read.frames in
-    let accepted : accepted_of state.left_out ≡ journal.setup.accepted = ap (λ (s : State). accepted_of s.left_out) known ∙ accepted_told journal.setup.accepted is.in_range.setup.accepted in
+    let accepted : accepted_by_lines state.left_out ≡ journal.setup.accepted = ap (λ (s : State). accepted_by_lines s.left_out) known ∙ accepted_told journal.setup.accepted is.in_range.setup.accepted in
     let whole : journal_of state es fs ≡ journal = λ i. record {
       setup = record { displays = (known i).displays; pages = (known i).pages; accepted = accepted i; clients = (known i).clients };
       entries = entries i;

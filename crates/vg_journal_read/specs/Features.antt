@@ -4,5 +4,5 @@ use Rattle.vg_client_holds.specs.Setup.{features_without}
 use Rattle.vg_journal_lines.specs.declared.state.LeftOut.{LeftOut}
 
 -- The features that are accepted where these are left out.
-abbrev pub accepted_of : LeftOut → ℕ
-accepted_of out = features_without out.edid out.uuid out.blob out.context
+abbrev pub accepted_by_lines : LeftOut → ℕ
+accepted_by_lines out = features_without out.edid out.uuid out.blob out.context

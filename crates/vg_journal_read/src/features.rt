@@ -1,14 +1,14 @@
 //! The features that a journal's lines leave accepted.
 
 ghost use Rattle.std.specs.Prelude.{◌≡◌, ◌≤◌, if◌then◌else◌};
-ghost use Rattle.vg_journal_read.specs.Features.{accepted_of};
+ghost use Rattle.vg_journal_read.specs.Features.{accepted_by_lines};
 
 use vg_config::features::{CONTEXT_INIT, EDID, KEPT, RESOURCE_BLOB, RESOURCE_UUID, VIRGL};
 use vg_journal_lines::LeftOut;
 
 /// The features that are accepted where these are left out (VIRTIO 1.2, 5.7.3).
-pub fn accepted_of(out: LeftOut) -> u64
-    ensures { result ≡ accepted_of out }
+pub fn accepted_by_lines(out: LeftOut) -> u64
+    ensures { result ≡ accepted_by_lines out }
 {
     KEPT - left_out(out.edid, EDID)
         - left_out(out.uuid, RESOURCE_UUID)

@@ -10,6 +10,6 @@ mod pieces;
 mod start;
 mod whole;
 
-pub use features::accepted_of;
+pub use features::accepted_by_lines;
 pub use lines::{Scanned, scan};
 pub use whole::read;

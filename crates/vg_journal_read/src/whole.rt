@@ -8,7 +8,7 @@ ghost use Rattle.vg_journal_lines.specs.States.{frame_with};
 ghost use Rattle.vg_journal_read.specs.PiecesWithin.{item_of};
 ghost use Rattle.vg_journal_read.specs.JournalsWithin.{journal_of};
 
-use crate::features::accepted_of;
+use crate::features::accepted_by_lines;
 use crate::lines::is_over;
 use crate::pieces::{Part, go_on};
 use crate::start::start;
@@ -120,7 +120,7 @@ fn journal_of(state: State, entries: History, frames: Vec<Frame>) -> Journal
         setup: Setup {
             displays,
             pages,
-            accepted: accepted_of(left_out),
+            accepted: accepted_by_lines(left_out),
             clients,
         },
         entries,

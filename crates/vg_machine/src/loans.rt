@@ -4,7 +4,6 @@ ghost use Rattle.std.specs.Prelude.{◌≡◌, ◌<◌, ◌==◌, ◌↔◌, All
 ghost use Rattle.std.specs.List.{AllByRecursion, position};
 ghost use Rattle.vg_history.specs.Jobs.{but_lane, of_lane};
 ghost use Rattle.vg_history.specs.Lists.{Has};
-ghost use Rattle.vg_pages.specs.Memory.{marked};
 ghost use Rattle.vg_machine.specs.Blocks.{is_lent, is_of_context, keeps_context, lent_pages};
 ghost use Rattle.vg_pages.specs.Lending.{AreFlagged};
 ghost use Rattle.vg_machine.specs.Jobs as jobs;
@@ -15,6 +14,7 @@ use crate::job::Job;
 use std::alloc::{AllocError, Global};
 use std::marker::Model;
 use std::snapshot::Snapshot;
+use vg_pages::mark;
 
 /// What is remembered of a job that was lent. A clause sees it as the job.
 #[derive(Drop)]
@@ -176,15 +176,5 @@ impl Loans {
         ensures within { IfSome result (λ place. place < length self.now.jobs) }
     {
         self.loans.iter().position(|loan| loan.is_of_lane(lane))
-    }
-}
-
-/// Marks these pages as copied from or not.
-fn mark(flags: &mut [bool], pages: &[u32], now: bool)
-    requires { All (λ page. page < length flags.old) pages.now }
-    ensures { flags.new ≡ marked pages.now now flags.old }
-{
-    for page in pages {
-        flags[*page as usize] = now;
     }
 }

@@ -4,3 +4,4 @@ pub mod Padded
 pub mod Sent
 pub mod Spliced
 pub mod FlagLemmas
+pub mod CountLemmas

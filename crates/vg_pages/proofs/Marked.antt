@@ -13,7 +13,7 @@ use Rattle.vg_pages.proofs.FreePages.{lowest-apart}
 use Rattle.vg_places.proofs.Tabulated.{set-tabulate, put_mid-tabulate}
 
 -- a place that has an element is inside the list
-inside_from_slice_get : {X : Type 0} (xs : List X) (i : ℕ) (x : X) → slice_get xs i ≡ Some x → i < length xs
+pub inside_from_slice_get : {X : Type 0} (xs : List X) (i : ℕ) (x : X) → slice_get xs i ≡ Some x → i < length xs
 inside_from_slice_get xs i x found =
     elim (slice_get_cases xs i).1 [ inl (y, inside, there, here) ↦ inside | inr (past, none) ↦ cc ]
 

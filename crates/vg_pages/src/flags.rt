@@ -8,20 +8,6 @@ ghost use Rattle.vg_pages.specs.Memory.{AreTakenBelow, free_pages, is_among, mar
 use crate::blocks::Blocks;
 use std::alloc::{AllocError, Global};
 
-/// How many pages are free.
-pub(crate) fn count_free(taken: &[bool]) -> u32
-    requires { length taken.now ≤ 65536 }
-    ensures { result ≡ length (free_pages taken.now) }
-{
-    let mut count = 0;
-    for is_taken in taken {
-        if !*is_taken {
-            count += 1;
-        }
-    }
-    count
-}
-
 /// The `n` lowest free pages, rising, or all where there are fewer. None below `low` is free.
 pub(crate) fn lowest_free(
     alloc: Global,
@@ -47,13 +33,16 @@ pub(crate) fn lowest_free(
     Ok(pages)
 }
 
-/// The first page from `low` on that is free, or how many pages there are. None below `low` is free.
-pub(crate) fn next_free(taken: &[bool], low: usize) -> usize
+/// The first page from `low` on that is free. Where no page is `free`, it is `low`, and none is looked for. None below `low` is free.
+pub(crate) fn next_free(taken: &[bool], low: usize, free: u32) -> usize
     requires low { low ≤ length taken.now }
     requires below { AreTakenBelow taken.now low }
     ensures inside { result ≤ length taken.now }
     ensures below { AreTakenBelow taken.now result }
 {
+    if free == 0 {
+        return low;
+    }
     for page in low..taken.len() {
         if !taken[page] {
             return page;
@@ -74,13 +63,13 @@ pub(crate) fn least(low: usize, pages: &[u32]) -> usize
     least
 }
 
-/// Marks these pages as taken or free.
-pub(crate) fn mark(taken: &mut [bool], pages: &[u32], now: bool)
-    requires { All (λ page. page < length taken.old) pages.now }
-    ensures { taken.new ≡ marked pages.now now taken.old }
+/// Sets the flags of these pages, or clears them.
+pub fn mark(flags: &mut [bool], pages: &[u32], now: bool)
+    requires { All (λ page. page < length flags.old) pages.now }
+    ensures { flags.new ≡ marked pages.now now flags.old }
 {
     for page in pages {
-        taken[*page as usize] = now;
+        flags[*page as usize] = now;
     }
 }
 

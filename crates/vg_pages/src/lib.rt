@@ -13,7 +13,7 @@ mod memory;
 mod piece;
 mod threads;
 
-pub use flags::any_flagged;
+pub use flags::{any_flagged, mark};
 pub use lent::LentBytes;
 pub use memory::Pages;
 pub use piece::Piece;

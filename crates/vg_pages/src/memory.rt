@@ -5,7 +5,7 @@ ghost use Rattle.vg_pages.specs.Lending.{AreFlagged, would_take};
 ghost use Rattle.vg_pages.specs.Memory.{HasWholePages, fresh_memory, HoldsRange, bytes_at, written_at, free_pages, is_among, is_free, marked, after_taking, AreGivable, AreTakeable, page_address};
 
 use crate::blocks::Blocks;
-use crate::flags::{any_free_flagged, count_free, least, lowest_free, mark, next_free, zero};
+use crate::flags::{any_free_flagged, least, lowest_free, mark, next_free, zero};
 use crate::piece::Piece;
 use crate::{MEMORY_START, PAGE_BYTES, page_address};
 use std::alloc::{AllocError, Global};
@@ -19,17 +19,19 @@ pub struct Pages {
     taken: Vec<bool>,
     /// No page below this one is free.
     low: usize,
+    /// How many pages are free.
+    free: u32,
 }
 
 impl Model for Pages {
-    ghost use Rattle.std.specs.Prelude.{◌≤◌, length};
-    ghost use Rattle.vg_pages.specs.Memory.{Memory, HasWholePages, AreTakenBelow};
+    ghost use Rattle.std.specs.Prelude.{◌≡◌, ◌≤◌, length};
+    ghost use Rattle.vg_pages.specs.Memory.{Memory, HasWholePages, AreTakenBelow, free_pages};
 
     ghost Value = { Memory };
 
     ghost view = { λ p. record { bytes = p.bytes; taken = p.taken.items } };
 
-    ghost invariant = { λ p. HasWholePages (record { bytes = p.bytes; taken = p.taken.items }) × (p.low ≤ length p.taken.items) × AreTakenBelow p.taken.items p.low };
+    ghost invariant = { λ p. HasWholePages (record { bytes = p.bytes; taken = p.taken.items }) × (p.low ≤ length p.taken.items) × AreTakenBelow p.taken.items p.low × (p.free ≡ length (free_pages p.taken.items)) };
 }
 
 impl Pages {
@@ -49,6 +51,7 @@ impl Pages {
             bytes,
             taken,
             low: 0,
+            free: count,
         })
     }
 
@@ -60,10 +63,10 @@ impl Pages {
         ensures count { IfOk result (λ answer. IfSome answer (λ pages. vec_len pages ≡ n)) }
         ensures takeable { IfOk result (λ answer. IfSome answer (λ pages. AreTakeable self.now.taken pages.items)) }
     {
-        let pages = lowest_free(alloc, self.taken.as_slice(), self.low, n as usize)?;
-        if pages.len() < n as usize {
+        if self.free < n {
             return Ok(None);
         }
+        let pages = lowest_free(alloc, self.taken.as_slice(), self.low, n as usize)?;
         Ok(Some(pages))
     }
 
@@ -76,7 +79,8 @@ impl Pages {
     {
         mark(self.taken.as_mut_slice(), list, true);
         zero(&mut self.bytes, list);
-        self.low = next_free(self.taken.as_slice(), self.low);
+        self.free -= list.len() as u32;
+        self.low = next_free(self.taken.as_slice(), self.low, self.free);
     }
 
     /// Takes the `n` lowest free pages, and zeros them. None where fewer are free.
@@ -111,6 +115,7 @@ impl Pages {
     {
         mark(self.taken.as_mut_slice(), list, false);
         self.low = least(self.low, list);
+        self.free += list.len() as u32;
     }
 
     /// How many pages are free.
@@ -118,7 +123,7 @@ impl Pages {
         ensures count { result ≡ length (free_pages self.now.taken) }
         ensures pages { HasWholePages self.now }
     {
-        count_free(self.taken.as_slice())
+        self.free
     }
 
     /// Whether there is such a page, and it is free.
@@ -135,7 +140,7 @@ impl Pages {
     pub fn would_take(&self, n: u32, flags: &[bool]) -> bool
         ensures { (pages : List ℕ) → AreFlagged flags.now pages → result ≡ would_take n pages self.now.taken }
     {
-        if self.free() < n {
+        if self.free < n {
             return false;
         }
         any_free_flagged(self.taken.as_slice(), self.low, n as usize, flags)

@@ -3,5 +3,6 @@ pub mod ScreenLemmas
 pub mod PanelLemmas
 pub mod SnapLemmas
 pub mod LawLemmas
+pub mod TakenLemmas
 pub mod TouchLemmas
 pub mod RowLemmas

@@ -86,6 +86,16 @@ pub record AreRegrounded (standing : List (Option Ground)) (old now : List (Opti
   pub count : length now ≡ length old
   pub each : (k : ℕ) → k < length old → get_or now k None ≡ regrounded (get_or standing k None) (get_or old k None)
 
+-- With this ground, if there is one, what is kept of a scanout stands for its screen as it is, where there are no frames; `old` are
+-- those that there were.
+abbrev pub IsUnframed : List Frame → Option Ground → Option Panel → Type 0
+IsUnframed old on panel = ShowsFrame 0 (regrounded on panel) × (screen_in [] (regrounded on panel) ≡ screen_in old panel)
+
+-- Each of these has such a ground.
+pub record AreUnframed (old : List Frame) (standing : List (Option Ground)) (panels : List (Option Panel)) : Type 0 where
+  pub count : length standing ≡ length panels
+  pub each : (k : ℕ) → k < length panels → IsUnframed old (get_or standing k None) (get_or panels k None)
+
 -- A screen has no more bytes than a screen may have.
 abbrev pub IsSmall : Option Panel → Type 0
 IsSmall (Some panel) = 4 * panel.binding.rect.width * panel.binding.rect.height ≤ 33554432

@@ -5,6 +5,7 @@ mod flush;
 mod laws;
 mod panel;
 mod scanout;
+mod taken;
 
 pub use laws::a_flush_makes_frames_of_what_it_touches;
 pub use scanout::{Binding, Frame, Scanouts};

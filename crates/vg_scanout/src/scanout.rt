@@ -1,6 +1,6 @@
 //! The state of all scanouts, and the calls that change it.
 
-ghost use Rattle.std.specs.Prelude.{◌≡◌, ◌<◌, ◌≤◌, List, [], None, All, IfOk, OnErr, length, map, replicate, option_copied};
+ghost use Rattle.std.specs.Prelude.{◌≡◌, ◌<◌, ◌≤◌, List, [], None, All, IfOk, OnErr, OnOk, length, map, replicate, option_copied};
 ghost use Rattle.vg_cursor.specs.declared.cursor.Cursor.{Cursor};
 ghost use Rattle.vg_cursor.specs.Cursor.{IsWhole, cursor_of};
 ghost use Rattle.vg_cursor.specs.Look.{cursor_like};
@@ -10,8 +10,10 @@ ghost use Rattle.vg_scanout.specs.Scanout.{bind, binding_at, flush, screen_pixel
 
 use crate::flush::{Flush, bytes_after, frame_of, make_frames, reground_each};
 use crate::panel::{Ground, Panel};
+use crate::taken::own_grounds;
 use std::alloc::{AllocError, Global};
 use std::marker::Model;
+use std::mem;
 use vg_cursor::{Cursors, Look};
 use vg_formats::{Format, Rect, pixel_bytes};
 use vg_shared_bytes::Strips;
@@ -219,6 +221,20 @@ impl Scanouts {
         ensures { result.now ≡ self.now.frames }
     {
         self.frames.as_slice()
+    }
+
+    /// Gives the frames, in the order in which they were made, and leaves none; the screens stay. How many bytes the frames of a run
+    /// may have is counted of those that there are, so there is room for as many bytes again.
+    pub fn take_frames(&mut self, alloc: Global) -> Result<Vec<Frame>, AllocError>
+        ensures frames { IfOk result (λ frames. frames.items ≡ self.old.frames) }
+        ensures done { OnOk result (self.new ≡ record self.old { frames = [] }) }
+        ensures err { OnErr result (self.new ≡ self.old) }
+    {
+        // What can fail comes before the first screen changes.
+        let mut grounds = own_grounds(alloc, self.panels.as_slice(), self.frames.as_slice())?;
+        reground_each(self.panels.as_mut_slice(), grounds.as_mut_slice());
+        self.bytes = 0;
+        Ok(mem::replace(&mut self.frames, Vec::new(alloc)))
     }
 
     /// The frames, which the scanouts give up.

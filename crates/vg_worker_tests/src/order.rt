@@ -17,7 +17,7 @@ use vg_machine::Display;
 use vg_ring::{Made, Ring, Rings};
 use vg_wire::Queue;
 
-/// CTX_CREATE of context 257 (VIRTIO 1.2, 5.7.6.8), one of the first client's.
+/// CTX_CREATE of context 257 (VIRTIO 1.2, 5.7.6.9), one of the first client's.
 static CONTEXT: [u8; 96] = [
     0, 2, 0, 0, 0, 0, 0, 0, 0, 0, 0, 0, 0, 0, 0, 0, 1, 1, 0, 0, 0, 0, 0, 0, 0, 0, 0, 0, 0, 0, 0, 0,
     0, 0, 0, 0, 0, 0, 0, 0, 0, 0, 0, 0, 0, 0, 0, 0, 0, 0, 0, 0, 0, 0, 0, 0, 0, 0, 0, 0, 0, 0, 0, 0,

@@ -1,9 +1,9 @@
 -- None of the free pages passed so far has its flag set.
-use Rattle.std.proofs.Common.{◌≡◌, ◌+◌, ap, sym, ◌∙◌, length, arith, rules}
+use Rattle.std.proofs.Common.{ap, sym, ◌∙◌, length, arith, rules}
 use Rattle.std.specs.List.{list_any}
 use Rattle.vg_pages.specs.Lending.{is_flagged}
 use Rattle.vg_pages.proofs.FlagLemmas.{flagged-free, none-flagged}
-use Rattle.vg_pages.proofs.FreePages.{free_below, free_below_no, length-free_below_yes, lowest-full, none-below}
+use Rattle.vg_pages.proofs.FreePages.{free_below_no, length-free_below_yes, lowest-full, none-below}
 use Rattle.vg_pages.proofs.flags.any_free_flagged.Goals as goal
 use Rattle.vg_pages.proofs.flags.any_free_flagged.Goals.{then-not-taken-page+else-is_flagged, else-not-taken-page}
 

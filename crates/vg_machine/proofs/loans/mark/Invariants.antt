@@ -1,6 +1,0 @@
-use Rattle.std.proofs.Common.{◌≡◌, take}
-use Rattle.vg_pages.specs.Memory.{marked}
-use Rattle.vg_machine.proofs.loans.mark.Given as goal
-
-abbrev pub invariant-loop-page : goal.invariant-loop-page
-invariant-loop-page l = l.flags ≡ marked (take l.page-index l.pages) l.now l.initial.flags
