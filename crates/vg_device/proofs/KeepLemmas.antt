@@ -96,7 +96,7 @@ keeps-command state context (CtxCreate nlen context_init name) = keeps-answered 
 keeps-command state context CtxDestroy = keeps-answered _ state _
 keeps-command state context (CtxAttach resource) = keeps-answered _ state _
 keeps-command state context (CtxDetach resource) = keeps-answered _ state _
-keeps-command state context (Submit size) = keeps-answered _ state _
+keeps-command state context (Submit stream) = keeps-answered _ state _
 keeps-command state context (UpdateCursor scanout x y resource hot_x hot_y) = keeps-answered _ state _
 keeps-command state context (MoveCursor scanout x y) = keeps-answered _ state _
 
@@ -114,6 +114,8 @@ keeps-answer state queue bytes =
 other-kept : (response : Response) (old new : State) → Keeps response old new → response ≢ responses.Nodata → ((bytes : List ℕ) → response ≢ responses.Uuid bytes) → new ≡ old
 other-kept responses.Nodata old new keeps other none = absurd (other refl)
 other-kept (responses.DisplayInfo modes) old new keeps other none = keeps
+other-kept (responses.CapsetInfo id version size) old new keeps other none = keeps
+other-kept (responses.Capset data) old new keeps other none = keeps
 other-kept (responses.Edid block) old new keeps other none = keeps
 other-kept (responses.Uuid bytes) old new keeps other none = absurd (none bytes refl)
 other-kept (responses.Error code) old new keeps other none = keeps
@@ -169,7 +171,7 @@ expects-command state context (CtxCreate nlen context_init name) = expects-answe
 expects-command state context CtxDestroy = expects-answered _ state _
 expects-command state context (CtxAttach resource) = expects-answered _ state _
 expects-command state context (CtxDetach resource) = expects-answered _ state _
-expects-command state context (Submit size) = expects-answered _ state _
+expects-command state context (Submit stream) = expects-answered _ state _
 expects-command state context (UpdateCursor scanout x y resource hot_x hot_y) = expects-answered _ state _
 expects-command state context (MoveCursor scanout x y) = expects-answered _ state _
 
