@@ -115,7 +115,7 @@ other-kept : (response : Response) (old new : State) → Keeps response old new 
 other-kept responses.Nodata old new keeps other none = absurd (other refl)
 other-kept (responses.DisplayInfo modes) old new keeps other none = keeps
 other-kept (responses.CapsetInfo id version size) old new keeps other none = keeps
-other-kept (responses.Capset data) old new keeps other none = keeps
+other-kept (responses.Capset content) old new keeps other none = keeps
 other-kept (responses.Edid block) old new keeps other none = keeps
 other-kept (responses.Uuid bytes) old new keeps other none = absurd (none bytes refl)
 other-kept (responses.Error code) old new keeps other none = keeps

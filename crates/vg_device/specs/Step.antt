@@ -360,7 +360,7 @@ abbrev pub Keeps : Response → State → State → Type 0
 Keeps responses.Nodata old new = Unit {0}
 Keeps (responses.DisplayInfo modes) old new = new ≡ old
 Keeps (responses.CapsetInfo id version size) old new = new ≡ old
-Keeps (responses.Capset data) old new = new ≡ old
+Keeps (responses.Capset content) old new = new ≡ old
 Keeps (responses.Edid block) old new = new ≡ old
 Keeps (responses.Uuid bytes) old new = Unit {0}
 Keeps (responses.Error code) old new = new ≡ old

@@ -26,7 +26,7 @@ abbrev pub size_of_response : Response → ℕ
 size_of_response Nodata = 0
 size_of_response (DisplayInfo modes) = 384
 size_of_response (CapsetInfo id version size) = 16
-size_of_response (Capset data) = length data
+size_of_response (Capset content) = length content
 size_of_response (Edid block) = 1032
 size_of_response (Uuid bytes) = 16
 size_of_response (Error code) = 0
@@ -35,7 +35,7 @@ pub length-response_body : (response : Response) → IsResponse response → Fit
 length-response_body Nodata valid fits = refl
 length-response_body (DisplayInfo modes) valid fits = length-modes_bytes modes valid.0
 length-response_body (CapsetInfo id version size) valid fits = length-capset_info_body id version size
-length-response_body (Capset data) valid fits = refl
+length-response_body (Capset content) valid fits = refl
 length-response_body (Edid block) valid fits = length-edid_body block fits
 length-response_body (Uuid bytes) valid fits = fits
 length-response_body (Error code) valid fits = refl
@@ -100,9 +100,9 @@ body_of-response_bytes header (CapsetInfo id version size) fits valid kind =
     let long : length (header_bytes header ++ body) ≡ 40 = simp length-append (omega (arith, length-header_bytes header, length-capset_info_body id version size)) in
     let same = read-capset_info_body (header_bytes header) id version size (length-header_bytes header) fits.0 fits.1 fits.2 in
     info_body header.kind (header_bytes header ++ body) kind long ∙ ap (λ (response : Response). Some response) same
-body_of-response_bytes header (Capset data) fits valid kind =
-    let same = drop_at (header_bytes header) data 24 (length-header_bytes header) in
-    capset_body header.kind (header_bytes header ++ data) kind ∙ ap (λ (bytes : List ℕ). Some (Capset bytes)) same
+body_of-response_bytes header (Capset content) fits valid kind =
+    let same = drop_at (header_bytes header) content 24 (length-header_bytes header) in
+    capset_body header.kind (header_bytes header ++ content) kind ∙ ap (λ (bytes : List ℕ). Some (Capset bytes)) same
 body_of-response_bytes header (Edid block) fits valid kind =
     let long : length (header_bytes header ++ edid_body block) ≡ 1056 = simp length-append (omega (arith, length-header_bytes header, length-edid_body block fits)) in
     let same = read-edid_body (header_bytes header) block (length-header_bytes header) fits in
@@ -133,33 +133,33 @@ spelled-found bytes header response good fits spells =
 abbrev IsOfKind : ℕ → Response → Type 0
 IsOfKind kind response = IsResponse response × (kind ≡ response_kind response)
 
-valid_by : (none first info capset second third fourth : Bool) (kind : ℕ) (items : List Mode) (i v n : ℕ) (data block uuid : List ℕ) (response : Response) → IsModes items
+valid_by : (none first info capset second third fourth : Bool) (kind : ℕ) (items : List Mode) (i v n : ℕ) (content block uuid : List ℕ) (response : Response) → IsModes items
     → (none ≡ true → kind ≡ 0x1100) → (first ≡ true → kind ≡ 0x1101) → (info ≡ true → kind ≡ 0x1102) → (capset ≡ true → kind ≡ 0x1103) → (second ≡ true → kind ≡ 0x1104) → (third ≡ true → kind ≡ 0x1105)
     → (fourth ≡ true → (0x1200 ≤ kind) × (kind ≤ 0x1205))
-    → cond none (Some Nodata) (cond first (Some (DisplayInfo items)) (cond info (Some (CapsetInfo i v n)) (cond capset (Some (Capset data)) (cond second (Some (Edid block)) (cond third (Some (Uuid uuid)) (cond fourth (Some (Error kind)) None)))))) ≡ Some response
+    → cond none (Some Nodata) (cond first (Some (DisplayInfo items)) (cond info (Some (CapsetInfo i v n)) (cond capset (Some (Capset content)) (cond second (Some (Edid block)) (cond third (Some (Uuid uuid)) (cond fourth (Some (Error kind)) None)))))) ≡ Some response
     → IsOfKind kind response
-valid_by true first info capset second third fourth kind items i v n data block uuid response modes a b g h c d f e =
+valid_by true first info capset second third fourth kind items i v n content block uuid response modes a b g h c d f e =
     let same : Nodata ≡ response = cc in
     subst (IsOfKind kind) same (tt, a refl)
-valid_by false true info capset second third fourth kind items i v n data block uuid response modes a b g h c d f e =
+valid_by false true info capset second third fourth kind items i v n content block uuid response modes a b g h c d f e =
     let same : DisplayInfo items ≡ response = cc in
     subst (IsOfKind kind) same (modes, b refl)
-valid_by false false true capset second third fourth kind items i v n data block uuid response modes a b g h c d f e =
+valid_by false false true capset second third fourth kind items i v n content block uuid response modes a b g h c d f e =
     let same : CapsetInfo i v n ≡ response = cc in
     subst (IsOfKind kind) same (tt, g refl)
-valid_by false false false true second third fourth kind items i v n data block uuid response modes a b g h c d f e =
-    let same : Capset data ≡ response = cc in
+valid_by false false false true second third fourth kind items i v n content block uuid response modes a b g h c d f e =
+    let same : Capset content ≡ response = cc in
     subst (IsOfKind kind) same (tt, h refl)
-valid_by false false false false true third fourth kind items i v n data block uuid response modes a b g h c d f e =
+valid_by false false false false true third fourth kind items i v n content block uuid response modes a b g h c d f e =
     let same : Edid block ≡ response = cc in
     subst (IsOfKind kind) same (tt, c refl)
-valid_by false false false false false true fourth kind items i v n data block uuid response modes a b g h c d f e =
+valid_by false false false false false true fourth kind items i v n content block uuid response modes a b g h c d f e =
     let same : Uuid uuid ≡ response = cc in
     subst (IsOfKind kind) same (tt, d refl)
-valid_by false false false false false false true kind items i v n data block uuid response modes a b g h c d f e =
+valid_by false false false false false false true kind items i v n content block uuid response modes a b g h c d f e =
     let same : Error kind ≡ response = cc in
     subst (IsOfKind kind) same (f refl, refl)
-valid_by false false false false false false false kind items i v n data block uuid response modes a b g h c d f e = cc
+valid_by false false false false false false false kind items i v n content block uuid response modes a b g h c d f e = cc
 
 one_kind : (kind code : ℕ) → (kind == code) ≡ true → kind ≡ code
 one_kind kind code h = grind (arith, nat_tests)

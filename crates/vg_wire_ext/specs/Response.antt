@@ -12,7 +12,7 @@ abbrev pub response_kind : Response → ℕ
 response_kind Nodata = OK_NODATA
 response_kind (DisplayInfo modes) = OK_DISPLAY_INFO
 response_kind (CapsetInfo id version size) = OK_CAPSET_INFO
-response_kind (Capset data) = OK_CAPSET
+response_kind (Capset content) = OK_CAPSET
 response_kind (Edid block) = OK_EDID
 response_kind (Uuid bytes) = OK_RESOURCE_UUID
 response_kind (Error code) = code
@@ -30,7 +30,7 @@ abbrev pub response_body : Response → List ℕ
 response_body Nodata = []
 response_body (DisplayInfo modes) = modes_bytes modes
 response_body (CapsetInfo id version size) = capset_info_body id version size
-response_body (Capset data) = data
+response_body (Capset content) = content
 response_body (Edid block) = edid_body block
 response_body (Uuid bytes) = bytes
 response_body (Error code) = []
@@ -44,7 +44,7 @@ abbrev pub IsResponse : Response → Type 0
 IsResponse Nodata = Unit {0}
 IsResponse (DisplayInfo modes) = IsModes modes
 IsResponse (CapsetInfo id version size) = Unit {0}
-IsResponse (Capset data) = Unit {0}
+IsResponse (Capset content) = Unit {0}
 IsResponse (Edid block) = Unit {0}
 IsResponse (Uuid bytes) = Unit {0}
 IsResponse (Error code) = (ERR_UNSPEC ≤ code) × (code ≤ ERR_INVALID_PARAMETER)
@@ -54,7 +54,7 @@ abbrev pub FitsResponse : Response → Type 0
 FitsResponse Nodata = Unit {0}
 FitsResponse (DisplayInfo modes) = AllFit modes
 FitsResponse (CapsetInfo id version size) = (id < 2 ^ 32) × (version < 2 ^ 32) × (size < 2 ^ 32)
-FitsResponse (Capset data) = Unit {0}
+FitsResponse (Capset content) = Unit {0}
 FitsResponse (Edid block) = length block ≡ 128
 FitsResponse (Uuid bytes) = length bytes ≡ 16
 FitsResponse (Error code) = code < 2 ^ 32
