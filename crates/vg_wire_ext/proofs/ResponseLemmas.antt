@@ -49,7 +49,7 @@ display_body kind bytes e long = rw (e, long) refl
 info_body : (kind : ℕ) (bytes : List ℕ) → kind ≡ 0x1102 → length bytes ≡ 40 → body_of kind bytes ≡ Some (capset_info_of bytes)
 info_body kind bytes e long = rw (e, long) refl
 
-capset_body : (kind : ℕ) (bytes : List ℕ) → kind ≡ 0x1103 → body_of kind bytes ≡ Some (Capset (drop 24 bytes))
+pub capset_body : (kind : ℕ) (bytes : List ℕ) → kind ≡ 0x1103 → body_of kind bytes ≡ Some (Capset (drop 24 bytes))
 capset_body kind bytes e = rw e refl
 
 block_body : (kind : ℕ) (bytes : List ℕ) → kind ≡ 0x1104 → length bytes ≡ 1056 → body_of kind bytes ≡ Some (Edid (take 128 (drop 32 bytes)))
@@ -72,9 +72,9 @@ read-capset_info_body front id version size here a b c =
     let first : length (front ++ le 4 id) ≡ 28 = simp length-append (omega (arith, length-le 4 id)) in
     let second : length ((front ++ le 4 id) ++ le 4 version) ≡ 32 = simp length-append (omega (arith, length-le 4 id, length-le 4 version)) in
     same_info
-    (simp append_assoc (simp append_assoc at (number_at-le 4 24 front id (le 4 version ++ le 4 size ++ le 4 0) here a)))
-    (simp append_assoc (simp append_assoc at (number_at-le 4 28 (front ++ le 4 id) version (le 4 size ++ le 4 0) first b)))
-    (simp append_assoc (simp append_assoc at (number_at-le 4 32 ((front ++ le 4 id) ++ le 4 version) size (le 4 0) second c)))
+    (simp append_assoc (simp append_assoc at (number_at-le 4 front (le 4 version ++ le 4 size ++ le 4 0) 24 id here a)))
+    (simp append_assoc (simp append_assoc at (number_at-le 4 (front ++ le 4 id) (le 4 size ++ le 4 0) 28 version first b)))
+    (simp append_assoc (simp append_assoc at (number_at-le 4 ((front ++ le 4 id) ++ le 4 version) (le 4 0) 32 size second c)))
 
 -- the block behind a header and its size is read as itself
 read-edid_body : (front block : List ℕ) → length front ≡ 24 → length block ≡ 128 → take 128 (drop 32 (front ++ edid_body block)) ≡ block

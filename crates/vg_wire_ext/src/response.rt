@@ -1,6 +1,6 @@
 //! A whole response: a header and what it answers (VIRTIO 1.2, 5.7.6.7 to 5.7.6.9).
 
-ghost use Rattle.std.specs.Prelude.{◌≡◌, ◌≤◌, ◌<◌, ◌^◌, ◌++◌, Some, IfOk, OnErr, OnOk, IfSome, IsSome, length, take, drop};
+ghost use Rattle.std.specs.Prelude.{◌≡◌, ◌≤◌, ◌++◌, Some, IfOk, OnErr, OnOk, IfSome, IsSome, length, take, drop};
 ghost use Rattle.vg_list.specs.Front.{HasFront};
 ghost use Rattle.vg_wire.specs.Header.{IsHeader, header_of};
 ghost use Rattle.vg_wire.specs.declared.header.Header.{Header as HeaderFields};
@@ -118,8 +118,7 @@ fn put_response(out: &mut Vec<u8>, response: &Response) -> Result<(), AllocError
 
 /// How many bytes follow the header of a response that can be given.
 fn size_of(response: &Response) -> usize
-    ensures size { IsResponse response.now → FitsResponse response.now → result ≡ length (response_body response.now) }
-    ensures small { result < 2 ^ 63 }
+    ensures { IsResponse response.now → FitsResponse response.now → result ≡ length (response_body response.now) }
 {
     match response {
         Response::Nodata => 0,
@@ -141,7 +140,7 @@ pub fn write_response(
     requires { header.now.kind ≡ response_kind response.now }
     ensures { IfOk result (λ out. out.items ≡ response_bytes header.now response.now) }
 {
-    let mut out = Vec::with_capacity(alloc, 24 + size_of(response))?;
+    let mut out = Vec::with_capacity(alloc, size_of(response).saturating_add(24))?;
     append_response(&mut out, header, response)?;
     Ok(out)
 }
