@@ -26,7 +26,7 @@ use Rattle.vg_wire.specs.declared.two_d.Command2d.TheVariants.{DisplayInfo, Crea
 use Rattle.vg_resource.specs.declared.resource.Resource.{Resource}
 use Rattle.vg_wire_ext.specs.declared.response.Response.TheVariants as responses
 use Rattle.vg_transfer.specs.Backings.{attach, attach_refusals, detach, detach_refusals, detached}
-use Rattle.vg_device.specs.FitsWithin.{IfDone, IsLetIn, nodata, response_of}
+use Rattle.vg_device.specs.FitsWithin.{IfDone, IsLetIn, changes, nodata, response_of}
 use Rattle.vg_device.specs.Receive.{receive, receive_refusal, with_received}
 use Rattle.vg_refusals.specs.Refusals.{refusal_of, unless_refused}
 use Rattle.vg_resource.specs.Resource.{create, create_refusals, height_of, remove, resource_at, width_of, with_blank, without}
@@ -124,6 +124,34 @@ pub kept-given : (state now : State) (context : ℕ) (command : Command) (respon
     → response ≢ responses.Nodata → ((bytes : List ℕ) → response ≢ responses.Uuid bytes) → now ≡ state
 kept-given state now context command response step other none =
     other-kept response state now (subst (λ (done : State × Response). Keeps done.1 state done.0) step (keeps-command state context command)) other none
+
+-- a command that changes nothing has changed nothing, whatever it was answered
+stays : (refusal : Option ℕ) (state now : State) (given response : Response) → answered_with refusal state state given ≡ (now, response) → now ≡ state
+stays (Some code) state now given response step = ap (λ (done : State × Response). done.0) (sym step)
+stays None state now given response step = ap (λ (done : State × Response). done.0) (sym step)
+
+pub told-kept : (state now : State) (context : ℕ) (command : Command) (response : Response) → changes command ≡ false → command_step state context command ≡ (now, response) → now ≡ state
+told-kept state now context (TwoD DisplayInfo) response none step = ap (λ (done : State × Response). done.0) (sym step)
+told-kept state now context (TwoD (Create2d resource format width height)) response none step = cc
+told-kept state now context (TwoD (Unref resource)) response none step = cc
+told-kept state now context (TwoD (SetScanout rect scanout resource)) response none step = cc
+told-kept state now context (TwoD (Flush rect resource)) response none step = cc
+told-kept state now context (TwoD (Transfer rect offset resource)) response none step = cc
+told-kept state now context (TwoD (Attach resource entries)) response none step = cc
+told-kept state now context (TwoD (Detach resource)) response none step = cc
+told-kept state now context (CapsetInfo index) response none step = ap (λ (done : State × Response). done.0) (sym step)
+told-kept state now context (Capset id version) response none step = ap (λ (done : State × Response). done.0) (sym step)
+told-kept state now context (Edid scanout) response none step = stays _ state now _ response step
+told-kept state now context (AssignUuid resource) response none step = cc
+told-kept state now context (CreateBlob resource mem flags blob_id size entries) response none step = cc
+told-kept state now context (SetScanoutBlob rect scanout resource width height format stride offset) response none step = cc
+told-kept state now context (CtxCreate nlen context_init name) response none step = cc
+told-kept state now context CtxDestroy response none step = cc
+told-kept state now context (CtxAttach resource) response none step = cc
+told-kept state now context (CtxDetach resource) response none step = cc
+told-kept state now context (Submit stream) response none step = stays _ state now _ response step
+told-kept state now context (UpdateCursor scanout x y resource hot_x hot_y) response none step = cc
+told-kept state now context (MoveCursor scanout x y) response none step = cc
 
 -- what changes something is answered as was expected
 abbrev Expects : Response → Response → Type 0
