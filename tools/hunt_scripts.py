@@ -307,7 +307,7 @@ def nearly(some, client):
         values[name] = value if signed else value % 256**size
     page = histories.FIRST_ADDRESS + histories.PAGE * some.randrange(4)
     entries = [(page, some.choice((4096, 4096, 4096, 0, 1, 2**32 - 1))) for _ in range(some.choice((0, 1, 1, 1, 2, 9)))]
-    values |= {"entries": entries, "count": len(entries)}
+    values |= {"entries": entries, "count": len(entries), "stream": some.randbytes(some.choice((0, 0, 1, 4)))}
     header = [some.choice((0, 1, 1, 1, 3)), some.choice((0, 1, 7, 2**64 - 1)), some.choice((0, 256 * client + 1)), some.choice((0, 1, 63))]
     if row.kind >> 8 == histories.OF_CONTEXTS:
         header[2] = 256 * client + some.choice((1, 1, 1, 2, 3))

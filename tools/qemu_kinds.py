@@ -221,8 +221,8 @@ CHANGES = {
 
 
 def fixed_size(row):
-    """The bytes of a request without its entries."""
-    return HEADER.size + sum(histories.part_of(field)[1] for field in row.fields if field != "entries")
+    """The bytes of a request without its entries or its stream."""
+    return HEADER.size + sum(histories.part_of(field)[1] for field in row.fields if field not in ("entries", "stream"))
 
 
 def fields_of(queue, request):

@@ -180,7 +180,7 @@ class Client:
     def spoil(self, row, header, values):
         """One field is another: next to what it is, at an edge, or any."""
         some = self.some
-        fields = [name for name in (histories.part_of(field)[0] for field in row.fields) if name not in ("-", "debug_name")]
+        fields = [name for name in (histories.part_of(field)[0] for field in row.fields) if name not in ("-", "debug_name", "stream")]
         name = some.choice([*fields, "header"])
         if name == "header":
             header[0] = some.choice((0, 1, 2, 3, 3, 2**32 - 1, 2**32 - 2))

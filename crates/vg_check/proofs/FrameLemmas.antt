@@ -115,7 +115,7 @@ command-grows state context (CtxCreate nlen context_init name) = search (rules, 
 command-grows state context CtxDestroy = search (rules, answered-same)
 command-grows state context (CtxAttach resource) = search (rules, answered-same)
 command-grows state context (CtxDetach resource) = search (rules, answered-same)
-command-grows state context (Submit size) = search (rules, answered-same)
+command-grows state context (Submit stream) = search (rules, answered-same)
 command-grows state context (UpdateCursor scanout x y resource hot_x hot_y) =
     answered-more (refusal_of (cursor_refusals state scanout resource hot_x hot_y)) state (with_cursor state scanout (cursor_change state x y resource hot_x hot_y)) responses.Nodata
     (record { more = _; frames = refl })

@@ -110,7 +110,7 @@ there-in holds (CtxCreate nlen context_init name) = tt
 there-in holds CtxDestroy = tt
 there-in holds (CtxAttach resource) = (tt, tt)
 there-in holds (CtxDetach resource) = (tt, tt)
-there-in holds (Submit size) = tt
+there-in holds (Submit stream) = tt
 there-in holds (UpdateCursor scanout x y resource hot_x hot_y) = (tt, (tt, tt))
 there-in holds (MoveCursor scanout x y) = (tt, tt)
 

@@ -89,7 +89,7 @@ is_of_context (CtxCreate nlen context_init name) = true
 is_of_context CtxDestroy = true
 is_of_context (CtxAttach resource) = true
 is_of_context (CtxDetach resource) = true
-is_of_context (Submit size) = true
+is_of_context (Submit stream) = true
 is_of_context _ = false
 
 -- The header's context is named by the commands of contexts, and wherever flags has INFO_RING_IDX (bit 1).

@@ -1,6 +1,6 @@
 -- The contexts by their ids, rising (VIRTIO 1.2, 5.7.6.9, CTX_CREATE, CTX_DESTROY, CTX_ATTACH_RESOURCE, CTX_DETACH_RESOURCE and
 -- SUBMIT_3D).
-use Rattle.std.specs.Prelude.{ℕ, ◌==◌, ◌||◌, ◌%◌, Bool, false, not, nat_lt, is_some, List, [], ◌∷◌, map, Option, Some, None, Result}
+use Rattle.std.specs.Prelude.{ℕ, ◌==◌, ◌||◌, ◌%◌, Bool, false, not, nat_lt, is_some, List, [], ◌∷◌, length, map, Option, Some, None, Result}
 use Rattle.std.specs.List.{filter, list_any}
 use Rattle.std.specs.Ordering.{nat_cmp}
 use Rattle.std.specs.Map.{lookup, remove_entry, set_value}
@@ -93,15 +93,15 @@ detached id resource contexts = changed id (without_resource resource) (context_
 unfoldable pub detach : ℕ → ℕ → List (ℕ × Context) → List (ℕ × Context) × Result Unit ℕ
 detach id resource contexts = unless_refused (refusal_of (detach_refusals id resource contexts)) contexts (detached id resource contexts)
 
--- SUBMIT_3D is refused for a context that isn't live; commands for it, of which there is none that is known.
-abbrev pub submit_refusals : ℕ → ℕ → List (ℕ × Context) → List (Bool × ℕ)
-submit_refusals id size contexts =
+-- SUBMIT_3D is refused for a context that isn't live; a stream of commands for it, of which there is none that is known.
+abbrev pub submit_refusals : ℕ → List ℕ → List (ℕ × Context) → List (Bool × ℕ)
+submit_refusals id stream contexts =
     (not (is_live id contexts), ERR_INVALID_CONTEXT_ID)
-    ∷ (not (size == 0), ERR_UNSPEC)
+    ∷ (not (length stream == 0), ERR_UNSPEC)
     ∷ []
 
-unfoldable pub submit : ℕ → ℕ → List (ℕ × Context) → List (ℕ × Context) × Result Unit ℕ
-submit id size contexts = unless_refused (refusal_of (submit_refusals id size contexts)) contexts contexts
+unfoldable pub submit : ℕ → List ℕ → List (ℕ × Context) → List (ℕ × Context) × Result Unit ℕ
+submit id stream contexts = unless_refused (refusal_of (submit_refusals id stream contexts)) contexts contexts
 
 -- No context has the resource.
 abbrev pub forgotten : ℕ → List (ℕ × Context) → List (ℕ × Context)

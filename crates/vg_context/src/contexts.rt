@@ -162,16 +162,16 @@ impl Contexts {
         Ok(())
     }
 
-    /// Whether commands of this many bytes may be submitted to a context, which changes nothing; else the code of the refusal:
+    /// Whether a stream of these bytes may be submitted to a context, which changes nothing; else the code of the refusal:
     /// ERR_INVALID_CONTEXT_ID where the context isn't live, ERR_UNSPEC where there are any.
     #[tactic(auto, unfolding(crate::specs::Contexts::submit))]
-    pub fn submit(&self, id: u32, size: u32) -> Result<(), u32>
-        ensures { (self.now, result) ≡ submit id size self.now }
+    pub fn submit(&self, id: u32, stream: &[u8]) -> Result<(), u32>
+        ensures { (self.now, result) ≡ submit id stream.now self.now }
     {
         if !self.map.contains_key(&id) {
             return Err(ERR_INVALID_CONTEXT_ID);
         }
-        if size != 0 {
+        if !stream.is_empty() {
             return Err(ERR_UNSPEC);
         }
         Ok(())

@@ -39,8 +39,8 @@ pub lifted-detached : (around : List (ℕ × Context) → State) (id resource : 
 unfolding detach
 lifted-detached around id resource old new done step = lifted around _ old new _ done step
 
-pub lifted-submitted : (around : List (ℕ × Context) → State) (id size : ℕ) (old : List (ℕ × Context)) (done : Result (Unit {0}) ℕ)
-    → ◌≡◌ {A = List (ℕ × Context) × Result (Unit {0}) ℕ} (old, done) (submit id size old)
-    → ◌≡◌ {A = State × Response} (answered_by (refusal_of (submit_refusals id size old)) (around old) (around old)) (around old, response_of done)
+pub lifted-submitted : (around : List (ℕ × Context) → State) (id : ℕ) (stream : List ℕ) (old : List (ℕ × Context)) (done : Result (Unit {0}) ℕ)
+    → ◌≡◌ {A = List (ℕ × Context) × Result (Unit {0}) ℕ} (old, done) (submit id stream old)
+    → ◌≡◌ {A = State × Response} (answered_by (refusal_of (submit_refusals id stream old)) (around old) (around old)) (around old, response_of done)
 unfolding submit
-lifted-submitted around id size old done step = lifted around _ old old _ done step
+lifted-submitted around id stream old done step = lifted around _ old old _ done step

@@ -79,7 +79,7 @@ by-other state context (CtxCreate nlen context_init name) none = refl
 by-other state context CtxDestroy none = refl
 by-other state context (CtxAttach resource) none = refl
 by-other state context (CtxDetach resource) none = refl
-by-other state context (Submit size) none = refl
+by-other state context (Submit stream) none = refl
 by-other state context (UpdateCursor scanout x y resource hot_x hot_y) none = refl
 by-other state context (MoveCursor scanout x y) none = refl
 
@@ -95,7 +95,7 @@ one-read (Ok (context, CtxCreate nlen context_init name)) rect offset id is = cc
 one-read (Ok (context, CtxDestroy)) rect offset id is = cc
 one-read (Ok (context, CtxAttach resource)) rect offset id is = cc
 one-read (Ok (context, CtxDetach resource)) rect offset id is = cc
-one-read (Ok (context, Submit size)) rect offset id is = cc
+one-read (Ok (context, Submit stream)) rect offset id is = cc
 one-read (Ok (context, UpdateCursor scanout x y resource hot_x hot_y)) rect offset id is = cc
 one-read (Ok (context, MoveCursor scanout x y)) rect offset id is = cc
 one-read (Err code) rect offset id is = cc

@@ -131,7 +131,7 @@ made state law context (CtxAttach resource) =
     made-apart (refusal_of (ctx_attach_refusals state context resource)) state (record state { contexts = attached context resource state.contexts }) responses.Nodata refl
 made state law context (CtxDetach resource) =
     made-apart (refusal_of (detach_refusals context resource state.contexts)) state (record state { contexts = contexts.detached context resource state.contexts }) responses.Nodata refl
-made state law context (Submit size) = made-apart (refusal_of (submit_refusals context size state.contexts)) state state responses.Nodata refl
+made state law context (Submit stream) = made-apart (refusal_of (submit_refusals context stream state.contexts)) state state responses.Nodata refl
 made state law context (UpdateCursor scanout x y resource hot_x hot_y) =
     made-answered (refusal_of (cursor_refusals state scanout resource hot_x hot_y)) state (with_cursor state scanout (cursor_change state x y resource hot_x hot_y)) responses.Nodata
     (made-cursor state law scanout (cursor_change state x y resource hot_x hot_y))

@@ -26,7 +26,7 @@ use Rattle.vg_wire.specs.declared.two_d.Command2d.TheVariants.{DisplayInfo, Crea
 use Rattle.vg_resource.specs.declared.resource.Resource.{Resource}
 use Rattle.vg_wire_ext.specs.declared.response.Response.TheVariants as responses
 use Rattle.vg_transfer.specs.Backings.{attach, attach_refusals, detach, detach_refusals, detached}
-use Rattle.vg_device.specs.FitsWithin.{IfDone, IsLetIn, nodata, response_of}
+use Rattle.vg_device.specs.FitsWithin.{IfDone, IsLetIn, changes, nodata, response_of}
 use Rattle.vg_device.specs.Receive.{receive, receive_refusal, with_received}
 use Rattle.vg_refusals.specs.Refusals.{refusal_of, unless_refused}
 use Rattle.vg_resource.specs.Resource.{create, create_refusals, height_of, remove, resource_at, width_of, with_blank, without}
@@ -96,7 +96,7 @@ keeps-command state context (CtxCreate nlen context_init name) = keeps-answered 
 keeps-command state context CtxDestroy = keeps-answered _ state _
 keeps-command state context (CtxAttach resource) = keeps-answered _ state _
 keeps-command state context (CtxDetach resource) = keeps-answered _ state _
-keeps-command state context (Submit size) = keeps-answered _ state _
+keeps-command state context (Submit stream) = keeps-answered _ state _
 keeps-command state context (UpdateCursor scanout x y resource hot_x hot_y) = keeps-answered _ state _
 keeps-command state context (MoveCursor scanout x y) = keeps-answered _ state _
 
@@ -114,6 +114,8 @@ keeps-answer state queue bytes =
 other-kept : (response : Response) (old new : State) → Keeps response old new → response ≢ responses.Nodata → ((bytes : List ℕ) → response ≢ responses.Uuid bytes) → new ≡ old
 other-kept responses.Nodata old new keeps other none = absurd (other refl)
 other-kept (responses.DisplayInfo modes) old new keeps other none = keeps
+other-kept (responses.CapsetInfo id version size) old new keeps other none = keeps
+other-kept (responses.Capset content) old new keeps other none = keeps
 other-kept (responses.Edid block) old new keeps other none = keeps
 other-kept (responses.Uuid bytes) old new keeps other none = absurd (none bytes refl)
 other-kept (responses.Error code) old new keeps other none = keeps
@@ -122,6 +124,34 @@ pub kept-given : (state now : State) (context : ℕ) (command : Command) (respon
     → response ≢ responses.Nodata → ((bytes : List ℕ) → response ≢ responses.Uuid bytes) → now ≡ state
 kept-given state now context command response step other none =
     other-kept response state now (subst (λ (done : State × Response). Keeps done.1 state done.0) step (keeps-command state context command)) other none
+
+-- a command that changes nothing has changed nothing, whatever it was answered
+stays : (refusal : Option ℕ) (state now : State) (given response : Response) → answered_with refusal state state given ≡ (now, response) → now ≡ state
+stays (Some code) state now given response step = ap (λ (done : State × Response). done.0) (sym step)
+stays None state now given response step = ap (λ (done : State × Response). done.0) (sym step)
+
+pub told-kept : (state now : State) (context : ℕ) (command : Command) (response : Response) → changes command ≡ false → command_step state context command ≡ (now, response) → now ≡ state
+told-kept state now context (TwoD DisplayInfo) response none step = ap (λ (done : State × Response). done.0) (sym step)
+told-kept state now context (TwoD (Create2d resource format width height)) response none step = cc
+told-kept state now context (TwoD (Unref resource)) response none step = cc
+told-kept state now context (TwoD (SetScanout rect scanout resource)) response none step = cc
+told-kept state now context (TwoD (Flush rect resource)) response none step = cc
+told-kept state now context (TwoD (Transfer rect offset resource)) response none step = cc
+told-kept state now context (TwoD (Attach resource entries)) response none step = cc
+told-kept state now context (TwoD (Detach resource)) response none step = cc
+told-kept state now context (CapsetInfo index) response none step = ap (λ (done : State × Response). done.0) (sym step)
+told-kept state now context (Capset id version) response none step = ap (λ (done : State × Response). done.0) (sym step)
+told-kept state now context (Edid scanout) response none step = stays _ state now _ response step
+told-kept state now context (AssignUuid resource) response none step = cc
+told-kept state now context (CreateBlob resource mem flags blob_id size entries) response none step = cc
+told-kept state now context (SetScanoutBlob rect scanout resource width height format stride offset) response none step = cc
+told-kept state now context (CtxCreate nlen context_init name) response none step = cc
+told-kept state now context CtxDestroy response none step = cc
+told-kept state now context (CtxAttach resource) response none step = cc
+told-kept state now context (CtxDetach resource) response none step = cc
+told-kept state now context (Submit stream) response none step = stays _ state now _ response step
+told-kept state now context (UpdateCursor scanout x y resource hot_x hot_y) response none step = cc
+told-kept state now context (MoveCursor scanout x y) response none step = cc
 
 -- what changes something is answered as was expected
 abbrev Expects : Response → Response → Type 0
@@ -169,7 +199,7 @@ expects-command state context (CtxCreate nlen context_init name) = expects-answe
 expects-command state context CtxDestroy = expects-answered _ state _
 expects-command state context (CtxAttach resource) = expects-answered _ state _
 expects-command state context (CtxDetach resource) = expects-answered _ state _
-expects-command state context (Submit size) = expects-answered _ state _
+expects-command state context (Submit stream) = expects-answered _ state _
 expects-command state context (UpdateCursor scanout x y resource hot_x hot_y) = expects-answered _ state _
 expects-command state context (MoveCursor scanout x y) = expects-answered _ state _
 

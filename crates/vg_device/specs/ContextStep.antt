@@ -35,5 +35,5 @@ ctx_detach_step state id resource =
     answered_by (refusal_of (detach_refusals id resource state.contexts)) state
     (record state { contexts = detached id resource state.contexts })
 
-abbrev pub submit_step : State → ℕ → ℕ → State × Response
-submit_step state id size = answered_by (refusal_of (submit_refusals id size state.contexts)) state state
+abbrev pub submit_step : State → ℕ → List ℕ → State × Response
+submit_step state id stream = answered_by (refusal_of (submit_refusals id stream state.contexts)) state state

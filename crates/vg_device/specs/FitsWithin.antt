@@ -59,7 +59,7 @@ changes (TwoD command) = changes_2d command
 changes (CapsetInfo index) = false
 changes (Capset id version) = false
 changes (Edid scanout) = false
-changes (Submit size) = false
+changes (Submit stream) = false
 changes _ = true
 
 -- What a part of the display refused with a code, or did.

@@ -293,7 +293,7 @@ command_step state context (CtxCreate nlen context_init name) = ctx_create_step 
 command_step state context CtxDestroy = ctx_destroy_step state context
 command_step state context (CtxAttach resource) = ctx_attach_step state context resource
 command_step state context (CtxDetach resource) = ctx_detach_step state context resource
-command_step state context (Submit size) = submit_step state context size
+command_step state context (Submit stream) = submit_step state context stream
 command_step state context (UpdateCursor scanout x y resource hot_x hot_y) = cursor_step state scanout x y resource hot_x hot_y
 command_step state context (MoveCursor scanout x y) = move_step state scanout x y
 
@@ -359,6 +359,8 @@ step state queue bytes room = effect_and_bytes (counted state) queue bytes room
 abbrev pub Keeps : Response → State → State → Type 0
 Keeps responses.Nodata old new = Unit {0}
 Keeps (responses.DisplayInfo modes) old new = new ≡ old
+Keeps (responses.CapsetInfo id version size) old new = new ≡ old
+Keeps (responses.Capset content) old new = new ≡ old
 Keeps (responses.Edid block) old new = new ≡ old
 Keeps (responses.Uuid bytes) old new = Unit {0}
 Keeps (responses.Error code) old new = new ≡ old

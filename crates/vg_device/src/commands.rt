@@ -110,7 +110,7 @@ impl Device {
             Command::CtxDestroy => nodata(self.ctx_destroy(context)),
             Command::CtxAttach { resource } => self.ctx_attach(context, *resource),
             Command::CtxDetach { resource } => nodata(self.ctx_detach(context, *resource)),
-            Command::Submit { size } => nodata(self.submit(context, *size)),
+            Command::Submit { stream } => nodata(self.submit(context, stream.as_slice())),
             Command::UpdateCursor {
                 scanout,
                 x,

@@ -56,9 +56,9 @@ impl Device {
     }
 
     /// SUBMIT_3D, which has no commands that this display does.
-    pub(crate) fn submit(&mut self, context: u32, size: u32) -> Result<(), u32>
-        ensures { submit_step self.old context size ≡ (self.new, response_of result) }
+    pub(crate) fn submit(&mut self, context: u32, stream: &[u8]) -> Result<(), u32>
+        ensures { submit_step self.old context stream.now ≡ (self.new, response_of result) }
     {
-        self.contexts.submit(context, size)
+        self.contexts.submit(context, stream)
     }
 }

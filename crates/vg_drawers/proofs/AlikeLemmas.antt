@@ -446,7 +446,7 @@ command s z context (CtxAttach id) e =
     (contexts-of s z (contexts.attached context id) e)
 command s z context (CtxDetach id) e =
     answered _ _ s z _ _ _ _ (ap (λ (t : State). refusal_of (contexts.detach_refusals context id t.contexts)) e) e (contexts-of s z (contexts.detached context id) e)
-command s z context (Submit size) e = answered _ _ s z _ _ _ _ (ap (λ (t : State). refusal_of (contexts.submit_refusals context size t.contexts)) e) e e
+command s z context (Submit stream) e = answered _ _ s z _ _ _ _ (ap (λ (t : State). refusal_of (contexts.submit_refusals context stream t.contexts)) e) e e
 command s z context (UpdateCursor n x y id hot_x hot_y) e =
     answered _ _ s z _ _ _ _ (cursor-refusals s z n id hot_x hot_y e) e
     (cursor-changed s z n (cursor_change s x y id hot_x hot_y) (cursor_change z x y id hot_x hot_y) e (moved-cursor s z n x y id hot_x hot_y e))

@@ -105,7 +105,7 @@ commanded-same z (CtxCreate nlen init name) p = refl
 commanded-same z CtxDestroy p = refl
 commanded-same z (CtxAttach id) p = refl
 commanded-same z (CtxDetach id) p = refl
-commanded-same z (Submit size) p = refl
+commanded-same z (Submit stream) p = refl
 commanded-same z (UpdateCursor n x y id hot_x hot_y) p = refl
 commanded-same z (MoveCursor n x y) p = refl
 

@@ -126,7 +126,7 @@ module _ {X Z : Type 0} (ink : Ink X Z) where
   commanded-alike s z CtxDestroy p e = refl
   commanded-alike s z (CtxAttach id) p e = refl
   commanded-alike s z (CtxDetach id) p e = refl
-  commanded-alike s z (Submit size) p e = refl
+  commanded-alike s z (Submit stream) p e = refl
   commanded-alike s z (UpdateCursor n x y id hot_x hot_y) p e = point-alike s z n id hot_x hot_y p e
   commanded-alike s z (MoveCursor n x y) p e = refl
 

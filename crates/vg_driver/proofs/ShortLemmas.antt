@@ -50,6 +50,6 @@ short-body (CtxCreate n c name) short = simp length-append (omega (arith, length
 short-body CtxDestroy short = omega arith
 short-body (CtxAttach resource) short = omega (arith, length-two resource 0)
 short-body (CtxDetach resource) short = omega (arith, length-two resource 0)
-short-body (Submit size) short = omega (arith, length-two size 0)
+short-body (Submit stream) short = simp length-append (omega (arith, short, length-le 4 (length stream), length-le 4 0))
 short-body (UpdateCursor s x y r h k) short = simp length-append (omega (arith, length-position s x y, length-le 4 r, length-le 4 h, length-le 4 k, length-le 4 0))
 short-body (MoveCursor s x y) short = simp length-append (omega (arith, length-position s x y, length-le 4 0))

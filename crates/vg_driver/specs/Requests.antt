@@ -5,7 +5,7 @@ use Rattle.vg_wire.specs.declared.request.Queue.{Queue}
 use Rattle.vg_wire.specs.declared.request.Queue.TheVariants as queues
 use Rattle.vg_wire.specs.declared.two_d.Command2d.TheVariants as commands
 use Rattle.vg_wire_ext.specs.declared.command.Command.{Command}
-use Rattle.vg_wire_ext.specs.declared.command.Command.TheVariants.{TwoD, Edid, AssignUuid, CreateBlob, CtxCreate}
+use Rattle.vg_wire_ext.specs.declared.command.Command.TheVariants.{TwoD, Edid, AssignUuid, CreateBlob, CtxCreate, Submit}
 use Rattle.vg_wire_ext.specs.Commands.{FitsEntries, command_kind}
 use Rattle.vg_wire_ext.specs.Request.{queue_of, request_bytes}
 use Rattle.vg_chain.specs.declared.shape.Shape.{Shape}
@@ -82,12 +82,13 @@ IsWay (Control context) = Unit {0}
 IsWay (Timeline context ring) = ring < 64
 IsWay Cursor = Unit {0}
 
--- A request of at most 49,152 bytes: its header has 24, its fields before the entries 8 or 32, and each entry 16; and a name has
--- at most 64. All other commands are shorter.
+-- A request of at most 49,152 bytes: its header has 24, its fields before the entries 8 or 32, and each entry 16, or 8 before the
+-- stream; and a name has at most 64. All other commands are shorter.
 abbrev pub IsShort : Command → Type 0
 IsShort (TwoD (commands.Attach resource entries)) = length entries ≤ 3070
 IsShort (CreateBlob resource mem flags blob_id size entries) = length entries ≤ 3068
 IsShort (CtxCreate nlen context_init name) = length name ≤ 64
+IsShort (Submit stream) = length stream ≤ 49120
 IsShort command = Unit {0}
 
 -- A command that can go this way: the way's queue is the command's.

@@ -162,7 +162,7 @@ module _ (P Q : State → Type 0) (Makes : ℕ → Type 0) (Gives : ℕ → List
       answered (refusal_of (ctx_attach_refusals s context id)) s _ responses.Nodata was (λ none. moves.context s (contexts.attached context id s.contexts) was)
   command-kept s context (CtxDetach id) made was =
       answered (refusal_of (contexts.detach_refusals context id s.contexts)) s _ responses.Nodata was (λ none. moves.context s (contexts.detached context id s.contexts) was)
-  command-kept s context (Submit size) made was = answered (refusal_of (contexts.submit_refusals context size s.contexts)) s s responses.Nodata was (λ none. moves.stay s was)
+  command-kept s context (Submit stream) made was = answered (refusal_of (contexts.submit_refusals context stream s.contexts)) s s responses.Nodata was (λ none. moves.stay s was)
   command-kept s context (UpdateCursor scanout x y id hot_x hot_y) made was =
       answered (refusal_of (cursor_refusals s scanout id hot_x hot_y)) s _ responses.Nodata was (λ none. moves.point s scanout (cursor_change s x y id hot_x hot_y) was)
   command-kept s context (MoveCursor scanout x y) made was =
@@ -259,7 +259,7 @@ made_by (CtxCreate nlen context_init name) = tt
 made_by CtxDestroy = tt
 made_by (CtxAttach resource) = tt
 made_by (CtxDetach resource) = tt
-made_by (Submit size) = tt
+made_by (Submit stream) = tt
 made_by (UpdateCursor scanout x y resource hot_x hot_y) = tt
 made_by (MoveCursor scanout x y) = tt
 

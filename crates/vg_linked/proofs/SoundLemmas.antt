@@ -147,7 +147,7 @@ module _ (client count : ℕ) (holds : Holds) (share : ShareState) (linked : Lin
   made header CtxDestroy may = tt
   made header (CtxAttach id) may = tt
   made header (CtxDetach id) may = tt
-  made header (Submit size) may = tt
+  made header (Submit stream) may = tt
   made header (UpdateCursor scanout x y id hot_x hot_y) may = tt
   made header (MoveCursor scanout x y) may = tt
 

@@ -33,9 +33,9 @@ use Rattle.vg_wire_ext.specs.declared.command.Command.TheVariants.{TwoD, CapsetI
 use Rattle.vg_wire_ext.specs.declared.response.Response.TheVariants as responses
 use Rattle.vg_wire_ext.specs.Commands.{command_of, is_known}
 use Rattle.vg_wire_ext.specs.Request.{is_queue_of, request_of}
-use Rattle.vg_named.specs.declared.names.Named.{Named}
-use Rattle.vg_named.specs.declared.names.Named.TheVariants as names
-use Rattle.vg_named.specs.Named.{named_2d, named_by, named_in}
+use Rattle.vg_wire_ext.specs.declared.names.Named.{Named}
+use Rattle.vg_wire_ext.specs.declared.names.Named.TheVariants as names
+use Rattle.vg_wire_ext.specs.Named.{named_2d, named_by, named_in}
 use Rattle.vg_share.specs.Share.{SharesPages, new_pages, pages_at}
 use Rattle.vg_client_holds.specs.declared.act.Act.{Act}
 use Rattle.vg_client_holds.specs.declared.act.Act.TheVariants.{Enter, Reserve, Store, Load, Export, Import, Release, Free, Take, Drop, Await, Denied, Leave}
@@ -285,7 +285,7 @@ copies-command-named state context (CtxCreate nlen context_init name) other = re
 copies-command-named state context CtxDestroy other = refl
 copies-command-named state context (CtxAttach resource) other = refl
 copies-command-named state context (CtxDetach resource) other = refl
-copies-command-named state context (Submit size) other = refl
+copies-command-named state context (Submit stream) other = refl
 copies-command-named state context (UpdateCursor scanout x y resource hot_x hot_y) other = refl
 copies-command-named state context (MoveCursor scanout x y) other = refl
 

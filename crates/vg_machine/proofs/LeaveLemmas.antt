@@ -56,7 +56,7 @@ use Rattle.vg_device.proofs.MapLemmas.{insert_other, remove_other, set_other}
 use Rattle.vg_pages.specs.Lending.{AreSameIn}
 use Rattle.vg_machine.specs.Blocks.{blocks, blocks_named, blocks_shaped, is_lent, is_of_context, keeps_context, names_context}
 use Rattle.vg_machine.specs.Jobs.{Job}
-use Rattle.vg_named.specs.Named.{named_2d, named_by, named_in}
+use Rattle.vg_wire_ext.specs.Named.{named_2d, named_by, named_in}
 
 -- the parts are as they were
 pub record Leaves (old new : State) (job : Job) : Type 0 where
@@ -300,8 +300,8 @@ leaves-command jobs state job has there context (CtxAttach id) free =
 leaves-command jobs state job has there context (CtxDetach id) free =
     leaves-answered (refusal_of (detach_refusals context id state.contexts)) state _ responses.Nodata job
     (λ none. leaves-contexts state job _ (λ names live. live-changed (header_of job.asked.bytes).ctx_id context (without_resource id) (context_at context state.contexts) state.contexts live))
-leaves-command jobs state job has there context (Submit size) free =
-    leaves-answered (refusal_of (submit_refusals context size state.contexts)) state state responses.Nodata job (λ none. leaves-itself state job)
+leaves-command jobs state job has there context (Submit stream) free =
+    leaves-answered (refusal_of (submit_refusals context stream state.contexts)) state state responses.Nodata job (λ none. leaves-itself state job)
 leaves-command jobs state job has there context (UpdateCursor scanout x y id hot_x hot_y) free =
     leaves-answered (refusal_of (cursor_refusals state scanout id hot_x hot_y)) state _ responses.Nodata job (λ none. leaves-cursors state job _ _)
 leaves-command jobs state job has there context (MoveCursor scanout x y) free =

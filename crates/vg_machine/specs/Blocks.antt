@@ -14,9 +14,9 @@ use Rattle.vg_client_holds.specs.declared.act.Act.{Act}
 use Rattle.vg_client_holds.specs.declared.act.Act.TheVariants.{Load, Reserve, Store}
 use Rattle.vg_wire.specs.Header.{header_of}
 use Rattle.vg_wire_ext.specs.Request.{request_of}
-use Rattle.vg_named.specs.declared.names.Named.{Named}
-use Rattle.vg_named.specs.declared.names.Named.TheVariants.{Context, Flush, Nothing, Resource, Transfer}
-use Rattle.vg_named.specs.Named.{named_in}
+use Rattle.vg_wire_ext.specs.declared.names.Named.{Named}
+use Rattle.vg_wire_ext.specs.declared.names.Named.TheVariants.{Context, Flush, Nothing, Resource, Transfer}
+use Rattle.vg_wire_ext.specs.Named.{named_in}
 use Rattle.vg_device.specs.declared.request.Request.{Request}
 use Rattle.vg_device.specs.State.{State}
 use Rattle.vg_backing.specs.Backing.{touches}

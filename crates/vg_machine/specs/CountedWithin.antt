@@ -86,7 +86,7 @@ command-like state context (CtxCreate nlen context_init name) = like-answered _ 
 command-like state context CtxDestroy = like-answered _ state _ _ (record { setup = refl; entries = refl })
 command-like state context (CtxAttach resource) = like-answered _ state _ _ (record { setup = refl; entries = refl })
 command-like state context (CtxDetach resource) = like-answered _ state _ _ (record { setup = refl; entries = refl })
-command-like state context (Submit size) = like-answered _ state state _ (like-itself state)
+command-like state context (Submit stream) = like-answered _ state state _ (like-itself state)
 command-like state context (UpdateCursor scanout x y resource hot_x hot_y) = like-answered _ state _ _ (record { setup = refl; entries = refl })
 command-like state context (MoveCursor scanout x y) = like-answered _ state _ _ (record { setup = refl; entries = refl })
 

@@ -20,8 +20,8 @@ use std::marker::Model;
 use vg_chain::Shape;
 use vg_device::{Act, ActReply, Copy, Device, Holds, Reply, Request, Setup};
 use vg_history::Begun;
-use vg_named::{Named, named};
 use vg_scanout::Frame;
+use vg_wire_ext::{Named, named};
 
 /// A display: the device, and what it remembers of the jobs that it has lent.
 #[derive(Drop)]

@@ -169,7 +169,7 @@ module _ (scanout key : ℕ) where
   command-backs s context CtxDestroy = answered ⊥ (refusal_of (contexts.destroy_refusals context s.contexts)) s _ responses.Nodata (record { back = λ is. inl is })
   command-backs s context (CtxAttach id) = answered ⊥ (refusal_of (ctx_attach_refusals s context id)) s _ responses.Nodata (record { back = λ is. inl is })
   command-backs s context (CtxDetach id) = answered ⊥ (refusal_of (contexts.detach_refusals context id s.contexts)) s _ responses.Nodata (record { back = λ is. inl is })
-  command-backs s context (Submit size) = answered ⊥ (refusal_of (contexts.submit_refusals context size s.contexts)) s s responses.Nodata (itself ⊥ s)
+  command-backs s context (Submit stream) = answered ⊥ (refusal_of (contexts.submit_refusals context stream s.contexts)) s s responses.Nodata (itself ⊥ s)
   command-backs s context (UpdateCursor at x y id hot_x hot_y) = answered ⊥ (refusal_of (cursor_refusals s at id hot_x hot_y)) s _ responses.Nodata (record { back = λ is. inl is })
   command-backs s context (MoveCursor at x y) = answered ⊥ (refusal_of (move_refusals s at)) s _ responses.Nodata (record { back = λ is. inl is })
 

@@ -90,7 +90,7 @@ command-beside state context (CtxCreate nlen context_init name) = search (rules,
 command-beside state context CtxDestroy = search (rules, beside-answered)
 command-beside state context (CtxAttach resource) = search (rules, beside-answered)
 command-beside state context (CtxDetach resource) = search (rules, beside-answered)
-command-beside state context (Submit size) = search (rules, beside-answered)
+command-beside state context (Submit stream) = search (rules, beside-answered)
 command-beside state context (UpdateCursor scanout x y resource hot_x hot_y) = search (rules, beside-answered)
 command-beside state context (MoveCursor scanout x y) = search (rules, beside-answered)
 

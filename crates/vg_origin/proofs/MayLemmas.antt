@@ -94,7 +94,7 @@ may-bind holds scanout key (CtxCreate nlen context_init name) binds may = absurd
 may-bind holds scanout key CtxDestroy binds may = absurd binds
 may-bind holds scanout key (CtxAttach id) binds may = absurd binds
 may-bind holds scanout key (CtxDetach id) binds may = absurd binds
-may-bind holds scanout key (Submit size) binds may = absurd binds
+may-bind holds scanout key (Submit stream) binds may = absurd binds
 may-bind holds scanout key (UpdateCursor at x y id hot_x hot_y) binds may = absurd binds
 may-bind holds scanout key (MoveCursor at x y) binds may = absurd binds
 

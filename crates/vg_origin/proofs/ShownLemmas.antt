@@ -328,7 +328,7 @@ command-shows state context (CtxCreate nlen context_init name) p = search (rules
 command-shows state context CtxDestroy p = search (rules, answered-same)
 command-shows state context (CtxAttach id) p = search (rules, answered-same)
 command-shows state context (CtxDetach id) p = search (rules, answered-same)
-command-shows state context (Submit size) p = search (rules, answered-same)
+command-shows state context (Submit stream) p = search (rules, answered-same)
 command-shows state context (UpdateCursor scanout x y id hot_x hot_y) p =
     let command : Command = UpdateCursor scanout x y id hot_x hot_y in
     answered-show (refusal_of (cursor_refusals state scanout id hot_x hot_y)) state command (with_cursor state scanout (cursor_change state x y id hot_x hot_y)) responses.Nodata

@@ -182,7 +182,7 @@ command-makes state context (CtxCreate nlen context_init name) = search (rules, 
 command-makes state context CtxDestroy = search (rules, answered-same)
 command-makes state context (CtxAttach resource) = search (rules, answered-same)
 command-makes state context (CtxDetach resource) = search (rules, answered-same)
-command-makes state context (Submit size) = search (rules, answered-same)
+command-makes state context (Submit stream) = search (rules, answered-same)
 command-makes state context (UpdateCursor scanout x y resource hot_x hot_y) =
     let change = cursor_change state x y resource hot_x hot_y in
     answered-makes (refusal_of (cursor_refusals state scanout resource hot_x hot_y)) state (with_cursor state scanout change) responses.Nodata (cursor-makes state scanout change)

@@ -391,8 +391,8 @@ command-stands state context (CtxAttach id) p was =
 command-stands state context (CtxDetach id) p was =
     answered-still (refusal_of (contexts.detach_refusals context id state.contexts)) state (record state { contexts = contexts.detached context id state.contexts }) responses.Nodata p was
     (λ none. record { memory = was.memory; pixels = was.pixels; once = was.once; screens = was.screens; images = was.images; backings = was.backings; blobs = was.blobs })
-command-stands state context (Submit size) p was =
-    answered-still (refusal_of (contexts.submit_refusals context size state.contexts)) state state responses.Nodata p was (λ none. was)
+command-stands state context (Submit stream) p was =
+    answered-still (refusal_of (contexts.submit_refusals context stream state.contexts)) state state responses.Nodata p was (λ none. was)
 command-stands state context (UpdateCursor scanout x y id hot_x hot_y) p was =
     answered-stands (refusal_of (cursor_refusals state scanout id hot_x hot_y)) state (with_cursor state scanout (cursor_change state x y id hot_x hot_y)) responses.Nodata
     p (cond (id == 0) p (record p { images = with_one scanout (image_at numbers state.entries (resource_at id state.resources) (p.pixels id)) p.images })) was

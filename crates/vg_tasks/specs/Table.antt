@@ -1,5 +1,5 @@
 -- The tasks that calls are made of: for each what is done, and what the answer changes.
-use Rattle.std.specs.Prelude.{ℕ, ℤ, pos, ◌+◌, ◌-◌, ◌*◌, ◌^◌, min, List, map, replicate, Option, Some, None}
+use Rattle.std.specs.Prelude.{ℕ, ℤ, pos, ◌+◌, ◌-◌, ◌*◌, ◌^◌, min, List, [], map, replicate, Option, Some, None}
 use Rattle.vg_formats.specs.declared.rect.Rect.{Rect}
 use Rattle.vg_formats.specs.declared.entry.MemEntry.{MemEntry}
 use Rattle.vg_pages.specs.Memory.{page_address}
@@ -191,4 +191,4 @@ wait_task fence = record { deed = Wait fence; change = Nothing }
 
 -- Commands of no bytes on a timeline of a context.
 abbrev pub submit_task : ℕ → ℕ → ℕ → Task
-submit_task client number ring = command_task (Timeline (context_id client number) ring) (Submit 0) Nothing
+submit_task client number ring = command_task (Timeline (context_id client number) ring) (Submit []) Nothing

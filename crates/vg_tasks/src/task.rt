@@ -579,13 +579,15 @@ pub(crate) fn detach_context_task(client: u32, number: u32, key: u32) -> Task
 }
 
 /// SUBMIT_3D of no bytes on a timeline of a context.
-pub(crate) fn submit_task(client: u32, number: u32, ring: u8) -> Task
+pub(crate) fn submit_task(alloc: Global, client: u32, number: u32, ring: u8) -> Task
     ensures { result ≡ table.submit_task client number ring }
 {
     let context = context_id(client, number);
     command_task(
         Way::Timeline { context, ring },
-        Command::Submit { size: 0 },
+        Command::Submit {
+            stream: Seq::from_vec(Vec::new(alloc)),
+        },
         Change::Nothing,
     )
 }

@@ -148,7 +148,10 @@ pub fn tasks_of(
         Call::Submit { context, ring } => with_context!(
             contexts,
             context,
-            one(alloc, submit_task(holds.client, context.number, ring))
+            one(
+                alloc,
+                submit_task(alloc, holds.client, context.number, ring)
+            )
         ),
         Call::Uuid { name } => with_held!(names, name, held => one(alloc, uuid_task(held.key))),
         Call::Export { name, .. } => {
@@ -201,7 +204,10 @@ fn begun_tasks(
         Body::Submit { context, ring } => with_context!(
             contexts,
             context,
-            one(alloc, submit_task(holds.client, context.number, ring))
+            one(
+                alloc,
+                submit_task(alloc, holds.client, context.number, ring)
+            )
         ),
     }
 }

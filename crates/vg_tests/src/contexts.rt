@@ -14,7 +14,7 @@ enum Step {
     Destroy(u32),
     Attach(u32, u32),
     Detach(u32, u32),
-    Submit(u32, u32),
+    Submit(u32, &'static [u8]),
     /// Of a resource.
     Forget(u32),
 }
@@ -51,11 +51,11 @@ static STEPS: [(Step, Option<u32>); 44] = [
     (Step::Detach(1, 5), None),
     (Step::Detach(1, 5), RESOURCE),
     (Step::Detach(257, 4), RESOURCE),
-    (Step::Submit(1, 0), None),
-    (Step::Submit(1, 1), UNSPEC),
-    (Step::Submit(1, 4), UNSPEC),
-    (Step::Submit(2, 0), CONTEXT),
-    (Step::Submit(2, 4), CONTEXT),
+    (Step::Submit(1, &[]), None),
+    (Step::Submit(1, &[0]), UNSPEC),
+    (Step::Submit(1, &[1, 0, 0, 0]), UNSPEC),
+    (Step::Submit(2, &[]), CONTEXT),
+    (Step::Submit(2, &[1, 0, 0, 0]), CONTEXT),
     (Step::Attach(1, 5), None),
     (Step::Forget(6), None),
     (Step::Forget(5), None),
@@ -67,7 +67,7 @@ static STEPS: [(Step, Option<u32>); 44] = [
     (Step::Destroy(1), None),
     (Step::Destroy(1), CONTEXT),
     (Step::Detach(1, 4), CONTEXT),
-    (Step::Submit(1, 0), CONTEXT),
+    (Step::Submit(1, &[]), CONTEXT),
     (Step::Create(1, 0, 0), None),
     (Step::Detach(1, 4), RESOURCE),
     (Step::Detach(257, 4), None),
@@ -82,7 +82,7 @@ fn answer(contexts: &mut Contexts, alloc: Global, step: Step) -> Result<Option<u
         Step::Destroy(id) => contexts.destroy(id),
         Step::Attach(id, resource) => contexts.attach(id, resource)?,
         Step::Detach(id, resource) => contexts.detach(id, resource),
-        Step::Submit(id, size) => contexts.submit(id, size),
+        Step::Submit(id, stream) => contexts.submit(id, stream),
         Step::Forget(resource) => {
             contexts.forget(resource);
             Ok(())

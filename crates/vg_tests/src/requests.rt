@@ -207,7 +207,20 @@ static CONTROL: [Row; 21] = [
     (0x0201, 0, &[], "CtxDestroy", &[]),
     (0x0202, 8, &[], "CtxAttach { resource: 67305985 }", &[4]),
     (0x0203, 8, &[], "CtxDetach { resource: 67305985 }", &[4]),
-    (0x0207, 8, &[], "Submit { size: 67305985 }", &[4]),
+    (
+        0x0207,
+        8,
+        &[(0, 0)],
+        "Submit { stream: Seq { elements: [] } }",
+        &[4],
+    ),
+    (
+        0x0207,
+        13,
+        &[(0, 5)],
+        "Submit { stream: Seq { elements: [9, 10, 11, 12, 13] } }",
+        &[4],
+    ),
 ];
 
 /// Cursors may stand left of the screen and above it.
@@ -280,13 +293,15 @@ static UNKNOWN: [Row; 12] = [
 ];
 
 /// Requests of the other queue, and requests less their last byte.
-static REFUSED: [Row; 6] = [
+static REFUSED: [Row; 8] = [
     (0x0300, 0, &[], "WrongQueue", &[]),
     (0x0301, 32, &[], "WrongQueue", &[]),
     (0x0101, 15, &[], "ShortBody", &[]),
     (0x0106, 23, &[(4, 1)], "ShortBody", &[]),
     (0x0106, 24, &[(4, 0x1000_0001)], "ShortBody", &[]),
     (0x0200, 71, &[], "ShortBody", &[]),
+    (0x0207, 12, &[(0, 5)], "ShortBody", &[]),
+    (0x0207, 8, &[(0, 0xffff_ffff)], "ShortBody", &[]),
 ];
 
 #[test]

@@ -1,4 +1,4 @@
-//! Responses laid out by hand from VIRTIO 1.2, 5.7.6.7 and 5.7.6.8.
+//! Responses laid out by hand from VIRTIO 1.2, 5.7.6.7 to 5.7.6.9.
 
 use super::requests::{header_and, is_written, put_word};
 use std::alloc::{AllocError, Global};
@@ -56,7 +56,7 @@ fn check_row(rt: &impl Abort, alloc: Global, row: &Row) -> Result<(), AllocError
 }
 
 /// Bytes that are a response.
-static GOOD: [Row; 12] = [
+static GOOD: [Row; 15] = [
     (0x1100, 0, &[], "Nodata"),
     (0x1200, 0, &[], "Error { code: 4608 }"),
     (0x1201, 0, &[], "Error { code: 4609 }"),
@@ -90,6 +90,24 @@ static GOOD: [Row; 12] = [
         "DisplayInfo { modes: Modes { items: [Some((513, 1027)), None, Some((1541, 2055))] } }",
     ),
     (
+        0x1102,
+        16,
+        &[(0, 63), (4, 1), (8, 16)],
+        "CapsetInfo { capset_id: 63, max_version: 1, max_size: 16 }",
+    ),
+    (0x1103, 0, &[], "Capset { data: Seq { elements: [] } }"),
+    (
+        0x1103,
+        16,
+        &[
+            (0, 0x0403_0201),
+            (4, 0x0807_0605),
+            (8, 0x0c0b_0a09),
+            (12, 0x100f_0e0d),
+        ],
+        "Capset { data: Seq { elements: [1, 2, 3, 4, 5, 6, 7, 8, 9, 10, 11, 12, 13, 14, 15, 16] } }",
+    ),
+    (
         0x1104,
         1032,
         &[(0, 128), (8, 0x0403_0201), (132, 0x807f_7e7d)],
@@ -118,12 +136,15 @@ fn responses_have_their_fields_at_their_places(rt: HostRuntime) -> Result<(), Fa
 
 type Bad = (u16, usize, &'static [Word]);
 
-/// Bytes that are none: other kinds, another length, a mode that is neither enabled nor zeros, another size of an EDID, and
+/// Bytes that are none: other kinds, another length, padding that isn't zeros, a mode that is neither enabled nor zeros, another size of an EDID, and
 /// bytes behind its block.
-static BAD: [Bad; 25] = [
+static BAD: [Bad; 28] = [
     (0x10ff, 0, &[]),
     (0x1101, 0, &[]),
     (0x1102, 0, &[]),
+    (0x1102, 15, &[]),
+    (0x1102, 17, &[]),
+    (0x1102, 16, &[(12, 1)]),
     (0x11ff, 0, &[]),
     (0x1206, 0, &[]),
     (0x1100, 1, &[]),

@@ -75,6 +75,12 @@ OK_NODATA = 0x1100
 abbrev pub OK_DISPLAY_INFO : ℕ
 OK_DISPLAY_INFO = 0x1101
 
+abbrev pub OK_CAPSET_INFO : ℕ
+OK_CAPSET_INFO = 0x1102
+
+abbrev pub OK_CAPSET : ℕ
+OK_CAPSET = 0x1103
+
 abbrev pub OK_EDID : ℕ
 OK_EDID = 0x1104
 

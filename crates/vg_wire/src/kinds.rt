@@ -51,6 +51,10 @@ pub const OK_NODATA: u32 = 0x1100;
 
 pub const OK_DISPLAY_INFO: u32 = 0x1101;
 
+pub const OK_CAPSET_INFO: u32 = 0x1102;
+
+pub const OK_CAPSET: u32 = 0x1103;
+
 pub const OK_EDID: u32 = 0x1104;
 
 pub const OK_RESOURCE_UUID: u32 = 0x1105;

@@ -1,4 +1,4 @@
-use Rattle.std.proofs.Common.{◌≡◌, ℕ, ℤ, pos, negsuc, ◌+◌, ◌*◌, ◌<◌, ◌^◌, List, ◌++◌, length, Bool, true, Option, Some, option_map, if◌then◌else◌, FitsSigned, w32, refl, ap, ◌∙◌, arith, append_assoc, length-append}
+use Rattle.std.proofs.Common.{◌≡◌, ℕ, ℤ, pos, negsuc, ◌+◌, ◌*◌, ◌<◌, ◌^◌, List, ◌++◌, length, take, drop, Bool, true, Option, Some, option_map, if◌then◌else◌, FitsSigned, w32, refl, ap, ◌∙◌, arith, append_assoc, length-append}
 use Rattle.std.specs.Int.{cast_signed, cast_unsigned}
 use Rattle.std.proofs.lemmas.Int.{to_z-of_z}
 use Rattle.std.proofs.lemmas.List.{take_all}
@@ -16,7 +16,7 @@ use Rattle.vg_wire.proofs.TwoDLemmas.{rect_at-rect_bytes, whole_of, length-two, 
 use Rattle.vg_wire_ext.specs.declared.command.Command.{Command}
 use Rattle.vg_wire_ext.specs.declared.command.Command.TheVariants.{TwoD, CapsetInfo, Capset, Edid, AssignUuid, CreateBlob, SetScanoutBlob, CtxCreate, CtxDestroy, CtxAttach, CtxDetach, Submit, UpdateCursor, MoveCursor}
 use Rattle.vg_wire_ext.specs.Fields.{signed_at, signed_bytes, position, planes}
-use Rattle.vg_wire_ext.specs.Commands.{FitsEntries, IsCommand, command_body, command_kind, command_of, row_of, capset_info, capset, edid, assign_uuid, create_blob, create_blob_size, set_scanout_blob, ctx_create, ctx_destroy, ctx_attach, ctx_detach, submit, update_cursor, move_cursor}
+use Rattle.vg_wire_ext.specs.Commands.{FitsEntries, IsCommand, command_body, command_kind, command_of, row_of, capset_info, capset, edid, assign_uuid, create_blob, create_blob_size, set_scanout_blob, ctx_create, ctx_destroy, ctx_attach, ctx_detach, submit, submit_size, update_cursor, move_cursor}
 
 -- the kind of each 2D command is a 2D command's
 pub is-2d : (command : Command2d) → is_2d (kind_of_2d command) ≡ true
@@ -88,9 +88,20 @@ read-ctx_detach : (n : ℕ) → n < 2 ^ 32 → ctx_detach (command_body (CtxDeta
 unfolding ctx_detach number_at le
 read-ctx_detach n fits = ap CtxDetach (number-le 4 n fits)
 
-read-submit : (n : ℕ) → n < 2 ^ 32 → submit (command_body (Submit n)) ≡ Submit n
-unfolding submit number_at le
-read-submit n fits = ap Submit (number-le 4 n fits)
+-- the number in front of a stream
+submit-size : (n : ℕ) (rest : List ℕ) → n < 2 ^ 32 → number_at 4 0 (le 4 n ++ le 4 0 ++ rest) ≡ n
+unfolding number_at le
+submit-size n rest fits = number-le 4 n fits
+
+submit-behind : (n : ℕ) (stream : List ℕ) → drop 8 (le 4 n ++ le 4 0 ++ stream) ≡ stream
+unfolding le
+submit-behind n stream = refl
+
+read-submit : (stream : List ℕ) → length stream < 2 ^ 32 → submit (command_body (Submit stream)) ≡ Submit stream
+unfolding submit
+read-submit stream fits =
+    ap Submit (ap (λ (n : ℕ). take n (drop 8 (command_body (Submit stream)))) (submit-size (length stream) stream fits)
+    ∙ ap (take (length stream)) (submit-behind (length stream) stream) ∙ take_all (length stream) stream (omega arith))
 
 -- the six numbers in front of a blob's entries, however many bytes follow
 record BlobFields (r m f n i s : ℕ) (bytes : List ℕ) : Type 0 where
@@ -155,7 +166,7 @@ size_of_command (CtxCreate nlen context_init name) = 72
 size_of_command CtxDestroy = 0
 size_of_command (CtxAttach resource) = 8
 size_of_command (CtxDetach resource) = 8
-size_of_command (Submit size) = 8
+size_of_command (Submit stream) = 8 + length stream
 size_of_command (UpdateCursor scanout x y resource hot_x hot_y) = 32
 size_of_command (MoveCursor scanout x y) = 32
 
@@ -185,14 +196,14 @@ length-command_body (CtxCreate n c name) good = simp length-append (omega (arith
 length-command_body CtxDestroy good = refl
 length-command_body (CtxAttach resource) good = length-two resource 0
 length-command_body (CtxDetach resource) good = length-two resource 0
-length-command_body (Submit size) good = length-two size 0
+length-command_body (Submit stream) good = simp length-append (omega (arith, length-le 4 (length stream), length-le 4 0))
 length-command_body (UpdateCursor s x y r h k) good =
     simp length-append (omega (arith, length-position s x y, length-le 4 r, length-le 4 h, length-le 4 k, length-le 4 0))
 length-command_body (MoveCursor s x y) good = simp length-append (omega (arith, length-position s x y, length-le 4 0))
 
 -- what is written of a command's fields is read as itself
 pub command_of-command_body : (command : Command) → FitsEntries command → IsCommand command → command_of (command_kind command) (command_body command) ≡ Some command
-unfolding row_of create_blob_size ctx_destroy
+unfolding row_of create_blob_size submit_size ctx_destroy
 command_of-command_body (TwoD command) count fits =
     found-2d (is_2d (kind_of_2d command)) (two_d_of (kind_of_2d command) (body_of_2d command)) _ command (is-2d command) (two_d_of-body_of_2d command count fits)
 command_of-command_body (CapsetInfo n) count fits =
@@ -218,8 +229,9 @@ command_of-command_body (CtxAttach n) count fits =
     whole_of 8 (command_body (CtxAttach n)) (ctx_attach (command_body (CtxAttach n))) (CtxAttach n) (omega (arith, length-two n 0)) (read-ctx_attach n fits)
 command_of-command_body (CtxDetach n) count fits =
     whole_of 8 (command_body (CtxDetach n)) (ctx_detach (command_body (CtxDetach n))) (CtxDetach n) (omega (arith, length-two n 0)) (read-ctx_detach n fits)
-command_of-command_body (Submit n) count fits =
-    whole_of 8 (command_body (Submit n)) (submit (command_body (Submit n))) (Submit n) (omega (arith, length-two n 0)) (read-submit n fits)
+command_of-command_body (Submit stream) count fits =
+    let body : List ℕ = command_body (Submit stream) in
+    whole_of (submit_size body) body (submit body) (Submit stream) (omega (arith, length-command_body (Submit stream) fits, submit-size (length stream) stream count)) (read-submit stream count)
 command_of-command_body (UpdateCursor s x y r h k) count fits =
     let body : List ℕ = command_body (UpdateCursor s x y r h k) in
     whole_of 32 body (update_cursor body) (UpdateCursor s x y r h k) (omega (arith, length-command_body (UpdateCursor s x y r h k) fits)) (read-update_cursor s x y r h k fits)

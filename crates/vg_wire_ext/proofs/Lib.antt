@@ -1,3 +1,4 @@
 pub mod CommandLemmas
 pub mod RequestLemmas
 pub mod ResponseLemmas
+pub mod NamedLemmas

@@ -36,7 +36,7 @@ known (CtxCreate nlen context_init name) = refl
 known CtxDestroy = refl
 known (CtxAttach resource) = refl
 known (CtxDetach resource) = refl
-known (Submit size) = refl
+known (Submit stream) = refl
 known (UpdateCursor scanout x y resource hot_x hot_y) = refl
 known (MoveCursor scanout x y) = refl
 
@@ -63,7 +63,7 @@ right-queue (CtxCreate nlen context_init name) = refl
 right-queue CtxDestroy = refl
 right-queue (CtxAttach resource) = refl
 right-queue (CtxDetach resource) = refl
-right-queue (Submit size) = refl
+right-queue (Submit stream) = refl
 right-queue (UpdateCursor scanout x y resource hot_x hot_y) = refl
 right-queue (MoveCursor scanout x y) = refl
 

@@ -1,25 +1,32 @@
-use Rattle.std.proofs.Common.{◌≡◌, ℕ, ◌≤◌, List, [], ◌++◌, length, take, drop, replicate, Some, None, Bool, false, true, cond, nat_le, ◌==◌, ◌&&◌, subst, refl, ap, ◌∙◌, arith, append_assoc, length-append}
+use Rattle.std.proofs.Common.{◌≡◌, ℕ, ◌≤◌, ◌<◌, ◌^◌, List, [], ◌++◌, length, take, drop, replicate, Some, None, Bool, false, true, cond, nat_le, ◌==◌, ◌&&◌, subst, refl, ap, ◌∙◌, arith, append_assoc, length-append}
 use Rattle.std.proofs.lemmas.Bool.Decides.{nat_tests}
 use Rattle.std.proofs.lemmas.List.{length-replicate, drop_at, take_at, take_all}
 use Rattle.vg_wire.specs.declared.header.Header.{Header}
-use Rattle.vg_numbers.specs.Numbers.{le}
+use Rattle.vg_numbers.specs.Numbers.{number_at, le}
 use Rattle.vg_wire.specs.Header.{IsHeader, header_of, header_bytes}
 use Rattle.vg_wire.specs.Modes.{Mode, IsModes, modes_bytes, slots_of, trimmed}
-use Rattle.vg_numbers.proofs.NumberLemmas.{length-le}
+use Rattle.vg_numbers.proofs.NumberLemmas.{length-le, number_at-le}
 use Rattle.vg_wire.proofs.HeaderLemmas.{length-header_bytes, header_of-header_bytes}
+use Rattle.vg_wire.proofs.TwoDLemmas.{length-four}
 use Rattle.vg_wire.proofs.SlotLemmas.{length-modes_bytes, read-modes_bytes, slots-modes}
 use Rattle.vg_wire_ext.specs.declared.response.Response.{Response}
-use Rattle.vg_wire_ext.specs.declared.response.Response.TheVariants.{Nodata, DisplayInfo, Edid, Uuid, Error}
-use Rattle.vg_wire_ext.specs.Response.{IsResponse, FitsResponse, Spells, body_of, edid_body, response_body, response_bytes, response_kind}
+use Rattle.vg_wire_ext.specs.declared.response.Response.TheVariants.{Nodata, DisplayInfo, CapsetInfo, Capset, Edid, Uuid, Error}
+use Rattle.vg_wire_ext.specs.Response.{IsResponse, FitsResponse, Spells, body_of, capset_info_body, capset_info_of, edid_body, response_body, response_bytes, response_kind}
 
 length-edid_body : (block : List ℕ) → length block ≡ 128 → length (edid_body block) ≡ 1032
 unfolding edid_body
 length-edid_body block fits = simp length-append (omega (arith, length-le 4 128, length-le 4 0, length-replicate {A = ℕ} 896 0, fits))
 
+length-capset_info_body : (id version size : ℕ) → length (capset_info_body id version size) ≡ 16
+unfolding capset_info_body
+length-capset_info_body id version size = length-four id version size 0
+
 -- how many bytes are written of a response
 abbrev pub size_of_response : Response → ℕ
 size_of_response Nodata = 0
 size_of_response (DisplayInfo modes) = 384
+size_of_response (CapsetInfo id version size) = 16
+size_of_response (Capset content) = length content
 size_of_response (Edid block) = 1032
 size_of_response (Uuid bytes) = 16
 size_of_response (Error code) = 0
@@ -27,6 +34,8 @@ size_of_response (Error code) = 0
 pub length-response_body : (response : Response) → IsResponse response → FitsResponse response → length (response_body response) ≡ size_of_response response
 length-response_body Nodata valid fits = refl
 length-response_body (DisplayInfo modes) valid fits = length-modes_bytes modes valid.0
+length-response_body (CapsetInfo id version size) valid fits = length-capset_info_body id version size
+length-response_body (Capset content) valid fits = refl
 length-response_body (Edid block) valid fits = length-edid_body block fits
 length-response_body (Uuid bytes) valid fits = fits
 length-response_body (Error code) valid fits = refl
@@ -37,6 +46,12 @@ nodata_body kind bytes e = rw e refl
 display_body : (kind : ℕ) (bytes : List ℕ) → kind ≡ 0x1101 → length bytes ≡ 408 → body_of kind bytes ≡ Some (DisplayInfo (trimmed (slots_of bytes)))
 display_body kind bytes e long = rw (e, long) refl
 
+info_body : (kind : ℕ) (bytes : List ℕ) → kind ≡ 0x1102 → length bytes ≡ 40 → body_of kind bytes ≡ Some (capset_info_of bytes)
+info_body kind bytes e long = rw (e, long) refl
+
+pub capset_body : (kind : ℕ) (bytes : List ℕ) → kind ≡ 0x1103 → body_of kind bytes ≡ Some (Capset (drop 24 bytes))
+capset_body kind bytes e = rw e refl
+
 block_body : (kind : ℕ) (bytes : List ℕ) → kind ≡ 0x1104 → length bytes ≡ 1056 → body_of kind bytes ≡ Some (Edid (take 128 (drop 32 bytes)))
 block_body kind bytes e long = rw (e, long) refl
 
@@ -45,6 +60,21 @@ uuid_body kind bytes e long = rw (e, long) refl
 
 error_body : (kind : ℕ) (bytes : List ℕ) → 0x1200 ≤ kind → kind ≤ 0x1205 → body_of kind bytes ≡ Some (Error kind)
 error_body kind bytes low high = grind (arith, nat_tests)
+
+same_info : {a a' b b' c c' : ℕ} → a ≡ a' → b ≡ b' → c ≡ c' → CapsetInfo a b c ≡ CapsetInfo a' b' c'
+same_info a b c = rw (a, b, c) refl
+
+-- the fields behind a header are read as themselves
+read-capset_info_body : (front : List ℕ) (id version size : ℕ) → length front ≡ 24 → id < 2 ^ 32 → version < 2 ^ 32 → size < 2 ^ 32
+    → capset_info_of (front ++ capset_info_body id version size) ≡ CapsetInfo id version size
+unfolding capset_info_of capset_info_body
+read-capset_info_body front id version size here a b c =
+    let first : length (front ++ le 4 id) ≡ 28 = simp length-append (omega (arith, length-le 4 id)) in
+    let second : length ((front ++ le 4 id) ++ le 4 version) ≡ 32 = simp length-append (omega (arith, length-le 4 id, length-le 4 version)) in
+    same_info
+    (simp append_assoc (simp append_assoc at (number_at-le 4 front (le 4 version ++ le 4 size ++ le 4 0) 24 id here a)))
+    (simp append_assoc (simp append_assoc at (number_at-le 4 (front ++ le 4 id) (le 4 size ++ le 4 0) 28 version first b)))
+    (simp append_assoc (simp append_assoc at (number_at-le 4 ((front ++ le 4 id) ++ le 4 version) (le 4 0) 32 size second c)))
 
 -- the block behind a header and its size is read as itself
 read-edid_body : (front block : List ℕ) → length front ≡ 24 → length block ≡ 128 → take 128 (drop 32 (front ++ edid_body block)) ≡ block
@@ -65,6 +95,14 @@ body_of-response_bytes header (DisplayInfo modes) fits valid kind =
     let long : length (header_bytes header ++ modes_bytes modes) ≡ 408 = simp length-append (omega (arith, length-header_bytes header, length-modes_bytes modes valid.0)) in
     let same = read-modes_bytes (header_bytes header) modes (length-header_bytes header) valid fits in
     display_body header.kind (header_bytes header ++ modes_bytes modes) kind long ∙ ap (λ (items : List Mode). Some (DisplayInfo items)) same
+body_of-response_bytes header (CapsetInfo id version size) fits valid kind =
+    let body : List ℕ = capset_info_body id version size in
+    let long : length (header_bytes header ++ body) ≡ 40 = simp length-append (omega (arith, length-header_bytes header, length-capset_info_body id version size)) in
+    let same = read-capset_info_body (header_bytes header) id version size (length-header_bytes header) fits.0 fits.1 fits.2 in
+    info_body header.kind (header_bytes header ++ body) kind long ∙ ap (λ (response : Response). Some response) same
+body_of-response_bytes header (Capset content) fits valid kind =
+    let same = drop_at (header_bytes header) content 24 (length-header_bytes header) in
+    capset_body header.kind (header_bytes header ++ content) kind ∙ ap (λ (bytes : List ℕ). Some (Capset bytes)) same
 body_of-response_bytes header (Edid block) fits valid kind =
     let long : length (header_bytes header ++ edid_body block) ≡ 1056 = simp length-append (omega (arith, length-header_bytes header, length-edid_body block fits)) in
     let same = read-edid_body (header_bytes header) block (length-header_bytes header) fits in
@@ -95,26 +133,33 @@ spelled-found bytes header response good fits spells =
 abbrev IsOfKind : ℕ → Response → Type 0
 IsOfKind kind response = IsResponse response × (kind ≡ response_kind response)
 
-valid_by : (none first second third fourth : Bool) (kind : ℕ) (items : List Mode) (block uuid : List ℕ) (response : Response) → IsModes items
-    → (none ≡ true → kind ≡ 0x1100) → (first ≡ true → kind ≡ 0x1101) → (second ≡ true → kind ≡ 0x1104) → (third ≡ true → kind ≡ 0x1105) → (fourth ≡ true → (0x1200 ≤ kind) × (kind ≤ 0x1205))
-    → cond none (Some Nodata) (cond first (Some (DisplayInfo items)) (cond second (Some (Edid block)) (cond third (Some (Uuid uuid)) (cond fourth (Some (Error kind)) None)))) ≡ Some response
+valid_by : (none first info capset second third fourth : Bool) (kind : ℕ) (items : List Mode) (i v n : ℕ) (content block uuid : List ℕ) (response : Response) → IsModes items
+    → (none ≡ true → kind ≡ 0x1100) → (first ≡ true → kind ≡ 0x1101) → (info ≡ true → kind ≡ 0x1102) → (capset ≡ true → kind ≡ 0x1103) → (second ≡ true → kind ≡ 0x1104) → (third ≡ true → kind ≡ 0x1105)
+    → (fourth ≡ true → (0x1200 ≤ kind) × (kind ≤ 0x1205))
+    → cond none (Some Nodata) (cond first (Some (DisplayInfo items)) (cond info (Some (CapsetInfo i v n)) (cond capset (Some (Capset content)) (cond second (Some (Edid block)) (cond third (Some (Uuid uuid)) (cond fourth (Some (Error kind)) None)))))) ≡ Some response
     → IsOfKind kind response
-valid_by true first second third fourth kind items block uuid response modes a b c d f e =
+valid_by true first info capset second third fourth kind items i v n content block uuid response modes a b g h c d f e =
     let same : Nodata ≡ response = cc in
     subst (IsOfKind kind) same (tt, a refl)
-valid_by false true second third fourth kind items block uuid response modes a b c d f e =
+valid_by false true info capset second third fourth kind items i v n content block uuid response modes a b g h c d f e =
     let same : DisplayInfo items ≡ response = cc in
     subst (IsOfKind kind) same (modes, b refl)
-valid_by false false true third fourth kind items block uuid response modes a b c d f e =
+valid_by false false true capset second third fourth kind items i v n content block uuid response modes a b g h c d f e =
+    let same : CapsetInfo i v n ≡ response = cc in
+    subst (IsOfKind kind) same (tt, g refl)
+valid_by false false false true second third fourth kind items i v n content block uuid response modes a b g h c d f e =
+    let same : Capset content ≡ response = cc in
+    subst (IsOfKind kind) same (tt, h refl)
+valid_by false false false false true third fourth kind items i v n content block uuid response modes a b g h c d f e =
     let same : Edid block ≡ response = cc in
     subst (IsOfKind kind) same (tt, c refl)
-valid_by false false false true fourth kind items block uuid response modes a b c d f e =
+valid_by false false false false false true fourth kind items i v n content block uuid response modes a b g h c d f e =
     let same : Uuid uuid ≡ response = cc in
     subst (IsOfKind kind) same (tt, d refl)
-valid_by false false false false true kind items block uuid response modes a b c d f e =
+valid_by false false false false false false true kind items i v n content block uuid response modes a b g h c d f e =
     let same : Error kind ≡ response = cc in
     subst (IsOfKind kind) same (f refl, refl)
-valid_by false false false false false kind items block uuid response modes a b c d f e = cc
+valid_by false false false false false false false kind items i v n content block uuid response modes a b g h c d f e = cc
 
 one_kind : (kind code : ℕ) → (kind == code) ≡ true → kind ≡ code
 one_kind kind code h = grind (arith, nat_tests)
@@ -127,7 +172,10 @@ error_kind kind h = (grind (arith, nat_tests), grind (arith, nat_tests))
 
 -- what is found is a response of the header's kind
 pub body_of-valid : (kind : ℕ) (bytes : List ℕ) (response : Response) → body_of kind bytes ≡ Some response → IsResponse response × (kind ≡ response_kind response)
+unfolding capset_info_of
 body_of-valid kind bytes response e =
-    valid_by (kind == 0x1100) (kind == 0x1101 && length bytes == 408) (kind == 0x1104 && length bytes == 1056) (kind == 0x1105 && length bytes == 40) (nat_le 0x1200 kind && nat_le kind 0x1205)
-    kind (trimmed (slots_of bytes)) (take 128 (drop 32 bytes)) (take 16 (drop 24 bytes)) response (slots-modes bytes)
-    (one_kind kind 0x1100) (long_kind kind 0x1101 (length bytes) 408) (long_kind kind 0x1104 (length bytes) 1056) (long_kind kind 0x1105 (length bytes) 40) (error_kind kind) e
+    valid_by (kind == 0x1100) (kind == 0x1101 && length bytes == 408) (kind == 0x1102 && length bytes == 40) (kind == 0x1103) (kind == 0x1104 && length bytes == 1056) (kind == 0x1105 && length bytes == 40)
+    (nat_le 0x1200 kind && nat_le kind 0x1205)
+    kind (trimmed (slots_of bytes)) (number_at 4 24 bytes) (number_at 4 28 bytes) (number_at 4 32 bytes) (drop 24 bytes) (take 128 (drop 32 bytes)) (take 16 (drop 24 bytes)) response (slots-modes bytes)
+    (one_kind kind 0x1100) (long_kind kind 0x1101 (length bytes) 408) (long_kind kind 0x1102 (length bytes) 40) (one_kind kind 0x1103) (long_kind kind 0x1104 (length bytes) 1056) (long_kind kind 0x1105 (length bytes) 40)
+    (error_kind kind) e

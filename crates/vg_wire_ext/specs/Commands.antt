@@ -63,9 +63,13 @@ ctx_attach body = CtxAttach (number_at 4 0 body)
 unfoldable pub ctx_detach : List ℕ → Command
 ctx_detach body = CtxDetach (number_at 4 0 body)
 
--- struct virtio_gpu_cmd_submit: size, padding
+-- struct virtio_gpu_cmd_submit: size, padding, and then as many bytes as size says
 unfoldable pub submit : List ℕ → Command
-submit body = Submit (number_at 4 0 body)
+submit body = Submit (take (number_at 4 0 body) (drop 8 body))
+
+-- How many bytes these take.
+unfoldable pub submit_size : List ℕ → ℕ
+submit_size body = 8 + number_at 4 0 body
 
 -- struct virtio_gpu_update_cursor: pos (scanout_id, x, y, padding), resource_id, hot_x, hot_y, padding
 unfoldable pub update_cursor : List ℕ → Command
@@ -98,7 +102,7 @@ row_of kind =
     else if kind == CTX_DESTROY then fixed 0 ctx_destroy
     else if kind == CTX_ATTACH_RESOURCE then fixed 8 ctx_attach
     else if kind == CTX_DETACH_RESOURCE then fixed 8 ctx_detach
-    else if kind == SUBMIT_3D then fixed 8 submit
+    else if kind == SUBMIT_3D then Some (record { size = submit_size; fields = submit })
     else if kind == UPDATE_CURSOR then fixed 32 update_cursor
     else if kind == MOVE_CURSOR then fixed 32 move_cursor
     else None
@@ -129,7 +133,7 @@ command_kind (CtxCreate nlen context_init name) = CTX_CREATE
 command_kind CtxDestroy = CTX_DESTROY
 command_kind (CtxAttach resource) = CTX_ATTACH_RESOURCE
 command_kind (CtxDetach resource) = CTX_DETACH_RESOURCE
-command_kind (Submit size) = SUBMIT_3D
+command_kind (Submit stream) = SUBMIT_3D
 command_kind (UpdateCursor scanout x y resource hot_x hot_y) = UPDATE_CURSOR
 command_kind (MoveCursor scanout x y) = MOVE_CURSOR
 
@@ -149,15 +153,16 @@ command_body (CtxCreate nlen context_init name) = le 4 nlen ++ le 4 context_init
 command_body CtxDestroy = []
 command_body (CtxAttach resource) = le 4 resource ++ le 4 0
 command_body (CtxDetach resource) = le 4 resource ++ le 4 0
-command_body (Submit size) = le 4 size ++ le 4 0
+command_body (Submit stream) = le 4 (length stream) ++ le 4 0 ++ stream
 command_body (UpdateCursor scanout x y resource hot_x hot_y) =
     position scanout x y ++ le 4 resource ++ le 4 hot_x ++ le 4 hot_y ++ le 4 0
 command_body (MoveCursor scanout x y) = position scanout x y ++ le 4 0 ++ le 4 0 ++ le 4 0 ++ le 4 0
 
--- A command whose number of entries fits nr_entries.
+-- A command whose number of entries fits nr_entries, or whose stream's number of bytes fits size.
 abbrev pub FitsEntries : Command → Type 0
 FitsEntries (TwoD command) = FitsCount command
 FitsEntries (CreateBlob resource mem flags blob_id size entries) = length entries < 2 ^ 32
+FitsEntries (Submit stream) = length stream < 2 ^ 32
 FitsEntries _ = Unit {0}
 
 -- A command whose numbers fit their bytes, and whose name has 64, as each value of the type does.
@@ -175,7 +180,7 @@ IsCommand (CtxCreate nlen context_init name) = (nlen < 2 ^ 32) × (context_init 
 IsCommand CtxDestroy = Unit {0}
 IsCommand (CtxAttach resource) = resource < 2 ^ 32
 IsCommand (CtxDetach resource) = resource < 2 ^ 32
-IsCommand (Submit size) = size < 2 ^ 32
+IsCommand (Submit stream) = Unit {0}
 IsCommand (UpdateCursor scanout x y resource hot_x hot_y) =
     (scanout < 2 ^ 32) × FitsSigned w32 x × FitsSigned w32 y × (resource < 2 ^ 32) × (hot_x < 2 ^ 32) × (hot_y < 2 ^ 32)
 IsCommand (MoveCursor scanout x y) = (scanout < 2 ^ 32) × FitsSigned w32 x × FitsSigned w32 y

@@ -4,6 +4,7 @@ ghost use Rattle.std.specs.Prelude.{◌≡◌};
 ghost use Rattle.vg_wire_ext.specs.Commands.{command_kind};
 
 use vg_formats::Rect;
+use vg_list::Seq;
 use vg_wire::kinds::{
     CTX_ATTACH_RESOURCE, CTX_CREATE, CTX_DESTROY, CTX_DETACH_RESOURCE, GET_CAPSET, GET_CAPSET_INFO,
     GET_EDID, MOVE_CURSOR, RESOURCE_ASSIGN_UUID, RESOURCE_CREATE_BLOB, SET_SCANOUT_BLOB, SUBMIT_3D,
@@ -71,9 +72,9 @@ pub enum Command {
     CtxDetach {
         resource: u32,
     },
-    /// SUBMIT_3D, kind 0x0207: the size in bytes of what follows.
+    /// SUBMIT_3D, kind 0x0207: the bytes of the stream, which are as many as its size says.
     Submit {
-        size: u32,
+        stream: Seq<u8>,
     },
     /// UPDATE_CURSOR, kind 0x0300: the position of the hot spot on the screen, and the hot spot in the
     /// cursor, in pixels.

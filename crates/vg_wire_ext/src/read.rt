@@ -9,6 +9,7 @@ ghost use Rattle.vg_wire_ext.specs.Commands.{by_row, command_of, row_of, FitsEnt
 use crate::command::Command;
 use crate::fields::i32_at;
 use std::alloc::{AllocError, Global};
+use vg_list::Seq;
 use vg_numbers::{u32_at, u64_at};
 use vg_wire::kinds::{
     CTX_ATTACH_RESOURCE, CTX_CREATE, CTX_DESTROY, CTX_DETACH_RESOURCE, GET_CAPSET, GET_CAPSET_INFO,
@@ -163,17 +164,26 @@ fn read_ctx_detach(body: &[u8]) -> Option<Command>
     Some(Command::CtxDetach { resource })
 }
 
-/// SUBMIT_3D: eight bytes.
-#[tactic(auto, unfolding(crate::specs::Commands::submit))]
-fn read_submit(body: &[u8]) -> Option<Command>
-    ensures exact { result ≡ whole 8 body.now (layout.submit body.now) }
-    ensures count { IfSome result FitsEntries }
+/// SUBMIT_3D: eight bytes, and those of the stream.
+#[tactic(auto, unfolding(crate::specs::Commands::submit, crate::specs::Commands::submit_size))]
+fn read_submit(alloc: Global, body: &[u8]) -> Result<Option<Command>, AllocError>
+    ensures exact { IfOk result (λ command.
+        command ≡ whole (layout.submit_size body.now) body.now (layout.submit body.now)) }
+    ensures memory { OnErr result (layout.submit_size body.now ≤ length body.now) }
+    ensures count { IfOk result (λ command. IfSome command FitsEntries) }
 {
     if body.len() < 8 {
-        return None;
+        return Ok(None);
     }
-    let size = u32_at(body, 0);
-    Some(Command::Submit { size })
+    let size = u32_at(body, 0) as usize;
+    // Nothing is allocated for bytes that aren't there.
+    if body.len() < 8 + size {
+        return Ok(None);
+    }
+    let stream = body[8..8 + size].to_vec(alloc)?;
+    Ok(Some(Command::Submit {
+        stream: Seq::from_vec(stream),
+    }))
 }
 
 /// UPDATE_CURSOR: 32 bytes.
@@ -230,7 +240,7 @@ fn read_by_row(alloc: Global, kind: u32, body: &[u8]) -> Result<Option<Command>,
         CTX_DESTROY => Ok(Some(Command::CtxDestroy)),
         CTX_ATTACH_RESOURCE => Ok(read_ctx_attach(body)),
         CTX_DETACH_RESOURCE => Ok(read_ctx_detach(body)),
-        SUBMIT_3D => Ok(read_submit(body)),
+        SUBMIT_3D => read_submit(alloc, body),
         UPDATE_CURSOR => Ok(read_update_cursor(body)),
         MOVE_CURSOR => Ok(read_move_cursor(body)),
         _ => Ok(None),

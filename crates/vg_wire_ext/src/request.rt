@@ -13,7 +13,7 @@ use vg_wire::kinds::UPDATE_CURSOR;
 use vg_wire::{Header, Malformed, Queue, put_header, read_header};
 
 /// Whether commands of this kind go on this queue.
-fn is_queue_of(kind: u32, queue: Queue) -> bool
+pub(crate) fn is_queue_of(kind: u32, queue: Queue) -> bool
     ensures { result ≡ Request.is_queue_of kind queue }
 {
     match queue {
@@ -32,7 +32,7 @@ pub fn read_request(
     ensures exact { IfOk result (λ read. read ≡ request_of queue bytes.now) }
     // Memory is asked for only by bytes that are a request.
     ensures memory { OnErr result (IsOk (request_of queue bytes.now)) }
-    // As many entries as nr_entries can count.
+    // As many entries as nr_entries can count, or bytes of a stream as size can.
     ensures entries { IfOk result (λ read. IfOk read (λ request. FitsEntries request.1)) }
 {
     let Some(header) = read_header(bytes) else {
@@ -51,7 +51,7 @@ pub fn read_request(
 }
 
 /// The bytes of a request, with padding 0. The header has the kind of the command, which has fewer than
-/// 2^32 entries.
+/// 2^32 entries, or bytes of a stream.
 pub fn write_request(
     alloc: Global,
     header: &Header,

@@ -1,4 +1,4 @@
-//! A whole response: a header and what it answers (VIRTIO 1.2, 5.7.6.7 and 5.7.6.8).
+//! A whole response: a header and what it answers (VIRTIO 1.2, 5.7.6.7 to 5.7.6.9).
 
 ghost use Rattle.std.specs.Prelude.{◌≡◌, ◌≤◌, ◌++◌, Some, IfOk, OnErr, OnOk, IfSome, IsSome, length, take, drop};
 ghost use Rattle.vg_list.specs.Front.{HasFront};
@@ -9,9 +9,11 @@ ghost use Rattle.vg_wire_ext.specs.Response as spelling;
 ghost use Rattle.vg_wire_ext.specs.Response.{FitsResponse, IsResponse, Spells, response_bytes, response_body, response_kind};
 
 use std::alloc::{AllocError, Global};
-use vg_numbers::put_u32;
+use vg_list::Seq;
+use vg_numbers::{put_u32, u32_at};
 use vg_wire::kinds::{
-    ERR_INVALID_PARAMETER, ERR_UNSPEC, OK_DISPLAY_INFO, OK_EDID, OK_NODATA, OK_RESOURCE_UUID,
+    ERR_INVALID_PARAMETER, ERR_UNSPEC, OK_CAPSET, OK_CAPSET_INFO, OK_DISPLAY_INFO, OK_EDID,
+    OK_NODATA, OK_RESOURCE_UUID,
 };
 use vg_wire::{Header, Modes, put_header, put_modes, read_header, read_modes};
 
@@ -21,13 +23,31 @@ pub enum Response {
     /// OK_NODATA, kind 0x1100.
     Nodata,
     /// OK_DISPLAY_INFO, kind 0x1101.
-    DisplayInfo { modes: Modes },
+    DisplayInfo {
+        modes: Modes,
+    },
+    /// OK_CAPSET_INFO, kind 0x1102: a capability set's id, its highest version, and how many bytes it has at most.
+    CapsetInfo {
+        capset_id: u32,
+        max_version: u32,
+        max_size: u32,
+    },
+    /// OK_CAPSET, kind 0x1103: the bytes of a capability set.
+    Capset {
+        data: Seq<u8>,
+    },
     /// OK_EDID, kind 0x1104: the base block.
-    Edid { block: [u8; 128] },
+    Edid {
+        block: [u8; 128],
+    },
     /// OK_RESOURCE_UUID, kind 0x1105: the UUID's bytes, the first of its text first.
-    Uuid { bytes: [u8; 16] },
+    Uuid {
+        bytes: [u8; 16],
+    },
     /// An error, whose code 0x1200 to 0x1205 is its kind.
-    Error { code: u32 },
+    Error {
+        code: u32,
+    },
 }
 
 impl Response {
@@ -38,11 +58,30 @@ impl Response {
         match self {
             Response::Nodata => OK_NODATA,
             Response::DisplayInfo { .. } => OK_DISPLAY_INFO,
+            Response::CapsetInfo { .. } => OK_CAPSET_INFO,
+            Response::Capset { .. } => OK_CAPSET,
             Response::Edid { .. } => OK_EDID,
             Response::Uuid { .. } => OK_RESOURCE_UUID,
             Response::Error { code } => *code,
         }
     }
+}
+
+/// Adds the fields of OK_CAPSET_INFO.
+#[tactic(auto, unfolding(crate::specs::Response::capset_info_body), using(vg_list::proofs::FrontLemmas::fronts))]
+fn put_capset_info(
+    out: &mut Vec<u8>,
+    capset_id: u32,
+    max_version: u32,
+    max_size: u32,
+) -> Result<(), AllocError>
+    ensures ok { OnOk result (out.new.items ≡ out.old.items ++ spelling.capset_info_body capset_id max_version max_size) }
+    ensures err { OnErr result (HasFront out.old.items out.new.items (spelling.capset_info_body capset_id max_version max_size)) }
+{
+    put_u32(out, capset_id)?;
+    put_u32(out, max_version)?;
+    put_u32(out, max_size)?;
+    put_u32(out, 0)
 }
 
 /// Adds the fields of OK_EDID: the size of the block, the block, and zeros up to 1,024 bytes.
@@ -65,6 +104,12 @@ fn put_response(out: &mut Vec<u8>, response: &Response) -> Result<(), AllocError
 {
     match response {
         Response::DisplayInfo { modes } => put_modes(out, modes),
+        Response::CapsetInfo {
+            capset_id,
+            max_version,
+            max_size,
+        } => put_capset_info(out, *capset_id, *max_version, *max_size),
+        Response::Capset { data } => out.extend_from_slice(data.as_slice()),
         Response::Edid { block } => put_edid(out, block),
         Response::Uuid { bytes } => out.extend_from_slice(bytes),
         Response::Nodata | Response::Error { .. } => out.extend_from_slice(&[]),
@@ -73,12 +118,13 @@ fn put_response(out: &mut Vec<u8>, response: &Response) -> Result<(), AllocError
 
 /// How many bytes follow the header of a response that can be given.
 fn size_of(response: &Response) -> usize
-    ensures size { IsResponse response.now → FitsResponse response.now → result ≡ length (response_body response.now) }
-    ensures small { result ≤ 1032 }
+    ensures { IsResponse response.now → FitsResponse response.now → result ≡ length (response_body response.now) }
 {
     match response {
         Response::Nodata => 0,
         Response::DisplayInfo { .. } => 384,
+        Response::CapsetInfo { .. } => 16,
+        Response::Capset { data } => data.len(),
         Response::Edid { .. } => 1032,
         Response::Uuid { .. } => 16,
         Response::Error { .. } => 0,
@@ -94,7 +140,7 @@ pub fn write_response(
     requires { header.now.kind ≡ response_kind response.now }
     ensures { IfOk result (λ out. out.items ≡ response_bytes header.now response.now) }
 {
-    let mut out = Vec::with_capacity(alloc, 24 + size_of(response))?;
+    let mut out = Vec::with_capacity(alloc, size_of(response).saturating_add(24))?;
     append_response(&mut out, header, response)?;
     Ok(out)
 }
@@ -113,6 +159,19 @@ pub fn append_response(
 {
     put_header(out, *header)?;
     put_response(out, response)
+}
+
+/// The fields of an OK_CAPSET_INFO.
+#[tactic(auto, unfolding(crate::specs::Response::capset_info_of))]
+fn read_capset_info(bytes: &[u8]) -> Response
+    requires { length bytes.now ≡ 40 }
+    ensures { result ≡ spelling.capset_info_of bytes.now }
+{
+    Response::CapsetInfo {
+        capset_id: u32_at(bytes, 24),
+        max_version: u32_at(bytes, 28),
+        max_size: u32_at(bytes, 32),
+    }
 }
 
 /// The block of an OK_EDID.
@@ -137,6 +196,7 @@ fn read_uuid(bytes: &[u8]) -> [u8; 16]
 
 /// The response that a header of this kind begins, as far as its fields tell.
 fn read_body(alloc: Global, kind: u32, bytes: &[u8]) -> Result<Option<Response>, AllocError>
+    requires { 24 ≤ length bytes.now }
     ensures value { IfOk result (λ response. response ≡ spelling.body_of kind bytes.now) }
     ensures memory { OnErr result (IsSome (spelling.body_of kind bytes.now)) }
 {
@@ -146,6 +206,15 @@ fn read_body(alloc: Global, kind: u32, bytes: &[u8]) -> Result<Option<Response>,
     if kind == OK_DISPLAY_INFO && bytes.len() == 408 {
         let modes = read_modes(alloc, bytes)?;
         return Ok(Some(Response::DisplayInfo { modes }));
+    }
+    if kind == OK_CAPSET_INFO && bytes.len() == 40 {
+        return Ok(Some(read_capset_info(bytes)));
+    }
+    if kind == OK_CAPSET {
+        let data = bytes[24..].to_vec(alloc)?;
+        return Ok(Some(Response::Capset {
+            data: Seq::from_vec(data),
+        }));
     }
     if kind == OK_EDID && bytes.len() == 1056 {
         let block = read_block(bytes);

@@ -1,7 +1,7 @@
 //! The commands' fields written (VIRTIO 1.2, 5.7.6.8 to 5.7.6.10), with padding 0.
 
 ghost use Rattle.std.specs.Prelude.{◌≡◌, ◌<◌, ◌^◌, ◌++◌, length, OnOk};
-ghost use Rattle.vg_wire_ext.specs.declared.command.Command.TheVariants.{CreateBlob, SetScanoutBlob, CtxCreate, UpdateCursor, MoveCursor};
+ghost use Rattle.vg_wire_ext.specs.declared.command.Command.TheVariants.{CreateBlob, SetScanoutBlob, CtxCreate, Submit, UpdateCursor, MoveCursor};
 ghost use Rattle.vg_wire_ext.specs.Commands.{command_body, FitsEntries, IsCommand};
 
 use crate::command::Command;
@@ -74,6 +74,15 @@ fn put_ctx_create(
     out.extend_from_slice(&name)
 }
 
+/// Adds the fields of SUBMIT_3D: how many bytes the stream has, and the stream.
+fn put_submit(out: &mut Vec<u8>, stream: &[u8]) -> Result<(), AllocError>
+    requires { length stream.now < 2 ^ 32 }
+    ensures bytes { OnOk result (out.new.items ≡ out.old.items ++ command_body (Submit stream.now)) }
+{
+    put_two(out, stream.len() as u32, 0)?;
+    out.extend_from_slice(stream)
+}
+
 /// Adds the fields of UPDATE_CURSOR.
 fn put_update_cursor(
     out: &mut Vec<u8>,
@@ -104,7 +113,7 @@ fn put_move_cursor(out: &mut Vec<u8>, scanout: u32, x: i32, y: i32) -> Result<()
     put_two(out, 0, 0)
 }
 
-/// Adds the bytes of a command's fields. It has fewer than 2^32 entries.
+/// Adds the bytes of a command's fields. It has fewer than 2^32 entries, or bytes of a stream.
 pub(crate) fn put_command(out: &mut Vec<u8>, command: &Command) -> Result<(), AllocError>
     requires { FitsEntries command.now }
     ensures bytes { OnOk result (out.new.items ≡ out.old.items ++ command_body command.now) }
@@ -152,7 +161,7 @@ pub(crate) fn put_command(out: &mut Vec<u8>, command: &Command) -> Result<(), Al
         Command::CtxDestroy => Ok(()),
         Command::CtxAttach { resource } => put_two(out, *resource, 0),
         Command::CtxDetach { resource } => put_two(out, *resource, 0),
-        Command::Submit { size } => put_two(out, *size, 0),
+        Command::Submit { stream } => put_submit(out, stream.as_slice()),
         Command::UpdateCursor {
             scanout,
             x,
@@ -165,7 +174,7 @@ pub(crate) fn put_command(out: &mut Vec<u8>, command: &Command) -> Result<(), Al
     }
 }
 
-/// How many bytes a command's fields take. It has fewer than 2^32 entries.
+/// How many bytes a command's fields take. It has fewer than 2^32 entries, or bytes of a stream.
 pub(crate) fn size_of(command: &Command) -> usize
     requires { FitsEntries command.now }
     ensures size { IsCommand command.now → result ≡ length (command_body command.now) }
@@ -183,7 +192,7 @@ pub(crate) fn size_of(command: &Command) -> usize
         Command::CtxDestroy => 0,
         Command::CtxAttach { .. } => 8,
         Command::CtxDetach { .. } => 8,
-        Command::Submit { .. } => 8,
+        Command::Submit { stream } => 8 + stream.len(),
         Command::UpdateCursor { .. } => 32,
         Command::MoveCursor { .. } => 32,
     }

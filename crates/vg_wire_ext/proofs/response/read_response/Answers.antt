@@ -27,6 +27,9 @@ returns-in_default-2-clause-only c = λ header response good fits spells.
     let none = c.in_default-2.is in
     cc (same, none)
 
+pub write_response-requires : goal.write_response-requires
+write_response-requires c = (body_of-valid c.in-Some.header.kind c.args.bytes.now c.in-Some-2.response (sym c.in_ok-response.ensures.value ∙ c.in-Some-2.is)).1
+
 pub returns-then-eq : goal.returns-then-eq
 returns-then-eq c =
     let good = body_of-valid c.in-Some.header.kind c.args.bytes.now c.in-Some-2.response (sym c.in_ok-response.ensures.value ∙ c.in-Some-2.is) in

@@ -24,7 +24,7 @@ pub returns-in-CtxDetach-clause-size : goal.returns-in-CtxDetach-clause-size
 returns-in-CtxDetach-clause-size c = λ good. sym (length-command_body c.args.command.now good ∙ ap size_of_command c.in-CtxDetach.is)
 
 pub returns-in-Submit-clause-size : goal.returns-in-Submit-clause-size
-returns-in-Submit-clause-size c = λ good. sym (length-command_body c.args.command.now good ∙ ap size_of_command c.in-Submit.is)
+returns-in-Submit-clause-size c = λ good. ap (λ n. 8 + n) c.len-in-Submit.ensures ∙ sym (length-command_body c.args.command.now good ∙ ap size_of_command c.in-Submit.is)
 
 pub returns-in-UpdateCursor-clause-size : goal.returns-in-UpdateCursor-clause-size
 returns-in-UpdateCursor-clause-size c = λ good. sym (length-command_body c.args.command.now good ∙ ap size_of_command c.in-UpdateCursor.is)

@@ -1,7 +1,7 @@
-use Rattle.std.proofs.Common.{◌∙◌, ap, Result, Ok, Err, OnErr}
+use Rattle.std.proofs.Common.{◌∙◌, ap, sym, Result, Ok, Err, OnErr}
 use Rattle.vg_device.specs.Step.{answered}
 use Rattle.vg_device.specs.FitsWithin.{by_read}
-use Rattle.vg_device.proofs.KeepLemmas.{accepted-is, answered-given, answered-ok, kept-given}
+use Rattle.vg_device.proofs.KeepLemmas.{accepted-is, answered-given, answered-ok, kept-given, told-kept}
 use Rattle.vg_device.proofs.device.Device.answer.Goals as goal
 
 -- a fact that holds whatever the result is
@@ -29,3 +29,7 @@ returns c =
       same = c.rewrite_answer.ensures.same;
       err = on_err c.rewrite_answer.result (kept-given c.args.self.now c.outcome-2.new.self context command c.in_ok-other.other c.in_ok-other.ensures.step c.in_default.not-Nodata c.in_default.not-Uuid);
     }
+
+pub returns-then-not-changes-clause-err : goal.returns-then-not-changes-clause-err
+returns-then-not-changes-clause-err c =
+    on_err c.write_answer-then-not-changes.result (told-kept c.args.self.now c.outcome.new.self c.in-Ok.read.0 c.in-Ok.read.1 c.in_ok-told.told (sym c.if-not-changes.ensures) c.in_ok-told.ensures.step)

@@ -1,8 +1,8 @@
 -- What names no transfer copies nothing.
 use Rattle.std.proofs.Common.{◌≡◌, ◌≢◌, ℕ, rules, sym, ◌∙◌}
 use Rattle.vg_wire_ext.specs.Request.{request_of}
-use Rattle.vg_named.specs.Named.{named_in}
-use Rattle.vg_named.specs.declared.names.Named.TheVariants as names
+use Rattle.vg_wire_ext.specs.Named.{named_in}
+use Rattle.vg_wire_ext.specs.declared.names.Named.TheVariants as names
 use Rattle.vg_machine.proofs.DisplayLemmas.{copies-named}
 use Rattle.vg_machine.proofs.display.Display.asked_copy.Goals as goal
 

@@ -1,8 +1,8 @@
 -- What the flags tell is what the jobs' pages do.
 use Rattle.std.proofs.Common.{◌≡◌, false, rules, subst}
 use Rattle.vg_wire_ext.specs.Request.{request_of}
-use Rattle.vg_named.specs.Named.{named_in}
-use Rattle.vg_named.specs.declared.names.Named.TheVariants as names
+use Rattle.vg_wire_ext.specs.Named.{named_in}
+use Rattle.vg_wire_ext.specs.declared.names.Named.TheVariants as names
 use Rattle.vg_device.proofs.CopyLemmas.{is-run}
 use Rattle.vg_machine.specs.Blocks.{blocks, is_lent, lent_pages}
 use Rattle.vg_machine.specs.Lender.{Lender}

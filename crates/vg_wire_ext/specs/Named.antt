@@ -5,8 +5,8 @@ use Rattle.vg_wire.specs.declared.two_d.Command2d.{Command2d}
 use Rattle.vg_wire.specs.declared.two_d.Command2d.TheVariants as two_d
 use Rattle.vg_wire_ext.specs.declared.command.Command.{Command}
 use Rattle.vg_wire_ext.specs.declared.command.Command.TheVariants.{TwoD, CtxDestroy, UpdateCursor}
-use Rattle.vg_named.specs.declared.names.Named.{Named}
-use Rattle.vg_named.specs.declared.names.Named.TheVariants.{Nothing, Resource, Flush, Transfer, Context}
+use Rattle.vg_wire_ext.specs.declared.names.Named.{Named}
+use Rattle.vg_wire_ext.specs.declared.names.Named.TheVariants.{Nothing, Resource, Flush, Transfer, Context}
 
 -- What a 2D command names that may be away while another command is under way.
 abbrev pub named_2d : Command2d → Named

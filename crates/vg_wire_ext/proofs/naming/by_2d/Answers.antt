@@ -1,6 +1,6 @@
 use Rattle.std.proofs.Common.{rules, sym}
-use Rattle.vg_named.proofs.NamedLemmas.{other-2d}
-use Rattle.vg_named.proofs.read.by_2d.Goals as goal
+use Rattle.vg_wire_ext.proofs.NamedLemmas.{other-2d}
+use Rattle.vg_wire_ext.proofs.naming.by_2d.Goals as goal
 
 pub returns-in_default : goal.returns-in_default
 returns-in_default c = sym (other-2d c.args.kind c.args.body.now (search rules) (search rules) (search rules) (search rules) (search rules))

@@ -2,9 +2,9 @@
 use Rattle.std.specs.Prelude.{ℕ, Option, Some, None}
 use Rattle.vg_wire.specs.declared.two_d.Command2d.{Command2d}
 use Rattle.vg_wire_ext.specs.declared.command.Command.{Command}
-use Rattle.vg_named.specs.declared.names.Named.{Named}
-use Rattle.vg_named.specs.declared.names.Named.TheVariants.{Nothing}
-use Rattle.vg_named.specs.Named.{named_2d, named_by}
+use Rattle.vg_wire_ext.specs.declared.names.Named.{Named}
+use Rattle.vg_wire_ext.specs.declared.names.Named.TheVariants.{Nothing}
+use Rattle.vg_wire_ext.specs.Named.{named_2d, named_by}
 
 abbrev pub found_2d : Option Command2d → Named
 found_2d (Some command) = named_2d command

@@ -10,11 +10,11 @@ use Rattle.vg_wire.specs.Kinds.{RESOURCE_ATTACH_BACKING, RESOURCE_DETACH_BACKING
 use Rattle.vg_wire.specs.TwoD.{is_2d, two_d_of, whole, create_2d, set_scanout}
 use Rattle.vg_wire_ext.specs.declared.command.Command.{Command}
 use Rattle.vg_wire_ext.specs.declared.command.Command.TheVariants.{TwoD}
-use Rattle.vg_wire_ext.specs.Commands.{Row, fixed, by_row, row_of, is_known, command_of, capset_info, capset, edid, assign_uuid, create_blob, create_blob_size, set_scanout_blob, ctx_create, ctx_attach, ctx_detach, submit, move_cursor}
+use Rattle.vg_wire_ext.specs.Commands.{Row, fixed, by_row, row_of, is_known, command_of, capset_info, capset, edid, assign_uuid, create_blob, create_blob_size, set_scanout_blob, ctx_create, ctx_attach, ctx_detach, submit, submit_size, move_cursor}
 use Rattle.vg_wire_ext.specs.Request.{is_queue_of, request_of}
-use Rattle.vg_named.specs.declared.names.Named.TheVariants.{Nothing}
-use Rattle.vg_named.specs.Named.{named_2d, named_by, named_in}
-use Rattle.vg_named.specs.NamedWithin.{found, found_2d}
+use Rattle.vg_wire_ext.specs.declared.names.Named.TheVariants.{Nothing}
+use Rattle.vg_wire_ext.specs.Named.{named_2d, named_by, named_in}
+use Rattle.vg_wire_ext.specs.NamedWithin.{found, found_2d}
 
 -- a rung of a ladder: what holds of both holds of the choice, and of a choice that isn't taken only the rest counts
 either : {A : Type 0} (P : A → Type 0) (b : Bool) (x y : A) → P x → P y → P (if b then x else y)
@@ -52,7 +52,7 @@ other-2d kind body unref flush transfer attach detach =
 -- the same of the rows of the other commands
 none-of-rows : (P : Option Row → Type 0) (kind : ℕ) → (kind == CTX_DESTROY) ≡ false → (kind == UPDATE_CURSOR) ≡ false
     → P (fixed 8 capset_info) → P (fixed 8 capset) → P (fixed 8 edid) → P (fixed 8 assign_uuid) → P (Some (record { size = create_blob_size; fields = create_blob }))
-    → P (fixed 72 set_scanout_blob) → P (fixed 72 ctx_create) → P (fixed 8 ctx_attach) → P (fixed 8 ctx_detach) → P (fixed 8 submit) → P (fixed 32 move_cursor) → P None
+    → P (fixed 72 set_scanout_blob) → P (fixed 72 ctx_create) → P (fixed 8 ctx_attach) → P (fixed 8 ctx_detach) → P (Some (record { size = submit_size; fields = submit })) → P (fixed 32 move_cursor) → P None
     → P (row_of kind)
 unfolding row_of
 none-of-rows P kind destroy cursor info set display uuid blob show create attach detach commands move none =

@@ -5,12 +5,12 @@ ghost use Rattle.vg_wire.specs.TwoD as two_d;
 ghost use Rattle.vg_wire.specs.TwoD.{two_d_of, whole};
 ghost use Rattle.vg_wire_ext.specs.Commands as layout;
 ghost use Rattle.vg_wire_ext.specs.Commands.{by_row, command_of, row_of};
-ghost use Rattle.vg_wire_ext.specs.Request as Request;
 ghost use Rattle.vg_wire_ext.specs.Request.{request_of};
-ghost use Rattle.vg_named.specs.Named.{named_in};
-ghost use Rattle.vg_named.specs.NamedWithin.{found, found_2d};
+ghost use Rattle.vg_wire_ext.specs.Named.{named_in};
+ghost use Rattle.vg_wire_ext.specs.NamedWithin.{found, found_2d};
 
 use crate::names::Named;
+use crate::request::is_queue_of;
 use vg_numbers::u32_at;
 use vg_wire::kinds::{
     CTX_DESTROY, RESOURCE_ATTACH_BACKING, RESOURCE_DETACH_BACKING, RESOURCE_FLUSH, RESOURCE_UNREF,
@@ -83,7 +83,7 @@ fn by_detach(body: &[u8]) -> Named
 }
 
 /// By UPDATE_CURSOR: 32 bytes.
-#[tactic(auto, unfolding(vg_wire_ext::specs::Commands::update_cursor))]
+#[tactic(auto, unfolding(crate::specs::Commands::update_cursor))]
 fn by_cursor(body: &[u8]) -> Named
     ensures { (context : ℕ) → result ≡ found context (whole 32 body.now (layout.update_cursor body.now)) }
 {
@@ -110,7 +110,7 @@ fn by_2d(kind: u32, body: &[u8]) -> Named
 }
 
 /// By another command, of this kind, whose header has this context.
-#[tactic(auto, unfolding(vg_wire_ext::specs::Commands::row_of, vg_wire_ext::specs::Commands::ctx_destroy))]
+#[tactic(auto, unfolding(crate::specs::Commands::row_of, crate::specs::Commands::ctx_destroy))]
 fn by_other(kind: u32, context: u32, body: &[u8]) -> Named
     ensures { result ≡ found context (by_row (row_of kind) body.now) }
 {
@@ -129,16 +129,6 @@ fn by_command(kind: u32, context: u32, body: &[u8]) -> Named
         by_2d(kind, body)
     } else {
         by_other(kind, context, body)
-    }
-}
-
-/// Whether commands of this kind go on this queue.
-fn is_queue_of(kind: u32, queue: Queue) -> bool
-    ensures { result ≡ Request.is_queue_of kind queue }
-{
-    match queue {
-        Queue::Control => kind < UPDATE_CURSOR,
-        Queue::Cursor => kind >= UPDATE_CURSOR,
     }
 }
 

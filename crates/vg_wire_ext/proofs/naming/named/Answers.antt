@@ -1,8 +1,8 @@
 use Rattle.std.proofs.Common.{rules, ◌≡◌, ℕ, ◌≤◌, ◌-◌, ◌∙◌, List, false, take, drop, sym, arith, length, nat_lt}
 use Rattle.std.proofs.lemmas.Bool.Decides.{nat_tests}
 use Rattle.std.proofs.lemmas.Slice.{between_to_end}
-use Rattle.vg_named.proofs.NamedLemmas.{read_named}
-use Rattle.vg_named.proofs.read.named.Goals as goal
+use Rattle.vg_wire_ext.proofs.NamedLemmas.{read_named}
+use Rattle.vg_wire_ext.proofs.naming.named.Goals as goal
 
 pub returns : goal.returns
 returns c =
