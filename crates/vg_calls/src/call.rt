@@ -1,8 +1,8 @@
 //! A call of a client, and the names that calls speak of.
 
 use vg_chain::Shape;
-use vg_history::Fence;
 use vg_formats::Rect;
+use vg_history::Fence;
 use vg_list::Seq;
 use vg_wire::Queue;
 

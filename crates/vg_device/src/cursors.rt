@@ -13,10 +13,10 @@ use crate::device::Device;
 use crate::stop::Stop;
 use std::alloc::{AllocError, Global};
 use vg_cursor::{Cursors, Look};
+use vg_formats::show_row;
 use vg_list::Seq;
 use vg_places::zeros;
 use vg_resource::Resource;
-use vg_formats::show_row;
 use vg_wire::kinds::{ERR_INVALID_PARAMETER, ERR_INVALID_RESOURCE_ID, ERR_INVALID_SCANOUT_ID};
 use vg_wire_ext::Response;
 

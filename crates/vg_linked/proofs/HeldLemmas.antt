@@ -199,6 +199,7 @@ taken-unheld client key live share stands taken = by taken.buffer.taker refl tak
     not-of : (b : Bool) → true ≡ not b → b ≡ false
     not-of true is = cc
     not-of false is = refl
+
     by : (taker : Option ℕ) → taken.buffer.taker ≡ taker → is_given client taker ≡ true → some_hold taken.buffer.holders ≡ false
     by None is given = cc
     by (Some other) is given = not-of (some_hold taken.buffer.holders) (sym (ap is_some is) ∙ alone-of share key taken.buffer taken.found stands)

@@ -16,9 +16,9 @@ use crate::panel::{Ground, Panel};
 use crate::scanout::{Binding, Frame};
 use std::alloc::{AllocError, Global};
 use vg_cursor::{Cursors, Look};
+use vg_formats::{Format, Rect, rows_are_their_bytes, show_rows};
 use vg_places::Area;
 use vg_shared_bytes::Strips;
-use vg_formats::{Format, Rect, rows_are_their_bytes, show_rows};
 
 /// How many bytes all frames have after a flush, if they have so many before it; no more than a `u64` can tell.
 pub(crate) fn bytes_after(panels: &[Option<Panel>], resource: u32, rect: &Rect, bytes: u64) -> u64
