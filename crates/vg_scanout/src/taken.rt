@@ -31,7 +31,7 @@ fn own_ground(
     frames: &[Frame],
 ) -> Result<Option<Ground>, AllocError>
     requires { IsPanel frames.now panel.now }
-    ensures { IfOk result (λ ground. IsUnframed frames.now ground panel.now) }
+    ensures { IfOk result (λ own. IsUnframed frames.now own panel.now) }
 {
     let Some(panel) = panel else { return Ok(None) };
     match &panel.base {

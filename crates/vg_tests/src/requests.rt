@@ -120,7 +120,7 @@ fn check_refused(
     Ok(())
 }
 
-static CONTROL: [Row; 21] = [
+static CONTROL: [Row; 22] = [
     (0x0100, 0, &[], "TwoD(DisplayInfo)", &[]),
     (
         0x0101,
