@@ -36,6 +36,17 @@ def is_word(name):
     return name.startswith("-") and name != "-"
 
 
+def modules_proved(folder):
+    """What the prover wrote of each module of the crates that `rt ci` proved under a folder. Of a crate that is gone there may be an out/ still.
+    What `rt check` leaves has a stamp, and proofs in it, which aren't read here."""
+    paths = sorted(pathlib.Path(folder).glob("crates/*/out/rlib/*/toolchain/checked.a"))
+    paths = [path for path in paths if (path.parents[4] / "src").is_dir() and not (path.parents[2] / "stamp").exists()]
+    if not paths:
+        sys.exit(f"there is no crate in {folder} that rt ci proved, and rt check didn't prove after it")
+    for path in paths:
+        yield from path.read_bytes().split(b"--@ antt-checked")[1:]
+
+
 def built():
     """The proved program, after bin/vgpu has built it and run the shortest script."""
     proved = {**os.environ, "VGPU_PROVED": "1"}
