@@ -9,28 +9,19 @@ import tempfile
 import time
 
 HERE = pathlib.Path(__file__).resolve().parent.parent
+sys.dont_write_bytecode = True
+sys.path.append(str(HERE / "tools"))
+import toolbox
 
 # What a run took: seconds, seconds of processor time, and the most bytes of memory. And how it ended.
 Run = collections.namedtuple("Run", "seconds processor memory status")
 
 
-def built():
-    """The proved program, after bin/vgpu has built it. Without words it ends with its usage, status 2."""
-    proved = {**os.environ, "VGPU_PROVED": "1"}
-    ran = subprocess.run([HERE / "bin" / "vgpu"], stdin=subprocess.DEVNULL, capture_output=True, text=True, env=proved)
-    if ran.returncode != 2:
-        sys.exit(f"bin/vgpu isn't built: status {ran.returncode}\n{ran.stderr[-4000:]}")
-    return HERE / "crates" / "vgpu" / "out" / "vgpu"
-
-
 def chosen(words=sys.argv[1:]):
     """The program that the first of these words names, or without one the program that is built."""
-    if not words:
-        return built()
-    program = pathlib.Path(words[0]).resolve()
-    if not os.access(program, os.X_OK):
-        sys.exit(f"{program} can't be run")
-    return program
+    if len(words) > 1 or words[:1] in (["-h"], ["--help"]):
+        sys.exit(sys.modules["__main__"].__doc__)
+    return toolbox.program_of(words[0] if words else None)
 
 
 def run(words, given, taken, said=None, env=None):

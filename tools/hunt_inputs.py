@@ -494,14 +494,26 @@ def of_long(some):
     return Input("long script", ["run"], text.ljust(size, some.choice((b" ", b"\n", b"x"))))
 
 
-# Each kind, and how often it comes.
-KINDS = [(of_script, 20), (of_requests, 14), (of_begun, 2), (of_faulty, 22), (of_journal, 4), (of_spoiled, 20), (of_kept, 12), (of_words, 6), (of_gen, 1)]
-KINDS += [(of_memory, 3), (of_room, 3), (of_long, 0.08)]
+# What makes each kind, and how often it comes.
+KINDS = {
+    "script": (of_script, 20),
+    "requests": (of_requests, 14),
+    "begun": (of_begun, 2),
+    "faulty script": (of_faulty, 22),
+    "journal": (of_journal, 4),
+    "spoiled journal": (of_spoiled, 20),
+    "kept": (of_kept, 12),
+    "words": (of_words, 6),
+    "gen": (of_gen, 1),
+    "little memory": (of_memory, 3),
+    "little room": (of_room, 3),
+    "long script": (of_long, 0.08),
+}
 
 
 def made(seed, number):
     """The input of this number."""
     some = random.Random(f"{seed} {number}")
-    found = some.choices([of for of, _ in KINDS], [often for _, often in KINDS])[0](some)
+    found = some.choices([of for of, _ in KINDS.values()], [often for _, often in KINDS.values()])[0](some)
     found.by_pipe, found.chance = some.random() < 0.5, f"{seed} {number} journal"
     return found

@@ -8,7 +8,6 @@ import base64
 import collections
 import ctypes
 import json
-import os
 import shutil
 import signal
 import socket

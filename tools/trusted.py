@@ -16,6 +16,7 @@ import os
 import re
 import shutil
 
+import toolbox
 from definitions import TOP
 
 # The kit's crates that the code uses, std by its parts. What tests and times alone use isn't among them.
@@ -165,13 +166,10 @@ def calls(folder):
     """Of the crates that are proved under a folder: which these are, the kit's functions that they call, by crate and name, and the
     functions in C on whose contracts they rest."""
     crates, functions, assumed = set(), set(), set()
-    for path in glob.glob(os.path.join(folder, "crates/*/out/rlib/*/toolchain/checked.a")):
-        with open(path, "rb") as it:
-            parts = it.read().split(b"--@ antt-checked")
-        for part in parts[1:]:
-            if module := re.search(rb"--@ module Rattle-(vg\w*)", part):
-                crates.add(module[1].decode())
-                functions.update((crate.decode(), name.decode()) for crate, name in re.findall(rb"Rattle-(?!vg)(\w+)-proofs\.([^\x00-\x20]+?)\.Code\.code", part))
-                for line in re.findall(rb"--@ rests-on (.*)", part):
-                    assumed.update(name.decode() for name in re.findall(rb'"Rattle-\w+-proofs\.([^"]*)\.Met"', line))
+    for part in toolbox.modules_proved(folder):
+        if module := re.search(rb"--@ module Rattle-(vg\w*)", part):
+            crates.add(module[1].decode())
+            functions.update((crate.decode(), name.decode()) for crate, name in re.findall(rb"Rattle-(?!vg)(\w+)-proofs\.([^\x00-\x20]+?)\.Code\.code", part))
+            for line in re.findall(rb"--@ rests-on (.*)", part):
+                assumed.update(name.decode() for name in re.findall(rb'"Rattle-\w+-proofs\.([^"]*)\.Met"', line))
     return crates, functions, assumed
