@@ -1,4 +1,4 @@
-use Rattle.std.proofs.Common.{◌≡◌, ◌≢◌, ℕ, zero, suc, ◌+◌, ◌*◌, ◌/◌, ◌<◌, ◌≤◌, Bool, true, false, not, ◌&&◌, ◌||◌, cond, eqb, ltb, Option, Some, None, List, [], ◌∷◌, ◌++◌, length, get_or, set, replicate, refl, sym, inl, inr, ◌∙◌, arith}
+use Rattle.std.proofs.Common.{◌≡◌, ◌≢◌, ℕ, zero, suc, ◌+◌, ◌*◌, ◌/◌, ◌%◌, ◌<◌, ◌≤◌, Bool, true, false, not, ◌&&◌, ◌||◌, cond, eqb, ltb, Option, Some, None, List, [], ◌∷◌, ◌++◌, length, get_or, set, replicate, refl, sym, inl, inr, ◌∙◌, arith}
 use Rattle.std.proofs.lemmas.List.{append-nil, get_or-set_other, get_or-set_same, length-set, length-replicate}
 use Rattle.std.proofs.lemmas.List.Sums.{sum_by-set, count_by-le-length}
 use Rattle.std.proofs.lemmas.Bool.Decides.{nat_tests, eqb_tells}
@@ -225,10 +225,8 @@ left_enters ring marks n small =
 pub fits_queue : (size : ℕ) (d : Descriptor) → is_bad_length size d ≡ false → d.len / 16 ≤ size
 fits_queue size d good = by_tests (eqb d.len 0) (eqb (d.len % 16) 0) (ltb (16 * size) d.len) refl good
   where
-    by_tests : (none whole more : Bool) → more ≡ ltb (16 * size) d.len → (none || not whole) || more ≡ false → d.len / 16 ≤ size
-    by_tests true whole true is h = cc
-    by_tests true whole false is h = cc
-    by_tests false false true is h = cc
-    by_tests false false false is h = cc
-    by_tests false true true is h = cc
+    by_tests : (none whole more : Bool) → ltb (16 * size) d.len ≡ more → (none || not whole) || more ≡ false → d.len / 16 ≤ size
+    by_tests true whole more is h = absurd (cc)
+    by_tests false false more is h = absurd (cc)
+    by_tests false true true is h = absurd (cc)
     by_tests false true false is h = (let most : d.len ≤ 16 * size = grind (arith, nat_tests) in omega (arith, most))

@@ -1,5 +1,7 @@
 //! Walks of chains laid out by hand, and the descriptors of each shape, in the split form (VIRTIO 1.2, 2.7.5).
 
+ghost use Rattle.std.specs.Prelude.{◌≡◌};
+ghost use Rattle.vg_chain.specs.declared.form.Form.TheVariants.{Split};
 ghost use Rattle.vg_chain.specs.Made.{IsCount};
 
 use std::alloc::{AllocError, Global};
@@ -103,7 +105,9 @@ pub(crate) fn number_of(walked: &Result<Chain, ChainFault>) -> u8 {
 }
 
 /// The parts of a request of 24 bytes and a room of 8, with these tables.
-fn parts_with(tables: &[u8]) -> Parts<'_> {
+fn parts_with(tables: &[u8]) -> Parts<'_>
+    ensures { result.form ≡ Split }
+{
     Parts {
         form: Form::Split,
         base: BASE,
@@ -119,7 +123,9 @@ fn walked(
     ring: &[Descriptor],
     head: u16,
     parts: &Parts,
-) -> Result<(u8, usize), AllocError> {
+) -> Result<(u8, usize), AllocError>
+    requires { parts.now.form ≡ Split }
+{
     let walked = walk(alloc, ring, head, parts)?;
     let segments = match &walked {
         Ok(chain) => chain.readable.len(),
