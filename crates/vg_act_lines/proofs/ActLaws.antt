@@ -3,6 +3,7 @@ use Rattle.std.proofs.Common.{◌≡◌, ℕ, ◌^◌, Bool, true, false, List, 
 use Rattle.std.proofs.lemmas.Bool.{and_from}
 use Rattle.std.proofs.lemmas.List.Sums.{AllPass-from_list_all}
 use Rattle.std.specs.List.{All, list_all, join_with_byte}
+use Rattle.vg_laws.proofs.Options.{some_is}
 use Rattle.vg_client_holds.specs.declared.act.Act.{Act}
 use Rattle.vg_client_holds.specs.declared.act.Act.TheVariants.{Enter, Reserve, Store, Load, Export, Import, Release, Free, Take, Drop, Await, Denied, Leave}
 use Rattle.vg_client_holds.specs.declared.act.What.{What}
@@ -14,7 +15,7 @@ use Rattle.vg_line_words.proofs.NumberLaws.{number_back, number_only, number_ran
 use Rattle.vg_act_lines.specs.Words.{act_words, what_words}
 use Rattle.vg_act_lines.specs.Ranges.{ActInRange, IsShort, WhatInRange}
 use Rattle.vg_act_lines.specs.Read.{act_by, act_of, alone, await, await_of, both, buffer_act, four, load, load_of, numbered_act, numbered_what, one_number, reserve, reserve_of, short, store, store_of, two, what_of}
-use Rattle.vg_act_lines.proofs.PartLaws.{both_parts, last_plain, line_parts, map_parts, named, named_alone, named_number, no_more, one_only, plain_short, short_back, short_only, some_is, then_parts, two_back, two_only}
+use Rattle.vg_act_lines.proofs.PartLaws.{both_parts, last_plain, line_parts, map_parts, named, named_alone, named_number, no_more, one_only, plain_short, short_back, short_only, then_parts, two_back, two_only}
 
 -- The text is the words.
 pub text_what : (what : What) → codes "denied " ++ what_text what ≡ join_with_byte 32 (codes "denied" ∷ what_words what)

@@ -1,8 +1,9 @@
 -- What the parts of a reader say.
 use Rattle.std.proofs.Common.{◌≡◌, ℕ, ◌+◌, ◌^◌, ◌&&◌, Bool, true, List, [], ◌∷◌, ◌++◌, map, decimal, bytes_eq, Option, Some, None, option_map, option_and_then, arith, refl, sym, ap, subst, append-nil}
 use Rattle.std.proofs.lemmas.Bool.{and_from}
-use Rattle.std.proofs.lemmas.Slice.Eq.{bytes_eq-Decides}
 use Rattle.std.specs.List.{All, join_with_byte}
+use Rattle.vg_laws.proofs.Lists.{same_bytes}
+use Rattle.vg_laws.proofs.Options.{some_is}
 use Rattle.vg_text.specs.Text.{numbered}
 use Rattle.vg_journal_words.specs.Text.{comma_text, pages_text}
 use Rattle.vg_line_words.specs.Words.{is_plain, numbers_text, parts_at}
@@ -10,13 +11,6 @@ use Rattle.vg_line_words.proofs.NumberLaws.{number_back, number_only, number_ran
 use Rattle.vg_line_words.proofs.PlainLemmas.{plain_parts}
 use Rattle.vg_act_lines.specs.Ranges.{IsShort}
 use Rattle.vg_act_lines.specs.Read.{alone, both, one_number, short, two}
-
--- What words and tests tell.
-pub word_is : (word this : List ℕ) → bytes_eq word this ≡ true → word ≡ this
-word_is word this same = (bytes_eq-Decides word this).0 same
-
-pub some_is : {X : Type 0} (x y : X) → Some x ≡ Some y → x ≡ y
-some_is x y is = cc
 
 pub alone_only : {X : Type 0} (x a : X) (args : List (List ℕ)) → alone x args ≡ Some a → (args ≡ []) × (x ≡ a)
 alone_only x a [] is = (refl, some_is x a is)
@@ -40,7 +34,7 @@ no_more a is = absurd cc
 
 -- A first word that is known, with what stands behind it: anything, nothing, or a number.
 pub named : {X : Type 0} (P : List (List ℕ) → X → Type 0) (word this : List ℕ) (args : List (List ℕ)) (a : X) → bytes_eq word this ≡ true → P (this ∷ args) a → P (word ∷ args) a
-named P word this args a same p = subst (λ v. P (v ∷ args) a) (sym (word_is word this same)) p
+named P word this args a same p = subst (λ v. P (v ∷ args) a) (sym (same_bytes word this same)) p
 
 pub named_alone : {X : Type 0} (P : List (List ℕ) → X → Type 0) (word this : List ℕ) (args : List (List ℕ)) (x a : X) → bytes_eq word this ≡ true → alone x args ≡ Some a → P (this ∷ []) x → P (word ∷ args) a
 named_alone P word this args x a same is p =

@@ -3,6 +3,8 @@ use Rattle.std.proofs.Common.{◌≡◌, ℕ, ◌^◌, ◌&&◌, Bool, true, fal
 use Rattle.std.proofs.lemmas.Bool.{and_from, and_parts}
 use Rattle.std.proofs.lemmas.List.Sums.{AllPass-from_list_all}
 use Rattle.std.specs.List.{All, list_all, join_with_byte}
+use Rattle.vg_laws.proofs.Lists.{same_bytes}
+use Rattle.vg_laws.proofs.Options.{some_is}
 use Rattle.vg_client_holds.specs.declared.act.ActReply.{ActReply}
 use Rattle.vg_client_holds.specs.declared.act.ActReply.TheVariants as replies
 use Rattle.vg_share.specs.declared.share.Geometry.{Geometry}
@@ -15,7 +17,7 @@ use Rattle.vg_line_words.proofs.ListLaws.{below_weaker, numbers_back, numbers_on
 use Rattle.vg_act_lines.specs.Words.{refusal_words, reply_words}
 use Rattle.vg_act_lines.specs.Ranges.{GeometryInRange, IsShort, RefusalInRange, ReplyInRange}
 use Rattle.vg_act_lines.specs.Read.{alone, both, four, geometry, given_by, imported, imported_of, keyed_of, loaded_of, numbered_refusal, one_number, refusal_by, reply_by, reply_of, reserved, reserved_of, short, two}
-use Rattle.vg_act_lines.proofs.PartLaws.{both_parts, last_plain, line_parts, map_parts, named, named_alone, named_number, no_more, one_only, pages_numbers, plain_short, short_back, short_only, some_is, then_parts, two_back, two_only, word_is}
+use Rattle.vg_act_lines.proofs.PartLaws.{both_parts, last_plain, line_parts, map_parts, named, named_alone, named_number, no_more, one_only, pages_numbers, plain_short, short_back, short_only, then_parts, two_back, two_only}
 
 -- The text is the words.
 text_refusal : (refusal : ShareRefusal) → refusal_text refusal ≡ join_with_byte 32 (refusal_words refusal)
@@ -185,7 +187,7 @@ reserved_by true key word pages reply u is =
     let parts = both_parts (short key) (numbers_of (2 ^ 32) pages) m.0 m.1 in
     let number = short_only key m.0.0 parts.0 in
     let list = numbers_only (2 ^ 32) pages m.0.1 (omega arith) parts.1 in
-    let this = word_is word (codes "pages") u in
+    let this = same_bytes word (codes "pages") u in
     subst (IsReply (codes "key" ∷ key ∷ word ∷ pages ∷ [])) m.2 (λ i. codes "key" ∷ number.0 i ∷ this i ∷ list i ∷ [], (number.1, numbers_range (2 ^ 32) pages m.0.1 parts.1))
 reserved_by false key word pages reply u is = no_more reply is
 
@@ -211,8 +213,8 @@ imported_by true key word width height format bytes more pages reply u is =
     let size = geometry_only width height format bytes m.0.0.1 front.1 in
     let list = numbers_only (2 ^ 32) pages m.0.1 (omega arith) parts.1 in
     let these = and_parts (bytes_eq word (codes "size")) (bytes_eq more (codes "pages")) u in
-    let first = word_is word (codes "size") these.0 in
-    let second = word_is more (codes "pages") these.1 in
+    let first = same_bytes word (codes "size") these.0 in
+    let second = same_bytes more (codes "pages") these.1 in
     subst (IsReply (codes "key" ∷ key ∷ word ∷ width ∷ height ∷ format ∷ bytes ∷ more ∷ pages ∷ [])) m.2
     (λ i. codes "key" ∷ number.0 i ∷ first i ∷ size.0 i ∷ size.1 i ∷ size.2 i ∷ size.3 i ∷ second i ∷ list i ∷ [], (number.1, size.4, numbers_range (2 ^ 32) pages m.0.1 parts.1))
 imported_by false key word width height format bytes more pages reply u is = no_more reply is

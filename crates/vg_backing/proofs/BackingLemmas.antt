@@ -1,10 +1,9 @@
 -- The bytes of entries that stand one after another, and the runs that tell where each begins.
-use Rattle.std.proofs.Common.{◌≡◌, ℕ, zero, suc, ◌+◌, ◌-◌, ◌^◌, ◌<◌, ◌≤◌, List, [], ◌∷◌, ◌++◌, length, get_or, take, drop, refl, sym, ap, ◌∙◌, inl, inr, append_assoc, arith}
-use Rattle.std.proofs.Math.Seq.{take-add, take-append_seam, drop-append_seam, drop-append-add}
+use Rattle.std.proofs.Common.{◌≡◌, ℕ, zero, suc, ◌+◌, ◌-◌, ◌^◌, ◌<◌, ◌≤◌, List, [], ◌∷◌, ◌++◌, length, get_or, take, drop, refl, sym, ap, ◌∙◌, inl, inr, arith}
+use Rattle.std.proofs.Math.Seq.{drop-append-add}
 use Rattle.std.proofs.lemmas.List.{length-map, length-take, length-drop, length-append, take-append-le, drop-append-le, drop-take, drop-drop, take-take, take_all, get_or-map}
 use Rattle.std.proofs.lemmas.List.Sums.{sum_by-cons, sum_by_more}
 use Rattle.std.proofs.lemmas.Bool.{cases_lt}
-use borrow.Rule.Slice.PartMut.{put_mid}
 use Rattle.vg_formats.specs.declared.entry.MemEntry.{MemEntry}
 use Rattle.vg_pages.specs.Memory.{Memory, HoldsRange, bytes_at}
 use Rattle.vg_backing.specs.declared.run.Run.{Run}
@@ -118,18 +117,3 @@ bytes-here memory runs k at skip n d placed held within here fits =
     ap (λ m. take n (drop m (backing_bytes memory (entries_of runs)))) (here ∙ ap (λ m. m + skip) (placed k d within).0)
     ∙ piece memory (entries_of runs) k skip n (entry_of run) held inside room
     ∙ ap (λ (e : MemEntry). bytes_at memory.bytes (e.addr + skip) n) same
-
--- the first bytes of a list are written over those of another, and then some more
-pub more-written : (xs old part : List ℕ) (done n : ℕ) → done + n ≤ length xs → done ≤ length old → part ≡ take n (drop done xs)
-    → put_mid done n (take done xs ++ drop done old) part ≡ take (done + n) xs ++ drop (done + n) old
-more-written xs old part done n fits room same =
-    let front = take done xs in
-    let long : length front ≡ done = omega (arith, length-take done xs) in
-    let before : take done (front ++ drop done old) ≡ front = ap (λ m. take m (front ++ drop done old)) (sym long) ∙ take-append_seam front (drop done old) in
-    let after : drop done (front ++ drop done old) ≡ drop done old = ap (λ m. drop m (front ++ drop done old)) (sym long) ∙ drop-append_seam front (drop done old) in
-    ap (λ ys. ys ++ (part ++ drop n (drop done (front ++ drop done old)))) before
-    ∙ ap (λ ys. front ++ (part ++ drop n ys)) after
-    ∙ ap (λ ys. front ++ (part ++ ys)) (drop-drop n done old)
-    ∙ ap (λ ys. front ++ (ys ++ drop (done + n) old)) same
-    ∙ sym (append_assoc front (take n (drop done xs)) (drop (done + n) old))
-    ∙ ap (λ ys. ys ++ drop (done + n) old) (sym (take-add done n xs))

@@ -6,11 +6,8 @@ use Rattle.vg_pages.specs.Lending.{AreFlagged, is_flagged}
 use Rattle.std.specs.List.{list_any}
 use Rattle.std.proofs.lemmas.Bool.{eq-eqb, eqb-true}
 use Rattle.std.proofs.lemmas.List.Folds.{Any-from_list_any, list_any_at, list_any_none}
+use Rattle.vg_laws.proofs.Bools.{or-false}
 use Rattle.vg_pages.specs.Memory.{is_among}
-
-or-false : (b c : Bool) → (b || c) ≡ false → (b ≡ false) × (c ≡ false)
-or-false true c none = cc
-or-false false c none = (refl, none)
 
 -- a page that is among them passes the test
 pub any-of : (test : ℕ → Bool) (pages : List ℕ) (page : ℕ) → is_among pages page ≡ true → test page ≡ true → list_any test pages ≡ true

@@ -1,8 +1,7 @@
 -- An account beside a history that grows, and an account that changes.
 use Rattle.std.proofs.Common.{◌≡◌, ◌≢◌, ◌⊎◌, inl, inr, ⊎_elim, ℕ, suc, ◌+◌, ◌≤◌, ◌==◌, true, false, List, [], ◌∷◌, ◌++◌, map, refl, ap, sym, subst, ◌∙◌, arith}
 use mathlib.Core.List.{map-append}
-use mathlib.Core.Logic.{dite}
-use native.Mathlib.Decide.{ℕ_discrete}
+use Rattle.vg_laws.proofs.Numbers.{same_or_not}
 use Rattle.vg_history.specs.declared.machine.Machine.{Ghosts}
 use Rattle.vg_history.specs.declared.entry.Entry.{Entry}
 use Rattle.vg_history.specs.declared.entry.Entry.TheVariants.{Act}
@@ -18,9 +17,6 @@ use Rattle.vg_book.specs.declared.board.Account.{Account}
 use Rattle.vg_book.specs.Views.{order_call, entry_of, IsEntryOf, without, calls, drawn, ordered_of, settled, given_up, entered}
 use Rattle.vg_book.specs.Kept.{Known, Numbered, Accounted, IsFresh}
 use Rattle.vg_book.proofs.Updates.{has_of_without, has_without, times_without}
-
-same_or_not : (a b : ℕ) → (a ≡ b) ⊎ (a ≢ b)
-same_or_not a b = dite (ℕ_discrete a b) (λ e. inl e) (λ ne. inr ne)
 
 module _ {M S A R Q P H W : Type 0} (g : Ghosts M S A R Q P H W) where
   abbrev E : Type 0

@@ -1,8 +1,6 @@
 -- The turn given back with a command that was run for a pass.
-use Rattle.std.proofs.Common.{◌≡◌, ◌≢◌, ◌⊎◌, inl, inr, ⊎_elim, ℕ, suc, ◌+◌, ◌<◌, ◌≤◌, true, false, List, [], ◌∷◌, ◌++◌, map, length, set, refl, ap, sym, subst, ◌∙◌, arith, Some}
-use mathlib.Core.Logic.{dite}
+use Rattle.std.proofs.Common.{◌≡◌, ◌≢◌, inl, inr, ⊎_elim, ℕ, suc, ◌+◌, ◌<◌, ◌≤◌, true, false, List, [], ◌∷◌, ◌++◌, map, length, set, refl, ap, sym, subst, ◌∙◌, arith, Some}
 use mathlib.Core.Option.{some, none}
-use native.Mathlib.Decide.{ℕ_discrete}
 use lib.ListN.{get_elem?}
 use Rattle.atomic_table.specs.Table.{State, Me, step, gives, Allows}
 use Rattle.atomic_table.proofs.Lists.{at_last}
@@ -25,6 +23,7 @@ use Rattle.vg_book.specs.declared.board.Counted.{Counted}
 use Rattle.vg_book.specs.declared.board.View.{View}
 use Rattle.atomic_table.specs.Table.{put_back, rest}
 use Rattle.std.proofs.Common.{Option}
+use Rattle.vg_laws.proofs.Numbers.{same_or_not}
 use Rattle.vg_book.specs.Views.{Carries, ran, finished, counted_up, entries_in}
 use Rattle.vg_book.specs.Kept.{Plan, LaneOk, PassOk, DoneOk, Knows, Kept, Shown, IsCarried, IsKeptBy, lane_jobs}
 use Rattle.vg_book.specs.Tells as tells
@@ -32,9 +31,6 @@ use Rattle.vg_book.proofs.Updates.{true_not_false, set_at}
 use Rattle.vg_book.proofs.Accounts.{Fits}
 use Rattle.vg_book.proofs.SeatLemmas.{shown_by, carried_set, kept_set, Linked}
 use Rattle.vg_book.proofs.Turns.{begun_is, gives_back, grown_plan, grow_others, entry_reply, IsNext, next_core}
-
-same_or_not : (a b : ℕ) → (a ≡ b) ⊎ (a ≢ b)
-same_or_not a b = dite (ℕ_discrete a b) (λ e. inl e) (λ ne. inr ne)
 
 module _ {M S A R Q P H W : Type 0} (g : Ghosts M S A R Q P H W) (first : S) where
   abbrev E : Type 0

@@ -1,8 +1,6 @@
 -- A client's order comes back, run or unrun.
-use Rattle.std.proofs.Common.{◌≡◌, ◌≢◌, ◌⊎◌, inl, inr, ⊎_elim, ℕ, false, List, [], ◌∷◌, set, get_or, refl, ap, sym, subst, ◌∙◌, arith}
-use mathlib.Core.Logic.{dite}
+use Rattle.std.proofs.Common.{◌≡◌, ◌≢◌, inl, inr, ⊎_elim, ℕ, false, List, [], ◌∷◌, set, get_or, refl, ap, sym, subst, ◌∙◌, arith}
 use mathlib.Core.Option.{some, none}
-use native.Mathlib.Decide.{ℕ_discrete}
 use lib.ListN.{get_elem?}
 use Rattle.atomic_table.specs.Table.{State, Me, step, keeps, Allows}
 use Rattle.vg_history.specs.declared.machine.Machine.{Ghosts}
@@ -21,9 +19,6 @@ use Rattle.vg_book.specs.Tells as tells
 use Rattle.vg_book.proofs.Updates.{true_not_false, has_without, set_at}
 use Rattle.vg_book.proofs.Accounts.{settles, gives_up}
 use Rattle.vg_book.proofs.SeatLemmas.{set_cases, shown, shown_by, words_to, rebuilt, holder_set, carried_set, kept_set, Linked}
-
-same_or_not : (a b : ℕ) → (a ≡ b) ⊎ (a ≢ b)
-same_or_not a b = dite (ℕ_discrete a b) (λ e. inl e) (λ ne. inr ne)
 
 module _ {M S A R Q P H W : Type 0} (g : Ghosts M S A R Q P H W) (first : S) where
   abbrev E : Type 0

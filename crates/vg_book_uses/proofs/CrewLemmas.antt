@@ -1,5 +1,5 @@
 -- Clients that are made for jobs, one each, and what the jobs give is taken in.
-use Rattle.std.proofs.Common.{◌≡◌, ℕ, zero, suc, ◌+◌, ◌<◌, ◌≤◌, inl, inr, List, [], ◌∷◌, ◌++◌, map, refl, ap, sym, subst, ◌∙◌, arith, append_assoc, add-one, Option}
+use Rattle.std.proofs.Common.{◌≡◌, ℕ, suc, ◌+◌, ◌<◌, ◌≤◌, inl, inr, List, [], ◌∷◌, ◌++◌, map, refl, ap, sym, subst, ◌∙◌, arith, append_assoc, add-one, Option}
 use Rattle.std.specs.Prelude.{All, Result, Ok, IfOk}
 use Rattle.std.proofs.lemmas.List.{map-append}
 use Rattle.std.proofs.lemmas.List.Elements.{All-append, All-nil}
@@ -9,6 +9,7 @@ use Rattle.vg_history.specs.Lists.{Has, upto}
 use Rattle.vg_history.proofs.ListLemmas.{has_map, map_has, has_upto}
 use Rattle.vg_book.specs.declared.board.Counted.{Counted}
 use Rattle.std.specs.declared.alloc.AllocError.{AllocError}
+use Rattle.vg_laws.proofs.Lists.{all_one}
 use Rattle.vg_book.specs.Kept.{IsHistory}
 use Rattle.vg_book.specs.Tokens.{AllJoined, MakesClient, TakesIn}
 use Rattle.vg_book_uses.specs.declared.counter.Act.{Act}
@@ -17,10 +18,6 @@ use Rattle.vg_book_uses.specs.declared.counter.Request.{Request}
 use Rattle.vg_jobs.specs.Jobs.{AllGive}
 use Rattle.vg_jobs.proofs.JobLemmas.{all_of_map, given_all, given_ok, given_same, ok_more}
 use Rattle.vg_book_uses.specs.Adding.{E, Cl, Ro, number_of, account_of, AreNew, HasTakenAll, IsNew, IsRootWith}
-
-pub all_one : {X : Type 0} (P : X → Type 0) (x : X) → P x → All P (x ∷ [])
-all_one P x h zero d lt = h
-all_one P x h (suc k) d lt = absurd (omega arith)
 
 upto_more : (n : ℕ) → upto n ++ (n + 1) ∷ [] ≡ upto (n + 1)
 upto_more n = rw add-one refl

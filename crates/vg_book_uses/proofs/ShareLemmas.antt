@@ -11,6 +11,7 @@ use Rattle.vg_history.specs.Lists.{Has}
 use Rattle.vg_history.proofs.ListLemmas.{prefix_self, prefix_more, prefix_trans, has_map, map_has, has_left, has_last}
 use Rattle.vg_book.specs.declared.board.Counted.{Counted}
 use Rattle.std.specs.declared.alloc.AllocError.{AllocError}
+use Rattle.vg_laws.proofs.Lists.{all_one}
 use Rattle.vg_book.specs.Opening.{first_lanes}
 use Rattle.vg_book.specs.Tokens.{Acted, IsClosed}
 use Rattle.vg_book_uses.specs.declared.counter.Act.{Act}
@@ -21,7 +22,7 @@ use Rattle.vg_jobs.specs.Jobs.{AllGive}
 use Rattle.vg_book_uses.specs.Adding.{E, Cl, Ro, account_of, AreNew, IsNew}
 use Rattle.vg_book_uses.specs.Desks.{La, HasAsked, HasServed, IsLaneKnown}
 use Rattle.vg_book_uses.specs.Sharing.{counted_of, HasTakenLanes, HasTalked, HaveShared, IsSettled, MayTalk}
-use Rattle.vg_book_uses.proofs.CrewLemmas.{Gives, all_one, found}
+use Rattle.vg_book_uses.proofs.CrewLemmas.{Gives, found}
 
 abbrev pub lane_of : La → ℕ
 lane_of l = l.lane

@@ -3,6 +3,7 @@ use Rattle.std.proofs.Common.{◌≡◌, ◌≢◌, ◌≤◌, ◌<◌, ◌+◌,
 use Rattle.std.specs.List.{AllByRecursion, range_with_len}
 use Rattle.std.proofs.lemmas.Bool.{cases_lt, eqb-true, eq-eqb, false_from_ne_true, false≢true, leb-false, leb-true, or_cases, or_left, or_right, or_from, or_parts}
 use Rattle.std.proofs.lemmas.Bool.Decides.{nat_tests}
+use Rattle.vg_laws.proofs.Numbers.{differs}
 use Rattle.vg_call_numbers.proofs.GapLemmas.{same-test}
 use Rattle.vg_call_numbers.proofs.NumberLemmas.{used-within}
 use Rattle.vg_call_numbers.specs.Numbers.{AreAllUsed, IsAdded, IsGreatest, UsedNumbers, is_used}
@@ -19,9 +20,6 @@ pub at-taken : (P : ℕ → Type 0) (n : ℕ) (taken : List ℕ) → AllByRecurs
 at-taken P n [] all there = let none : ⊥ = cc in absurd none
 at-taken P n (one ∷ more) all there =
     ⊎_elim (λ here. subst P (eqb-true one n here) all.0) (λ later. at-taken P n more all.1 later) (or_cases (one == n) (is_taken n more) there)
-
-differs : (one n : ℕ) → (one == n) ≡ false → one ≢ n
-differs one n apart is = grind (arith, nat_tests)
 
 is-apart : (one n : ℕ) → one ≢ n → (one == n) ≡ false
 is-apart one n differ = grind (arith, nat_tests)

@@ -4,6 +4,7 @@ use Rattle.std.proofs.lemmas.List.Sums.{sum_by-set, count_by-le-length}
 use Rattle.std.proofs.lemmas.Bool.Decides.{eqb_tells}
 use Rattle.std.proofs.lemmas.Option.{slice_get_within}
 use Rattle.std.specs.List.{count_by}
+use Rattle.vg_laws.proofs.Bools.{not-false}
 use Rattle.vg_chain.specs.declared.chain.Chain.{Chain}
 use Rattle.vg_chain.specs.declared.chain.ChainFault.{ChainFault}
 use Rattle.vg_chain.specs.declared.chain.ChainFault.TheVariants.{Loop, Nested, NextWithIndirect, TableLength, Order, Range}
@@ -64,10 +65,6 @@ and_right : (a b : Bool) → a ≡ true → a && b ≡ false → b ≡ false
 and_right true b on off = off
 and_right false b on off = cc
 
-pub not_false : (b : Bool) → not b ≡ false → b ≡ true
-not_false true h = refl
-not_false false h = sym h
-
 -- what a descriptor without a fault is
 pub record IsFree (m : Memory) (size : ℕ) (inside met : Bool) (d : Descriptor) : Type 0 where
   pub unmet : met ≡ false
@@ -84,7 +81,7 @@ free m size inside met wrote d h =
       outer = λ on. and_right (is_indirect d) inside on parts.1;
       ends = λ on. and_right (is_indirect d) (has_next d) on parts.2;
       good = λ on. and_right (is_indirect d) (is_bad_length size d) on parts.3;
-      there = not_false (is_in_range m d) parts.5;
+      there = not-false (is_in_range m d) parts.5;
     }
 
 same : (inside b : Bool) → (inside && inside || not inside && not inside) && b ≡ b

@@ -3,6 +3,7 @@ use Rattle.std.proofs.Common.{◌≡◌, ◌≢◌, ◌≤◌, ◌<◌, ◌-◌,
 use Rattle.std.specs.List.{count_by}
 use Rattle.std.proofs.lemmas.Bool.{and_from, and_parts, eqb-true, false≢true, not-true, not_from_false}
 use Rattle.std.proofs.lemmas.Bool.Decides.{nat_tests}
+use Rattle.vg_laws.proofs.Numbers.{test-below}
 use Rattle.vg_call_numbers.specs.Numbers.{UsedNumbers, is_in_gap, is_used}
 use Rattle.vg_client_holds.specs.declared.act.Act.{Act}
 use Rattle.vg_client_holds.specs.declared.act.Act.TheVariants as acts
@@ -27,9 +28,6 @@ use Rattle.vg_check.proofs.SeenLemmas.{NumberLaws, has-none, none-has}
 
 pub below-test : (a b : ℕ) → nat_lt a b ≡ true → a < b
 below-test a b is = grind (arith, nat_tests)
-
-pub test-below : (a b : ℕ) → a < b → nat_lt a b ≡ true
-test-below a b is = grind (arith, nat_tests)
 
 pub most-test : (a b : ℕ) → nat_le a b ≡ true → a ≤ b
 most-test a b is = grind (arith, nat_tests)

@@ -7,6 +7,7 @@ use Rattle.std.proofs.lemmas.List.{get_or-set_other, get_or-set_same}
 use Rattle.std.proofs.lemmas.List.Sums.{count_by-le-length}
 use mathlib.Core.Logic.{dite}
 use native.Mathlib.Decide.{ℕ_discrete}
+use Rattle.vg_laws.proofs.Lists.{zeros-at}
 use Rattle.vg_call_numbers.specs.Taken.{IsUsedBy}
 use Rattle.vg_client_holds.specs.declared.act.Act.{Act}
 use Rattle.vg_client_holds.specs.declared.act.ActReply.{ActReply}
@@ -34,7 +35,7 @@ use Rattle.vg_check.proofs.ActLemmas.{above-unused, below-test}
 use Rattle.vg_check.proofs.CommandLemmas as asking
 use Rattle.vg_check.proofs.CommandLemmas.{lane-low}
 use Rattle.vg_check.proofs.EntryLemmas.{counted-more, counted-no, counted-yes, order-more, replay-more}
-use Rattle.vg_check.proofs.PlaceLemmas.{get-none, get-pushed, get-set, get-some, zero-at}
+use Rattle.vg_check.proofs.PlaceLemmas.{get-none, get-pushed, get-set, get-some}
 use Rattle.vg_check.proofs.SeenLemmas.{NumberLaws, seen-act, seen-command, seen-none, seen-other}
 
 -- ---- a new checker
@@ -63,7 +64,7 @@ checked-none setup checker none display control cursor lanes clients new = recor
   control = control;
   cursor = cursor;
   lanes = ap (λ (ns : List ℕ). length ns) lanes;
-  counts = λ lane. ap (λ (ns : List ℕ). get_or ns lane 0) lanes ∙ zero-at 66 lane;
+  counts = λ lane. ap (λ (ns : List ℕ). get_or ns lane 0) lanes ∙ zeros-at 66 lane;
   order = tt;
   clients = clients;
   seen = λ place seen at. seen-none setup (place + 1) seen none (new place seen at);

@@ -3,6 +3,7 @@ use Rattle.std.proofs.Common.{◌≡◌, ◌≢◌, ◌≤◌, ◌<◌, ◌+◌,
 use Rattle.std.specs.Prelude.{Option, Some, None}
 use Rattle.std.specs.List.{count_by}
 use Rattle.std.proofs.lemmas.Bool.{and_from, and_parts, eqb-true, false≢true, not-true, not_from_false, ne_eqb}
+use Rattle.vg_laws.proofs.Numbers.{test-below}
 use Rattle.vg_call_numbers.specs.Numbers.{is_used}
 use Rattle.vg_client_holds.specs.declared.act.What.{What}
 use Rattle.vg_client_holds.specs.declared.setup.Setup.{Setup}
@@ -24,7 +25,7 @@ use Rattle.vg_check.specs.declared.seen.Seen.{Seen}
 use Rattle.vg_check.specs.Checked.{HasSeen, calls_on}
 use Rattle.vg_check.specs.Right.{IsRightly}
 use Rattle.vg_check.specs.TestsWithin.{PassesCommand, is_next_command, is_next_on_lane}
-use Rattle.vg_check.proofs.ActLemmas.{below-test, most-test, test-below, test-most}
+use Rattle.vg_check.proofs.ActLemmas.{below-test, most-test, test-most}
 use Rattle.vg_check.proofs.EntryLemmas.{all-below, all-map, below-all, leaves-none, map-all, none-leaves}
 use Rattle.vg_check.proofs.SeenLemmas.{NumberLaws, has-none, none-has}
 

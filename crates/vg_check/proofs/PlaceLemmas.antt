@@ -1,5 +1,5 @@
 -- Elements of lists by their places, where one is put in another's place or behind all.
-use Rattle.std.proofs.Common.{◌≡◌, ◌≢◌, ◌⊎◌, inl, inr, ◌<◌, ℕ, zero, suc, List, [], ◌∷◌, ◌++◌, length, set, replicate, get_or, refl, ap, arith}
+use Rattle.std.proofs.Common.{◌≡◌, ◌≢◌, ◌⊎◌, inl, inr, ◌<◌, ℕ, zero, suc, List, [], ◌∷◌, ◌++◌, length, set, refl, ap, arith}
 use Rattle.std.specs.Prelude.{Some}
 use Rattle.std.specs.List.{slice_get}
 
@@ -41,8 +41,3 @@ module _ {X : Type 0} where
   get-some [] k low = absurd (omega (arith, low))
   get-some (x ∷ xs) zero low = (x, refl)
   get-some (x ∷ xs) (suc k) low = get-some xs k (omega (arith, low))
-
-pub zero-at : (n k : ℕ) → ◌≡◌ {A = ℕ} (get_or (replicate n 0) k 0) 0
-zero-at zero k = refl
-zero-at (suc n) zero = refl
-zero-at (suc n) (suc k) = zero-at n k

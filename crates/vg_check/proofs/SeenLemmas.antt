@@ -6,6 +6,7 @@ use Rattle.std.specs.List.{AllByRecursion, list_any, range_with_len}
 use Rattle.std.proofs.lemmas.Bool.{false≢true, or_left}
 use Rattle.std.proofs.lemmas.List.{get_or-set_other, get_or-set_same}
 use Rattle.std.proofs.lemmas.List.Folds.{list_any-append}
+use Rattle.vg_laws.proofs.Lists.{zeros-at}
 use Rattle.vg_call_numbers.specs.Numbers.{AreAllUsed, IsAdded, UsedNumbers, is_used}
 use Rattle.vg_call_numbers.specs.Taken.{IsUsedBy, by_number, is_taken}
 use Rattle.vg_client_holds.specs.declared.act.Act.{Act}
@@ -23,7 +24,6 @@ use Rattle.vg_device.specs.declared.request.Reply.{Reply}
 use Rattle.vg_check.specs.declared.seen.Seen.{Seen}
 use Rattle.vg_check.specs.Checked.{HasSeen, calls_on, greatest}
 use Rattle.vg_check.specs.TestsWithin.{HasSeenAct, HasSeenCommand, IsNew, is_leaving}
-use Rattle.vg_check.proofs.PlaceLemmas.{zero-at}
 use Rattle.vg_check.proofs.EntryLemmas.{filter-no, filter-yes, greatest-more, holds-more, holds-other, map-more, own-more, own-other}
 
 -- What the laws of used numbers say (vg_call_numbers).
@@ -40,7 +40,7 @@ seen-none setup client seen none-yet new = record {
   holds = new.holds;
   numbers = subst (λ (n : UsedNumbers). IsUsedBy n []) (sym new.numbers) none-yet;
   lanes = ap (λ (ns : List ℕ). length ns) new.last;
-  last = λ lane. ap (λ (ns : List ℕ). get_or ns lane 0) new.last ∙ zero-at 66 lane;
+  last = λ lane. ap (λ (ns : List ℕ). get_or ns lane 0) new.last ∙ zeros-at 66 lane;
   left = new.left;
 }
 

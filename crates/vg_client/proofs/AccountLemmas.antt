@@ -6,6 +6,7 @@ use Rattle.std.proofs.lemmas.Bool.Decides.{nat_tests}
 use mathlib.Core.List.{IsPrefix}
 use mathlib.Core.Option.{some}
 use lib.ListN.{get_elem?}
+use Rattle.vg_laws.proofs.Bools.{and-both}
 use Rattle.vg_client_holds.specs.declared.setup.Setup.{Setup}
 use Rattle.vg_client_holds.specs.declared.act.Act as the_act
 use Rattle.vg_client_holds.specs.declared.act.Act.TheVariants as acts
@@ -185,10 +186,6 @@ is-out token mid requests ticket is =
       subst P (sym (ap (λ (a : Account). a.out) is.drawn.account)) (has_right token.account.out (ordered_of token.account request ∷ []) (ordered_of token.account request) (inl refl)),
       record { call = sym is.call; lane = sym is.lane; ordinal = sym is.ordinal },
     )
-
-and-both : (a b : Bool) → (a && b) ≡ true → (a ≡ true) × (b ≡ true)
-and-both true b is = (refl, is)
-and-both false b is = absurd (cc is)
 
 -- a ticket that is behind those of its lane has a greater ordinal than their orders
 below-ordinal : (ticket other : Ticket) → is_below ticket other ≡ true → other.fence.lane ≡ ticket.fence.lane → other.fence.ordinal < ticket.fence.ordinal

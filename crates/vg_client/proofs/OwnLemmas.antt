@@ -10,16 +10,11 @@ use Rattle.vg_history.proofs.ListLemmas.{has_map, has_right, map_has}
 use Rattle.vg_book.specs.Places.{HasCall}
 use mathlib.Core.Logic.{dite}
 use native.Mathlib.Decide.{ℕ_discrete}
+use Rattle.vg_laws.proofs.Lists.{range-suc}
 use Rattle.vg_client_holds.specs.declared.setup.Setup.{Setup}
 use Rattle.vg_machine.specs.Entries.{Entry}
 use Rattle.vg_machine.specs.Order.{by_call, call_of, client_of, of_client, placed}
 use Rattle.vg_client.specs.Own.{OwnStand}
-
-range-suc : (first count : ℕ) → range_with_len first count ++ (first + count) ∷ [] ≡ range_with_len first (suc count)
-range-suc first zero = let e : first + 0 ≡ first = omega arith in ap (λ (n : ℕ). n ∷ []) e
-range-suc first (suc count) =
-    let e : first + suc count ≡ (first + 1) + count = omega arith in
-    ap (λ (n : ℕ). first ∷ (range_with_len (first + 1) count ++ n ∷ [])) e ∙ ap (λ (rest : List ℕ). first ∷ rest) (range-suc (first + 1) count)
 
 map-more : (H : List Entry) (entry : Entry) → map call_of (H ++ entry ∷ []) ≡ map call_of H ++ call_of entry ∷ []
 map-more [] entry = let e : map call_of (entry ∷ []) ≡ call_of entry ∷ [] = λ i. call_of entry ∷ [] in e

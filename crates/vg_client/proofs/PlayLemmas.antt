@@ -1,6 +1,6 @@
 -- What the tasks of a call give, one entry after another.
 use Rattle.std.proofs.Common.{◌≡◌, ◌⊎◌, ◌+◌, ◌<◌, ◌≤◌, ◌∙◌, sym, ap, refl, subst, arith, inl, inr, ⊎_elim, ℕ, Bool, true, false, cond, not, ◌||◌, suc, List, [], ◌∷◌, ◌++◌, length, map, filter, slice_set, take, drop, append_assoc, append-nil, length-append, Option, Some, None, Result, Ok, Err}
-use Rattle.std.specs.Prelude.{IfErr, IfOk, OnErr, OnOk}
+use Rattle.std.specs.Prelude.{IfErr, IfOk, OnOk}
 use Rattle.std.specs.List.{AllByRecursion, position, range_with_len, remove}
 use mathlib.Core.List.{IsPrefix}
 use Rattle.std.proofs.lemmas.List.{length-drop, length-map, length-set, length-take}
@@ -590,10 +590,6 @@ pub stood-denied : {B : Type 0} (client client' : Caller B) (what : What) (gave 
 stood-denied client client' what gave (reply, done, few) =
     (Act client.token.account.number (client.token.account.used + 1) (acts.Denied what) reply ∷ [], inr (client.token.account.used + 1, reply, refl), done.added)
 
-pub on_err : {T E : Type 0} {P : Type 0} (r : Result T E) → P → OnErr r P
-on_err (Ok x) p = tt
-on_err (Err e) p = p
-
 -- the entry with which a client left, by its number
 pub left-by : (token token' : Token) (n : ℕ) (reply : ActReply) → IsAddedAct token n acts.Leave reply token' → HasLeftBy token' n
 left-by token token' n reply (added, (state, is)) =
@@ -646,10 +642,6 @@ pub end-unleft : {B : Type 0} (client client' : Caller B) (tasks : List Task) (m
 end-unleft client client' tasks mine token are plays added un =
     let P : List Task → Type 0 = λ ts. Plays client.token.account.number false (known client) ts mine (known client') [] in
     (mine, (known client', [], subst P are plays), un.mine ∙ added.own, prefix_trans client.token.seen client'.token.seen token.seen added.more un.more)
-
-pub err-then : {T E : Type 0} {P Q : Type 0} (r : Result T E) → (P → Q) → OnErr r P → OnErr r Q
-err-then (Ok x) f p = tt
-err-then (Err e) f p = f p
 
 -- an act of a task may be the next
 pub may-deed : (token : Token) (act : the_act.Act) → IsActive token → IsFitDeed (deeds.Act act) → (token.account.out ≡ []) ⊎ KeepsByDeed (deeds.Act act) → MayAct token act

@@ -1,6 +1,6 @@
 -- What comes of a call, from its steps: what it begins, what it finishes first, and what it does.
 use Rattle.std.proofs.Common.{◌≡◌, ◌⊎◌, ◌+◌, ◌≤◌, ◌∙◌, ◌&&◌, sym, ap, refl, subst, arith, inl, inr, ⊎_elim, ℕ, Bool, true, false, List, [], ◌∷◌, ◌++◌, length, map, append_assoc, append-nil, Option, Some, Result, Ok, Err}
-use Rattle.std.specs.Prelude.{IfOk, IsSome, OnErr, OnOk}
+use Rattle.std.specs.Prelude.{IfOk, IsSome, OnErr}
 use Rattle.std.specs.List.{AllByRecursion, range_with_len}
 use mathlib.Core.List.{IsPrefix}
 use Rattle.vg_history.specs.Lists.{Has}
@@ -403,10 +403,6 @@ end-left-off client middle token done (mine, so, own, more) =
       own = own ∙ ap (λ (xs : List Entry). xs ++ mine) at.own ∙ append_assoc (mine_of client.token) at.back mine;
       more = prefix_trans client.token.seen middle.token.seen token.seen at.more more;
     }
-
-pub ok-then : {T E : Type 0} {P Q : Type 0} (r : Result T E) → (P → Q) → OnOk r P → OnOk r Q
-ok-then (Ok x) f p = f p
-ok-then (Err e) f p = tt
 
 -- what stands by another word for the plan
 pub stopped-as : {B : Type 0} (plan plan' : Result (List Task) What) (client client' : Caller B) → plan ≡ plan' → HasStoppedPlan plan' client client' → HasStoppedPlan plan client client'

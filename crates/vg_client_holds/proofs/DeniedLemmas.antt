@@ -3,6 +3,7 @@ use Rattle.std.proofs.Common.{◌≡◌, ◌<◌, ◌≤◌, ◌+◌, ◌-◌, �
 use Rattle.std.specs.Prelude.{IfOk, IfSome, nat_le, option_map, bit_and}
 use Rattle.std.specs.List.{list_any, range_with_len, AllByRecursion}
 use Rattle.std.proofs.lemmas.Bool.Decides.{nat_tests}
+use Rattle.vg_laws.proofs.Bools.{or-false}
 use Rattle.vg_formats.specs.declared.entry.MemEntry.{MemEntry}
 use Rattle.vg_wire.specs.declared.header.Header.{Header}
 use Rattle.vg_wire.specs.declared.two_d.Command2d.{Command2d}
@@ -159,11 +160,6 @@ none-of false true c d e = absurd (cc e)
 none-of false false true d e = absurd (cc e)
 none-of false false false d e = (refl, refl)
 
-either-of : (a b : Bool) → (a || b) ≡ false → (a ≡ false) × (b ≡ false)
-either-of true b e = absurd (cc e)
-either-of false true e = absurd (cc e)
-either-of false false e = (refl, refl)
-
 three-of : (a b c : Bool) → (a || b || c) ≡ false → (a ≡ false) × (b ≡ false) × (c ≡ false)
 three-of true b c e = absurd (cc e)
 three-of false true c e = absurd (cc e)
@@ -177,7 +173,7 @@ may-deny holds command (Resource n) there e =
     let parts = none-of (n == 0) (nat_le (2 ^ 31) n && not (is_creating command)) (list_any (has_key n) holds.buffers) (has_number n holds.taking_down) e in
     (grind (arith, nat_tests, parts.0), parts.1)
 may-deny holds command (Scanout n) there e =
-    let parts = either-of (nat_le holds.displays n) (has_number n holds.scanouts) e in
+    let parts = or-false (nat_le holds.displays n) (has_number n holds.scanouts) e in
     (grind (arith, nat_tests, parts.0), parts.1)
 may-deny holds command (Context n) there e =
     let parts = three-of (n == 0) (nat_le (2 ^ 31) n) (is_own_context holds n) e in

@@ -6,6 +6,7 @@ use Rattle.std.specs.Option.{option_or}
 use Rattle.std.proofs.lemmas.List.{drop_more, drop_all}
 use Rattle.std.proofs.lemmas.Bool.{cases_Bool}
 use Rattle.std.proofs.lemmas.List.Folds.{find-append}
+use Rattle.vg_laws.proofs.Bools.{not-false}
 use Rattle.vg_pages.specs.Memory.{is_among}
 use Rattle.vg_formats.specs.declared.entry.MemEntry.{MemEntry}
 use Rattle.vg_client_holds.specs.declared.act.What.TheVariants.{Page}
@@ -57,14 +58,9 @@ found-weaker f g weaker (page ∷ more) none =
           ∙ found-weaker f g weaker more (sym (ap (λ b. cond b (Some page) (find f more)) isnt) ∙ none)
     ]
 
--- entries that are pages of the key's buffer
-inside-own : (b : Bool) → not b ≡ false → b ≡ true
-inside-own true is = refl
-inside-own false is = absurd (cc is)
-
 pub none-foreign : (holds : Holds) (key : ℕ) (own pages : List ℕ) → AreOwnPages key own holds.buffers → find (is_outside own) pages ≡ None → find (is_foreign holds key) pages ≡ None
 none-foreign holds key own pages are none =
-    found-weaker (is_outside own) (is_foreign holds key) (λ page isnt. ap not (are.each page (inside-own (is_among own page) isnt))) pages none
+    found-weaker (is_outside own) (is_foreign holds key) (λ page isnt. ap not (are.each page (not-false (is_among own page) isnt))) pages none
 
 -- entry by entry
 pub missing-next : (own : List Bool) (count : ℕ) (entries : List MemEntry) (i : ℕ) (d : MemEntry) → i < length entries

@@ -3,6 +3,7 @@ use Rattle.std.proofs.Common.{◌≡◌, ℕ, ◌==◌, ◌^◌, Bool, true, fal
 use Rattle.std.specs.Prelude.{◌||◌, ◌&&◌, not, is_none, nat_le, if◌then◌else◌, Option, Result}
 use Rattle.std.proofs.lemmas.List.Folds.{list_any-append}
 use Rattle.std.specs.List.{list_any}
+use Rattle.vg_laws.proofs.Bools.{left-true, clash}
 use Rattle.vg_wire.specs.declared.header.Header.{Header}
 use Rattle.vg_wire_ext.specs.declared.command.Command.{Command}
 use Rattle.vg_wire.specs.declared.request.Malformed.{Malformed}
@@ -18,13 +19,10 @@ use Rattle.vg_client_holds.specs.declared.holds.Holds.{Holds}
 use Rattle.vg_share.specs.Lists.{is_number}
 use Rattle.vg_client_holds.specs.Holds.{Allowed, denied_of, denied_request, first_denied, gives_up, has_key, has_number, has_page, is_allowed, is_creating, key_of, names_of, update}
 
-false_is_true : false ≡ true → ⊥
-false_is_true e = absurd (cc e)
-
 or_more : (a b c d : Bool) → (b ≡ true → c ≡ true) → ((a || b) || d) ≡ true → ((a || c) || d) ≡ true
 or_more true b c d f h = refl
 or_more false true true d f h = refl
-or_more false true false d f h = absurd (false_is_true (f refl))
+or_more false true false d f h = absurd (clash (f refl))
 or_more false false true d f h = refl
 or_more false false false d f h = h
 
@@ -32,12 +30,8 @@ or_right : (a b c : Bool) → (b ≡ true → c ≡ true) → (a || b) ≡ true 
 or_right true b c f h = refl
 or_right false b c f h = f h
 
-or_left : (a b : Bool) → a ≡ true → (a || b) ≡ true
-or_left true b h = refl
-or_left false b h = absurd (false_is_true h)
-
 any_more : {X : Type 0} (p : X → Bool) (xs ys : List X) → list_any p xs ≡ true → list_any p (xs ++ ys) ≡ true
-any_more p xs ys h = list_any-append p xs ys ∙ or_left (list_any p xs) (list_any p ys) h
+any_more p xs ys h = list_any-append p xs ys ∙ left-true (list_any p xs) (list_any p ys) h
 
 -- What may be named still may.
 abbrev IsMore : Holds → Holds → Type 0
@@ -49,7 +43,7 @@ allowed_first false what rest e = absurd (cc e)
 
 denies_none : (b : Bool) (what : What) (rest : Option What) → b ≡ true → rest ≡ None → (if b then rest else Some what) ≡ None
 denies_none true what rest e r = r
-denies_none false what rest e r = absurd (false_is_true e)
+denies_none false what rest e r = absurd (clash e)
 
 none_denied : (h k : Holds) → IsMore h k → (command : Command) (whats : List What) → first_denied h command whats ≡ None → first_denied k command whats ≡ None
 none_denied h k more command [] e = refl
@@ -107,8 +101,8 @@ grows h (Import token) (replies.Bytes bs) e = more_itself h
 grows h (Import token) replies.Kept e = more_itself h
 grows h (Import token) replies.Last e = more_itself h
 grows h (Import token) (replies.Refused refusal) e = more_itself h
-grows h (Release key) reply e = absurd (false_is_true (sym e))
-grows h (Free key) reply e = absurd (false_is_true (sym e))
+grows h (Release key) reply e = absurd (clash (sym e))
+grows h (Free key) reply e = absurd (clash (sym e))
 grows h (Take scanout) replies.Ok e = more_scanouts h scanout
 grows h (Take scanout) (replies.Reserved key pages) e = more_itself h
 grows h (Take scanout) (replies.Exported token) e = more_itself h
@@ -117,10 +111,10 @@ grows h (Take scanout) (replies.Bytes bs) e = more_itself h
 grows h (Take scanout) replies.Kept e = more_itself h
 grows h (Take scanout) replies.Last e = more_itself h
 grows h (Take scanout) (replies.Refused refusal) e = more_itself h
-grows h (Drop scanout) reply e = absurd (false_is_true (sym e))
+grows h (Drop scanout) reply e = absurd (clash (sym e))
 grows h (Await lane ordinal) reply e = more_itself h
 grows h (Denied what) reply e = more_itself h
-grows h Leave reply e = absurd (false_is_true (sym e))
+grows h Leave reply e = absurd (clash (sym e))
 
 pub still_allowed : (h : Holds) (act : Act) (reply : ActReply) (queue : Queue) (bytes : List ℕ) → gives_up act ≡ false → Allowed h queue bytes → Allowed (update h act reply) queue bytes
 still_allowed h act reply queue bytes e may = still_none h (update h act reply) (grows h act reply e) (request_of queue bytes) may

@@ -3,6 +3,8 @@ use Rattle.std.proofs.Common.{◌≡◌, ℕ, ◌≤◌, ◌^◌, Bool, true, fa
 use Rattle.std.proofs.lemmas.Bool.{and_from}
 use Rattle.std.proofs.lemmas.List.Sums.{AllPass-from_list_all}
 use Rattle.std.specs.List.{All, list_all, join_with_byte}
+use Rattle.vg_laws.proofs.Lists.{same_bytes}
+use Rattle.vg_laws.proofs.Options.{some_is}
 use Rattle.vg_chain.specs.declared.shape.Shape.{Shape}
 use Rattle.vg_device.specs.declared.request.Request.{Request}
 use Rattle.vg_device.specs.declared.request.Reply.{Reply}
@@ -17,7 +19,7 @@ use Rattle.vg_command_lines.specs.Ranges.{CommandReplyInRange, RequestInRange}
 use Rattle.vg_command_lines.specs.Read.{command_reply_of, layout_of, request, request_of, ticket_of}
 use Rattle.vg_command_lines.specs.Shapes.{fault_of, shape_of}
 use Rattle.vg_command_lines.specs.Words.{command_reply_words, request_words}
-use Rattle.vg_act_lines.proofs.PartLaws.{both_parts, last_plain, line_parts, map_parts, some_is, word_is}
+use Rattle.vg_act_lines.proofs.PartLaws.{both_parts, last_plain, line_parts, map_parts}
 use Rattle.vg_command_lines.proofs.ShapeLaws.{fault_back, fault_only, plain_fault, plain_shape, shape_back, shape_only}
 
 bytes_said : (most : ℕ) (bytes : List ℕ) → AreBelow 256 bytes → length bytes ≤ most → bytes_within most (hex_text bytes) ≡ Some bytes
@@ -150,7 +152,7 @@ fault_reply : (word shape : List ℕ) (reply : Reply) (b : Bool) → bytes_eq wo
     → cond b (option_map Fault (fault_of shape)) None ≡ Some reply → IsReply (word ∷ shape ∷ []) reply
 fault_reply word shape reply true same is =
     let parts = map_parts Fault (fault_of shape) reply is in
-    let first = word_is word (codes "fault") same in
+    let first = same_bytes word (codes "fault") same in
     let second = fault_only shape parts.0 parts.1 in
     subst (IsReply (word ∷ shape ∷ [])) parts.2 ((λ i. first i ∷ second i ∷ []), tt)
 fault_reply word shape reply false same is = absurd cc

@@ -1,12 +1,7 @@
 -- What is found in a list.
-use Rattle.std.proofs.Common.{◌≡◌, ◌⊎◌, Bool, true, false, List, [], ◌∷◌, Option, Some, None, cond, inl, inr, refl, subst}
+use Rattle.std.proofs.Common.{◌≡◌, Bool, true, false, List, [], ◌∷◌, Option, Some, cond, refl, subst}
 use Rattle.std.specs.List.{AllByRecursion, find}
-use Rattle.std.specs.Option.{option_or}
-use Rattle.vg_act_lines.proofs.PartLaws.{some_is}
-
-pub or_parts : {X : Type 0} (o p : Option X) (x : X) → option_or o p ≡ Some x → (o ≡ Some x) ⊎ (p ≡ Some x)
-or_parts None p x is = inr is
-or_parts (Some y) p x is = inl is
+use Rattle.vg_laws.proofs.Options.{some_is}
 
 found_by : {X : Type 0} (P : X → Type 0) (test : X → Bool) (y x : X) (rest : Option X) (b : Bool) → test y ≡ b → P y
     → (rest ≡ Some x → (test x ≡ true) × P x) → cond b (Some y) rest ≡ Some x → (test x ≡ true) × P x

@@ -2,6 +2,8 @@
 use Rattle.std.proofs.Common.{◌≡◌, ℕ, zero, suc, ◌+◌, ◌≤◌, List, [], ◌∷◌, ◌++◌, bytes_eq, codes, decimal, true, Some, map, option_map, ⊎_elim, arith, refl, sym, ap, ◌∙◌, subst}
 use Rattle.std.specs.List.{find}
 use Rattle.std.proofs.lemmas.Fmt.{decimal_digit}
+use Rattle.vg_laws.proofs.Lists.{same_bytes}
+use Rattle.vg_laws.proofs.Options.{or_parts}
 use Rattle.vg_chain.specs.declared.chain.ChainFault.{ChainFault}
 use Rattle.vg_chain.specs.declared.chain.ChainFault.TheVariants.{Index, Loop, Nested, NextWithIndirect, TableLength, Order, Range}
 use Rattle.vg_chain.specs.declared.shape.Shape.{Shape}
@@ -9,8 +11,8 @@ use Rattle.vg_chain.specs.declared.shape.Shape.TheVariants.{Plain, Pieces, Indir
 use Rattle.vg_journal_words.specs.Text.{fault_text, shape_text}
 use Rattle.vg_line_words.specs.Words.{is_plain}
 use Rattle.vg_command_lines.specs.Shapes.{ShapeInRange, count_of, fault_of, faults, shape_of}
-use Rattle.vg_act_lines.proofs.PartLaws.{map_parts, word_is}
-use Rattle.vg_command_lines.proofs.FindLemmas.{found, or_parts}
+use Rattle.vg_act_lines.proofs.PartLaws.{map_parts}
+use Rattle.vg_command_lines.proofs.FindLemmas.{found}
 
 pub plain_fault : (fault : ChainFault) → is_plain (fault_text fault) ≡ true
 unfolding is_plain
@@ -35,7 +37,7 @@ fault_back Range = refl
 pub fault_only : (word : List ℕ) (fault : ChainFault) → fault_of word ≡ Some fault → word ≡ fault_text fault
 unfolding fault_of
 fault_only word fault is =
-    word_is word (fault_text fault) (found (λ _. Unit {0}) (λ fault. bytes_eq word (fault_text fault)) faults fault (tt, (tt, (tt, (tt, (tt, (tt, (tt, tt))))))) is).0
+    same_bytes word (fault_text fault) (found (λ _. Unit {0}) (λ fault. bytes_eq word (fault_text fault)) faults fault (tt, (tt, (tt, (tt, (tt, (tt, (tt, tt))))))) is).0
 
 -- ---- pieces, whose count is one digit
 
@@ -94,7 +96,7 @@ count_only word n is =
     let few : ℕ → Type 0 = λ n. (2 ≤ n) × (n ≤ 8) in
     let said = found few (λ n. bytes_eq word (digit_word n)) (2 ∷ 3 ∷ 4 ∷ 5 ∷ 6 ∷ 7 ∷ 8 ∷ []) n
     ((omega arith, omega arith), ((omega arith, omega arith), ((omega arith, omega arith), ((omega arith, omega arith), ((omega arith, omega arith), ((omega arith, omega arith), ((omega arith, omega arith), tt))))))) is in
-    (word_is word (digit_word n) said.0 ∙ word_of n said.1.1, said.1)
+    (same_bytes word (digit_word n) said.0 ∙ word_of n said.1.1, said.1)
 
 pub shape_only : (shape : Shape) (word : List ℕ) → shape_of word ≡ Some shape → (word ≡ shape_text shape) × ShapeInRange shape
 unfolding shape_of
@@ -102,7 +104,7 @@ shape_only shape word is =
     ⊎_elim
     (λ here.
     let said = found ShapeInRange (λ shape. bytes_eq word (shape_text shape)) (Plain ∷ Indirect ∷ Mixed ∷ map Bad faults) shape (tt, (tt, (tt, (tt, (tt, (tt, (tt, (tt, (tt, (tt, tt)))))))))) here in
-    (word_is word (shape_text shape) said.0, said.1))
+    (same_bytes word (shape_text shape) said.0, said.1))
     (λ pieces.
     let parts = map_parts Pieces (count_of word) shape pieces in
     let said = count_only word parts.0 parts.1 in

@@ -1,7 +1,8 @@
-use Rattle.std.proofs.Common.{◌≡◌, ℕ, zero, suc, ◌-◌, ◌/◌, ◌^◌, ◌<◌, ◌==◌, ◌&&◌, ◌||◌, Bool, true, false, not, if◌then◌else◌, bit_and, bit_or, min, max, refl, ap, sym, ◌∙◌, arith, w64}
+use Rattle.std.proofs.Common.{◌≡◌, ℕ, zero, suc, ◌-◌, ◌/◌, ◌^◌, ◌<◌, ◌==◌, ◌&&◌, ◌||◌, Bool, true, false, not, if◌then◌else◌, bit_and, bit_or, min, refl, ap, sym, ◌∙◌, arith, w64}
 use Rattle.std.specs.Int.{bit_at, bit_not}
 use Rattle.std.proofs.lemmas.Bool.Decides.{nat_tests}
 use Rattle.std.proofs.lemmas.Nat.Bits.{bit_at-lt, bit_at-zero, bit_at_and, bit_at_or, bit_at_not, bit_at-pow_same, bit_at-pow_other, shr_and_one, same_from_bits_below}
+use Rattle.vg_laws.proofs.Numbers.{has_max}
 use Rattle.vg_config.specs.Features.{AreFaulty, IsFaultless, has, lacks_virgl, offered}
 
 has_min : (a b : ℕ) → a < 2 → b < 2 → (min a b == 1) ≡ ((a == 1) && (b == 1))
@@ -11,14 +12,6 @@ has_min (suc zero) zero p q = refl
 has_min (suc zero) (suc zero) p q = refl
 has_min (suc (suc a)) b p q = absurd (omega arith)
 has_min a (suc (suc b)) p q = absurd (omega arith)
-
-has_max : (a b : ℕ) → a < 2 → b < 2 → (max a b == 1) ≡ ((a == 1) || (b == 1))
-has_max zero zero p q = refl
-has_max zero (suc zero) p q = refl
-has_max (suc zero) zero p q = refl
-has_max (suc zero) (suc zero) p q = refl
-has_max (suc (suc a)) b p q = absurd (omega arith)
-has_max a (suc (suc b)) p q = absurd (omega arith)
 
 has_less : (a : ℕ) → a < 2 → (1 - a == 1) ≡ not (a == 1)
 has_less zero p = refl

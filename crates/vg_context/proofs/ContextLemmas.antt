@@ -1,5 +1,5 @@
 -- What becomes of a context that was found, and is written to in place.
-use Rattle.std.proofs.Common.{◌≡◌, ◌==◌, ℕ, Bool, List, [], ◌∷◌, Result, Some, true, false, not, cond, Less, Err, Ok, OnErr, refl, sym, ap, ◌∙◌, arith}
+use Rattle.std.proofs.Common.{◌≡◌, ◌==◌, ℕ, Bool, List, [], ◌∷◌, Some, true, false, not, cond, Less, Err, Ok, refl, sym, ap, ◌∙◌, arith}
 use Rattle.std.proofs.lemmas.Bool.Decides.{nat_tests}
 use Rattle.std.specs.List.{AllByRecursion, filter, list_any}
 use Rattle.std.specs.List.Sorted.{IsStrictlySortedBy}
@@ -20,10 +20,6 @@ pub is-detached : (id resource : ℕ) (contexts : List (ℕ × Context)) (contex
     → (set_value (is_at (nat_cmp id)) contexts (without_resource resource context), Ok tt) ≡ detach id resource contexts
 unfolding detach
 is-detached id resource contexts context found there = rw (found, there) refl
-
-pub on_err : {T E P : Type 0} (r : Result T E) → P → OnErr r P
-on_err (Ok _) p = tt
-on_err (Err _) p = p
 
 abbrev others : ℕ → List ℕ → List ℕ
 others n xs = filter (λ one. not (one == n)) xs

@@ -1,12 +1,10 @@
 -- A blob that was found, by its size or by its bytes.
 use Rattle.std.proofs.Common.{◌≡◌, ℕ, List, length, Option, Some, None, sym, refl}
 use Rattle.std.specs.Option.{option_map}
+use Rattle.vg_laws.proofs.Options.{some-same}
 use Rattle.vg_blob.specs.declared.blobs.Blob.{Blob}
 use Rattle.vg_blob.specs.Blobs.{blob_at, blob_bytes, size_of}
 use Rattle.vg_pages.specs.Memory.{Memory}
-
-some-same : {X : Type 0} {x y : X} → ◌≡◌ {A = Option X} (Some x) (Some y) → x ≡ y
-some-same same = cc
 
 sized : (found : Option Blob) (size : ℕ) → ◌≡◌ {A = Option ℕ} (Some size) (option_map (λ blob. blob.size) found) → (blob : Blob) × (found ≡ Some blob) × (blob.size ≡ size)
 sized (Some blob) size is = (blob, refl, sym (some-same is))

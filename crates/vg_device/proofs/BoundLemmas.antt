@@ -4,6 +4,7 @@ use Rattle.std.specs.List.{All}
 use Rattle.std.proofs.lemmas.Bool.Decides.{nat_tests}
 use Rattle.std.proofs.lemmas.List.{length-map, length-set}
 use Rattle.std.proofs.lemmas.List.Elements.{All-map, All-replicate, All-set}
+use Rattle.vg_laws.proofs.Options.{some-same}
 use Rattle.vg_formats.specs.declared.rect.Rect.{Rect}
 use Rattle.vg_resource.specs.declared.resource.Resource.{Resource}
 use Rattle.vg_cursor.specs.declared.cursor.Cursor.{Cursor}
@@ -138,9 +139,6 @@ either-fits : (binding : Binding) (blob : Option Blob) (found : Option Resource)
 either-fits binding (Some blob) found size shows as_blob as_resource = as_blob blob refl shows
 either-fits binding None found size shows as_blob as_resource =
     let (one, is, shown) = shown-found binding found shows in as_resource one refl is shown
-
-some-same : {X : Type 0} {x y : X} → ◌≡◌ {A = Option X} (Some x) (Some y) → x ≡ y
-some-same same = cc
 
 some-none : {X P : Type 0} {x : X} (found : Option X) → found ≡ Some x → found ≡ None → P
 some-none found is none = cc

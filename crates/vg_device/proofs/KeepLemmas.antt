@@ -1,9 +1,10 @@
 -- A part of the display that is refused or changed, and the display around it; what is refused has changed nothing.
 use Rattle.std.proofs.Common.{◌≡◌, ◌≢◌, ◌⊎◌, inl, inr, ℕ, ◌==◌, ◌||◌, ◌&&◌, Bool, true, false, cond, not, if◌then◌else◌, List, [], ◌∷◌, length, Option, Some, None, Result, Ok, Err, ap, sym, ◌∙◌, refl, subst}
-use Rattle.std.specs.Prelude.{IfOk, OnOk, nat_le, nat_lt, is_none, is_some, drop, ok_or, option_map}
+use Rattle.std.specs.Prelude.{IfOk, OnOk, nat_le, nat_lt, is_none, drop, ok_or, option_map}
 use Rattle.std.specs.Ordering.{nat_cmp}
 use Rattle.std.specs.BTreeMap.{insert_entry, is_at}
 use Rattle.std.specs.Map.{lookup, remove_entry}
+use Rattle.vg_laws.proofs.Options.{none-there}
 use Rattle.vg_formats.specs.declared.entry.MemEntry.{MemEntry}
 use Rattle.vg_formats.specs.declared.rect.Rect.{Rect}
 use Rattle.vg_formats.specs.declared.format.Format.{Format}
@@ -368,10 +369,6 @@ flush-by : (state : State) (rect : Rect) (id : ℕ) (surface : List ℕ) (new : 
 unfolding flush
 flush-by state rect id surface new done shown there inside step =
     rw (there, inside, shown) (lifted (λ scanouts. record state { scanouts = scanouts }) (refusal_of ((are_too_many (flushed state.entries id rect surface state.cursors state.scanouts).frames, 0x1201) ∷ [])) state.scanouts new _ done step)
-
-pub none-there : {X : Type 0} (found : Option X) → is_some found ≡ false → found ≡ None
-none-there (Some x) none = cc
-none-there None none = refl
 
 pub step-flush : (state : State) (rect : Rect) (id : ℕ) (resource : Resource) (new : ScanoutState) (done : Result (Unit {0}) ℕ)
     → is_blob state id ≡ false → resource_at id state.resources ≡ Some resource → is_inside rect resource.width resource.height ≡ true

@@ -9,8 +9,10 @@ use Rattle.std.specs.BTreeMap.{is_at}
 use Rattle.std.proofs.lemmas.Bool.Decides.{nat_tests}
 use Rattle.std.proofs.lemmas.List.{drop-drop}
 use Rattle.std.proofs.lemmas.Nat.{div-mul-add, mod-mul-add}
-use Rattle.std.proofs.lemmas.Option.{get_or_from_slice_get, slice_get_within, slice_get-map}
+use Rattle.std.proofs.lemmas.Option.{slice_get-map}
 use Rattle.std.proofs.lemmas.Map.Views.{IfSome-lookup_from_All}
+use Rattle.vg_laws.proofs.Lists.{holds-at}
+use Rattle.vg_laws.proofs.Options.{some-same}
 use Rattle.vg_places.proofs.PixelLemmas.{pixel-in, pixel-out}
 use Rattle.vg_formats.specs.declared.entry.MemEntry.{MemEntry}
 use Rattle.vg_formats.specs.declared.format.Format.{Format}
@@ -55,9 +57,6 @@ none-holds false code more none = (refl, none)
 there-is : {X : Type 0} (found : Option X) → is_none found ≡ false → (x : X) × (found ≡ Some x)
 there-is (Some x) some = (x, refl)
 there-is None some = cc
-
-some-same : {X : Type 0} {x y : X} → ◌≡◌ {A = Option X} (Some x) (Some y) → x ≡ y
-some-same same = cc
 
 -- byte c of a shown pixel, of pixels that start at a place
 byte-shown : (format : Format) (surface : List ℕ) (from i c : ℕ) → c < 4 → shown_byte format (drop from surface) (4 * i + c) ≡ get_or (shown_bytes format (take 4 (drop (from + 4 * i) surface))) c 0
@@ -207,10 +206,6 @@ after-at : (id : ℕ) (rect : Rect) (surface : List ℕ) (screens : List (Option
     → after_flush id rect surface (Some screen) ≡ Some next → slice_get (map (after_flush id rect surface) screens) scanout ≡ Some (Some next)
 after-at id rect surface screens scanout screen next at after =
     slice_get-map (after_flush id rect surface) screens scanout ∙ ap (option_map (after_flush id rect surface)) at ∙ ap Some after
-
--- what holds of each element holds of one that is found
-holds-at : {X : Type 0} (P : X → Type 0) (xs : List X) (k : ℕ) (x : X) → All P xs → slice_get xs k ≡ Some x → P x
-holds-at P xs k x all at = subst P (get_or_from_slice_get xs k x x at) (all k x (slice_get_within xs k x at))
 
 -- a screen that is bound to a 2D resource shows it
 shows-either : (binding : Binding) (blob : Option Blob) (found : Option Resource) (resource : Resource) → blob ≡ None → found ≡ Some resource → ShowsEither binding blob found → ShowsResource binding resource

@@ -5,6 +5,7 @@ use Rattle.std.specs.BTreeMap.{is_at}
 use Rattle.std.specs.Ordering.{nat_cmp}
 use Rattle.std.proofs.lemmas.Map.Steps.{set_value_same}
 use Rattle.std.proofs.Math.Seq.{take-append_seam}
+use Rattle.vg_laws.proofs.Options.{some-same}
 use Rattle.vg_formats.specs.declared.entry.MemEntry.{MemEntry}
 use Rattle.vg_formats.specs.declared.rect.Rect.{Rect}
 use Rattle.vg_pages.specs.Memory.{Memory}
@@ -56,9 +57,6 @@ length-transfer memory id rect offset width height backings pixels =
 -- as many bytes written over what was lent are all of it
 pub all-written : (old new : List ℕ) (n : ℕ) → length new ≡ n → take n (new ++ drop (length new) old) ≡ new
 all-written old new n same = ap (λ n. take n (new ++ drop (length new) old)) (sym same) ∙ take-append_seam new (drop (length new) old)
-
-some-same : {X : Type 0} {x y : X} → ◌≡◌ {A = Option X} (Some x) (Some y) → x ≡ y
-some-same same = cc
 
 pub received-lent : (memory : Memory) (id : ℕ) (rect : Rect) (offset : ℕ) (backings : List (ℕ × List MemEntry)) (resources : List (ℕ × Resource)) (resource : Resource) (pixels new : List ℕ) (done : Result (Unit {0}) ℕ)
     → resource_at id resources ≡ Some resource → Some pixels ≡ pixels_at id resources

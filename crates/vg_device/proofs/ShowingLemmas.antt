@@ -22,6 +22,8 @@ use Rattle.std.specs.Option.{option_map}
 use Rattle.std.proofs.lemmas.Map.Steps.{set_value_same}
 use Rattle.std.specs.Ordering.{nat_cmp}
 use Rattle.std.specs.BTreeMap.{insert_entry, is_at}
+use Rattle.vg_laws.proofs.Options.{some-same}
+use Rattle.vg_laws.proofs.Bools.{or-second}
 use Rattle.vg_device.specs.Copies.{has_as_many}
 use Rattle.vg_device.specs.State.{IsShowing, ShowsEither, ShowsResource, ShowsSome}
 use Rattle.vg_device.proofs.MapLemmas.{insert_other, set_itself, set_other}
@@ -75,10 +77,6 @@ like-itself resource = record { width = refl; height = refl; format = refl }
 keeping-itself : (resources : List (ℕ × Resource)) → Keeping resources resources
 keeping-itself resources id resource is = (resource, is, like-itself resource)
 
-or-right : (a b : Bool) → (a || b) ≡ false → b ≡ false
-or-right true b is = cc
-or-right false b is = is
-
 -- nothing is refused for the first of several reasons
 first-not : {R : Type 0} (b : Bool) (refusal : R) (more : List (Bool × R)) → refusal_of ((b, refusal) ∷ more) ≡ None → b ≡ false
 first-not true refusal more none = cc
@@ -109,7 +107,7 @@ create-by : (id width height format : ℕ) (old now : List (ℕ × Resource)) (d
 create-by id width height format old now done (Some code) is step =
     subst (Keeping old) (sym (ap (λ pair. pair.0) step)) (keeping-itself old)
 create-by id width height format old now done None is step =
-    let free = or-right (id == 0) (is_some (resource_at id old)) (first-not (id == 0 || is_some (resource_at id old)) 0x1203 (later-create width height format old) is) in
+    let free = or-second (id == 0) (is_some (resource_at id old)) (first-not (id == 0 || is_some (resource_at id old)) 0x1203 (later-create width height format old) is) in
     subst (Keeping old) (sym (ap (λ pair. pair.0) step)) (keeping-blank id width height (format_of format) old free)
 
 pub keeping-create : (id width height format : ℕ) (old now : List (ℕ × Resource)) (done : Result (Unit {0}) ℕ)
@@ -120,9 +118,6 @@ keeping-create id width height format old now done step =
 
 like-pixels : (resource found : Resource) (pixels : List ℕ) → resource ≡ found → IsLike (record resource { pixels = pixels }) found
 like-pixels resource found pixels same = record { width = ap (λ r. r.width) same; height = ap (λ r. r.height) same; format = ap (λ r. r.format) same }
-
-some-same : {X : Type 0} {x y : X} → ◌≡◌ {A = Option X} (Some x) (Some y) → x ≡ y
-some-same same = cc
 
 pub keeping-pixels : (id : ℕ) (resource : Resource) (pixels : List ℕ) (old : List (ℕ × Resource)) → resource_at id old ≡ Some resource → Keeping old (with_pixels id resource pixels old)
 keeping-pixels id resource pixels old there other found is =
@@ -182,7 +177,7 @@ blob-made : (memory : Memory) (id mem flags size : ℕ) (entries : List MemEntry
 blob-made memory id mem flags size entries old now done (Some code) is step resources screens gone showing =
     subst (λ blobs. All (IsShowing blobs resources) screens) (sym (ap (λ pair. pair.0) step)) showing
 blob-made memory id mem flags size entries old now done None is step resources screens gone showing =
-    let free = or-right (id == 0) (is_some (blob_at id old)) (first-not (id == 0 || is_some (blob_at id old)) 0x1203 (later-blob memory mem flags size entries) is) in
+    let free = or-second (id == 0) (is_some (blob_at id old)) (first-not (id == 0 || is_some (blob_at id old)) 0x1203 (later-blob memory mem flags size entries) is) in
     subst (λ blobs. All (IsShowing blobs resources) screens) (sym (ap (λ pair. pair.0) step))
     (λ k d within. showing-new id (record { size = size; entries = entries }) old resources (no-blob (blob_at id old) free) gone (get_or screens k d) (showing k d within))
 

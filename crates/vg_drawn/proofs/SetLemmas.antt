@@ -1,6 +1,7 @@
 -- Words are the sets of clients.
-use Rattle.std.proofs.Common.{◌≡◌, ◌↔◌, ◌⊎◌, inl, inr, ⊎_elim, ℕ, zero, suc, ◌+◌, ◌<◌, ◌≤◌, ◌||◌, Bool, true, false, List, [], ◌∷◌, refl, sym, ap, ◌∙◌, arith}
+use Rattle.std.proofs.Common.{◌≡◌, ◌↔◌, ◌⊎◌, inl, inr, ⊎_elim, ℕ, zero, suc, ◌+◌, ◌<◌, ◌≤◌, ◌||◌, true, false, List, [], ◌∷◌, sym, ap, ◌∙◌, arith}
 use Rattle.std.proofs.lemmas.Bool.{cases_lt, or_left, or_right}
+use Rattle.vg_laws.proofs.Bools.{either-true}
 use Rattle.vg_client_holds.specs.declared.setup.Setup.{Setup}
 use Rattle.vg_machine.specs.Entries.{Entry}
 use Rattle.vg_painted.specs.Clients.{clients}
@@ -36,10 +37,6 @@ pub words-agree : (setup : Setup) (H : List Entry) → AreNumbered H → AreRela
 words-agree setup H all = painting-related IsNumbered IsWordOf IsWordOf words clients words-like setup H (by-numbers 0 H all)
 
 -- ---- all places of a frame
-
-either-true : (a b : Bool) → (a || b) ≡ true → (a ≡ true) ⊎ (b ≡ true)
-either-true true b is = inl refl
-either-true false b is = inr is
 
 none-true : (client : ℕ) → has_client 0 client ≡ true → ⊥
 none-true client is = apart (sym is ∙ has-none client)

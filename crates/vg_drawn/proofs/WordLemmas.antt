@@ -1,11 +1,12 @@
 -- Sets of clients as words.
-use Rattle.std.proofs.Common.{◌≡◌, ℕ, zero, suc, ◌+◌, ◌-◌, ◌^◌, ◌<◌, ◌≤◌, ◌==◌, ◌&&◌, ◌||◌, Bool, true, false, cond, nat_le, [], ◌∷◌, ◌++◌, bit_or, max, refl, sym, ap, ◌∙◌, inl, inr, arith}
+use Rattle.std.proofs.Common.{◌≡◌, ℕ, zero, suc, ◌+◌, ◌-◌, ◌^◌, ◌≤◌, ◌==◌, ◌&&◌, ◌||◌, Bool, true, false, cond, nat_le, [], ◌∷◌, ◌++◌, bit_or, refl, sym, ap, ◌∙◌, inl, inr, arith}
 use Rattle.std.specs.Int.{bit_at}
 use Rattle.std.specs.List.{filter, range_with_len}
 use Rattle.std.proofs.lemmas.Bool.{cases_eq, eq-eqb, ne_eqb}
 use Rattle.std.proofs.lemmas.Bool.Decides.{nat_tests}
 use Rattle.std.proofs.lemmas.List.Elements.{filter-append}
 use Rattle.std.proofs.lemmas.Nat.Bits.{bit_at-lt, bit_at-zero, bit_at_or, bit_at-pow_same, bit_at-pow_other}
+use Rattle.vg_laws.proofs.Numbers.{has_max}
 use Rattle.vg_drawn.specs.Words.{has_client}
 
 -- ---- the clients of a set, one after another
@@ -28,14 +29,6 @@ filter-more p n = ap (filter p) (range-more 1 n) ∙ filter-append p (range_with
 
 -- ---- bits
 
-one_max : (a b : ℕ) → a < 2 → b < 2 → (max a b == 1) ≡ ((a == 1) || (b == 1))
-one_max zero zero p q = refl
-one_max zero (suc zero) p q = refl
-one_max (suc zero) zero p q = refl
-one_max (suc zero) (suc zero) p q = refl
-one_max (suc (suc a)) b p q = absurd (omega arith)
-one_max a (suc (suc b)) p q = absurd (omega arith)
-
 and-or : (t a b : Bool) → (t && (a || b)) ≡ ((t && a) || (t && b))
 and-or true a b = refl
 and-or false a b = refl
@@ -45,7 +38,7 @@ pub has-or : (a b client : ℕ) → has_client (bit_or a b) client ≡ (has_clie
 has-or a b client =
     let n = client - 1 in
     ap (λ bit. nat_le 1 client && (bit == 1)) (bit_at_or a b n)
-    ∙ ap (λ t. nat_le 1 client && t) (one_max (bit_at a n) (bit_at b n) (bit_at-lt a n) (bit_at-lt b n))
+    ∙ ap (λ t. nat_le 1 client && t) (has_max (bit_at a n) (bit_at b n) (bit_at-lt a n) (bit_at-lt b n))
     ∙ and-or (nat_le 1 client) (bit_at a n == 1) (bit_at b n == 1)
 
 and-false : (t : Bool) → (t && false) ≡ false

@@ -6,6 +6,7 @@ use Rattle.vg_wire.specs.declared.request.Queue.{Queue}
 use Rattle.vg_ring.specs.Making.{IsNewDevice}
 use Rattle.std.proofs.lemmas.Bool.{cases_eq, cases_lt, ne_eqb}
 use Rattle.std.proofs.lemmas.List.{get_or-set_other, get_or-set_same, get_or-take, get_or_default, get_or_past, length-map}
+use Rattle.vg_laws.proofs.Options.{some_is}
 use Rattle.vg_ring.specs.declared.views.Entry.{Entry}
 use Rattle.vg_ring.specs.declared.views.Answer.{Answer}
 use Rattle.vg_ring.specs.Cargo.{CargoData}
@@ -18,7 +19,7 @@ use Rattle.vg_ring.proofs.TendedLemmas.{has_left}
 use Rattle.vg_front.specs.Lanes.{AreLanes, AreWaiting, IsDesk, IsHome, of_lane}
 use Rattle.vg_front.specs.Desks.{AddsTokens, AreNew, DeskData, Finishes, HasFetched, HasRunAll, IsAway, IsFirstReady, Takes, any_waits, is_busy, is_some_away}
 use Rattle.vg_front.proofs.LaneLemmas.{alone_of, has_of_lane, of_lane-append, of_lane-here, of_lane-mid, of_lane-mid_skip, of_lane-skip, ordinal_at, ordinals_rise}
-use Rattle.vg_front.proofs.WaitLemmas.{IsSplit, has_here, has_mid, has_snoc, lane_of_cargo, lane_within, absurd_length, head_or, lanes_of, none_wait, or_first, or_second, tail_of, none_not_some, none_of_lane, set_long, some_of, some_same, split_at, take_short, waiting-snoc, weigh_mid}
+use Rattle.vg_front.proofs.WaitLemmas.{IsSplit, has_here, has_mid, has_snoc, lane_of_cargo, lane_within, absurd_length, head_or, lanes_of, none_wait, or_first, or_second, tail_of, none_not_some, none_of_lane, set_long, some_of, split_at, take_short, waiting-snoc, weigh_mid}
 
 -- a lane's home doesn't change where its lists stay
 home_same : {T : Type 0} (lane_of count_of : T → ℕ) (halted : Bool) (done done' lent lent' : List Entry) (lane : ℕ) (home : Option T) → of_lane lane done' ≡ of_lane lane done → of_lane lane lent' ≡ of_lane lane lent
@@ -267,7 +268,7 @@ module _ {P T : Type 0} (wanted : P → Bool) (lane_of count_of : T → ℕ) (li
       pub has_taken : IsFirstReady first homes waiting place → (token : T) → Some token ≡ Some r.token
           → Takes wanted lane_of count_of (record { lists = lists; first = first; homes = homes; waiting = waiting; halted = halted }) token (record { entry = entry; walked = false }) f.1 (record { lists = lists'; first = first; homes = set homes (lane - first) gone; waiting = left; halted = halted })
       has_taken ready token token_is =
-          let same_token : token ≡ r.token = some_same token r.token token_is in
+          let same_token : token ≡ r.token = some_is token r.token token_is in
           let moved : entry.lane ≡ r.split.entry.lane = ap (λ (e : Entry). e.lane) entry_is in
           record {
             lane = ap lane_of same_token ∙ (r.token_lane ∙ sym moved);
@@ -483,7 +484,7 @@ tokens_of [] new homes same = (new, refl, same)
 tokens_of (x ∷ old) [] homes same = absurd (absurd_length same)
 tokens_of {T} (x ∷ old) (y ∷ new) homes same =
     let rest = tokens_of old new homes (ap tail_of same) in
-    let first : y ≡ x = some_same y x (ap (head_or None) same) in
+    let first : y ≡ x = some_is y x (ap (head_or None) same) in
     (rest.0, ap (λ (z : T). z ∷ new) first ∙ ap (λ (zs : List T). x ∷ zs) rest.1, rest.2)
 
 pub adds_tokens : {P T : Type 0} (wanted : P → Bool) (lane_of count_of : T → ℕ) (d : DeskData P T) (waits : List Entry) → IsDesk wanted lane_of count_of d.lists d.first d.homes d.waiting d.halted waits → is_busy d ≡ false → (old new : List T) → map Some new ≡ map Some old ++ d.homes → AddsTokens lane_of count_of d old new

@@ -94,9 +94,6 @@ abbrev token_or : {T : Type 0} → T → Option T → T
 token_or d None = d
 token_or d (Some t) = t
 
-pub some_same : {T : Type 0} (x y : T) → Some x ≡ Some y → x ≡ y
-some_same x y same = ap (token_or x) same
-
 pub none_not_some : {T : Type 0} (token : T) → None ≡ Some token → ⊥
 none_not_some token same = true≢false (ap is_none same)
 

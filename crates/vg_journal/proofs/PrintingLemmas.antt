@@ -1,4 +1,4 @@
-use Rattle.std.proofs.Common.{ℕ, codes, ◌≡◌, ◌+◌, ◌<◌, ◌≤◌, List, get_or, Result, Ok, Err, OnOk, OnErr, [], ◌++◌, length, take, drop, Option, Some, None, append_assoc, append-nil, sym, ap, ◌∙◌, refl, subst}
+use Rattle.std.proofs.Common.{ℕ, codes, ◌≡◌, ◌+◌, ◌<◌, ◌≤◌, List, get_or, [], ◌++◌, length, take, drop, Option, Some, None, append_assoc, append-nil, sym, ap, ◌∙◌, refl, subst}
 use Rattle.std.proofs.Math.Seq.{take-add}
 use Rattle.std.proofs.lemmas.List.{take-append-drop, take_all, take_at}
 use Rattle.vg_io.specs.Streams.{Takes, TakesPart, TakesSome}
@@ -7,20 +7,6 @@ use Rattle.vg_scanout.specs.declared.scanout.Frame.{Frame}
 use Rattle.vg_text.specs.Text.{numbered}
 use Rattle.vg_text.proofs.NumberedLemmas.{numbered_append, written_more}
 use Rattle.vg_journal.specs.Text.{frame_line, frame_text}
-
--- What holds, holds after an error.
-pub on_err : {T E : Type 0} {P : Type 0} (r : Result T E) → P → OnErr r P
-on_err (Ok x) p = tt
-on_err (Err e) p = p
-
--- What follows from what holds, where it is an answer or an error.
-pub ok_then : {T E : Type 0} {P Q : Type 0} (r : Result T E) → (P → Q) → OnOk r P → OnOk r Q
-ok_then (Ok x) follows p = follows p
-ok_then (Err e) follows p = tt
-
-pub err_then : {T E : Type 0} {P Q : Type 0} (r : Result T E) → (P → Q) → OnErr r P → OnErr r Q
-err_then (Ok x) follows p = tt
-err_then (Err e) follows p = follows p
 
 -- What a sink takes in two calls.
 pub takes_both : (a b c : Option (List ℕ)) (xs ys : List ℕ) → Takes a b xs → Takes b c ys → Takes a c (xs ++ ys)

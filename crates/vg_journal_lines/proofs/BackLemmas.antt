@@ -1,15 +1,15 @@
 -- What is read to its end: the frames, the entries and the counts.
-use Rattle.std.proofs.Common.{◌≡◌, ◌⊎◌, inl, inr, ℕ, ◌+◌, ◌-◌, ◌≤◌, ◌==◌, Bool, true, false, nat_le, List, [], ◌∷◌, ◌++◌, length, if◌then◌else◌, Option, Some, None, arith, refl, sym, ap, ◌∙◌}
+use Rattle.std.proofs.Common.{◌≡◌, ◌⊎◌, inl, inr, ℕ, ◌+◌, ◌-◌, ◌≤◌, ◌==◌, Bool, true, false, nat_le, List, [], ◌∷◌, ◌++◌, length, if◌then◌else◌, Some, None, arith, refl, sym, ap, ◌∙◌}
 use Rattle.std.proofs.lemmas.Bool.{eqb-true, eqb-false, leb-true}
 use Rattle.std.proofs.lemmas.List.Elements.{All-head, All-tail, All-cons, All-nil}
 use Rattle.std.proofs.lemmas.List.Sums.{sum_by-cons}
 use Rattle.std.specs.List.{All}
-use Rattle.std.specs.Option.{option_or}
+use Rattle.vg_laws.proofs.Options.{some_is}
 use Rattle.vg_scanout.specs.declared.scanout.Frame.{Frame}
 use Rattle.vg_scanout.specs.Scanout.{frame_bytes}
 use Rattle.vg_line_words.specs.Words.{AreBelow, lacks, parts_at}
 use Rattle.vg_line_words.proofs.PartLemmas.{joined-parts}
-use Rattle.vg_act_lines.proofs.PartLaws.{some_is, then_parts}
+use Rattle.vg_act_lines.proofs.PartLaws.{then_parts}
 use Rattle.vg_journal_lines.specs.declared.counts.FrameHead.{FrameHead}
 use Rattle.vg_journal_lines.specs.declared.state.Stage.{Stage}
 use Rattle.vg_journal_lines.specs.declared.state.Stage.TheVariants as stages
@@ -37,11 +37,6 @@ words_of stages.Done state piece next line is = absurd line
 
 pub line_is : (piece : List ℕ) (words : List (List ℕ)) → parts_at 32 piece ≡ words → piece ≡ joined words
 line_is piece words is = sym (joined-parts 32 piece) ∙ ap joined is
-
--- One of two.
-pub either : {X : Type 0} (o p : Option X) (x : X) → option_or o p ≡ Some x → (o ≡ Some x) ⊎ (p ≡ Some x)
-either None p x is = inr is
-either (Some y) p x is = inl is
 
 -- Nothing is left.
 abbrev pub IsOver : State → Type 0

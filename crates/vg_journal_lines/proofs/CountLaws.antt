@@ -3,12 +3,14 @@ use Rattle.std.proofs.Common.{◌≡◌, ℕ, ◌≤◌, ◌^◌, ◌&&◌, nat_
 use Rattle.std.proofs.lemmas.Bool.{and_from, false≢true, le-leb, leb-true}
 use Rattle.std.proofs.lemmas.List.Sums.{AllPass-from_list_all}
 use Rattle.std.specs.List.{All, list_all}
+use Rattle.vg_laws.proofs.Lists.{same_bytes}
+use Rattle.vg_laws.proofs.Options.{some_is}
 use Rattle.vg_scanout.specs.declared.scanout.Frame.{Frame}
 use Rattle.vg_journal.specs.Text.{counts_text, frame_line}
 use Rattle.vg_line_words.specs.Words.{is_plain, number_of}
 use Rattle.vg_line_words.proofs.NumberLaws.{number_back, number_only, number_range, plain_decimal}
 use Rattle.vg_act_lines.specs.Read.{both, short, two}
-use Rattle.vg_act_lines.proofs.PartLaws.{both_parts, last_plain, map_parts, no_more, plain_short, short_back, short_only, some_is, then_parts, two_back, two_only, word_is}
+use Rattle.vg_act_lines.proofs.PartLaws.{both_parts, last_plain, map_parts, no_more, plain_short, short_back, short_only, then_parts, two_back, two_only}
 use Rattle.vg_journal_lines.specs.declared.counts.FrameHead.{FrameHead}
 use Rattle.vg_journal_lines.specs.Words.{end_words, frame_words, frames_words, head_of, line_of, rings_words}
 use Rattle.vg_journal_lines.specs.Read.{any_head, frame_head, frame_of, frames_of, if_it_fits, is_end, is_this, pixels_of, rings_of}
@@ -41,7 +43,7 @@ pub rings_only : (counts : ℕ × ℕ) (words : List (List ℕ)) → rings_of wo
 unfolding rings_of
 rings_only counts (word ∷ control ∷ cursor ∷ []) is =
     let told = passes (bytes_eq word (codes "rings")) (both (number_of (2 ^ 63) control) (number_of (2 ^ 63) cursor)) counts is in
-    let this = word_is word (codes "rings") told.0 in
+    let this = same_bytes word (codes "rings") told.0 in
     let parts = both_parts (number_of (2 ^ 63) control) (number_of (2 ^ 63) cursor) counts told.1 in
     let first = count_only counts.0 control parts.0 in
     let second = count_only counts.1 cursor parts.1 in
@@ -60,7 +62,7 @@ pub frames_only : (frames : ℕ) (words : List (List ℕ)) → frames_of words �
 unfolding frames_of
 frames_only frames (word ∷ number ∷ []) is =
     let told = passes (bytes_eq word (codes "frames")) (number_of (2 ^ 63) number) frames is in
-    let this = word_is word (codes "frames") told.0 in
+    let this = same_bytes word (codes "frames") told.0 in
     let read = count_only frames number told.1 in
     (λ i. this i ∷ read.0 i ∷ [], read.1)
 frames_only frames words is = no_more frames is
@@ -125,5 +127,5 @@ end_back = refl
 
 pub end_only : (words : List (List ℕ)) → is_end words ≡ true → words ≡ end_words
 unfolding is_end
-end_only (word ∷ []) is = ap (λ w. w ∷ []) (word_is word (codes "end") is)
+end_only (word ∷ []) is = ap (λ w. w ∷ []) (same_bytes word (codes "end") is)
 end_only words is = absurd (false≢true is)

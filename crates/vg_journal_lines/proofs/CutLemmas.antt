@@ -1,8 +1,9 @@
 -- A text is cut into pieces in one way.
 use Rattle.std.proofs.Common.{◌≡◌, ℕ, ◌+◌, ◌==◌, true, not, List, [], ◌∷◌, ◌++◌, length, Option, Some, None, option_and_then, arith, refl, sym, ap, ◌∙◌, length-append}
 use Rattle.std.proofs.lemmas.Bool.{and_parts, eqb-true, eqb-false, not-true}
+use Rattle.vg_laws.proofs.Options.{some_is}
 use Rattle.vg_line_words.specs.Words.{lacks, parts_at}
-use Rattle.vg_act_lines.proofs.PartLaws.{no_more, some_is, then_parts}
+use Rattle.vg_act_lines.proofs.PartLaws.{no_more, then_parts}
 use Rattle.vg_journal_lines.specs.declared.state.Stage.{Stage}
 use Rattle.vg_journal_lines.specs.declared.state.Stage.TheVariants as stages
 use Rattle.vg_journal_lines.specs.declared.state.State.{State}

@@ -7,12 +7,13 @@ use Rattle.std.proofs.lemmas.List.Elements.{All-cons, All-nil, All-append}
 use Rattle.std.proofs.lemmas.List.Sums.{AllPass-from_list_all, sum_by-cons}
 use Rattle.std.specs.Char.{is_ascii_digit}
 use Rattle.std.specs.List.{All, list_all}
+use Rattle.vg_laws.proofs.Options.{some_is, or_parts}
 use Rattle.vg_scanout.specs.declared.scanout.Frame.{Frame}
 use Rattle.vg_scanout.specs.Scanout.{frame_bytes}
 use Rattle.vg_line_words.specs.Words.{AreBelow, number_of, parts_at}
 use Rattle.vg_line_words.proofs.NumberLaws.{all_weaker, digits-decimal}
 use Rattle.vg_line_words.proofs.ListLaws.{joined_all}
-use Rattle.vg_act_lines.proofs.PartLaws.{both_parts, last_plain, map_parts, no_more, some_is, then_parts}
+use Rattle.vg_act_lines.proofs.PartLaws.{both_parts, last_plain, map_parts, no_more, then_parts}
 use Rattle.vg_journal_lines.specs.declared.counts.FrameHead.{FrameHead}
 use Rattle.vg_journal_lines.specs.declared.state.Stage.{Stage}
 use Rattle.vg_journal_lines.specs.declared.state.Stage.TheVariants as stages
@@ -28,7 +29,7 @@ use Rattle.vg_journal_lines.specs.States.{AFrame, Item, Next, Nothing, and_out, 
 use Rattle.vg_journal_lines.specs.Pieces.{FrameInRange, count_pieces, frame_pieces, numbered_pieces}
 use Rattle.vg_journal_lines.proofs.CutLemmas.{goes_on, goes_one, ran}
 use Rattle.vg_journal_lines.proofs.StepLemmas.{at_displays, at_end, at_entries, at_features, at_frame, at_frames, at_pixels, clients_go, counts_go, displays_go, end_goes, frame_items, frames_go, frame_count_goes, pages_go, title_goes}
-use Rattle.vg_journal_lines.proofs.BackLemmas.{Bytes, IsOver, at_start, either, words_of}
+use Rattle.vg_journal_lines.proofs.BackLemmas.{Bytes, IsOver, at_start, words_of}
 use Rattle.vg_journal_lines.proofs.CountLaws.{frames_only}
 use Rattle.vg_journal_lines.proofs.TestLaws.{passes, this_only}
 
@@ -305,13 +306,13 @@ step_fits : (stage : Stage) (state : State) (piece : List ℕ) (next : Next) →
 step_fits stages.Title state piece next counted at fits is = title_fits state (parts_at 32 piece) next counted fits (words_of stages.Title state piece next tt is)
 step_fits stages.Displays state piece next counted at fits is =
     let words = parts_at 32 piece in
-    displays_fit state words next counted at fits (either (display_step state words) (memory_step state words) next (words_of stages.Displays state piece next tt is))
+    displays_fit state words next counted at fits (or_parts (display_step state words) (memory_step state words) next (words_of stages.Displays state piece next tt is))
 step_fits stages.Features state piece next counted at fits is =
     let words = parts_at 32 piece in
-    features_fit state words next counted at fits (either (without_step state words) (clients_step state words) next (words_of stages.Features state piece next tt is))
+    features_fit state words next counted at fits (or_parts (without_step state words) (clients_step state words) next (words_of stages.Features state piece next tt is))
 step_fits stages.Entries state piece next counted at fits is =
     let words = parts_at 32 piece in
-    entries_fit state words next counted at fits (either (rings_step state words) (entry_step state words) next (words_of stages.Entries state piece next tt is))
+    entries_fit state words next counted at fits (or_parts (rings_step state words) (entry_step state words) next (words_of stages.Entries state piece next tt is))
 step_fits stages.Frames state piece next counted at fits is = frames_fit state (parts_at 32 piece) next counted fits (words_of stages.Frames state piece next tt is)
 step_fits (stages.Frame left) state piece next counted at fits is =
     frame_fits (left == 0) left state (parts_at 32 piece) next counted refl fits.0 fits.1 (words_of (stages.Frame left) state piece next tt is)

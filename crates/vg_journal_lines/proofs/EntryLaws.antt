@@ -5,6 +5,8 @@ use Rattle.std.proofs.lemmas.List.{append_cancel_right}
 use Rattle.std.proofs.lemmas.List.Elements.{All-head, All-tail, All-cons, All-append, All-nil, All-weaker}
 use Rattle.std.proofs.lemmas.Slice.Eq.{bytes_eq-Decides}
 use Rattle.std.specs.List.{All}
+use Rattle.vg_laws.proofs.Lists.{same_bytes}
+use Rattle.vg_laws.proofs.Options.{some_is}
 use Rattle.vg_history.specs.declared.entry.Entry.TheVariants as entries
 use Rattle.vg_history.specs.Lines.{entry_line}
 use Rattle.vg_client_holds.specs.declared.act.Act.{Act}
@@ -24,7 +26,7 @@ use Rattle.vg_line_words.proofs.NumberLaws.{number_back, number_only, number_ran
 use Rattle.vg_line_words.proofs.PlainLemmas.{plain_blank, plain_line_end, plain_other}
 use Rattle.vg_act_lines.specs.Words.{act_words, refusal_words, reply_words}
 use Rattle.vg_act_lines.specs.Read.{act_of, both, reply_of}
-use Rattle.vg_act_lines.proofs.PartLaws.{both_parts, map_parts, no_more, some_is, then_parts, word_is}
+use Rattle.vg_act_lines.proofs.PartLaws.{both_parts, map_parts, no_more, then_parts}
 use Rattle.vg_act_lines.proofs.ActLaws.{act_only, act_said, plain_act, text_act}
 use Rattle.vg_act_lines.proofs.ReplyLaws as replies
 use Rattle.vg_command_lines.specs.Words.{command_reply_words, request_words}
@@ -142,7 +144,7 @@ sides_by : (b : Bool) (word : List ℕ) (words : List (List ℕ)) (both : Sides)
     → ((s : Sides) → sides words ≡ Some s → words ≡ s.0 ++ codes "=" ∷ s.1)
     → (if b then Some ([], words) else and_before (word ∷ []) (sides words)) ≡ Some both → word ∷ words ≡ both.0 ++ codes "=" ∷ both.1
 sides_by true word words both sign more is =
-    let this = word_is word (codes "=") sign in
+    let this = same_bytes word (codes "=") sign in
     ap (λ w. w ∷ words) this ∙ ap (λ s. s.0 ++ codes "=" ∷ s.1) (some_is ([], words) both is)
 sides_by false word words both sign more is =
     let rest = before_parts (word ∷ []) (sides words) both is in
@@ -225,9 +227,9 @@ kind_by : CommandsAreSaid → (a b : Bool) (n clients : ℕ) (number client call
     → (if a then act_in who words else if b then command_in who words else None) ≡ Some entry
     → IsEntry n clients (number ∷ client ∷ call ∷ kind ∷ (words.0 ++ codes "=" ∷ words.1)) entry
 kind_by commands true b n clients number client call kind who words entry is u v said =
-    subst (λ k. IsEntry n clients (number ∷ client ∷ call ∷ k ∷ (words.0 ++ codes "=" ∷ words.1)) entry) (sym (word_is kind (codes "act") u)) (act_in_only n clients number client call who words entry is said)
+    subst (λ k. IsEntry n clients (number ∷ client ∷ call ∷ k ∷ (words.0 ++ codes "=" ∷ words.1)) entry) (sym (same_bytes kind (codes "act") u)) (act_in_only n clients number client call who words entry is said)
 kind_by commands false true n clients number client call kind who words entry is u v said =
-    subst (λ k. IsEntry n clients (number ∷ client ∷ call ∷ k ∷ (words.0 ++ codes "=" ∷ words.1)) entry) (sym (word_is kind (codes "cmd") v)) (command_in_only commands n clients number client call who words entry is said)
+    subst (λ k. IsEntry n clients (number ∷ client ∷ call ∷ k ∷ (words.0 ++ codes "=" ∷ words.1)) entry) (sym (same_bytes kind (codes "cmd") v)) (command_in_only commands n clients number client call who words entry is said)
 kind_by commands false false n clients number client call kind who words entry is u v said = no_more entry said
 
 pub entry_only : CommandsAreSaid → (n clients : ℕ) (entry : Entry) (words : List (List ℕ)) → clients ≤ version_1.clients → entry_of n clients words ≡ Some entry → (words ≡ entry_words n entry) × IsCount n × EntryInRange clients entry

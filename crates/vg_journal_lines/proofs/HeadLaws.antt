@@ -3,12 +3,14 @@ use Rattle.std.proofs.Common.{◌≡◌, ℕ, ◌+◌, ◌≤◌, ◌==◌, ◌&
 use Rattle.std.proofs.lemmas.Bool.{and_from, and_parts, false≢true}
 use Rattle.std.proofs.lemmas.List.Sums.{AllPass-from_list_all}
 use Rattle.std.specs.List.{All, list_all}
+use Rattle.vg_laws.proofs.Lists.{same_bytes}
+use Rattle.vg_laws.proofs.Options.{some_is}
 use Rattle.vg_client_holds.specs.Setup.{IsDisplay}
 use Rattle.vg_journal.specs.Text.{display_line, title_text, without_line}
 use Rattle.vg_line_words.specs.Words.{is_plain, number_of}
 use Rattle.vg_line_words.proofs.NumberLaws.{number_back, number_only, number_range, plain_decimal}
 use Rattle.vg_act_lines.specs.Read.{both}
-use Rattle.vg_act_lines.proofs.PartLaws.{both_parts, last_plain, no_more, some_is, word_is}
+use Rattle.vg_act_lines.proofs.PartLaws.{both_parts, last_plain, no_more}
 use Rattle.vg_journal_lines.specs.declared.head.Feature.{Feature}
 use Rattle.vg_journal_lines.specs.declared.head.Feature.TheVariants.{Edid, Uuid, Blob, Context}
 use Rattle.vg_journal_lines.specs.Words.{clients_words, display_words, feature_name, line_of, memory_words, title_words, without_words}
@@ -34,8 +36,8 @@ pub title_only : (words : List (List ℕ)) → is_title words ≡ true → words
 unfolding is_title
 title_only (name ∷ version ∷ []) is =
     let tests = and_parts (bytes_eq name (codes "vgpu-journal")) (bytes_eq version (codes "1")) is in
-    let first = word_is name (codes "vgpu-journal") tests.0 in
-    let second = word_is version (codes "1") tests.1 in
+    let first = same_bytes name (codes "vgpu-journal") tests.0 in
+    let second = same_bytes version (codes "1") tests.1 in
     λ i. first i ∷ second i ∷ []
 title_only words is = absurd (false≢true is)
 
@@ -94,7 +96,7 @@ pub memory_only : (pages : ℕ) (words : List (List ℕ)) → memory_of words �
 unfolding memory_of
 memory_only pages (word ∷ number ∷ []) is =
     let told = passes (bytes_eq word (codes "memory")) (from_one 16385 number) pages is in
-    let this = word_is word (codes "memory") told.0 in
+    let this = same_bytes word (codes "memory") told.0 in
     let read = from_one_only 16385 pages number (omega arith) told.1 in
     let high = read.2 in
     (λ i. this i ∷ read.0 i ∷ [], read.1, omega (arith, high))
@@ -126,7 +128,7 @@ without_back Blob = refl
 without_back Context = refl
 
 named_feature : (name this : List ℕ) (read feature : Feature) → bytes_eq name this ≡ true → feature_name read ≡ this → Some read ≡ Some feature → name ≡ feature_name feature
-named_feature name this read feature same says is = word_is name this same ∙ sym says ∙ ap feature_name (some_is read feature is)
+named_feature name this read feature same says is = same_bytes name this same ∙ sym says ∙ ap feature_name (some_is read feature is)
 
 feature_by : (a b c d : Bool) (name : List ℕ) (feature : Feature)
     → bytes_eq name (codes "edid") ≡ a
@@ -145,7 +147,7 @@ pub without_only : (feature : Feature) (words : List (List ℕ)) → without_of 
 unfolding without_of
 without_only feature (word ∷ name ∷ []) is =
     let told = passes (bytes_eq word (codes "without")) (feature_of name) feature is in
-    let this = word_is word (codes "without") told.0 in
+    let this = same_bytes word (codes "without") told.0 in
     let named = feature_by (bytes_eq name (codes "edid")) (bytes_eq name (codes "uuid")) (bytes_eq name (codes "blob")) (bytes_eq name (codes "context")) name feature refl refl refl refl told.1 in
     λ i. this i ∷ named i ∷ []
 without_only feature words is = no_more feature is
@@ -166,7 +168,7 @@ pub clients_only : (clients : ℕ) (words : List (List ℕ)) → clients_of word
 unfolding clients_of
 clients_only clients (word ∷ number ∷ []) is =
     let told = passes (bytes_eq word (codes "clients")) (number_of (version_1.clients + 1) number) clients is in
-    let this = word_is word (codes "clients") told.0 in
+    let this = same_bytes word (codes "clients") told.0 in
     let read = number_only (version_1.clients + 1) clients number (omega arith) told.1 in
     let high = number_range (version_1.clients + 1) clients number told.1 in
     (λ i. this i ∷ read i ∷ [], omega (arith, high))

@@ -3,6 +3,7 @@ use Rattle.std.proofs.Common.{◌≡◌, ◌⊎◌, inl, inr, ℕ, ◌+◌, ◌<
 use Rattle.std.proofs.lemmas.Bool.{false≢true, ltb-true}
 use Rattle.std.proofs.lemmas.List.Elements.{All-tail, All-cons, All-nil}
 use Rattle.std.specs.List.{All}
+use Rattle.vg_laws.proofs.Options.{or_parts}
 use Rattle.vg_client_holds.specs.declared.setup.Setup.{Setup}
 use Rattle.vg_client_holds.specs.Setup.{AreDisplays, features_without}
 use Rattle.vg_machine.specs.Entries.{Entry}
@@ -27,7 +28,7 @@ use Rattle.vg_journal_lines.proofs.HeadLaws.{clients_only, display_only, memory_
 use Rattle.vg_journal_lines.proofs.CountLaws.{frames_only, rings_only}
 use Rattle.vg_journal_lines.proofs.EntryLaws.{CommandsAreSaid, entry_only}
 use Rattle.vg_journal_lines.proofs.StepLemmas.{at_displays, at_entries, at_features, at_frame, at_frames, features_but}
-use Rattle.vg_journal_lines.proofs.BackLemmas.{Bytes, IsOver, at_start, either, first_step, frames_left, left_behind, line_is, words_of}
+use Rattle.vg_journal_lines.proofs.BackLemmas.{Bytes, IsOver, at_start, first_step, frames_left, left_behind, line_is, words_of}
 use Rattle.vg_limits.specs.Limits.{version_1}
 
 -- The count of frames, and all behind it.
@@ -161,7 +162,7 @@ entries_left commands state clients count (piece ∷ pieces) all none none' most
     let said = words_of stages.Entries before piece first.0 tt first.1 in
     entries_by commands state clients count piece pieces all first.0 none none' most small below is over first.1
     (λ js small' is'. entries_left commands state clients (count + 1) pieces (all.0, js) none none' most small' (All-tail (λ p. AreBelow 256 p) piece pieces below) is' over)
-    (either (rings_step before (parts_at 32 piece)) (entry_step before (parts_at 32 piece)) first.0 said)
+    (or_parts (rings_step before (parts_at 32 piece)) (entry_step before (parts_at 32 piece)) first.0 said)
 
 -- The lines of features that are left out.
 abbrev out_piece : Bool → Feature → List (List ℕ)
@@ -299,7 +300,7 @@ module _ (commands : CommandsAreSaid) (sizes : List (ℕ × ℕ)) (pages : ℕ) 
       let said = words_of stages.Features (at_out out) piece first.0 tt first.1 in
       features_by out piece pieces all first.0 below is over first.1
       (λ out' js is'. features_left out' pieces (all.0, js) (All-tail (λ p. AreBelow 256 p) piece pieces below) is' over)
-      (either (without_step (at_out out) (parts_at 32 piece)) (clients_step (at_out out) (parts_at 32 piece)) first.0 said)
+      (or_parts (without_step (at_out out) (parts_at 32 piece)) (clients_step (at_out out) (parts_at 32 piece)) first.0 said)
 
 -- Displays and pages, and all behind them.
 record DisplaysLeft (count : ℕ) (pieces : List (List ℕ)) : Type 0 where
@@ -394,7 +395,7 @@ module _ (commands : CommandsAreSaid) where
       let said = words_of stages.Displays before piece first.0 tt first.1 in
       displays_by front piece pieces all first.0 few below is over first.1
       (λ front' js few' is'. displays_left front' pieces (all.0, js) few' (All-tail (λ p. AreBelow 256 p) piece pieces below) is' over)
-      (either (display_step before (parts_at 32 piece)) (memory_step before (parts_at 32 piece)) first.0 said)
+      (or_parts (display_step before (parts_at 32 piece)) (memory_step before (parts_at 32 piece)) first.0 said)
 
   -- The title, and all behind it.
   record TitleLeft (pieces : List (List ℕ)) : Type 0 where

@@ -3,9 +3,9 @@ use Rattle.std.proofs.Common.{◌≡◌, inl, inr, ℕ, ◌+◌, ◌-◌, ◌<�
 use Rattle.std.proofs.lemmas.Bool.{cases_lt}
 use Rattle.std.proofs.lemmas.List.{take-append-drop, take-append-le, take-take, take_all}
 use Rattle.std.proofs.lemmas.List.Elements.{All-head, All-tail, All-cons, All-nil, All-append}
+use Rattle.vg_laws.proofs.Options.{some_is}
 use Rattle.vg_journal.specs.declared.journal.Journal.{Journal}
 use Rattle.vg_line_words.specs.Words.{AreBelow}
-use Rattle.vg_act_lines.proofs.PartLaws.{some_is}
 use Rattle.vg_journal_lines.specs.declared.state.State.{State}
 use Rattle.vg_journal_lines.specs.States.{Item, run, start, step}
 use Rattle.vg_journal_lines.specs.Pieces.{IsReadAs, done_of, pieces_of, whole}

@@ -1,5 +1,6 @@
 -- A journal is read from its pieces, and so from its text.
 use Rattle.std.proofs.Common.{◌≡◌, ℕ, ◌+◌, List, [], ◌∷◌, ◌++◌, length, map, Some, arith, refl, sym, ap, ◌∙◌, append-nil}
+use Rattle.vg_laws.proofs.Options.{some_is}
 use Rattle.vg_client_holds.specs.declared.setup.Setup.{Setup}
 use Rattle.vg_client_holds.specs.Setup.{IsSetup}
 use Rattle.vg_machine.specs.Entries.{Entry}
@@ -7,7 +8,6 @@ use Rattle.vg_scanout.specs.declared.scanout.Frame.{Frame}
 use Rattle.vg_scanout.specs.Scanout.{frame_bytes}
 use Rattle.vg_journal.specs.declared.journal.Journal.{Journal}
 use Rattle.vg_journal.specs.Text.{text_of}
-use Rattle.vg_act_lines.proofs.PartLaws.{some_is}
 use Rattle.vg_journal_lines.specs.declared.state.State.{State}
 use Rattle.vg_journal_lines.specs.Words.{clients_words, end_words, joined, memory_words, title_words}
 use Rattle.vg_journal_lines.specs.States.{AFrame, AnEntry, Item, Nothing, none_left_out, run, start}

@@ -1,9 +1,10 @@
 -- What tests and numbers tell.
 use Rattle.std.proofs.Common.{◌≡◌, ℕ, ◌<◌, ◌≤◌, ◌^◌, ◌==◌, ◌&&◌, Bool, true, false, List, decimal, bytes_eq, if◌then◌else◌, Option, Some, None, arith, refl, ap, ◌∙◌, subst}
 use Rattle.std.proofs.lemmas.Bool.{and_parts, eq-eqb, eqb-true, eqb-false, ne_eqb, false≢true}
+use Rattle.vg_laws.proofs.Lists.{same_bytes}
+use Rattle.vg_laws.proofs.Options.{some_is}
 use Rattle.vg_line_words.specs.Words.{number_of}
 use Rattle.vg_line_words.proofs.NumberLaws.{number_back, number_only, number_range}
-use Rattle.vg_act_lines.proofs.PartLaws.{some_is, word_is}
 use Rattle.vg_journal_lines.specs.Read.{from_one, is_this, not_zero, says}
 use Rattle.vg_journal_lines.specs.Ranges.{IsCount}
 
@@ -52,4 +53,4 @@ pub known_this : (word this number : List ℕ) (n : ℕ) → (bytes_eq word this
 known_this word this number n is =
     let both = and_parts (bytes_eq word this) (is_this n number) is in
     let read = this_only n number both.1 in
-    (word_is word this both.0, read.0, read.1)
+    (same_bytes word this both.0, read.0, read.1)

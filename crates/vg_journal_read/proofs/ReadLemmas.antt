@@ -1,10 +1,10 @@
 -- A journal read whole.
 use Rattle.std.proofs.Common.{◌≡◌, ℕ, ◌+◌, List, [], ◌∷◌, ◌++◌, Result, Ok, Err, IfOk, IfErr, refl, sym, ap, ◌∙◌, subst}
+use Rattle.vg_laws.proofs.Options.{some_is}
 use Rattle.vg_machine.specs.Entries.{Entry}
 use Rattle.vg_scanout.specs.declared.scanout.Frame.{Frame}
 use Rattle.vg_journal.specs.declared.journal.Journal.{Journal}
 use Rattle.vg_journal.specs.Text.{text_of}
-use Rattle.vg_act_lines.proofs.PartLaws.{some_is}
 use Rattle.vg_journal_lines.specs.declared.state.State.{State}
 use Rattle.vg_journal_lines.specs.States.{AFrame, AnEntry, Item, Nothing, start}
 use Rattle.vg_journal_lines.specs.Pieces.{IsReadAs, JournalInRange, done_of, entries_in, frames_in}

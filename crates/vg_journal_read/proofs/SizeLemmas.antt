@@ -1,7 +1,8 @@
 -- How far a reader is, and how far one piece more brings it.
 use Rattle.std.proofs.Common.{◌≡◌, ◌⊎◌, inl, inr, ℕ, ◌+◌, ◌-◌, ◌≤◌, ◌==◌, ◌||◌, not, nat_lt, nat_le, Bool, true, false, if◌then◌else◌, List, [], ◌∷◌, length, Some, option_map, arith, refl, ap, subst, length-append}
+use Rattle.vg_laws.proofs.Options.{some_is, or_parts}
 use Rattle.vg_line_words.specs.Words.{parts_at}
-use Rattle.vg_act_lines.proofs.PartLaws.{map_parts, no_more, some_is, then_parts}
+use Rattle.vg_act_lines.proofs.PartLaws.{map_parts, no_more, then_parts}
 use Rattle.vg_journal_lines.specs.declared.head.Feature.{Feature}
 use Rattle.vg_journal_lines.specs.declared.head.Feature.TheVariants.{Edid, Uuid, Blob, Context}
 use Rattle.vg_journal_lines.specs.declared.counts.FrameHead.{FrameHead}
@@ -12,7 +13,7 @@ use Rattle.vg_journal_lines.specs.declared.state.State.{State}
 use Rattle.vg_journal_lines.specs.Read.{clients_of, display_of, frame_of, frames_of, is_end, is_title, memory_of, pixels_of, rings_of, without_of}
 use Rattle.vg_journal_lines.specs.Entries.{entry_of}
 use Rattle.vg_journal_lines.specs.States.{AFrame, Next, Nothing, and_out, clients_step, display_step, end_step, entry_step, frame_with, frames_step, head_step, is_behind, memory_step, piece_step, pixels_step, rings_step, title_step, with_clients, with_counts, with_display, with_entry, with_frames, with_head, with_pages, without_feature, without_step}
-use Rattle.vg_journal_lines.proofs.BackLemmas.{either, words_of}
+use Rattle.vg_journal_lines.proofs.BackLemmas.{words_of}
 use Rattle.vg_journal_lines.proofs.TestLaws.{passes}
 use Rattle.vg_journal_read.specs.ScansWithin.{rank}
 
@@ -157,13 +158,13 @@ pub step_grows : (stage : Stage) (state : State) (piece : List ℕ) (next : Next
 step_grows stages.Title state piece next at is = title_grows state (parts_at 32 piece) next at (words_of stages.Title state piece next tt is)
 step_grows stages.Displays state piece next at is =
     let words = parts_at 32 piece in
-    displays_grow state words next at (either (display_step state words) (memory_step state words) next (words_of stages.Displays state piece next tt is))
+    displays_grow state words next at (or_parts (display_step state words) (memory_step state words) next (words_of stages.Displays state piece next tt is))
 step_grows stages.Features state piece next at is =
     let words = parts_at 32 piece in
-    features_grow state words next at (either (without_step state words) (clients_step state words) next (words_of stages.Features state piece next tt is))
+    features_grow state words next at (or_parts (without_step state words) (clients_step state words) next (words_of stages.Features state piece next tt is))
 step_grows stages.Entries state piece next at is =
     let words = parts_at 32 piece in
-    entries_grow state words next at (either (rings_step state words) (entry_step state words) next (words_of stages.Entries state piece next tt is))
+    entries_grow state words next at (or_parts (rings_step state words) (entry_step state words) next (words_of stages.Entries state piece next tt is))
 step_grows stages.Frames state piece next at is = frames_grow state (parts_at 32 piece) next at (words_of stages.Frames state piece next tt is)
 step_grows (stages.Frame left) state piece next at is =
     frame_grows (left == 0) left state (parts_at 32 piece) next at (words_of (stages.Frame left) state piece next tt is)

@@ -1,5 +1,5 @@
 -- What is made and given lies in buffers, over each command and act.
-use Rattle.std.proofs.Common.{◌≡◌, ◌≢◌, ℕ, ◌+◌, ◌||◌, Bool, true, false, List, [], ◌∷◌, ◌++◌, Option, Some, None, refl, ap, sym, subst, ◌∙◌}
+use Rattle.std.proofs.Common.{◌≡◌, ◌≢◌, ℕ, ◌+◌, ◌||◌, Bool, true, List, [], ◌∷◌, ◌++◌, Option, Some, None, refl, ap, sym, subst, ◌∙◌}
 use mathlib.Core.Logic.{dite}
 use native.Mathlib.Decide.{ℕ_discrete}
 use Rattle.std.specs.Prelude.{is_some}
@@ -7,6 +7,9 @@ use Rattle.std.specs.List.{slice_set}
 use Rattle.std.specs.Ordering.{nat_cmp}
 use Rattle.std.specs.Map.{lookup, remove_entry, set_value}
 use Rattle.std.specs.BTreeMap.{insert_entry, is_at}
+use Rattle.vg_laws.proofs.Lists.{insert-found}
+use Rattle.vg_laws.proofs.Options.{some-same}
+use Rattle.vg_laws.proofs.Bools.{right-true, not-both}
 use Rattle.vg_formats.specs.declared.entry.MemEntry.{MemEntry}
 use Rattle.vg_pages.specs.Memory.{Memory}
 use Rattle.vg_resource.specs.declared.resource.Resource.{Resource}
@@ -21,7 +24,7 @@ use Rattle.vg_device.specs.ActStep.{shown_at}
 use Rattle.vg_device.specs.State.{State, has_resource}
 use Rattle.vg_linked.specs.Consistent.{AreInPages, AreOfBuffers}
 use Rattle.vg_linked.specs.Rising.{AreRising}
-use Rattle.vg_linked.proofs.EntryLemmas.{insert-found, remove-gone}
+use Rattle.vg_linked.proofs.EntryLemmas.{remove-gone}
 use Rattle.vg_linked.proofs.HeldLemmas.{ShareStands, freed-other, imported-found, imported-other, may-free, may-import, may-release, new-other, next-none, released-found, released-other}
 use Rattle.vg_linked.proofs.IdLemmas.{IdsOf, IsNew, ids_moves, new-2d, new-blob, some-none}
 use Rattle.vg_linked.proofs.LinkHistory.{Stand, moves_stand}
@@ -45,15 +48,12 @@ pub record IsBuffered (share : ShareState) (count : ℕ) (s : State) : Type 0 wh
   pub ids : IdsOf s
   pub of : Buffered share count s.resources s.backings s.blobs
 
-some-some : {X : Type 0} {x y : X} → ◌≡◌ {A = Option X} (Some x) (Some y) → x ≡ y
-some-some is = cc
-
 -- one value comes
 came : {X : Type 0} (P : ℕ → X → Type 0) (id : ℕ) (new : X) (es : List (ℕ × X)) → P id new → ((q : ℕ) (x : X) → lookup (is_at (nat_cmp q)) es ≡ Some x → P q x)
     → (q : ℕ) (x : X) → lookup (is_at (nat_cmp q)) (insert_entry nat_cmp es id new) ≡ Some x → P q x
 came P id new es now was q x found = dite (ℕ_discrete q id)
     (λ same. subst (λ n. P n x) (sym same)
-    (subst (P id) (some-some (sym (insert-found id new es) ∙ ap (λ n. lookup (is_at (nat_cmp n)) (insert_entry nat_cmp es id new)) (sym same) ∙ found)) now))
+    (subst (P id) (some-same (sym (insert-found id new es) ∙ ap (λ n. lookup (is_at (nat_cmp n)) (insert_entry nat_cmp es id new)) (sym same) ∙ found)) now))
     (λ other. was q x (sym (insert_other q id new other es) ∙ found))
 
 -- one goes
@@ -198,10 +198,6 @@ found-some : {X : Type 0} (found : Option X) (x : X) → found ≡ Some x → is
 found-some (Some y) x is = refl
 found-some None x is = cc
 
-or-there : (a b : Bool) → b ≡ true → (a || b) ≡ true
-or-there true b is = refl
-or-there false b is = is
-
 of-act : (s : State) (now : ShareState) → Stays s now → IsOfAct s
     → ((id : ℕ) → has_resource s id ≡ true → is_some (buffer_at id now) ≡ true)
     × ((id : ℕ) (ranges : List MemEntry) → backing_at id s.backings ≡ Some ranges → AreInPages s.setup.pages ranges (pages_at id now))
@@ -210,7 +206,7 @@ of-act s now stays was = (
   (λ id there. (stays id there).0),
   (λ id ranges is.
       let known = was.ids.backed id (found-some (backing_at id s.backings) ranges is) in
-      let there : has_resource s id ≡ true = or-there (is_some (blob_at id s.blobs)) (is_some (resource_at id s.resources)) known in
+      let there : has_resource s id ≡ true = right-true (is_some (blob_at id s.blobs)) (is_some (resource_at id s.resources)) known in
       subst (AreInPages s.setup.pages ranges) (sym (stays id there).1) (was.of.backings id ranges is)),
   (λ id blob is. subst (AreInPages s.setup.pages blob.entries) (sym (stays id (first-some (blob_at id s.blobs) (resource_at id s.resources) blob is)).1) (was.of.blobs id blob is)),
 )
@@ -242,10 +238,6 @@ stays-else s exports leases clients was id there = (was.of.live id there, refl)
 not-none : {X P : Type 0} (found : Option X) → is_some found ≡ true → found ≡ None → P
 not-none (Some x) some none = cc
 not-none None some none = cc
-
-not-both : {P : Type 0} (b : Bool) → b ≡ true → b ≡ false → P
-not-both true is isnt = cc
-not-both false is isnt = cc
 
 pub of_acts : ActMoves IsOfAct IsOfAct
 of_acts =

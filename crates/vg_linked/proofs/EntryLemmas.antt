@@ -7,23 +7,10 @@ use Rattle.std.specs.declared.cmp.Ordering.TheVariants.{Less, Equal, Greater}
 use Rattle.std.specs.Map.{lookup, remove_entry, set_value}
 use Rattle.std.specs.BTreeMap.{insert_entry, is_at}
 use Rattle.std.proofs.lemmas.Bool.Decides.{nat_tests}
-use Rattle.vg_device.proofs.MapLemmas.{at_itself, at_other, at_same}
+use Rattle.vg_device.proofs.MapLemmas.{at_other, at_same}
 use Rattle.vg_linked.specs.Rising.{AreRising, IsBelow}
 
 -- ---- what is found
-
-found-by : {X : Type 0} (id : ℕ) (v : X) (e : ℕ × X) (es more : List (ℕ × X)) (o : Ordering) → nat_cmp id e.0 ≡ o → lookup (is_at (nat_cmp id)) more ≡ Some v
-    → lookup (is_at (nat_cmp id)) (match_ordering o ((id, v) ∷ e ∷ es) ((e.0, v) ∷ es) (e ∷ more)) ≡ Some v
-found-by id v e es more Less is rest = ap (λ b. cond b (Some v) (lookup (is_at (nat_cmp id)) (e ∷ es))) (at_itself id)
-found-by id v e es more Equal is rest = let at : is_at (nat_cmp id) e.0 ≡ true = grind (arith, nat_tests) in ap (λ b. cond b (Some v) (lookup (is_at (nat_cmp id)) es)) at
-found-by id v e es more Greater is rest =
-    let apart : is_at (nat_cmp id) e.0 ≡ false = grind (arith, nat_tests) in
-    ap (λ b. cond b (Some e.1) (lookup (is_at (nat_cmp id)) more)) apart ∙ rest
-
--- what was put in is found
-pub insert-found : {X : Type 0} (id : ℕ) (v : X) (es : List (ℕ × X)) → lookup (is_at (nat_cmp id)) (insert_entry nat_cmp es id v) ≡ Some v
-insert-found id v [] = ap (λ b. cond b (Some v) None) (at_itself id)
-insert-found id v (e ∷ es) = found-by id v e es (insert_entry nat_cmp es id v) (nat_cmp id e.0) refl (insert-found id v es)
 
 -- a number that is none of theirs isn't found
 pub none-found : {X : Type 0} (id : ℕ) (es : List (ℕ × X)) → AllByRecursion (λ (e : ℕ × X). e.0 ≢ id) es → lookup (is_at (nat_cmp id)) es ≡ None

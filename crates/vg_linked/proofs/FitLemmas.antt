@@ -7,6 +7,7 @@ use Rattle.std.specs.BTreeMap.{is_at}
 use Rattle.std.proofs.lemmas.Bool.Decides.{nat_tests}
 use Rattle.std.proofs.lemmas.List.{length-replicate, length-set}
 use Rattle.std.proofs.lemmas.List.Elements.{All-nil, All-cons}
+use Rattle.vg_laws.proofs.Bools.{or-first, or-second}
 use Rattle.vg_formats.specs.declared.entry.MemEntry.{MemEntry}
 use Rattle.vg_pages.specs.Memory.{HoldsRange, Memory, after_taking, fresh_memory, free_pages}
 use Rattle.vg_pages.proofs.Marked.{givable-after_giving, givable-after_taking, givable-taken, length-marked, length-zeroed, takeable-lowest}
@@ -140,14 +141,6 @@ pub record EntriesHeld (s : State) : Type 0 where
 
 held-memory : (s : State) (memory : Memory) (share : ShareState) → IsAsLarge s.memory memory → EntriesHeld s → EntriesHeld (record s { memory = memory; share = share })
 held-memory s memory share large was = record { backings = held-kept s.memory memory large s.backings was.backings; blobs = blobs-kept s.memory memory large s.blobs was.blobs }
-
-or-first : (a b : Bool) → (a || b) ≡ false → a ≡ false
-or-first true b is = cc
-or-first false b is = refl
-
-or-second : (a b : Bool) → (a || b) ≡ false → b ≡ false
-or-second true b is = cc
-or-second false b is = is
 
 -- an entry that isn't bad is held
 good-one : (memory : Memory) (entry : MemEntry) → is_bad memory entry ≡ false → (0 < entry.length) × HoldsRange memory entry.addr entry.length

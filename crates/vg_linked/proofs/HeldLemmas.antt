@@ -8,6 +8,7 @@ use Rattle.std.specs.List.{AllByRecursion}
 use Rattle.std.specs.Map.{lookup}
 use Rattle.std.specs.BTreeMap.{is_at}
 use Rattle.std.proofs.lemmas.Bool.Decides.{nat_tests}
+use Rattle.vg_laws.proofs.Lists.{insert-found}
 use Rattle.vg_device.proofs.MapLemmas.{insert_other, remove_other, set_itself, set_other}
 use Rattle.vg_refusals.specs.Refusals.{refusal_of}
 use Rattle.vg_share.specs.declared.share.Buffer.{Buffer}
@@ -16,7 +17,7 @@ use Rattle.vg_share.specs.declared.share.ShareRefusal.TheVariants.{InUse, NotHel
 use Rattle.vg_share.specs.Share.{ShareState, buffer_at, exported_key, free_refusal, freed, has_holder, holds_in, holds_once, import_refusal, imported, imported_buffer, imported_entries, is_given, is_holder, key_in, new_buffer, refused_by, refused_token, release_refusal, released, released_buffer, released_entries, scanout_in, some_hold, some_holder, token_key, with_buffer, with_hold, without_hold}
 use Rattle.vg_linked.specs.Linked.{AreAlone, IsAlone}
 use Rattle.vg_linked.specs.Rising.{AreRising}
-use Rattle.vg_linked.proofs.EntryLemmas.{each-insert, each-remove, each-set, each-weaker, insert-found, none-found, remove-gone, rising-insert, rising-remove, rising-set}
+use Rattle.vg_linked.proofs.EntryLemmas.{each-insert, each-remove, each-set, each-weaker, none-found, remove-gone, rising-insert, rising-remove, rising-set}
 use Rattle.vg_linked.proofs.HolderLemmas.{holds-more, some-held}
 
 -- ---- what is found of buffers after each act

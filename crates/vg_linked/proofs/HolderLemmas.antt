@@ -2,6 +2,7 @@
 use Rattle.std.proofs.Common.{◌≡◌, ◌≢◌, ◌≤◌, ℕ, zero, suc, ◌+◌, ◌-◌, ◌==◌, ◌||◌, Bool, true, false, cond, List, [], ◌∷◌, refl, ap, sym, ◌∙◌, arith, eq-eqb, ne_eqb}
 use Rattle.std.specs.Prelude.{nat_lt}
 use Rattle.std.proofs.lemmas.Bool.Decides.{nat_tests}
+use Rattle.vg_laws.proofs.Bools.{or-true}
 use Rattle.vg_share.specs.Share.{holds_in, some_hold, with_hold, without_hold}
 
 -- what is one number is no other
@@ -46,10 +47,6 @@ other-less client other (holder ∷ holders) apart =
     other-by client other (holder.1 - 1) holder holders (without_hold other holders) (holder.0 == other) apart refl (other-less client other holders apart)
 
 -- ---- whether there is a hold
-
-or-true : (b : Bool) → (b || true) ≡ true
-or-true true = refl
-or-true false = refl
 
 -- of a client that has one
 pub some-held : (client : ℕ) (holders : List (ℕ × ℕ)) → 1 ≤ holds_in client holders → some_hold holders ≡ true

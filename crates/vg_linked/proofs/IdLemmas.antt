@@ -1,5 +1,5 @@
 -- Ids of resources, backings and blobs after every history.
-use Rattle.std.proofs.Common.{◌≡◌, ◌≢◌, ℕ, ◌+◌, ◌*◌, ◌==◌, ◌||◌, not, Bool, true, false, List, [], ◌∷◌, Option, Some, None, refl, ap, sym, ◌∙◌, arith}
+use Rattle.std.proofs.Common.{◌≡◌, ◌≢◌, ℕ, ◌+◌, ◌*◌, ◌==◌, ◌||◌, not, true, false, List, [], ◌∷◌, Option, Some, None, refl, ap, sym, ◌∙◌, arith}
 use mathlib.Core.Logic.{dite}
 use native.Mathlib.Decide.{ℕ_discrete}
 use Rattle.std.specs.Prelude.{is_none, is_some, nat_lt}
@@ -7,6 +7,9 @@ use Rattle.std.specs.Ordering.{nat_cmp}
 use Rattle.std.specs.Map.{lookup, remove_entry, set_value}
 use Rattle.std.specs.BTreeMap.{insert_entry, is_at}
 use Rattle.std.proofs.lemmas.Bool.Decides.{nat_tests}
+use Rattle.vg_laws.proofs.Lists.{insert-found}
+use Rattle.vg_laws.proofs.Options.{none-there}
+use Rattle.vg_laws.proofs.Bools.{or-first, or-second, not-false}
 use Rattle.vg_formats.specs.declared.entry.MemEntry.{MemEntry}
 use Rattle.vg_formats.specs.Formats.{format_of}
 use Rattle.vg_resource.specs.declared.resource.Resource.{Resource}
@@ -26,23 +29,11 @@ use Rattle.vg_device.specs.Step.{attach_2d_refusals, create_2d_refusals}
 use Rattle.vg_machine.specs.Entries.{Entry}
 use Rattle.vg_machine.specs.Replay.{replay}
 use Rattle.vg_linked.specs.Rising.{AreRising}
-use Rattle.vg_linked.proofs.EntryLemmas.{insert-found, remove-gone, rising-insert, rising-remove, rising-set}
+use Rattle.vg_linked.proofs.EntryLemmas.{remove-gone, rising-insert, rising-remove, rising-set}
 use Rattle.vg_linked.proofs.FitLemmas.{none-first, none-rest}
 use Rattle.vg_linked.proofs.MoveLemmas.{AllMoves, acts_leave, replay-kept}
 
 -- ---- what a creation that isn't refused tells
-
-pub or-first : (a b : Bool) → (a || b) ≡ false → a ≡ false
-or-first true b is = cc
-or-first false b is = refl
-
-pub or-second : (a b : Bool) → (a || b) ≡ false → b ≡ false
-or-second true b is = cc
-or-second false b is = is
-
-pub none-of : {X : Type 0} (found : Option X) → is_some found ≡ false → found ≡ None
-none-of (Some x) none = cc
-none-of None none = refl
 
 not-zero : (id : ℕ) → (id == 0) ≡ false → 0 ≢ id
 not-zero id is same = grind (arith, nat_tests)
@@ -60,8 +51,8 @@ new-2d s id format width height none =
     let unused : used ≡ false = none-first used ERR_INVALID_RESOURCE_ID later (none-rest (is_blob s id) ERR_INVALID_RESOURCE_ID ((used, ERR_INVALID_RESOURCE_ID) ∷ later) none) in
     record {
       some = not-zero id (or-first (id == 0) (is_some (resource_at id s.resources)) unused);
-      no_resource = none-of (resource_at id s.resources) (or-second (id == 0) (is_some (resource_at id s.resources)) unused);
-      no_blob = none-of (blob_at id s.blobs) (none-first (is_blob s id) ERR_INVALID_RESOURCE_ID ((used, ERR_INVALID_RESOURCE_ID) ∷ later) none);
+      no_resource = none-there (resource_at id s.resources) (or-second (id == 0) (is_some (resource_at id s.resources)) unused);
+      no_blob = none-there (blob_at id s.blobs) (none-first (is_blob s id) ERR_INVALID_RESOURCE_ID ((used, ERR_INVALID_RESOURCE_ID) ∷ later) none);
     }
 
 pub new-blob : (s : State) (id mem flags size : ℕ) (ranges : List MemEntry) → refusal_of (create_blob_refusals s id mem flags size ranges) ≡ None → IsNew id s
@@ -75,13 +66,9 @@ new-blob s id mem flags size ranges none =
     in
     record {
       some = not-zero id (or-first (id == 0) (is_some (blob_at id s.blobs)) unused);
-      no_resource = none-of (resource_at id s.resources) (none-first (is_some (resource_at id s.resources)) ERR_INVALID_RESOURCE_ID rest none);
-      no_blob = none-of (blob_at id s.blobs) (or-second (id == 0) (is_some (blob_at id s.blobs)) unused);
+      no_resource = none-there (resource_at id s.resources) (none-first (is_some (resource_at id s.resources)) ERR_INVALID_RESOURCE_ID rest none);
+      no_blob = none-there (blob_at id s.blobs) (or-second (id == 0) (is_some (blob_at id s.blobs)) unused);
     }
-
-not-false : (b : Bool) → not b ≡ false → b ≡ true
-not-false true is = refl
-not-false false is = cc
 
 attach-known : (s : State) (id : ℕ) (ranges : List MemEntry) → refusal_of (attach_2d_refusals s id ranges) ≡ None → is_some (resource_at id s.resources) ≡ true
 attach-known s id ranges none =

@@ -1,11 +1,11 @@
 -- What a client holds and what the shares say of it go on to agree over each act, its own or another's.
-use Rattle.std.proofs.Common.{◌≡◌, ◌≢◌, ℕ, zero, suc, ◌+◌, ◌==◌, not, Bool, true, false, cond, List, [], ◌∷◌, ◌++◌, get_or, Option, Some, None, refl, ap, sym, subst, ◌∙◌, arith, eq-eqb, ne_eqb}
+use Rattle.std.proofs.Common.{◌≡◌, ◌≢◌, ℕ, zero, suc, ◌+◌, not, Bool, true, false, cond, List, [], ◌∷◌, ◌++◌, get_or, Option, Some, None, refl, ap, sym, subst, ◌∙◌, arith, eq-eqb, ne_eqb}
 use mathlib.Core.Logic.{dite}
 use native.Mathlib.Decide.{ℕ_discrete}
 use Rattle.std.specs.Prelude.{slice_get, count_by}
 use Rattle.std.specs.List.{All, slice_set}
-use Rattle.std.proofs.lemmas.Bool.Decides.{nat_tests}
 use Rattle.std.proofs.lemmas.List.Elements.{All-push}
+use Rattle.vg_laws.proofs.Numbers.{differs as apart-of}
 use Rattle.vg_refusals.specs.Refusals.{refusal_of}
 use Rattle.vg_share.specs.declared.share.Buffer.{Buffer}
 use Rattle.vg_share.specs.declared.share.Geometry.{Geometry}
@@ -18,9 +18,6 @@ use Rattle.vg_linked.specs.Linked.{Linked, is_taken_by, one_if, parts_of}
 use Rattle.vg_linked.proofs.CountLemmas.{all-without, count-no, count-without-other, count-without-same, count-yes, none-counted}
 use Rattle.vg_linked.proofs.HeldLemmas.{IsHeld, IsImported, IsTaken, ShareStands, freed-gone, freed-other, held-untaken, holder-counts, imported-found, imported-other, new-found, new-other, next-none, released-found, released-other, taken-unheld}
 use Rattle.vg_linked.proofs.HolderLemmas.{holds-less, holds-more, none-held, one-only, other-less, other-more}
-
-apart-of : (n m : ℕ) → (n == m) ≡ false → n ≢ m
-apart-of n m is same = grind (arith, nat_tests)
 
 -- ---- one buffer of the shares changes
 

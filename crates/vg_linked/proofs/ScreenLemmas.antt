@@ -8,6 +8,8 @@ use Rattle.std.specs.List.{All}
 use Rattle.std.specs.BTreeMap.{insert_entry}
 use Rattle.std.proofs.lemmas.List.Elements.{All-map, All-set}
 use Rattle.std.proofs.lemmas.Option.{get_or_from_slice_get, slice_get_within}
+use Rattle.vg_laws.proofs.Options.{none-there}
+use Rattle.vg_laws.proofs.Bools.{or-first, or-second, not-false}
 use Rattle.vg_formats.specs.declared.format.Format.{Format}
 use Rattle.vg_formats.specs.declared.rect.Rect.{Rect}
 use Rattle.vg_formats.specs.Pixels.{is_empty, is_inside}
@@ -30,7 +32,7 @@ use Rattle.vg_device.specs.Step.{binding_of, set_scanout_refusals, show_refusals
 use Rattle.vg_machine.specs.Entries.{Entry}
 use Rattle.vg_machine.specs.Replay.{replay}
 use Rattle.vg_linked.proofs.FitLemmas.{none-first, none-rest}
-use Rattle.vg_linked.proofs.IdLemmas.{new-2d, new-blob, none-of, or-first, or-second, some-none}
+use Rattle.vg_linked.proofs.IdLemmas.{new-2d, new-blob, some-none}
 use Rattle.vg_linked.proofs.MoveLemmas.{AllMoves, acts_leave, replay-kept}
 
 abbrev Shows : List (ℕ × Blob) → List (ℕ × Resource) → List (Option Screen) → Type 0
@@ -69,10 +71,6 @@ rest-if : (b : Bool) (more : List (Bool × ℕ)) → b ≡ false → refusal_of 
 rest-if true more is none = cc
 rest-if false more is none = none
 
-not-false : (b : Bool) → not b ≡ false → b ≡ true
-not-false true is = refl
-not-false false is = cc
-
 record IsShowable (s : State) (rect : Rect) (id : ℕ) (resource : Resource) : Type 0 where
   no_blob : blob_at id s.blobs ≡ None
   some : is_empty rect ≡ false
@@ -91,7 +89,7 @@ showable s rect scanout id resource none some is =
     (none-rest (is_none found) ERR_INVALID_RESOURCE_ID ((odd, ERR_INVALID_PARAMETER) ∷ later) (none-rest (is_blob s id) ERR_INVALID_PARAMETER shape both))
     in
     record {
-      no_blob = none-of (blob_at id s.blobs) (none-first (is_blob s id) ERR_INVALID_PARAMETER shape both);
+      no_blob = none-there (blob_at id s.blobs) (none-first (is_blob s id) ERR_INVALID_PARAMETER shape both);
       some = or-first (is_empty rect) (not (is_inside rect (width_of found) (height_of found))) good;
       inside = subst (λ (o : Option Resource). is_inside rect (width_of o) (height_of o) ≡ true) is
           (not-false (is_inside rect (width_of found) (height_of found)) (or-second (is_empty rect) (not (is_inside rect (width_of found) (height_of found))) good));

@@ -4,6 +4,8 @@ use Rattle.std.specs.Prelude.{is_some, nat_le}
 use Rattle.std.specs.List.{All, AllByRecursion, list_any}
 use Rattle.std.proofs.lemmas.Bool.Decides.{nat_tests}
 use Rattle.std.proofs.lemmas.List.Elements.{All-head, All-tail}
+use Rattle.vg_laws.proofs.Numbers.{same-number}
+use Rattle.vg_laws.proofs.Bools.{and-both}
 use Rattle.vg_pages.specs.Memory.{is_among}
 use Rattle.vg_refusals.specs.Refusals.{refusal_of}
 use Rattle.vg_wire.specs.Header.{header_of}
@@ -85,17 +87,10 @@ any-gives P test [] all any gives = cc
 any-gives P test (x ∷ xs) all any gives =
     either-of (test x) (list_any test xs) any (λ is. gives x is (All-head P x xs all)) (λ more. any-gives P test xs (All-tail P x xs all) more gives)
 
-both-of : (a b : Bool) → (a && b) ≡ true → (a ≡ true) × (b ≡ true)
-both-of true b is = (refl, is)
-both-of false b is = cc
-
-same-number : (n m : ℕ) → (n == m) ≡ true → n ≡ m
-same-number n m is = grind (arith, nat_tests)
-
 page-in : (client : ℕ) (holds : Holds) (share : ShareState) (key page : ℕ) → Linked client holds share → is_allowed_page holds key page ≡ true → is_among (pages_at key share) page ≡ true
 page-in client holds share key page linked may =
     any-gives (λ (pair : ℕ × List ℕ). pair.1 ≡ pages_at pair.0 share) (has_page key page) holds.buffers linked.pages may (λ pair is pages.
-    let both = both-of (pair.0 == key) (is_among pair.1 page) is in
+    let both = and-both (pair.0 == key) (is_among pair.1 page) is in
     subst (λ n. is_among (pages_at n share) page ≡ true) (same-number pair.0 key both.0) (subst (λ list. is_among list page ≡ true) pages both.1))
 
 pages-allowed : (client : ℕ) (holds : Holds) (share : ShareState) (command : Command) (pages : List ℕ) → Linked client holds share → first_denied holds command (map Page pages) ≡ None

@@ -1,16 +1,6 @@
 -- Fronts of a text that is added in parts.
-use Rattle.std.proofs.Common.{◌≡◌, List, [], ◌++◌, Result, Ok, Err, OnErr, append_assoc, append-nil, sym, ap, ◌∙◌, refl}
+use Rattle.std.proofs.Common.{◌≡◌, List, [], ◌++◌, append_assoc, append-nil, sym, ap, ◌∙◌, refl}
 use Rattle.vg_list.specs.Front.{HasFront}
-
--- What holds, holds after an error.
-pub on_err : {T E : Type 0} {P : Type 0} (r : Result T E) → P → OnErr r P
-on_err (Ok x) p = tt
-on_err (Err e) p = p
-
--- What follows from what holds after an error.
-pub err_then : {T E : Type 0} {P Q : Type 0} (r : Result T E) → (P → Q) → OnErr r P → OnErr r Q
-err_then (Ok x) follows p = tt
-err_then (Err e) follows p = follows p
 
 -- Nothing was added.
 pub front_none : {X : Type 0} (old new text : List X) → new ≡ old → HasFront old new text

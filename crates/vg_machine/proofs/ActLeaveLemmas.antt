@@ -6,6 +6,7 @@ use Rattle.std.proofs.lemmas.Bool.{cases_lt}
 use Rattle.std.proofs.lemmas.Bool.Decides.{nat_tests}
 use Rattle.std.proofs.lemmas.List.{get_or_past, length-map}
 use Rattle.std.proofs.lemmas.List.Folds.{list_any-append}
+use Rattle.vg_laws.proofs.Bools.{or-first, or-second}
 use Rattle.vg_history.specs.Lists.{Has}
 use Rattle.vg_places.proofs.Places.{get_or-tabulate, length-tabulate}
 use Rattle.vg_pages.specs.Memory.{Memory, free_pages, is_among, zeroed, after_taking}
@@ -25,21 +26,21 @@ use Rattle.vg_device.proofs.ActLemmas.{placed}
 use Rattle.vg_pages.specs.Lending.{AreSameIn}
 use Rattle.vg_machine.specs.Blocks.{blocks_act, has_lent, lent_pages}
 use Rattle.vg_machine.specs.Jobs.{Job}
-use Rattle.vg_machine.proofs.LeaveLemmas.{Leaves, leaves-itself, or-left, or-right, same-itself}
+use Rattle.vg_machine.proofs.LeaveLemmas.{Leaves, leaves-itself, same-itself}
 
 -- no page of a job passes a test that none of all lent pages passes
 pub job-pages : (test : ℕ → Bool) (jobs : List Job) (job : Job) → list_any test (lent_pages jobs) ≡ false → Has jobs job → list_any test job.pages ≡ false
 job-pages test [] job none has = absurd has
 job-pages test (one ∷ more) job none (inl is) =
-    subst (λ (j : Job). list_any test j.pages ≡ false) is (or-left (list_any test one.pages) (list_any test (lent_pages more)) (sym (list_any-append test one.pages (lent_pages more)) ∙ none))
+    subst (λ (j : Job). list_any test j.pages ≡ false) is (or-first (list_any test one.pages) (list_any test (lent_pages more)) (sym (list_any-append test one.pages (lent_pages more)) ∙ none))
 job-pages test (one ∷ more) job none (inr has) =
-    job-pages test more job (or-right (list_any test one.pages) (list_any test (lent_pages more)) (sym (list_any-append test one.pages (lent_pages more)) ∙ none)) has
+    job-pages test more job (or-second (list_any test one.pages) (list_any test (lent_pages more)) (sym (list_any-append test one.pages (lent_pages more)) ∙ none)) has
 
 -- nor does one of them
 one-not-by : (test : ℕ → Bool) (p x : ℕ) (more : List ℕ) (b : Bool) → (x == p) ≡ b → (b || is_among more p) ≡ true → (test x || list_any test more) ≡ false
     → (list_any test more ≡ false → is_among more p ≡ true → test p ≡ false) → test p ≡ false
-one-not-by test p x more true same among none rest = let is : x ≡ p = grind (arith, nat_tests) in subst (λ n. test n ≡ false) is (or-left (test x) (list_any test more) none)
-one-not-by test p x more false same among none rest = rest (or-right (test x) (list_any test more) none) among
+one-not-by test p x more true same among none rest = let is : x ≡ p = grind (arith, nat_tests) in subst (λ n. test n ≡ false) is (or-first (test x) (list_any test more) none)
+one-not-by test p x more false same among none rest = rest (or-second (test x) (list_any test more) none) among
 
 pub one-not : (test : ℕ → Bool) (pages : List ℕ) (p : ℕ) → list_any test pages ≡ false → is_among pages p ≡ true → test p ≡ false
 one-not test [] p none among = cc
@@ -71,8 +72,8 @@ length-zeroed pages bytes = length-tabulate _ (length bytes)
 position-none : (test : ℕ → Bool) (xs : List ℕ) → list_any test xs ≡ false → position_or_len test xs ≡ length xs
 position-none test [] none = refl
 position-none test (x ∷ xs) none =
-    ap (λ b. cond (not b) (1 + position_or_len test xs) 0) (or-left (test x) (list_any test xs) none)
-    ∙ omega (arith, position-none test xs (or-right (test x) (list_any test xs) none))
+    ap (λ b. cond (not b) (1 + position_or_len test xs) 0) (or-first (test x) (list_any test xs) none)
+    ∙ omega (arith, position-none test xs (or-second (test x) (list_any test xs) none))
 
 and-false : (a b : Bool) (x y : ℕ) → b ≡ false → cond (a && b) x y ≡ y
 and-false true b x y is = ap (λ c. cond c x y) is

@@ -15,6 +15,8 @@ use Rattle.vg_share.specs.Cells.{pages_of}
 use Rattle.vg_blob.specs.Blobs.{blob_at, entries_of}
 use Rattle.std.specs.Option.{option_map}
 use Rattle.std.proofs.lemmas.Bool.Decides.{nat_tests}
+use Rattle.vg_laws.proofs.Options.{some-same}
+use Rattle.vg_laws.proofs.Bools.{or-first, or-second}
 use Rattle.vg_pages.specs.Lending.{AreSameIn}
 use Rattle.vg_backing.specs.Backing.{touches}
 use Rattle.vg_formats.specs.declared.entry.MemEntry.{MemEntry}
@@ -59,7 +61,7 @@ use Rattle.vg_machine.specs.LoansWithin.{AllApart}
 use Rattle.vg_machine.specs.OutWithin.{AreApart, IsOut, job_lane}
 use Rattle.vg_machine.proofs.LoanLemmas.{left-of, one-of-lane, resources-apart}
 use Rattle.vg_machine.proofs.ActLeaveLemmas.{job-pages, leaves-effect, one-not}
-use Rattle.vg_machine.proofs.LeaveLemmas.{IsThere, Leaves, apart-from, leaves-itself, leaves-request, or-left, or-right, read-of, same-itself}
+use Rattle.vg_machine.proofs.LeaveLemmas.{IsThere, Leaves, apart-from, leaves-itself, leaves-request, read-of, same-itself}
 use Rattle.vg_machine.proofs.OutLemmas.{out-counted, out-kept, out-step}
 
 -- all jobs stay out where what happened leaves their parts
@@ -162,7 +164,7 @@ pub free-transfer : (jobs : List Job) (state : State) (request : Request) (rect 
 free-transfer jobs state request rect offset id run read free =
     let both : (is_lent jobs id || touches_lent jobs (entries_at id state.backings)) ≡ false =
     sym (shaped-named jobs state request request.shape run ∙ ap (λ r. blocks_named jobs state (named_in r)) read) ∙ free in
-    (or-left (is_lent jobs id) (touches_lent jobs (entries_at id state.backings)) both, or-right (is_lent jobs id) (touches_lent jobs (entries_at id state.backings)) both)
+    (or-first (is_lent jobs id) (touches_lent jobs (entries_at id state.backings)) both, or-second (is_lent jobs id) (touches_lent jobs (entries_at id state.backings)) both)
 
 -- a new job is apart from those that are out
 pages-of-apart : (jobs : List Job) (one : Job) (entries : List MemEntry) (pages : List ℕ) → touches_lent jobs entries ≡ false → Has jobs one
@@ -309,9 +311,6 @@ pub copies-named : (state : State) (request : Request) → ((id : ℕ) → named
 copies-named state request other =
     copies-shape-named request.shape state request
     (copies-found-named state request other (refusal_of (request_refusals state request.queue request.bytes)) (command_of (header_of request.bytes).kind (drop 24 request.bytes)) refl refl)
-
-some-same : {X : Type 0} {x y : X} → ◌≡◌ {A = Option X} (Some x) (Some y) → x ≡ y
-some-same same = cc
 
 -- a new job is out
 abbrev pub job_of : Request → Copy → List ℕ → List ℕ → List ℕ → Reply → Job

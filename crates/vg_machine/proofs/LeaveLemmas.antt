@@ -1,11 +1,12 @@
 -- What a step that isn't blocked leaves of the parts that a lent job stands on.
-use Rattle.std.proofs.Common.{◌≡◌, ◌≢◌, ◌≤◌, ◌<◌, ℕ, ◌+◌, ◌*◌, ◌/◌, ◌%◌, ◌==◌, ◌||◌, ◌&&◌, not, inl, inr, Bool, true, false, cond, List, [], ◌∷◌, ◌++◌, length, drop, Option, Some, None, Result, Ok, Err, ap, sym, ◌∙◌, refl, subst, get_or, arith}
+use Rattle.std.proofs.Common.{◌≡◌, ◌≢◌, ◌≤◌, ◌<◌, ℕ, ◌+◌, ◌*◌, ◌/◌, ◌%◌, ◌==◌, ◌||◌, ◌&&◌, not, inl, inr, Bool, true, false, cond, List, [], ◌∷◌, ◌++◌, length, drop, Option, Some, None, Result, Ok, Err, ap, sym, ◌∙◌, refl, subst, get_or}
 use Rattle.std.specs.Prelude.{is_none, is_some, ok_or, option_map, nat_lt, nat_le, slice_get, slice_index, if◌then◌else◌}
 use Rattle.std.specs.List.{list_any}
 use Rattle.std.specs.Ordering.{nat_cmp}
 use Rattle.std.specs.Map.{lookup, remove_entry, set_value}
 use Rattle.std.specs.BTreeMap.{insert_entry, is_at}
-use Rattle.std.proofs.lemmas.Bool.Decides.{nat_tests}
+use Rattle.vg_laws.proofs.Numbers.{differs}
+use Rattle.vg_laws.proofs.Bools.{or-first, or-second}
 use Rattle.vg_history.specs.Lists.{Has}
 use Rattle.vg_cursor.specs.declared.cursor.Cursor.{Cursor}
 use Rattle.vg_cursor.specs.Cursor.{placed_at}
@@ -106,25 +107,14 @@ leaves-cursors state job cursors now = record { setup = refl; resource = refl; b
 leaves-uuids : (state : State) (job : Job) (id : ℕ) → Leaves state (record state { uuids = assigned id state.uuids }) job
 leaves-uuids state job id = record { setup = refl; resource = refl; blob = refl; backing = refl; memory = same-itself job.pages state.memory; context = λ names live. live }
 
-pub or-left : (a b : Bool) → (a || b) ≡ false → a ≡ false
-or-left true b is = cc
-or-left false b is = refl
-
-pub or-right : (a b : Bool) → (a || b) ≡ false → b ≡ false
-or-right true b is = cc
-or-right false b is = is
-
 -- one of a list of which none passes a test
 pub any-not : {X : Type 0} (test : X → Bool) (xs : List X) (x : X) → list_any test xs ≡ false → Has xs x → test x ≡ false
 any-not test [] x none has = absurd has
-any-not test (y ∷ ys) x none (inl is) = subst (λ z. test z ≡ false) is (or-left (test y) (list_any test ys) none)
-any-not test (y ∷ ys) x none (inr has) = any-not test ys x (or-right (test y) (list_any test ys) none) has
-
-eqb-apart : (n m : ℕ) → (n == m) ≡ false → n ≢ m
-eqb-apart n m is = λ same. grind (arith, nat_tests)
+any-not test (y ∷ ys) x none (inl is) = subst (λ z. test z ≡ false) is (or-first (test y) (list_any test ys) none)
+any-not test (y ∷ ys) x none (inr has) = any-not test ys x (or-second (test y) (list_any test ys) none) has
 
 pub apart-from : (jobs : List Job) (job : Job) (id : ℕ) → is_lent jobs id ≡ false → Has jobs job → job.resource ≢ id
-apart-from jobs job id none has = eqb-apart job.resource id (any-not (λ (one : Job). one.resource == id) jobs job none has)
+apart-from jobs job id none has = differs job.resource id (any-not (λ (one : Job). one.resource == id) jobs job none has)
 
 -- what is there isn't what isn't
 found-apart : {X : Type 0} (entries : List (ℕ × X)) (q id : ℕ) (x : X) → lookup (is_at (nat_cmp q)) entries ≡ Some x → is_some (lookup (is_at (nat_cmp id)) entries) ≡ false → q ≢ id
@@ -228,7 +218,7 @@ IsThere state job = (found : Resource) × (resource_at job.resource state.resour
 -- a resource that is made wasn't there
 made-new : (state : State) (id format width height : ℕ) → refusal_of (create_2d_refusals state id format width height) ≡ None → is_some (resource_at id state.resources) ≡ false
 made-new state id format width height none =
-    or-right (id == 0) (is_some (resource_at id state.resources)) (second-not (is_blob state id) ERR_INVALID_RESOURCE_ID (id == 0 || is_some (resource_at id state.resources)) ERR_INVALID_RESOURCE_ID
+    or-second (id == 0) (is_some (resource_at id state.resources)) (second-not (is_blob state id) ERR_INVALID_RESOURCE_ID (id == 0 || is_some (resource_at id state.resources)) ERR_INVALID_RESOURCE_ID
     ((is_none (format_of format) || (width == 0 || height == 0), ERR_INVALID_PARAMETER) ∷ (nat_lt 134217728 (pixel_bytes state.resources + 4 * width * height), ERR_OUT_OF_MEMORY) ∷ []) none)
 
 leaves-2d : (jobs : List Job) (state : State) (job : Job) → Has jobs job → IsThere state job → (command : Command2d) → blocks_named jobs state (named_2d command) ≡ false
@@ -246,7 +236,7 @@ leaves-2d jobs state job has there (SetScanout rect scanout id) free =
 leaves-2d jobs state job has there (Flush rect id) free =
     leaves-answered (refusal_of (flush_refusals state rect id)) state _ responses.Nodata job (λ none. leaves-scanouts state job (flushed_by state rect id))
 leaves-2d jobs state job has there (Transfer rect offset id) free =
-    leaves-transfer state job rect offset id (is_blob state id) (apart-from jobs job id (or-left (is_lent jobs id) _ free) has)
+    leaves-transfer state job rect offset id (is_blob state id) (apart-from jobs job id (or-first (is_lent jobs id) _ free) has)
 leaves-2d jobs state job has there (Attach id entries) free =
     leaves-answered (refusal_of (attach_2d_refusals state id entries)) state _ responses.Nodata job
     (λ none. leaves-backings state job _ (insert_other job.resource id entries (apart-from jobs job id free has) state.backings))
@@ -258,7 +248,7 @@ leaves-2d jobs state job has there (Detach id) free =
 context-apart : (jobs : List Job) (job : Job) (context : ℕ) → keeps_context jobs context ≡ false → Has jobs job → names_context job.asked ≡ true → (header_of job.asked.bytes).ctx_id ≢ context
 context-apart jobs job context none has names =
     let not_it : is_of_context context job.asked ≡ false = any-not (λ (one : Job). is_of_context context one.asked) jobs job none has in
-    eqb-apart (header_of job.asked.bytes).ctx_id context (sym (ap (λ b. b && ((header_of job.asked.bytes).ctx_id == context)) names) ∙ not_it)
+    differs (header_of job.asked.bytes).ctx_id context (sym (ap (λ b. b && ((header_of job.asked.bytes).ctx_id == context)) names) ∙ not_it)
 
 -- nor was what a blob, or a context, gets the id of
 blob-new : (state : State) (id mem flags size : ℕ) (entries : List MemEntry) → refusal_of (create_blob_refusals state id mem flags size entries) ≡ None → is_some (resource_at id state.resources) ≡ false
@@ -267,7 +257,7 @@ blob-new state id mem flags size entries none =
 
 context-new : (id nlen context_init : ℕ) (entries : List (ℕ × Context)) → refusal_of (create_refusals id nlen context_init entries) ≡ None → is_live id entries ≡ false
 context-new id nlen context_init entries none =
-    or-right (id == 0) (is_live id entries)
+    or-second (id == 0) (is_live id entries)
     (first-not (id == 0 || is_live id entries) ERR_INVALID_CONTEXT_ID ((nat_lt NAME_BYTES nlen || not (context_init % 256 == 0), ERR_INVALID_PARAMETER) ∷ []) none)
 
 pub leaves-command : (jobs : List Job) (state : State) (job : Job) → Has jobs job → IsThere state job → (context : ℕ) (command : Command) → blocks_named jobs state (named_by context command) ≡ false

@@ -7,6 +7,8 @@ use Rattle.std.proofs.lemmas.Bool.Decides.{nat_tests}
 use Rattle.std.proofs.lemmas.List.{get_or_default, get_or_past}
 use Rattle.std.proofs.lemmas.List.Folds.{list_any-append, list_any_at, list_any_none}
 use Rattle.std.proofs.lemmas.List.Quantifiers.{position-Some}
+use Rattle.vg_laws.proofs.Numbers.{same-number, differs}
+use Rattle.vg_laws.proofs.Bools.{right-true}
 use Rattle.vg_history.specs.Jobs.{but_lane, of_lane}
 use Rattle.vg_history.specs.Lists.{Has}
 use Rattle.vg_pages.specs.Memory.{is_among, marked}
@@ -26,9 +28,6 @@ has-at : {X : Type 0} (xs : List X) (i : ℕ) (d : X) → i < length xs → Has 
 has-at [] i d within = absurd (omega (arith, within))
 has-at (x ∷ xs) zero d within = inl refl
 has-at (x ∷ xs) (suc i) d within = inr (has-at xs i d (omega (arith, within)))
-
-eqb-apart : (n m : ℕ) → (n == m) ≡ false → n ≢ m
-eqb-apart n m is = λ same. grind (arith, nat_tests)
 
 -- jobs that have nothing in common are one where their lanes are
 pub one-of-lane : (jobs : List Job) (a b : Job) → AllApart jobs → Has jobs a → Has jobs b → a.asked.lane ≡ b.asked.lane → a ≡ b
@@ -50,7 +49,7 @@ left-by : (l : ℕ) (x : Job) (xs : List Job) (k : Job) (b : Bool) → (x.asked.
     → Has (cond b (but_lane job_lane l xs) (x ∷ but_lane job_lane l xs)) k → (Has (but_lane job_lane l xs) k → Has xs k × (k.asked.lane ≢ l))
     → Has (x ∷ xs) k × (k.asked.lane ≢ l)
 left-by l x xs k true is has rest = (inr (rest has).0, (rest has).1)
-left-by l x xs k false is (inl same) rest = (inl same, subst (λ (j : Job). j.asked.lane ≢ l) same (eqb-apart x.asked.lane l is))
+left-by l x xs k false is (inl same) rest = (inl same, subst (λ (j : Job). j.asked.lane ≢ l) same (differs x.asked.lane l is))
 left-by l x xs k false is (inr has) rest = (inr (rest has).0, (rest has).1)
 
 -- a job that is left where those of a lane go
@@ -119,18 +118,13 @@ lent-not x (y ∷ ys) p apart among =
     list_any-append (λ one. one == p) y.pages (lent_pages ys)
     ∙ both-false (is_among y.pages p) (is_among (lent_pages ys) p) (pages-not x.pages y.pages p apart.0.pages among) (lent-not x ys p apart.1 among)
 
--- the pages of a job are lent
-or-true : (a b : Bool) → b ≡ true → (a || b) ≡ true
-or-true true b is = refl
-or-true false b is = is
-
 lent-has : (jobs : List Job) (a : Job) (p : ℕ) → Has jobs a → is_among a.pages p ≡ true → is_among (lent_pages jobs) p ≡ true
 lent-has [] a p has among = absurd has
 lent-has (x ∷ xs) a p (inl same) among =
     list_any-append (λ one. one == p) x.pages (lent_pages xs)
     ∙ ap (λ (b : Bool). b || is_among (lent_pages xs) p) (subst (λ (j : Job). is_among j.pages p ≡ true) (sym same) among)
 lent-has (x ∷ xs) a p (inr has) among =
-    list_any-append (λ one. one == p) x.pages (lent_pages xs) ∙ or-true (is_among x.pages p) (is_among (lent_pages xs) p) (lent-has xs a p has among)
+    list_any-append (λ one. one == p) x.pages (lent_pages xs) ∙ right-true (is_among x.pages p) (is_among (lent_pages xs) p) (lent-has xs a p has among)
 
 -- what is among the pages once one job has gone
 gone-here : (a b : Bool) → (a ≡ true → b ≡ false) → b ≡ cond a false (a || b)
@@ -247,14 +241,11 @@ pub record IsFound (lane : ℕ) (jobs : List Job) (place : ℕ) (job : Job) : Ty
   pub has : Has jobs job
   pub of_lane : job.asked.lane ≡ lane
 
-same-of : (n m : ℕ) → (n == m) ≡ true → n ≡ m
-same-of n m is = grind (arith, nat_tests)
-
 pub found-at : (lane : ℕ) (jobs : List Job) (place : ℕ) (job : Job) → Some place ≡ position (is_of_lane lane) jobs → job ≡ get_or jobs place job → IsFound lane jobs place job
 found-at lane jobs place job at is =
     let found = position-Some (is_of_lane lane) jobs place job (sym at) in record {
       within = found.0;
       is = sym is;
       has = subst (λ (j : Job). Has jobs j) (sym is) (has-at jobs place job found.0);
-      of_lane = ap (λ (j : Job). j.asked.lane) is ∙ same-of (get_or jobs place job).asked.lane lane found.1;
+      of_lane = ap (λ (j : Job). j.asked.lane) is ∙ same-number (get_or jobs place job).asked.lane lane found.1;
     }

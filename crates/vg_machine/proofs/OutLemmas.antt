@@ -2,6 +2,7 @@
 use Rattle.std.proofs.Common.{◌≡◌, ℕ, ◌*◌, ◌==◌, ◌&&◌, ◌||◌, not, Bool, true, false, cond, List, [], ◌∷◌, length, drop, Option, Some, None, ap, sym, ◌∙◌, refl, subst}
 use Rattle.std.specs.Prelude.{bit_and, is_none, is_some, nat_le, nat_lt}
 use Rattle.std.specs.Option.{unwrap_or}
+use Rattle.vg_laws.proofs.Bools.{and-right}
 use Rattle.vg_formats.specs.declared.rect.Rect.{Rect}
 use Rattle.vg_formats.specs.declared.entry.MemEntry.{MemEntry}
 use Rattle.vg_formats.specs.Pixels.{is_empty, is_inside}
@@ -45,10 +46,6 @@ use Rattle.vg_machine.proofs.LeaveLemmas.{Leaves, same-itself}
 
 same-on : (pages : List ℕ) (one other third : Memory) → AreSameIn pages one other → AreSameIn pages other third → AreSameIn pages one third
 same-on pages one other third first second = record { size = second.size ∙ first.size; each = λ place among. second.each place among ∙ first.each place among }
-
-and-right : (a b : Bool) → (a && b) ≡ true → b ≡ true
-and-right true b is = is
-and-right false b is = cc
 
 -- the last test, of a context that is named and was live
 last-kept : (names live now : Bool) (code : ℕ) → (names ≡ true → live ≡ true → now ≡ true) → refusal_of ((names && not live, code) ∷ []) ≡ None → refusal_of ((names && not now, code) ∷ []) ≡ None

@@ -1,7 +1,6 @@
 -- To which resources a command leaves scanouts bound.
 use Rattle.std.proofs.Common.{◌≡◌, ◌⊎◌, inl, inr, ℕ, zero, suc, ◌==◌, Bool, true, false, cond, List, [], ◌∷◌, map, drop, slice_get, slice_set, Option, Some, None, refl, ap}
-use Rattle.std.proofs.lemmas.Bool.Decides.{nat_tests}
-use Rattle.std.proofs.Common.{arith}
+use Rattle.vg_laws.proofs.Numbers.{same-number}
 use Rattle.vg_formats.specs.declared.format.Format.{Format}
 use Rattle.vg_formats.specs.declared.rect.Rect.{Rect}
 use Rattle.vg_formats.specs.Formats.{format_of}
@@ -82,9 +81,6 @@ flushed-one : (key : ℕ) (rect : Rect) (surface : List ℕ) (b : Bool) (screen 
 flushed-one key rect surface true (Some screen) is = is
 flushed-one key rect surface true None is = is
 flushed-one key rect surface false screen is = is
-
-same-number : (n m : ℕ) → (n == m) ≡ true → n ≡ m
-same-number n m is = grind (arith, nat_tests)
 
 fresh-shows : (key : ℕ) (binding : Binding) → Shows key (Some (fresh_screen binding)) → binding.resource ≡ key
 unfolding fresh_screen

@@ -3,6 +3,8 @@ use Rattle.std.proofs.Common.{◌≡◌, ◌≢◌, inl, inr, ◌≤◌, ◌<◌
 use Rattle.std.specs.Prelude.{is_none, is_some, if◌then◌else◌}
 use Rattle.std.proofs.lemmas.Bool.Decides.{nat_tests}
 use Rattle.std.proofs.lemmas.Option.{slice_get_within}
+use Rattle.vg_laws.proofs.Numbers.{same-number}
+use Rattle.vg_laws.proofs.Bools.{not-both}
 use Rattle.vg_refusals.specs.Refusals.{refusal_of}
 use Rattle.vg_resource.specs.declared.resource.Resource.{Resource}
 use Rattle.vg_resource.specs.Resource.{height_of, resource_at, width_of}
@@ -47,9 +49,6 @@ use Rattle.vg_origin.proofs.MemoryLemmas.{Next, entries-from, next-moment}
 
 -- ---- what a binding tells
 
-same-number : (n m : ℕ) → (n == m) ≡ true → n ≡ m
-same-number n m is = grind (arith, nat_tests)
-
 bound-of : (s : State) (scanout key : ℕ) → IsBoundTo s scanout key → Bound scanout key s
 bound-of s scanout key is = ap (λ (o : Option (Option Screen)). shows_key key (binding_of_screen o)) is.there ∙ eq-eqb is.screen.binding.resource key is.resource
 
@@ -80,10 +79,6 @@ none-bound (suc n) zero key is = cc
 none-bound (suc n) (suc scanout) key is = none-bound n scanout key is
 
 -- ---- numbers
-
-not-both : {P : Type 0} (b : Bool) → b ≡ true → b ≡ false → P
-not-both true is isnt = cc
-not-both false is isnt = cc
 
 low-key : (share : ShareState) (key : ℕ) → ShareStands share → is_some (buffer_at key share) ≡ true → key ≤ share.reserved
 low-key share key stand there = by (nat_le key share.reserved) refl

@@ -10,6 +10,7 @@ use Rattle.std.proofs.lemmas.List.{length-take}
 use Rattle.std.proofs.lemmas.List.Elements.{All-head, All-tail}
 use Rattle.std.proofs.lemmas.List.Folds.{list_any_at}
 use Rattle.std.proofs.lemmas.List.Sums.{passes_at_first}
+use Rattle.vg_laws.proofs.Bools.{clash}
 use Rattle.vg_pages.specs.Memory.{AreTakeable, Memory, after_taking, free_pages, is_among}
 use Rattle.vg_pages.proofs.Marked.{givable-after_giving, givable-after_taking, givable-taken, takeable-lowest}
 use Rattle.vg_refusals.specs.Refusals.{refusal_of}
@@ -184,9 +185,6 @@ pairs-head e es pairs = λ k d within. pairs 0 (suc k) d (omega arith) (omega (a
 
 pairs-tail : (e : ℕ × Buffer) (es : List (ℕ × Buffer)) → AllPairs HaveNoPageInCommon (e ∷ es) → AllPairs HaveNoPageInCommon es
 pairs-tail e es pairs = λ i j d order within. pairs (suc i) (suc j) d (omega (arith, order)) (omega (arith, within))
-
-clash : false ≡ true → ⊥
-clash eq = cc
 
 -- one of the first buffer, and one behind it, have no page in common
 behind-apart : (key : ℕ) (e : ℕ × Buffer) (es : List (ℕ × Buffer)) (x : Buffer) (page : ℕ) → AllPairs HaveNoPageInCommon (e ∷ es) → lookup (is_at (nat_cmp key)) es ≡ Some x

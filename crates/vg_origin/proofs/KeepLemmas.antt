@@ -5,6 +5,7 @@ use native.Mathlib.Decide.{ℕ_discrete}
 use Rattle.std.specs.Prelude.{is_some}
 use Rattle.std.specs.List.{find, range_with_len}
 use Rattle.std.proofs.lemmas.Bool.Decides.{nat_tests}
+use Rattle.vg_laws.proofs.Bools.{not-both}
 use Rattle.vg_refusals.specs.Refusals.{refusal_of}
 use Rattle.vg_share.specs.declared.share.Buffer.{Buffer}
 use Rattle.vg_share.specs.declared.share.ShareRefusal.TheVariants.{InUse, NotHeld}
@@ -35,10 +36,6 @@ Keeps client key s = keeps_buffer client (buffer_at key s.share) ≡ true
 no-buffer : {P : Type 0} (client : ℕ) (found : Option Buffer) → found ≡ None → keeps_buffer client found ≡ true → P
 no-buffer client None none keeps = cc
 no-buffer client (Some buffer) none keeps = cc
-
-not-both : {P : Type 0} (b : Bool) → b ≡ true → b ≡ false → P
-not-both true is isnt = cc
-not-both false is isnt = cc
 
 or-weaker : (a now b : Bool) → (a ≡ true → now ≡ true) → (a || b) ≡ true → (now || b) ≡ true
 or-weaker true now b weaker is = ap (λ c. c || b) (weaker refl)

@@ -3,6 +3,7 @@ use Rattle.std.proofs.Common.{◌≡◌, ◌≢◌, ◌≤◌, ◌<◌, ◌^◌,
 use Rattle.std.specs.Prelude.{nat_lt, ℤ}
 use Rattle.std.specs.List.{list_any}
 use Rattle.std.proofs.lemmas.Bool.Decides.{nat_tests}
+use Rattle.vg_laws.proofs.Bools.{or-true}
 use Rattle.vg_wire.specs.declared.header.Header.{Header}
 use Rattle.vg_wire.specs.declared.two_d.Command2d.{Command2d}
 use Rattle.vg_wire.specs.declared.two_d.Command2d.TheVariants.{DisplayInfo, Create2d, Unref, SetScanout, Flush, Transfer, Attach, Detach}
@@ -27,10 +28,6 @@ use Rattle.vg_origin.proofs.BindLemmas.{Binds, Binds2d}
 
 pub holder-by : (client : ℕ) (holders : List (ℕ × ℕ)) → 1 ≤ holds_in client holders → nat_lt 0 (holds_in client holders) ≡ true
 holder-by client holders some = grind (arith, nat_tests, some)
-
-or-true : (b : Bool) → (b || true) ≡ true
-or-true true = refl
-or-true false = refl
 
 keeps-by : (client : ℕ) (buffer : Buffer) (b : Bool) → is_given client buffer.taker ≡ b → 1 ≤ parts_of client (Some buffer) → (is_holder client buffer || is_given client buffer.taker) ≡ true
 keeps-by client buffer true is some = ap (λ b. is_holder client buffer || b) is ∙ or-true (is_holder client buffer)

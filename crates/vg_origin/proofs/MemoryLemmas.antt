@@ -4,6 +4,8 @@ use Rattle.std.specs.Map.{lookup, remove_entry, set_value}
 use Rattle.std.specs.Ordering.{nat_cmp}
 use Rattle.std.specs.BTreeMap.{insert_entry, is_at}
 use Rattle.std.proofs.lemmas.Bool.{cases_eq, cases_lt}
+use Rattle.vg_laws.proofs.Lists.{insert-found}
+use Rattle.vg_laws.proofs.Bools.{and-right}
 use Rattle.vg_pages.specs.Memory.{after_taking, is_among}
 use Rattle.vg_refusals.specs.Refusals.{refusal_of}
 use Rattle.vg_share.specs.declared.share.Buffer.{Buffer}
@@ -31,7 +33,7 @@ use Rattle.vg_origin.specs.Origin.{HadPage, HasPage, IsOfBuffer, IsStore, Stores
 use Rattle.vg_painted.specs.Paint.{acted, cleared_at, fresh, painted, painting, stored_at, unless}
 use Rattle.vg_origin.proofs.FitLemmas.{Fits, entry-fits, page-of-one, start-fits, stored-page}
 use Rattle.vg_origin.proofs.KeptLemmas.{requested-memory, shaped-beside}
-use Rattle.vg_painted.proofs.OnceLemmas.{Once, insert_itself, removed}
+use Rattle.vg_painted.proofs.OnceLemmas.{Once, removed}
 use Rattle.vg_painted.proofs.RelatedLemmas.{painting-more}
 
 -- ---- pages of buffers
@@ -102,7 +104,7 @@ reserved-had client key page geometry pages share has other =
     elim (cases_eq key n) [
       | inl one ↦
           let are : pages_at key (with_buffer client geometry pages share) ≡ pages =
-          ap (λ (k : ℕ). pages_in (lookup (is_at (nat_cmp k)) (insert_entry nat_cmp share.buffers n buffer))) one ∙ ap pages_in (insert_itself n buffer share.buffers)
+          ap (λ (k : ℕ). pages_in (lookup (is_at (nat_cmp k)) (insert_entry nat_cmp share.buffers n buffer))) one ∙ ap pages_in (insert-found n buffer share.buffers)
           in
           clash (sym other ∙ subst (λ (ps : List ℕ). is_among ps page ≡ true) are has)
       | inr apart ↦ subst (λ (ps : List ℕ). is_among ps page ≡ true) (ap pages_in (insert_other key n buffer apart share.buffers)) has
@@ -120,10 +122,6 @@ holder-of client offset n (Some buffer) none = (buffer, refl, held (is_holder cl
     held : (b : Bool) (more : List (Bool × ShareRefusal)) → refusal_of ((not b, NotHeld) ∷ more) ≡ None → b ≡ true
     held true more is = refl
     held false more is = cc
-
-and-right : (a b : Bool) → (a && b) ≡ true → b ≡ true
-and-right true b is = is
-and-right false b is = cc
 
 written-came : (t : Bool) (state : State) (entry : Entry) (key page : ℕ) (old : Tag) → (t ≡ true → Stores state entry key) → is_among (pages_at key state.share) page ≡ true
     → Came state entry key page old (cond t (From (state.entries + 1) page 0 0) old)

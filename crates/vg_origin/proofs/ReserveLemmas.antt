@@ -4,6 +4,7 @@ use Rattle.std.specs.Ordering.{nat_cmp}
 use Rattle.std.specs.Map.{lookup}
 use Rattle.std.specs.BTreeMap.{insert_entry, is_at}
 use Rattle.std.proofs.lemmas.Bool.{cases_eq}
+use Rattle.vg_laws.proofs.Lists.{insert-found}
 use Rattle.vg_pages.specs.Memory.{after_taking, is_among}
 use Rattle.vg_share.specs.declared.share.Buffer.{Buffer}
 use Rattle.vg_share.specs.declared.share.Geometry.{Geometry}
@@ -21,7 +22,7 @@ use Rattle.vg_device.specs.State.{State, counted, has_resource}
 use Rattle.vg_device.proofs.MapLemmas.{insert_other}
 use Rattle.vg_machine.specs.Entries.{Entry}
 use Rattle.vg_machine.specs.Replay.{after, replay}
-use Rattle.vg_painted.proofs.OnceLemmas.{Once, insert_itself}
+use Rattle.vg_painted.proofs.OnceLemmas.{Once}
 use Rattle.vg_origin.specs.Origin.{HasPage, IsReserve, IsStore, Reserves, state_at}
 use Rattle.vg_origin.proofs.KeptLemmas.{shaped-beside}
 use Rattle.vg_origin.proofs.MemoryLemmas.{fits-at, freed-pages, imported-pages, next-moment, released-pages, replied-pages}
@@ -44,7 +45,7 @@ reserved-by None state client call width height format bytes reply key page is h
     elim (cases_eq key n) [
       | inl one ↦
           let are : pages_at key (with_buffer client geometry pages state.share) ≡ pages =
-          ap (λ (k : ℕ). pages_in (lookup (is_at (nat_cmp k)) (insert_entry nat_cmp state.share.buffers n buffer))) one ∙ ap pages_in (insert_itself n buffer state.share.buffers)
+          ap (λ (k : ℕ). pages_in (lookup (is_at (nat_cmp k)) (insert_entry nat_cmp state.share.buffers n buffer))) one ∙ ap pages_in (insert-found n buffer state.share.buffers)
           in
           inr (record {
             client = client;

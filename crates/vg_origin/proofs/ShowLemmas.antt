@@ -1,9 +1,10 @@
 -- Screens, images and frames show bytes of buffers that the scanouts' clients had.
-use Rattle.std.proofs.Common.{◌≡◌, ◌⊎◌, inl, inr, ⊎_elim, ℕ, zero, suc, ◌+◌, ◌*◌, ◌/◌, ◌%◌, ◌==◌, ◌||◌, ◌&&◌, Bool, true, false, cond, List, [], ◌∷◌, ◌++◌, length, take, nat_lt, replicate, slice_get, Option, Some, None, refl, ap, sym, subst, ◌∙◌, arith}
+use Rattle.std.proofs.Common.{◌≡◌, ◌⊎◌, inl, inr, ⊎_elim, ℕ, zero, suc, ◌+◌, ◌*◌, ◌/◌, ◌%◌, ◌==◌, ◌&&◌, Bool, true, false, cond, List, [], ◌∷◌, ◌++◌, length, take, nat_lt, replicate, slice_get, Option, Some, None, refl, ap, sym, subst, ◌∙◌, arith}
 use Rattle.std.specs.Prelude.{is_some, ℤ, pos, negsuc}
 use Rattle.std.proofs.lemmas.Bool.{cases_lt, le-ltb, lt-ltb}
 use Rattle.std.proofs.lemmas.List.{get_or_past}
 use Rattle.std.proofs.lemmas.Option.{get_or_from_slice_get, slice_get-get_or}
+use Rattle.vg_laws.proofs.Bools.{left-true, right-true}
 use Rattle.vg_blob.specs.declared.blobs.Blob.{Blob}
 use Rattle.vg_blob.specs.Blobs.{blob_at, entries_of}
 use Rattle.vg_pages.specs.Memory.{is_among}
@@ -34,21 +35,13 @@ use Rattle.vg_origin.proofs.ShownLemmas.{Points, Shows, clear, cleared_image, ke
 
 -- ---- a scanout in use
 
-or-left : (a b : Bool) → a ≡ true → (a || b) ≡ true
-or-left true b is = refl
-or-left false b is = cc
-
-or-right : (a b : Bool) → b ≡ true → (a || b) ≡ true
-or-right true b is = refl
-or-right false b is = is
-
 bound-in-use : (state : State) (scanout : ℕ) (screen : Screen) → slice_get state.scanouts.screens scanout ≡ Some (Some screen) → is_in_use state scanout ≡ true
 bound-in-use state scanout screen is =
-    or-left (is_some (binding_at scanout state.scanouts)) (cursor_of state.cursors scanout).visible (ap (λ (found : Option (Option Screen)). is_some (binding_of_screen found)) is)
+    left-true (is_some (binding_at scanout state.scanouts)) (cursor_of state.cursors scanout).visible (ap (λ (found : Option (Option Screen)). is_some (binding_of_screen found)) is)
 
 visible-in-use : (state : State) (scanout : ℕ) (cursor : Cursor) → slice_get state.cursors scanout ≡ Some cursor → cursor.visible ≡ true → is_in_use state scanout ≡ true
 visible-in-use state scanout cursor is shown =
-    or-right (is_some (binding_at scanout state.scanouts)) (cursor_of state.cursors scanout).visible (ap (λ (c : Cursor). c.visible) (get_or_from_slice_get state.cursors scanout cursor unset is) ∙ shown)
+    right-true (is_some (binding_at scanout state.scanouts)) (cursor_of state.cursors scanout).visible (ap (λ (c : Cursor). c.visible) (get_or_from_slice_get state.cursors scanout cursor unset is) ∙ shown)
 
 -- ---- tags from moment to moment
 

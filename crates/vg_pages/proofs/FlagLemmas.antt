@@ -3,11 +3,9 @@ use Rattle.std.proofs.Common.{◌≡◌, ℕ, ◌+◌, ◌<◌, ◌≤◌, ◌||
 use Rattle.std.specs.List.{list_any}
 use Rattle.std.proofs.lemmas.List.{take-take, take-append-drop}
 use Rattle.std.proofs.lemmas.List.Folds.{list_any-append}
+use Rattle.vg_laws.proofs.Bools.{left-true}
 use Rattle.vg_pages.specs.Memory.{free_pages}
 use Rattle.vg_pages.proofs.FreePages.{free_below, free_below_yes, length-free_below_yes, lowest-full}
-
-or-true : (a b : Bool) → a ≡ true → (a || b) ≡ true
-or-true a b is = ap (λ c. c || b) is
 
 or-last : (a b : Bool) → b ≡ true → (a || (b || false)) ≡ true
 or-last true b is = refl
@@ -21,7 +19,7 @@ any-front : (f : ℕ → Bool) (m n : ℕ) (xs : List ℕ) → m ≤ n → list_
 any-front f m n xs few is =
     ap (list_any f) (sym (take-append-drop m (take n xs)))
     ∙ list_any-append f (take m (take n xs)) (drop m (take n xs))
-    ∙ or-true (list_any f (take m (take n xs))) (list_any f (drop m (take n xs))) (ap (list_any f) (take-take m n xs few) ∙ is)
+    ∙ left-true (list_any f (take m (take n xs))) (list_any f (drop m (take n xs))) (ap (list_any f) (take-take m n xs few) ∙ is)
 
 pub flagged-free : (f : ℕ → Bool) (taken : List Bool) (page n count : ℕ) → page < length taken → slice_index_or taken page false ≡ false
     → count ≡ length (free_below taken page) → count < n → f page ≡ true → true ≡ list_any f (take n (free_pages taken))

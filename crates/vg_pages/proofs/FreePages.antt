@@ -4,18 +4,14 @@ use Rattle.std.specs.List.{filter, range_with_len, All, AllPairs}
 use Rattle.std.proofs.lemmas.List.{map-id, take_at, take_all, take-append-drop, get_or_default, append-nil, length_push, length-take, get_or-take}
 use Rattle.std.proofs.lemmas.List.Elements.{filter-append, All-filter, All-take}
 use Rattle.std.proofs.lemmas.List.Kept.{AllPairs-filter}
-use Rattle.std.proofs.lemmas.List.FromFn.{length-range_with_len, get_or-range_with_len, map-range_with_len_more, take-map-range_with_len}
+use Rattle.std.proofs.lemmas.List.FromFn.{length-range_with_len, get_or-range_with_len, take-map-range_with_len}
 use Rattle.std.proofs.lemmas.Bool.{cases_lt}
+use Rattle.vg_laws.proofs.Lists.{range-more}
 use Rattle.vg_pages.specs.Memory.{AreTakenBelow, is_free, free_pages}
 
 -- the free pages among the first i
 abbrev pub free_below : List Bool → ℕ → List ℕ
 free_below taken i = filter (is_free taken) (range_with_len 0 i)
-
-range-more : (i : ℕ) → range_with_len 0 (i + 1) ≡ range_with_len 0 i ++ i ∷ []
-range-more i =
-    sym (map-id (range_with_len 0 (i + 1))) ∙ map-range_with_len_more (λ k. k) 0 i i (omega arith)
-    ∙ ap (λ front. front ++ i ∷ []) (map-id (range_with_len 0 i))
 
 range-take : (n i : ℕ) → i ≤ n → take i (range_with_len 0 n) ≡ range_with_len 0 i
 range-take n i within =

@@ -210,21 +210,6 @@ page-read blocks base out at page from is fits inside each =
     ∙ sym (get_or-drop at all k 0) ∙ sym (get_or-take n (drop at all) k 0 within))
     ∙ sym (tabulate_from_places (λ k. get_or (take n (drop at all)) k 0) (take n (drop at all)) n 0 long (λ k within. refl))
 
--- what is read on stands behind what was read
-pub more-written : (xs old part : List ℕ) (done n : ℕ) → done + n ≤ length xs → done ≤ length old → part ≡ take n (drop done xs)
-    → put_mid done n (take done xs ++ drop done old) part ≡ take (done + n) xs ++ drop (done + n) old
-more-written xs old part done n fits room same =
-    let front = take done xs in
-    let long : length front ≡ done = omega (arith, length-take done xs) in
-    let before : take done (front ++ drop done old) ≡ front = ap (λ m. take m (front ++ drop done old)) (sym long) ∙ take-append_seam front (drop done old) in
-    let after : drop done (front ++ drop done old) ≡ drop done old = ap (λ m. drop m (front ++ drop done old)) (sym long) ∙ drop-append_seam front (drop done old) in
-    ap (λ ys. ys ++ (part ++ drop n (drop done (front ++ drop done old)))) before
-    ∙ ap (λ ys. front ++ (part ++ drop n ys)) after
-    ∙ ap (λ ys. front ++ (part ++ ys)) (drop-drop n done old)
-    ∙ ap (λ ys. front ++ (ys ++ drop (done + n) old)) same
-    ∙ sym (append_assoc front (take n (drop done xs)) (drop (done + n) old))
-    ∙ ap (λ ys. ys ++ drop (done + n) old) (sym (take-add done n xs))
-
 none-at : (count i : ℕ) → ◌≡◌ {A = Option (List ℕ)} (get_or (replicate count None) i None) None
 none-at zero i = refl
 none-at (suc n) zero = refl

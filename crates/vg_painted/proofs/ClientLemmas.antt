@@ -1,6 +1,7 @@
 -- The set of clients at a place has exactly the clients of the entries of the tags there.
-use Rattle.std.proofs.Common.{◌≡◌, ◌↔◌, ◌⊎◌, inl, inr, ⊎_elim, ℕ, ◌+◌, ◌==◌, ◌||◌, Bool, true, false, List, [], ◌∷◌, ◌++◌, length, Option, Some, slice_get, refl, sym, ap, subst, ◌∙◌, arith, eq-eqb, append_assoc}
+use Rattle.std.proofs.Common.{◌≡◌, ◌↔◌, ◌⊎◌, inl, inr, ⊎_elim, ℕ, ◌+◌, ◌==◌, ◌||◌, true, List, [], ◌∷◌, ◌++◌, length, Option, Some, slice_get, refl, sym, ap, subst, ◌∙◌, arith, eq-eqb, append_assoc}
 use Rattle.std.proofs.lemmas.Bool.Decides.{nat_tests}
+use Rattle.vg_laws.proofs.Bools.{left-true, right-true, either-true, clash}
 use Rattle.vg_client_holds.specs.declared.setup.Setup.{Setup}
 use Rattle.vg_machine.specs.Entries.{Entry}
 use Rattle.vg_machine.specs.Order.{client_of}
@@ -63,9 +64,6 @@ shown-same H set Zero entry are = are
 shown-same H set Opaque entry are = are
 shown-same H set (From store page fetch show) entry are = are
 
-none-same : false ≡ true → ⊥
-none-same is = cc
-
 no-tags : (H : List Entry) (client : ℕ) → AreTagsOf H client (Opaque ∷ []) → ⊥
 no-tags H client (tag, inl is, of) = subst (IsTagOf H client) (sym is) of
 no-tags H client (tag, inr has, of) = has
@@ -73,18 +71,6 @@ no-tags H client (tag, inr has, of) = has
 of-one : (H : List Entry) (client : ℕ) (tag : Tag) → AreTagsOf H client (tag ∷ []) → IsTagOf H client tag
 of-one H client tag (one, inl is, of) = subst (IsTagOf H client) (sym is) of
 of-one H client tag (one, inr has, of) = absurd has
-
-either-true : (a b : Bool) → (a || b) ≡ true → (a ≡ true) ⊎ (b ≡ true)
-either-true true b is = inl refl
-either-true false b is = inr is
-
-left-true : (a b : Bool) → a ≡ true → (a || b) ≡ true
-left-true true b is = refl
-left-true false b is = cc
-
-right-true : (a b : Bool) → b ≡ true → (a || b) ≡ true
-right-true true b is = refl
-right-true false b is = is
 
 of-three : (H : List Entry) (client : ℕ) (x y z : Tag) → AreTagsOf H client (x ∷ y ∷ z ∷ []) → (IsTagOf H client x) ⊎ ((IsTagOf H client y) ⊎ (IsTagOf H client z))
 of-three H client x y z (tag, inl is, of) = inl (subst (IsTagOf H client) (sym is) of)
@@ -105,14 +91,14 @@ blended-same H a b c x y z first second third client = (
 
 sets-like : (H : List Entry) → AreLike (λ n client. IsEntryOf H client n) (Same H) (SameAll H) clients tags
 sets-like H = record {
-  blank = λ client. (none-same, absurd);
-  opaque = λ client. (none-same, absurd);
+  blank = λ client. (clash, absurd);
+  opaque = λ client. (clash, absurd);
   stored = λ entry client page byte by. stored-same H entry client page byte by;
   fetched = λ entry x y are. fetched-same H x y entry are;
   shown = λ entry x y are. shown-same H x y entry are;
   plain = λ x y are client. ((λ is. (y, inl refl, (are client).0 is)), (λ some. (are client).1 (of-one H client y some)));
   blended = λ x y x1 y1 x2 y2 are first second. blended-same H x x1 x2 y y1 y2 are first second;
-  solid = λ client. ((λ is. absurd (none-same is)), (λ some. absurd (no-tags H client some)));
+  solid = λ client. ((λ is. absurd (clash is)), (λ some. absurd (no-tags H client some)));
 }
 
 pub sets-agree : (setup : Setup) (H : List Entry) → AreRelated (Same H) (SameAll H) (painting clients setup H) (painting tags setup H)

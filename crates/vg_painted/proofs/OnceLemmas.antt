@@ -21,16 +21,6 @@ apart-greater n m is = grind (arith, nat_tests)
 same-equal : (n m : ℕ) → nat_cmp n m ≡ Equal → is_at (nat_cmp n) m ≡ true
 same-equal n m is = grind (arith, nat_tests)
 
-insert_itself-by : {X : Type 0} (id : ℕ) (r : X) (e : ℕ × X) (es more : List (ℕ × X)) (o : Ordering) → nat_cmp id e.0 ≡ o → lookup (is_at (nat_cmp id)) more ≡ Some r
-    → lookup (is_at (nat_cmp id)) (match_ordering o ((id, r) ∷ e ∷ es) ((e.0, r) ∷ es) (e ∷ more)) ≡ Some r
-insert_itself-by id r e es more Less is rest = ap (λ b. cond b (Some r) (lookup (is_at (nat_cmp id)) (e ∷ es))) (at_itself id)
-insert_itself-by id r e es more Equal is rest = ap (λ b. cond b (Some r) (lookup (is_at (nat_cmp id)) es)) (same-equal id e.0 is)
-insert_itself-by id r e es more Greater is rest = ap (λ b. cond b (Some e.1) (lookup (is_at (nat_cmp id)) more)) (apart-greater id e.0 is) ∙ rest
-
-pub insert_itself : {X : Type 0} (id : ℕ) (r : X) (es : List (ℕ × X)) → lookup (is_at (nat_cmp id)) (insert_entry nat_cmp es id r) ≡ Some r
-insert_itself id r [] = ap (λ b. cond b (Some r) None) (at_itself id)
-insert_itself id r (e ∷ es) = insert_itself-by id r e es (insert_entry nat_cmp es id r) (nat_cmp id e.0) refl (insert_itself id r es)
-
 -- what isn't the first isn't at its number
 not-first : {X : Type 0} (id : ℕ) (e : ℕ × X) (es : List (ℕ × X)) (b : Bool) → is_at (nat_cmp id) e.0 ≡ b → cond b (Some e.1) (lookup (is_at (nat_cmp id)) es) ≡ None → (is_at (nat_cmp id) e.0 ≡ false) × (lookup (is_at (nat_cmp id)) es ≡ None)
 not-first id e es true is none = cc

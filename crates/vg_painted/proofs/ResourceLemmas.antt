@@ -6,6 +6,7 @@ use Rattle.std.specs.Ordering.{nat_cmp}
 use Rattle.std.specs.BTreeMap.{insert_entry}
 use Rattle.std.proofs.lemmas.Bool.{cases_eq, eq-eqb, ne_eqb, or_parts}
 use Rattle.std.proofs.lemmas.Bool.Decides.{nat_tests}
+use Rattle.vg_laws.proofs.Lists.{insert-found}
 use Rattle.vg_formats.specs.declared.entry.MemEntry.{MemEntry}
 use Rattle.vg_formats.specs.declared.format.Format.{Format}
 use Rattle.vg_formats.specs.declared.rect.Rect.{Rect}
@@ -18,7 +19,7 @@ use Rattle.vg_device.proofs.MapLemmas.{insert_other, remove_other, set_itself, s
 use Rattle.vg_painted.specs.Inks.{numbers}
 use Rattle.vg_painted.specs.Paint.{byte_of_entries, filled_at, with_one}
 use Rattle.vg_painted.specs.Painted.{IsAt}
-use Rattle.vg_painted.proofs.OnceLemmas.{Once, insert_itself, removed}
+use Rattle.vg_painted.proofs.OnceLemmas.{Once, removed}
 use Rattle.vg_painted.proofs.PlaceLemmas.{entries-at, filled-at, zeros-at}
 
 -- Each byte of each resource's pixels is the one at its place.
@@ -49,7 +50,7 @@ created-pixels id width height (Some format) resources at known are = λ other r
     elim (cases_eq other id) [
       | inl same ↦
           let found : ◌≡◌ {A = Option Resource} (Some (blank width height format)) (Some resource) =
-          sym (insert_itself id (blank width height format) resources) ∙ ap (λ n. resource_at n (insert_entry nat_cmp resources id (blank width height format))) (sym same) ∙ is
+          sym (insert-found id (blank width height format) resources) ∙ ap (λ n. resource_at n (insert_entry nat_cmp resources id (blank width height format))) (sym same) ∙ is
           in
           one-itself id (λ place. 0) at other resource.pixels same
           (subst (λ (r : Resource). IsAt r.pixels (λ place. 0)) (some-same (blank width height format) resource found) (blank-at width height format))

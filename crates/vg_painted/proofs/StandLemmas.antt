@@ -1,5 +1,5 @@
 -- What an entry writes is where the painting in numbers has it: each command and each act.
-use Rattle.std.proofs.Common.{◌≡◌, ℕ, ◌+◌, ◌*◌, ◌==◌, ◌||◌, ◌&&◌, Bool, true, false, not, cond, List, [], ◌∷◌, length, slice_get, Option, Some, None, refl, arith}
+use Rattle.std.proofs.Common.{◌≡◌, ℕ, ◌+◌, ◌*◌, ◌==◌, ◌||◌, Bool, true, false, not, cond, List, [], ◌∷◌, length, slice_get, Option, Some, None, refl, arith}
 use Rattle.std.specs.Prelude.{IfSome, is_none, is_some, nat_le, ℤ}
 use Rattle.std.specs.List.{All}
 use Rattle.std.specs.Ordering.{nat_cmp}
@@ -7,6 +7,7 @@ use Rattle.std.specs.BTreeMap.{insert_entry, is_at}
 use Rattle.std.proofs.lemmas.Bool.{or_parts}
 use Rattle.std.proofs.lemmas.List.{get_or_past}
 use Rattle.std.proofs.lemmas.Map.Entries.{All-lookup}
+use Rattle.vg_laws.proofs.Bools.{and-right, not-false}
 use Rattle.vg_formats.specs.declared.entry.MemEntry.{MemEntry}
 use Rattle.vg_formats.specs.declared.format.Format.{Format}
 use Rattle.vg_formats.specs.declared.rect.Rect.{Rect}
@@ -77,10 +78,6 @@ off-cons false refusal more none rest = (refl, rest none)
 all-off : {R : Type 0} (refusals : List (Bool × R)) → refusal_of refusals ≡ None → AllOff refusals
 all-off [] none = tt
 all-off ((holds, refusal) ∷ more) none = off-cons holds refusal more none (all-off more)
-
-not-false : (b : Bool) → not b ≡ false → b ≡ true
-not-false true is = refl
-not-false false is = cc
 
 -- ---- what is refused, and what is not
 
@@ -258,10 +255,6 @@ set-blob-stands : (b : Bool) (state : State) (rect : Rect) (scanout id : ℕ) (l
 set-blob-stands true state rect scanout id layout format p was some = unbound-stands state scanout p was
 set-blob-stands false state rect scanout id layout None p was some = let clash : false ≡ true = some refl in cc
 set-blob-stands false state rect scanout id layout (Some format) p was some = bound-stands state scanout (blob_binding id rect layout format) p was
-
-and-right : (a b : Bool) → (a && b) ≡ true → b ≡ true
-and-right true b is = is
-and-right false b is = cc
 
 laid-out : (rect : Rect) (layout : Layout) (blob : Option Blob) → is_in_blob rect layout blob ≡ true → is_some (format_of layout.format) ≡ true
 laid-out rect layout None is = cc

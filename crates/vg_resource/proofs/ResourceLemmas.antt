@@ -11,6 +11,7 @@ use Rattle.std.specs.Ordering.{nat_cmp}
 use Rattle.std.proofs.lemmas.List.{length-replicate}
 use Rattle.std.proofs.lemmas.Map.Entries.{sum_by-insert_entry, sum_by-remove_entry, sum_by-set_value}
 use Rattle.std.proofs.lemmas.Map.Views.{All-values-set_value, IfSome-lookup_from_All}
+use Rattle.vg_laws.proofs.Options.{some-same}
 use Rattle.vg_formats.specs.declared.format.Format.{Format}
 use Rattle.vg_resource.specs.declared.resource.Resource.{Resource}
 use Rattle.vg_resource.specs.Resource.{blank, pixel_bytes, resource_at, with_pixels, without, IsWhole}
@@ -53,9 +54,6 @@ restored-keeps entries id resource bytes whole is same =
     let now : IsWhole after = (same ∙ was.0, omega (arith, same, was), was.2, was.3) in
     let sums = sum_by-set_value bytes_of test entries resource after is in
     (omega (arith, sums, same), All-values-set_value test (λ r. IsWhole r) entries after whole now)
-
-some-same : {X : Type 0} {x y : X} → ◌≡◌ {A = Option X} (Some x) (Some y) → x ≡ y
-some-same same = cc
 
 -- as many bytes as the resource has
 pub as-many : (entries : List (ℕ × Resource)) (id : ℕ) (resource : Resource) (bytes : List ℕ) → resource_at id entries ≡ Some resource

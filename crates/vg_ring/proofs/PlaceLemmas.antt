@@ -1,4 +1,4 @@
-use Rattle.std.proofs.Common.{◌≡◌, ◌≢◌, ℕ, zero, suc, ◌+◌, ◌-◌, ◌<◌, ◌≤◌, cond, eqb, List, [], ◌∷◌, ◌++◌, length, take, drop, get_or, set, refl, sym, ap, subst, inl, inr, ◌∙◌, arith}
+use Rattle.std.proofs.Common.{◌≡◌, ◌≢◌, ℕ, zero, suc, ◌+◌, ◌-◌, ◌<◌, ◌≤◌, cond, eqb, List, [], ◌∷◌, length, take, drop, get_or, set, refl, sym, ap, subst, inl, inr, ◌∙◌, arith}
 use Rattle.std.specs.List.{range_with_len}
 use Rattle.std.proofs.lemmas.List.{get_or-set_same, get_or-set_other, length-set}
 use Rattle.std.proofs.lemmas.Bool.{eq-eqb, ne_eqb}
@@ -219,10 +219,3 @@ giving_bounds links free at head free' at' place g places given =
     let many = given.many in
     let most = given.most in
     (omega (arith, some, left, many), omega (arith, size, left, few, most), s.less)
-
-pub range_more : (m : ℕ) → range_with_len 0 (m + 1) ≡ range_with_len 0 m ++ m ∷ []
-range_more m = subst (λ (k : ℕ). range_with_len 0 k ≡ range_with_len 0 m ++ m ∷ []) (let one : suc m ≡ m + 1 = omega arith in one) (go 0 m ∙ ap (λ (k : ℕ). range_with_len 0 m ++ k ∷ []) (let same : 0 + m ≡ m = omega arith in same))
-  where
-    go : (a m : ℕ) → range_with_len a (suc m) ≡ range_with_len a m ++ (a + m) ∷ []
-    go a zero = ap (λ (k : ℕ). k ∷ []) (let same : a ≡ a + 0 = omega arith in same)
-    go a (suc m) = ap (λ (xs : List ℕ). a ∷ xs) (go (a + 1) m ∙ ap (λ (k : ℕ). range_with_len (a + 1) m ++ k ∷ []) (let same : a + 1 + m ≡ a + suc m = omega arith in same))

@@ -4,6 +4,7 @@ use Rattle.std.specs.Prelude.{All}
 use Rattle.std.proofs.lemmas.List.{map-append}
 use Rattle.std.proofs.lemmas.List.Elements.{All-append}
 use Rattle.std.proofs.lemmas.Bool.{eq-eqb}
+use Rattle.vg_laws.proofs.Lists.{all_one}
 use Rattle.vg_ring.specs.declared.views.Entry.{Entry}
 use Rattle.vg_ring.specs.declared.views.Answer.{Answer}
 use Rattle.vg_ring.specs.Cargo.{CargoData, ParcelData}
@@ -12,7 +13,6 @@ use Rattle.vg_ring.specs.DeviceEnds.{DeviceLists, Fetches, HasAt, IsCargoOf, com
 use Rattle.vg_ring_uses.specs.declared.answering.Look.{Look}
 use Rattle.vg_ring_uses.specs.declared.answering.Look.TheVariants.{Answered, Unread, Nothing}
 use Rattle.vg_ring_uses.specs.Carried.{is_unread, IsAnswered, HasAnswered, HasAnsweredIf, Answers, MayAnswer, Turns}
-use Rattle.vg_ring_uses.proofs.AskLemmas.{all_one}
 
 answered_on : (old new : DeviceLists) → HasAnswered old → Answers old new → HasAnswered new
 answered_on old new h a = record {

@@ -5,6 +5,7 @@ use Rattle.std.proofs.lemmas.List.{map-append, append-nil, take_all}
 use Rattle.std.proofs.lemmas.List.Elements.{All-append, All-nil}
 use Rattle.std.proofs.lemmas.Bool.{eq-eqb}
 use mathlib.Core.List.{IsPrefix}
+use Rattle.vg_laws.proofs.Lists.{all_one}
 use Rattle.vg_chain.specs.declared.shape.Shape.{Shape}
 use Rattle.vg_chain.specs.declared.shape.Shape.TheVariants.{Plain, Pieces, Indirect, Mixed, Bad}
 use Rattle.vg_wire.specs.declared.request.Queue.{Queue}
@@ -17,10 +18,6 @@ use Rattle.vg_ring.specs.Entries.{entries, lane_count}
 use Rattle.vg_ring.specs.Ends.{DriverLists, Reaps, ReapsNone}
 use Rattle.vg_ring.specs.DeviceEnds.{DeviceLists}
 use Rattle.vg_ring_uses.specs.Carried.{ordinal_of, echo_in, IsAsked, IsGood, IsEchoed, IsAnswered, HasAsked, Asks, MayAsk, TakesBack, HasAnswered, HaveCarried}
-
-pub all_one : {X : Type 0} (P : X → Type 0) (x : X) → P x → All P (x ∷ [])
-all_one P x h zero d lt = h
-all_one P x h (suc k) d lt = absurd (omega arith)
 
 pub lane_small : (queue : Queue) (lane : ℕ) → IsLane queue lane → lane < 66
 lane_small Control lane is = omega (arith, is)

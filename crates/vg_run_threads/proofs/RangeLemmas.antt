@@ -1,14 +1,8 @@
 -- Numbers one after another.
 use Rattle.std.proofs.Common.{◌≡◌, ◌+◌, ◌∙◌, sym, ap, refl, arith, ℕ, zero, suc, List, [], ◌∷◌, ◌++◌}
 use Rattle.std.specs.List.{range_with_len}
+use Rattle.vg_laws.proofs.Lists.{range-suc}
 use Rattle.vg_history.specs.Lists.{upto}
-
--- one number more
-range-suc : (first count : ℕ) → range_with_len first count ++ (first + count) ∷ [] ≡ range_with_len first (suc count)
-range-suc first zero = let e : first + 0 ≡ first = omega arith in ap (λ (n : ℕ). n ∷ []) e
-range-suc first (suc count) =
-    let e : first + suc count ≡ (first + 1) + count = omega arith in
-    ap (λ (n : ℕ). first ∷ (range_with_len (first + 1) count ++ n ∷ [])) e ∙ ap (λ (rest : List ℕ). first ∷ rest) (range-suc (first + 1) count)
 
 pub range-more : (first count n : ℕ) → first + count ≡ n → range_with_len first count ++ n ∷ [] ≡ range_with_len first (count + 1)
 range-more first count n e =

@@ -8,6 +8,7 @@ use Rattle.std.proofs.lemmas.Simd.{map-map}
 use mathlib.Core.Logic.{dite}
 use mathlib.Core.List.{IsPrefix}
 use native.Mathlib.Decide.{ℕ_discrete}
+use Rattle.vg_laws.proofs.Lists.{all_one}
 use Rattle.vg_history.specs.History.{ordinals}
 use Rattle.vg_history.specs.Lists.{Has, upto}
 use Rattle.vg_history.proofs.ListLemmas.{has_left, has_map, has_right, has_snoc, has_upto, map_has, prefix_self, prefix_trans}
@@ -42,10 +43,6 @@ use Rattle.vg_script_part.specs.Performing.{AreInLimits, HasPerformed, IsLabel, 
 use Rattle.vg_script_part.specs.Setup.{setup_of}
 use Rattle.vg_run_threads.proofs.RangeLemmas.{upto-range}
 use Rattle.vg_run_threads.proofs.CrossingLemmas.{all-asked-more, completed-lane}
-
-all-one : {X : Type 0} (P : X → Type 0) (x : X) → P x → All P (x ∷ [])
-all-one P x h zero d lt = h
-all-one P x h (suc k) d lt = absurd (omega arith)
 
 upto-more : (n : ℕ) → upto n ++ (n + 1) ∷ [] ≡ upto (n + 1)
 upto-more n = rw add-one refl
@@ -155,8 +152,8 @@ module _ {X : Type 0} (token : X → Token) (lines : X → List Line) (labels : 
       subst (λ (xs : List X). IsMade setup s ls (n + 1) root' xs) (sym more) (
         root-is,
         subst (AreNew setup (n + 1)) (sym split) all,
-        All-append (HasLines s) jobs (job ∷ []) h.2 (all-one (HasLines s) job has),
-        All-append (HasLabels ls) jobs (job ∷ []) h.3 (all-one (HasLabels ls) job by),
+        All-append (HasLines s) jobs (job ∷ []) h.2 (all_one (HasLines s) job has),
+        All-append (HasLabels ls) jobs (job ∷ []) h.3 (all_one (HasLabels ls) job by),
       )
 
   -- each job may begin

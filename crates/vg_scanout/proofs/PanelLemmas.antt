@@ -27,12 +27,8 @@ use Rattle.vg_scanout.specs.declared.panel.Panel.{Panel}
 use Rattle.vg_scanout.specs.Fits.{IsScreen}
 use Rattle.vg_scanout.specs.Panels.{AreAnew, AreRegrounded, IsAmong, IsAnew, IsPanel, ArePanels, ShowsFrame, IsGround, bytes_made, bytes_of, is_panel_of, is_touched, pixels_of_frame, pixels_on, pixels_in, regrounded, screen_in, screens_in, unbound_panel}
 use Rattle.std.specs.Prelude.{Result, Ok, nat_lt}
+use Rattle.vg_laws.proofs.Lists.{get-front}
 use Rattle.vg_scanout.specs.Scanout.{ScanoutState, Screen, after_flush, area_of, bind, flushed_pixels, flushed_screen, frame_of, fresh_screen, new_bytes, new_frame_bytes, pixels_with, unbound_screen}
-
-get-front : {X : Type 0} (xs more : List X) (k : ℕ) → k < length xs → slice_get (xs ++ more) k ≡ slice_get xs k
-get-front [] more k within = absurd (omega arith)
-get-front (x ∷ xs) more zero within = refl
-get-front (x ∷ xs) more (suc k) within = get-front xs more k (omega arith)
 
 get-behind : {X : Type 0} (xs : List X) (x : X) (more : List X) → slice_get (xs ++ (x ∷ more)) (length xs) ≡ Some x
 get-behind [] x more = refl

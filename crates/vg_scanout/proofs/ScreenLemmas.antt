@@ -12,6 +12,7 @@ use Rattle.vg_scanout.specs.declared.scanout.Frame.{Frame}
 use Rattle.vg_scanout.specs.Scanout.{unbound_screen, is_bound_to, is_flushed, flushed_screen, flushed_pixels, area_of, after_flush, frame_bytes, new_frame, new_frames, new_frame_bytes, new_bytes, flush, ScanoutState}
 use Rattle.std.proofs.lemmas.Bool.Decides.{nat_tests}
 use Rattle.std.specs.Prelude.{Result, Ok, Err, nat_lt}
+use Rattle.vg_laws.proofs.Numbers.{test-below}
 use Rattle.vg_formats.specs.Pixels.{common_of}
 use Rattle.vg_scanout.specs.Fits.{IsScreen}
 use Rattle.vg_cursor.specs.declared.cursor.Cursor.{Cursor}
@@ -141,9 +142,6 @@ written-back f old lent now n same size changed =
     let rest : drop (length now) old ≡ [] = drop_all (length now) old (omega arith) in
     ap (λ ys. take n (now ++ ys)) rest ∙ ap (take n) (append-nil now) ∙ take_all n now (omega (arith, long, ap length same)) ∙ changed ∙ ap (map f) same
 
-more-than : (a b : ℕ) → a < b → nat_lt a b ≡ true
-more-than a b less = grind (arith, nat_tests)
-
 no-more-than : (a b : ℕ) → b ≤ a → nat_lt a b ≡ false
 no-more-than a b within = grind (arith, nat_tests)
 
@@ -152,7 +150,7 @@ pub flush-refused : (entry id : ℕ) (rect : Rect) (surface : List ℕ) (cursors
 unfolding flush
 flush-refused entry id rect surface cursors state many =
     let bytes = bytes-flushed entry id rect surface cursors state.screens state.frames in
-    let test : nat_lt 268435456 (frame_bytes (state.frames ++ new_frames entry id rect surface cursors 0 state.screens)) ≡ true = more-than _ _ (omega (arith, bytes, many)) in
+    let test : nat_lt 268435456 (frame_bytes (state.frames ++ new_frames entry id rect surface cursors 0 state.screens)) ≡ true = test-below _ _ (omega (arith, bytes, many)) in
     rw test refl
 
 pub flush-done : (entry id : ℕ) (rect : Rect) (surface : List ℕ) (cursors : List Cursor) (state : ScanoutState) (screens : List (Option Screen)) (frames : List Frame)

@@ -1,11 +1,10 @@
 -- The numbers of labels, as they are read.
-use Rattle.std.proofs.Common.{◌≡◌, ℕ, ◌+◌, ◌==◌, ◌<◌, ◌≤◌, Bool, true, false, cond, List, [], ◌∷◌, ◌++◌, length, Option, Some, None, if◌then◌else◌, arith, refl, ap, sym, ◌∙◌, Bor, bytes_eq, rules, append-nil, append_assoc, length-append}
+use Rattle.std.proofs.Common.{◌≡◌, ℕ, ◌+◌, ◌==◌, ◌<◌, ◌≤◌, Bool, true, false, cond, List, [], ◌∷◌, ◌++◌, length, Option, Some, None, if◌then◌else◌, arith, refl, ap, sym, ◌∙◌, Bor, bytes_eq, append-nil, append_assoc, length-append}
 use mathlib.Core.Path.{fun_ext}
 use Rattle.std.proofs.lemmas.Map.Text.{is_eq-slice_cmp}
 use Rattle.std.specs.BTreeMap.{BTreeMap, UpdatesBy}
 use Rattle.std.specs.Cmp.Lexicographic.{slice_cmp}
 use Rattle.std.specs.Ordering.{nat_cmp}
-use Rattle.std.proofs.lemmas.Slice.Eq.{bytes_eq-Decides}
 use Rattle.std.specs.Prelude.{is_none, codes}
 use Rattle.vg_call_lines.specs.declared.names.LabelKind.{LabelKind}
 use Rattle.vg_call_lines.specs.declared.names.Label.{Label}
@@ -16,9 +15,7 @@ use Rattle.vg_script.specs.LabelsWithin.{may_define, with_new}
 use Rattle.vg_script.specs.Lines.{lines_of}
 use Rattle.vg_script.proofs.Lines.{lines_of-nil, lines_of-first, shorter}
 use Rattle.std.specs.List.{before_first, after_first}
-
-is_same : (a b : List ℕ) → bytes_eq a b ≡ true → a ≡ b
-is_same a b h = search (rules, bytes_eq-Decides)
+use Rattle.vg_laws.proofs.Lists.{same_bytes}
 
 -- A map with one label more.
 cond-label : (b : Bool) (one other : Option Label) → cond b one other ≡ (if b then one else other)
@@ -67,14 +64,14 @@ add_one labels label word (Some found) e = by_test (bytes_eq label.1 word) refl 
     by_test : (b : Bool) → bytes_eq label.1 word ≡ b → (p : Option Label) → label_in labels word ≡ p → p ≡ or_else p (labelled_if b label.0 (1 + length labels))
     by_test b d (Some there) f = refl
     by_test false d None f = refl
-    by_test true d None f = absurd (let same = ap (λ w. label_in labels w) (is_same label.1 word d) in cc (same, e, f))
+    by_test true d None f = absurd (let same = ap (λ w. label_in labels w) (same_bytes label.1 word d) in cc (same, e, f))
 add_one labels label word None e = by_test (bytes_eq label.1 word) refl (label_in labels word) refl ∙ sym (label_from-snoc 1 labels label word)
   where
     by_test : (b : Bool) → bytes_eq label.1 word ≡ b → (p : Option Label) → label_in labels word ≡ p
         → (if b then Some (record { kind = label.0; number = length labels + 1 }) else p) ≡ or_else p (labelled_if b label.0 (1 + length labels))
     by_test false d p f = or_none p
     by_test true d None f = ap (λ n. labelled_if true label.0 n) (omega arith)
-    by_test true d (Some there) f = absurd (let same = ap (λ w. label_in labels w) (is_same label.1 word d) in cc (same, e, f))
+    by_test true d (Some there) f = absurd (let same = ap (λ w. label_in labels w) (same_bytes label.1 word d) in cc (same, e, f))
 
 pub one_label_more : (labels : List (LabelKind × List ℕ)) (label : LabelKind × List ℕ)
     → with_new (label_in labels) label.1 (record { kind = label.0; number = length labels + 1 }) ≡ label_in (labels ++ label ∷ [])

@@ -33,9 +33,9 @@ use Rattle.vg_script.specs.Grammar.{Form, display_form, memory_form, feature_for
 use Rattle.vg_script.specs.Faults.{fails, given, form_gives, seen_after, AreFaultless, has_fault}
 use Rattle.vg_script.specs.Limits.{IsBetween, IsPosition, ShapeInLimits, BodyInLimits, CallInLimits, ClientInLimits, DisplayInLimits, makes_context, contexts_in, ScriptInLimits}
 use Rattle.std.specs.List.{range_with_len}
+use Rattle.vg_laws.proofs.Lists.{same_bytes}
 use Rattle.vg_script.specs.Waits.{waits, given_in_all}
 use Rattle.vg_script.proofs.LabelLaws.{all_labelled}
-use Rattle.vg_script.proofs.NameLaws.{same_bytes}
 use Rattle.vg_script.proofs.FaultLaws.{good_script}
 use Rattle.vg_script.proofs.ClientLists.{length-add_line, lines-add_line}
 use Rattle.vg_limits.specs.Limits.{version_1}

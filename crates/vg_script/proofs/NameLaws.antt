@@ -6,6 +6,8 @@ use Rattle.std.specs.Bool.{⊤}
 use Rattle.std.proofs.lemmas.Slice.Eq.{bytes_eq-Decides}
 use Rattle.std.proofs.lemmas.Bool.Decides.{nat_tests}
 use Rattle.std.proofs.lemmas.List.Elements.{All-nil, All-cons, All-head, All-tail}
+use Rattle.vg_laws.proofs.Lists.{same_bytes}
+use Rattle.vg_laws.proofs.Bools.{not-false}
 use Rattle.vg_chain.specs.declared.shape.Shape.{Shape}
 use Rattle.vg_wire.specs.declared.request.Queue.{Queue}
 use Rattle.vg_script_words.specs.declared.kind.Kind.{Kind}
@@ -50,9 +52,6 @@ after_words false None None false table = table
 
 abbrev changed : List (List ℕ) → NameTable → NameTable
 changed words table = after_words (begin_client words) (defined_by words) (ended_by words) (is_some (label_among words)) table
-
-pub same_bytes : (a b : List ℕ) → bytes_eq a b ≡ true → a ≡ b
-same_bytes a b h = search (rules, bytes_eq-Decides)
 
 own_bytes : (a : List ℕ) → bytes_eq a a ≡ true
 own_bytes a = search (rules, bytes_eq-Decides)
@@ -566,10 +565,6 @@ gives_more (word ∷ args) table = by_test (bytes_eq word (codes "export")) (byt
 text_label : (line : List ℕ) → is_text line ≡ true → label_of line ≡ label_among (words_of line)
 text_label line h = rw h refl
 
-not_not : (b : Bool) → not b ≡ false → b ≡ true
-not_not true h = refl
-not_not false h = absurd (cc h)
-
 found_behind : (o : Option (LabelKind × List ℕ)) (labels : List (LabelKind × List ℕ)) → length (with_found o labels) ≡ length (with_found o []) + length labels
 found_behind None labels = omega arith
 found_behind (Some label) labels = omega arith
@@ -582,7 +577,7 @@ all_given start (line ∷ more) faultless =
     let e = all_given (given start line) more faultless.1 in
     let f = ap (λ (t : NameTable). t.given) (line_changes start line faultless.0) in
     let g = gives_more (words_of line) start.table in
-    let h = ap (λ o. length (with_found o [])) (text_label line (not_not (is_text line) (faultless.0 Text))) in
+    let h = ap (λ o. length (with_found o [])) (text_label line (not-false (is_text line) (faultless.0 Text))) in
     let i = found_behind (label_of line) (labels_of more) in
     omega (arith, e, f, g, h, i)
 

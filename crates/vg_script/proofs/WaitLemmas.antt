@@ -9,6 +9,7 @@ use Rattle.std.proofs.lemmas.List.FromFn.{get_or-range_with_len, length-range_wi
 use Rattle.std.proofs.lemmas.List.Elements.{All-nil, All-head, All-tail}
 use Rattle.std.proofs.lemmas.Option.{slice_get_within, slice_get-get_or, get_or_from_slice_get}
 use Rattle.std.proofs.Math.ListN as ln
+use Rattle.vg_laws.proofs.Lists.{get-front, holds-at}
 use Rattle.vg_script.specs.declared.types.Line.{Line}
 use Rattle.vg_script.specs.Limits.{IsBetween}
 use Rattle.vg_script.specs.Waits.{gives, waits, label_list, given_in, given_in_all, line_at, gives_at, waits_at, WaitsFor, AreSteps, HasNoCycle, IsFirstInCycle}
@@ -24,16 +25,6 @@ left_at (y ∷ xs) ys (suc k) x h = left_at xs ys k x h
 right_at : {X : Type 0} (xs ys : List X) (k : ℕ) → slice_get (xs ++ ys) (length xs + k) ≡ slice_get ys k
 right_at [] ys k = ap (slice_get ys) (omega arith)
 right_at (x ∷ xs) ys k = let e : length (x ∷ xs) + k ≡ suc (length xs + k) = omega arith in ap (slice_get (x ∷ (xs ++ ys))) e ∙ right_at xs ys k
-
-within_left : {X : Type 0} (xs ys : List X) (k : ℕ) → k < length xs → slice_get (xs ++ ys) k ≡ slice_get xs k
-within_left [] ys k h = absurd (omega (arith, h))
-within_left (x ∷ xs) ys zero h = refl
-within_left (x ∷ xs) ys (suc k) h = within_left xs ys k (omega (arith, h))
-
-all_at : {X : Type 0} (P : X → Type 0) (xs : List X) (i : ℕ) (x : X) → All P xs → slice_get xs i ≡ Some x → P x
-all_at P [] i x h e = absurd (cc e)
-all_at P (y ∷ xs) zero x h e = let f : y ≡ x = cc e in subst P f (All-head P y xs h)
-all_at P (y ∷ xs) (suc i) x h e = all_at P xs i x (All-tail P y xs h) e
 
 all_or : {X : Type 0} (P : X → Type 0) (clients : List (List X)) (c : ℕ) → All (All P) clients → All P (get_or clients c [])
 all_or P [] c h = All-nil P
@@ -116,9 +107,9 @@ all_from b (lines ∷ more) k at h = by_place (cases_lt k (length (places_in b 0
         → ((k2 : ℕ) → slice_get (places_from (b + 1) more) k2 ≡ Some at → (c : ℕ) × (i : ℕ) × (at ≡ (b + 1 + c, i)) × (gives_of more c i ≡ slice_get (given_in_all more) k2))
         → (c : ℕ) × (i : ℕ) × (at ≡ (b + c, i)) × (gives_of (lines ∷ more) c i ≡ slice_get (given_in lines ++ given_in_all more) k)
     by_place (inl lt) rest =
-        let f = in_from b 0 lines k at (sym (within_left (places_in b 0 lines) (places_from (b + 1) more) k lt) ∙ h) in
+        let f = in_from b 0 lines k at (sym (get-front (places_in b 0 lines) (places_from (b + 1) more) k lt) ∙ h) in
         let lt2 : k < length (given_in lines) = omega (arith, lt, same_length b 0 lines) in
-        (0, f.0, f.1 ∙ ap (λ n. (n, 0 + f.0)) (omega arith) ∙ ap (λ n. (b + 0, n)) (omega arith), f.2 ∙ sym (within_left (given_in lines) (given_in_all more) k lt2))
+        (0, f.0, f.1 ∙ ap (λ n. (n, 0 + f.0)) (omega arith) ∙ ap (λ n. (b + 0, n)) (omega arith), f.2 ∙ sym (get-front (given_in lines) (given_in_all more) k lt2))
     by_place (inr le) rest =
         let k2 = k - length (places_in b 0 lines) in
         let e : length (places_in b 0 lines) + k2 ≡ k = omega (arith, le) in
@@ -169,7 +160,7 @@ module _ (clients : List (List Line)) (n : ℕ) (in_order : given_in_all clients
       by_line None e t = absurd (cc t)
       by_line (Some line) e t =
           let P : Line → Type 0 = λ line. IfSome (waits line.call) (IsBetween 1 n) in
-          let fits : IfSome (waits line.call) (IsBetween 1 n) = all_at P (get_or clients at.0 []) at.1 line (all_or P clients at.0 known) e in
+          let fits : IfSome (waits line.call) (IsBetween 1 n) = holds-at P (get_or clients at.0 []) at.1 line (all_or P clients at.0 known) e in
           subst (λ o. IfSome o (IsBetween 1 n)) t fits
 
   abbrev pub sizes : List ℕ

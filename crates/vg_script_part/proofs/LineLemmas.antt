@@ -1,6 +1,6 @@
 -- What the lines of a client give, one line after another.
 use Rattle.std.proofs.Common.{◌≡◌, ◌⊎◌, inl, inr, ⊎_elim, ◌+◌, ◌*◌, ◌≤◌, ◌<◌, ◌^◌, ◌∙◌, sym, ap, refl, subst, arith, ℕ, zero, suc, Bool, true, false, cond, List, [], ◌∷◌, ◌++◌, length, length-append, map, drop, get_or, nat_le, append_assoc, append-nil, Option, Some, None, Result, Ok, Err}
-use Rattle.std.specs.Prelude.{IfSome, OnErr, OnOk}
+use Rattle.std.specs.Prelude.{IfSome, OnOk}
 use Rattle.std.proofs.lemmas.List.{drop_all, map-append}
 use Rattle.std.proofs.lemmas.List.{length-reverse}
 use mathlib.Core.List.{reverse, reverse-append, reverse-reverse, nil≢cons}
@@ -286,10 +286,6 @@ few-left old new kept few = by_case kept.few
     by_case : (new.stopped ≡ true) ⊎ (new.caller.token.account.used ≤ old.caller.token.account.used + 19) → (new.stopped ≡ true) ⊎ (new.caller.token.account.used < 2 ^ 24)
     by_case (inl stopped) = inl stopped
     by_case (inr more) = inr (omega (arith, more, few))
-
-pub on_err : {T E : Type 0} {P : Type 0} (r : Result T E) → P → OnErr r P
-on_err (Ok x) p = tt
-on_err (Err e) p = p
 
 -- what is told of a result that is Ok
 pub ok-told : {T E : Type 0} {P : Type 0} (r : Result T E) (x : T) → r ≡ Ok x → OnOk r P → P

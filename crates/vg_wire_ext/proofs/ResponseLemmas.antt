@@ -1,6 +1,7 @@
 use Rattle.std.proofs.Common.{◌≡◌, ℕ, ◌≤◌, ◌<◌, ◌^◌, List, [], ◌++◌, length, take, drop, replicate, Some, None, Bool, false, true, cond, nat_le, ◌==◌, ◌&&◌, subst, refl, ap, ◌∙◌, arith, append_assoc, length-append}
 use Rattle.std.proofs.lemmas.Bool.Decides.{nat_tests}
 use Rattle.std.proofs.lemmas.List.{length-replicate, drop_at, take_at, take_all}
+use Rattle.vg_laws.proofs.Numbers.{same-number}
 use Rattle.vg_wire.specs.declared.header.Header.{Header}
 use Rattle.vg_numbers.specs.Numbers.{number_at, le}
 use Rattle.vg_wire.specs.Header.{IsHeader, header_of, header_bytes}
@@ -161,9 +162,6 @@ valid_by false false false false false false true kind items i v n content block
     subst (IsOfKind kind) same (f refl, refl)
 valid_by false false false false false false false kind items i v n content block uuid response modes a b g h c d f e = cc
 
-one_kind : (kind code : ℕ) → (kind == code) ≡ true → kind ≡ code
-one_kind kind code h = grind (arith, nat_tests)
-
 long_kind : (kind code long size : ℕ) → (kind == code && long == size) ≡ true → kind ≡ code
 long_kind kind code long size h = grind (arith, nat_tests)
 
@@ -177,5 +175,5 @@ body_of-valid kind bytes response e =
     valid_by (kind == 0x1100) (kind == 0x1101 && length bytes == 408) (kind == 0x1102 && length bytes == 40) (kind == 0x1103) (kind == 0x1104 && length bytes == 1056) (kind == 0x1105 && length bytes == 40)
     (nat_le 0x1200 kind && nat_le kind 0x1205)
     kind (trimmed (slots_of bytes)) (number_at 4 24 bytes) (number_at 4 28 bytes) (number_at 4 32 bytes) (drop 24 bytes) (take 128 (drop 32 bytes)) (take 16 (drop 24 bytes)) response (slots-modes bytes)
-    (one_kind kind 0x1100) (long_kind kind 0x1101 (length bytes) 408) (long_kind kind 0x1102 (length bytes) 40) (one_kind kind 0x1103) (long_kind kind 0x1104 (length bytes) 1056) (long_kind kind 0x1105 (length bytes) 40)
+    (same-number kind 0x1100) (long_kind kind 0x1101 (length bytes) 408) (long_kind kind 0x1102 (length bytes) 40) (same-number kind 0x1103) (long_kind kind 0x1104 (length bytes) 1056) (long_kind kind 0x1105 (length bytes) 40)
     (error_kind kind) e

@@ -2,10 +2,11 @@
 use Rattle.std.proofs.Common.{◌≡◌, ◌+◌, ◌-◌, ◌≤◌, length, take, drop, get_or, ◌++◌, sym, ap, ◌∙◌, arith}
 use Rattle.std.proofs.lemmas.List.{length-take, length-drop, drop-drop}
 use borrow.Rule.Slice.PartMut.{put_mid}
+use Rattle.vg_laws.proofs.Lists.{more-written}
 use Rattle.vg_pages.specs.Memory.{bytes_at}
 use Rattle.vg_backing.specs.declared.run.Run.{Run}
 use Rattle.vg_backing.specs.Backing.{backing_bytes}
-use Rattle.vg_backing.proofs.BackingLemmas.{run-at, next-run, bytes-here, more-written, length-backing_bytes}
+use Rattle.vg_backing.proofs.BackingLemmas.{run-at, next-run, bytes-here, length-backing_bytes}
 use Rattle.vg_backing.proofs.backing.read_from.Goals as goal
 use Rattle.vg_backing.specs.Fits.{entries_of, entry_of}
 

@@ -1,4 +1,5 @@
-use Rattle.vg_client.proofs.PlayLemmas.{added-none, on_err}
+use Rattle.vg_laws.proofs.Results.{on_err}
+use Rattle.vg_client.proofs.PlayLemmas.{added-none}
 use Rattle.vg_client.proofs.StepLemmas.{tickets-begun}
 use Rattle.vg_client.proofs.begun.begin_allowed.Goals as goal
 

@@ -1,4 +1,5 @@
-use Rattle.vg_client.proofs.PlayLemmas.{err-then, map_ok}
+use Rattle.vg_laws.proofs.Results.{err_then}
+use Rattle.vg_client.proofs.PlayLemmas.{map_ok}
 use Rattle.vg_client.proofs.StepLemmas.{ask-fit, begun-by, begun-stopped}
 use Rattle.vg_client.proofs.begun.begin_tasks.Goals as goal
 
@@ -11,4 +12,4 @@ returns-clause-done g c =
 
 pub returns-clause-begun : goal.returns-clause-begun
 returns-clause-begun g c =
-    err-then _ (begun-stopped c.asked-ask.result c.args.tasks c.args.client.now c.begin_ask.new.client c.asked-ask.ensures c.requires.ready c.requires.out) c.begin_ask.ensures.begun
+    err_then _ (begun-stopped c.asked-ask.result c.args.tasks c.args.client.now c.begin_ask.new.client c.asked-ask.ensures c.requires.ready c.requires.out) c.begin_ask.ensures.begun

@@ -1,6 +1,6 @@
 use Rattle.std.proofs.Common.{◌∙◌, arith}
-use Rattle.vg_client.proofs.PlayLemmas.{err-then, on_err}
-use Rattle.vg_client.proofs.StepLemmas.{behind-finished, end-left-off, end-unfinished, ended-behind, ok-then}
+use Rattle.vg_laws.proofs.Results.{on_err, err_then, ok_then}
+use Rattle.vg_client.proofs.StepLemmas.{behind-finished, end-left-off, end-unfinished, ended-behind}
 use Rattle.vg_client.proofs.caller.end.Goals as goal
 
 pub returns-in_err-finish-clause-begun : goal.returns-in_err-finish-clause-begun
@@ -19,10 +19,10 @@ pub give_up-requires-clause-room : goal.give_up-requires-clause-room
 give_up-requires-clause-room g c = let used = c.in_ok-finish.ensures.done.idle.used in omega (arith, used, c.requires.room)
 
 pub returns-clause-ended : goal.returns-clause-ended
-returns-clause-ended g c = ok-then _ (ended-behind c.args.client.now c.finish.new.client c.give_up.new.client.token c.in_ok-finish.ensures.done) c.give_up.ensures.left
+returns-clause-ended g c = ok_then _ (ended-behind c.args.client.now c.finish.new.client c.give_up.new.client.token c.in_ok-finish.ensures.done) c.give_up.ensures.left
 
 pub returns-clause-begun : goal.returns-clause-begun
-returns-clause-begun g c = err-then _ (end-left-off c.args.client.now c.finish.new.client c.give_up.new.client.token c.in_ok-finish.ensures.done) c.give_up.ensures.begun
+returns-clause-begun g c = err_then _ (end-left-off c.args.client.now c.finish.new.client c.give_up.new.client.token c.in_ok-finish.ensures.done) c.give_up.ensures.begun
 
 pub returns-clause-number : goal.returns-clause-number
 returns-clause-number g c = c.give_up.ensures.number ∙ c.in_ok-finish.ensures.done.idle.number

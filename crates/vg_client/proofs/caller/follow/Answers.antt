@@ -1,4 +1,5 @@
-use Rattle.vg_client.proofs.PlayLemmas.{err-then, map_ok, tickets-kept}
+use Rattle.vg_laws.proofs.Results.{err_then}
+use Rattle.vg_client.proofs.PlayLemmas.{map_ok, tickets-kept}
 use Rattle.vg_client.proofs.StepLemmas.{denied-stopped, either_way, stopped-as, went-begun, went-denied}
 use Rattle.vg_client.proofs.caller.follow.Goals as goal
 
@@ -8,7 +9,7 @@ returns-in-Err-clause-done g c =
 
 pub returns-in-Err-clause-begun : goal.returns-in-Err-clause-begun
 returns-in-Err-clause-begun g c =
-    err-then _ (λ stood. stopped-as c.args.plan _ c.args.client.now c.deny.new.client c.in-Err.is (denied-stopped c.in-Err.what c.args.client.now c.deny.new.client c.requires.ready c.requires.out stood)) c.deny.ensures.begun
+    err_then _ (λ stood. stopped-as c.args.plan _ c.args.client.now c.deny.new.client c.in-Err.is (denied-stopped c.in-Err.what c.args.client.now c.deny.new.client c.requires.ready c.requires.out stood)) c.deny.ensures.begun
 
 pub returns-in-Err-clause-out : goal.returns-in-Err-clause-out
 returns-in-Err-clause-out g c = either_way c.deny.result (λ played denied. tickets-kept denied.gone_on.added c.requires.out) (λ stood. tickets-kept stood.2 c.requires.out) c.deny.ensures.done c.deny.ensures.begun

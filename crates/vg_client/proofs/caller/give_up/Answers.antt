@@ -1,7 +1,8 @@
 use Rattle.std.proofs.Common.{◌∙◌, ap, arith, inl}
+use Rattle.vg_laws.proofs.Results.{on_err, err_then}
 use Rattle.vg_client_holds.specs.declared.holds.Holds.{Holds}
 use Rattle.vg_tasks.specs.Tasks.{end_tasks}
-use Rattle.vg_client.proofs.PlayLemmas.{end-stood, end-unbegun, end-unleft, ended-by, err-then, on_err, three-ok}
+use Rattle.vg_client.proofs.PlayLemmas.{end-stood, end-unbegun, end-unleft, ended-by, three-ok}
 use Rattle.vg_client.proofs.caller.give_up.Goals as goal
 
 pub returns-in_err-tasks-clause-begun : goal.returns-in_err-tasks-clause-begun
@@ -40,4 +41,4 @@ returns-clause-begun g c =
     let client = c.args.client.now in
     let done = c.in_ok-play.ensures.done in
     let tasks = c.in_ok-tasks.ensures.tasks ∙ ap (λ (h : Holds). end_tasks (record { holds = h; names = client.names; contexts = client.contexts; shows = client.shows.items })) c.holds.ensures in
-    err-then _ (end-unleft client c.play.new.client _ done.0 c.leave.new.token tasks done.1 done.2.added) c.leave.ensures.err
+    err_then _ (end-unleft client c.play.new.client _ done.0 c.leave.new.token tasks done.1 done.2.added) c.leave.ensures.err

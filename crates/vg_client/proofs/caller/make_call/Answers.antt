@@ -1,10 +1,11 @@
 use Rattle.std.proofs.Common.{◌∙◌, arith, refl, subst, sym}
+use Rattle.vg_laws.proofs.Results.{on_err}
 use Rattle.vg_client.specs.Callers.{known}
 use Rattle.vg_tasks.specs.Keeps.{PlansToAskOnce, PlansToKeep}
 use Rattle.vg_tasks.specs.Plans.{IsPlanOf}
 use Rattle.vg_tasks.specs.Known.{Known}
 use Rattle.vg_tasks.specs.Tasks.{tasks_of}
-use Rattle.vg_client.proofs.PlayLemmas.{gives-planned, on_err, plan-is, same-known}
+use Rattle.vg_client.proofs.PlayLemmas.{gives-planned, plan-is, same-known}
 use Rattle.vg_client.proofs.StepLemmas.{begins-keeps, gone-by, left-off, left-off-none, went-some}
 use Rattle.vg_client.proofs.GivesLemmas.{gives-some}
 use Rattle.vg_client.proofs.caller.make_call.Goals as goal

@@ -1,5 +1,6 @@
 use Rattle.std.proofs.Common.{arith}
-use Rattle.vg_client.proofs.PlayLemmas.{err-then, map_ok, on_err, tickets-kept}
+use Rattle.vg_laws.proofs.Results.{on_err, err_then}
+use Rattle.vg_client.proofs.PlayLemmas.{map_ok, tickets-kept}
 use Rattle.vg_client.proofs.StepLemmas.{behind, behind-idle, either_way, followed-by, stopped-finishing, stopped-playing}
 use Rattle.vg_client.proofs.caller.play_behind.Goals as goal
 
@@ -33,7 +34,7 @@ returns-clause-begun g c =
     let client = c.args.client.now in
     let middle = c.finish_first.new.client in
     let at = behind c.args.finishes client middle c.requires.ready c.requires.out c.in_ok-finish_first.ensures.done in
-    err-then _ (stopped-playing c.args.tasks client middle c.play.new.client at) c.play.ensures.begun
+    err_then _ (stopped-playing c.args.tasks client middle c.play.new.client at) c.play.ensures.begun
 
 pub returns-clause-out : goal.returns-clause-out
 returns-clause-out g c = either_way c.play.result (λ played done. tickets-kept done.2.added c.finish_first.ensures.out) (λ stood. tickets-kept stood.2 c.finish_first.ensures.out) c.play.ensures.done c.play.ensures.begun

@@ -1,5 +1,6 @@
+use Rattle.vg_laws.proofs.Results.{on_err}
 use Rattle.vg_client.proofs.OutcomeLemmas.{played-none}
-use Rattle.vg_client.proofs.PlayLemmas.{added-none, denied-told, on_err, stood-denied, stood-undenied}
+use Rattle.vg_client.proofs.PlayLemmas.{added-none, denied-told, stood-denied, stood-undenied}
 use Rattle.vg_client.proofs.play.deny.Goals as goal
 
 pub returns-in_err-played-clause-begun : goal.returns-in_err-played-clause-begun

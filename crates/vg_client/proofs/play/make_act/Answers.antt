@@ -1,7 +1,8 @@
 use Rattle.std.proofs.Common.{◌+◌, refl}
+use Rattle.vg_laws.proofs.Results.{on_err}
 use Rattle.vg_history.specs.declared.entry.Entry.TheVariants as entries
 use Rattle.vg_client.proofs.ReplyLemmas.{few-act}
-use Rattle.vg_client.proofs.PlayLemmas.{done-by, given-is, on_err, stays-act, unadded}
+use Rattle.vg_client.proofs.PlayLemmas.{done-by, given-is, stays-act, unadded}
 use Rattle.vg_client.proofs.play.make_act.Goals as goal
 
 pub returns-clause-done : goal.returns-clause-done

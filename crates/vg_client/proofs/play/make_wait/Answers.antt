@@ -1,9 +1,10 @@
 use Rattle.std.proofs.Common.{◌+◌, refl}
+use Rattle.vg_laws.proofs.Results.{on_err}
 use Rattle.vg_client_holds.specs.declared.act.Act.TheVariants as acts
 use Rattle.vg_client_holds.specs.declared.act.ActReply.TheVariants as act_replies
 use Rattle.vg_history.specs.declared.entry.Entry.TheVariants as entries
 use Rattle.vg_client.specs.declared.given.Given.TheVariants as givens
-use Rattle.vg_client.proofs.PlayLemmas.{done-by, on_err, unadded}
+use Rattle.vg_client.proofs.PlayLemmas.{done-by, unadded}
 use Rattle.vg_client.proofs.play.make_wait.Goals as goal
 
 pub returns-clause-done : goal.returns-clause-done

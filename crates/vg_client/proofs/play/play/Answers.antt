@@ -1,8 +1,9 @@
 use Rattle.std.proofs.Common.{◌≡◌, ap, arith, []}
+use Rattle.vg_laws.proofs.Results.{on_err}
 use Rattle.vg_names.specs.Names.{NamesState}
 use Rattle.vg_names.specs.Contexts.{ContextsState}
 use Rattle.vg_client.proofs.OutcomeLemmas.{played-none}
-use Rattle.vg_client.proofs.PlayLemmas.{left-smaller, make-idle, on_err, played-all, playing-first, playing-more, stood-done, stood-make, stood-none, tickets-kept}
+use Rattle.vg_client.proofs.PlayLemmas.{left-smaller, make-idle, played-all, playing-first, playing-more, stood-done, stood-make, stood-none, tickets-kept}
 use Rattle.vg_client.proofs.play.play.Goals as goal
 
 pub returns-in_err-played-clause-begun : goal.returns-in_err-played-clause-begun

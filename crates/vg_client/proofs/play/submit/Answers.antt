@@ -1,10 +1,11 @@
 use Rattle.std.proofs.Common.{◌+◌, ◌∙◌, ap, refl, sym}
+use Rattle.vg_laws.proofs.Results.{on_err}
 use Rattle.vg_history.specs.declared.entry.Entry.TheVariants as entries
 use Rattle.vg_wire.specs.declared.request.Queue.{Queue}
 use Rattle.vg_driver.specs.Asks.{request_for}
 use Rattle.vg_driver.proofs.OfferLemmas.{made_queue}
 use Rattle.vg_client.specs.declared.given.Given.TheVariants as givens
-use Rattle.vg_client.proofs.PlayLemmas.{done-by, on_err, unadded}
+use Rattle.vg_client.proofs.PlayLemmas.{done-by, unadded}
 use Rattle.vg_client.proofs.play.submit.Goals as goal
 
 pub returns-clause-done : goal.returns-clause-done

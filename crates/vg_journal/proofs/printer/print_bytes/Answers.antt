@@ -1,6 +1,7 @@
 use Rattle.std.proofs.Common.{ℕ, List, subst}
+use Rattle.vg_laws.proofs.Results.{on_err}
 use Rattle.vg_journal.specs.PrintingWithin.{PrintedSome}
-use Rattle.vg_journal.proofs.PrintingLemmas.{on_err, some_none, some_taken}
+use Rattle.vg_journal.proofs.PrintingLemmas.{some_none, some_taken}
 use Rattle.vg_journal.proofs.printer.print_bytes.Goals as goal
 
 pub returns-in_err-hand_on_piece-clause-some : goal.returns-in_err-hand_on_piece-clause-some

@@ -1,4 +1,5 @@
-use Rattle.vg_journal.proofs.PrintingLemmas.{frame_printed, line_some, on_err, pixels_some, some_of, some_then, printed_then}
+use Rattle.vg_laws.proofs.Results.{on_err}
+use Rattle.vg_journal.proofs.PrintingLemmas.{frame_printed, line_some, pixels_some, some_of, some_then, printed_then}
 use Rattle.vg_journal.proofs.printer.print_frame.Goals as goal
 
 pub returns-in_err-print_frame_line-clause-some : goal.returns-in_err-print_frame_line-clause-some

@@ -1,4 +1,4 @@
-use Rattle.vg_journal.proofs.PrintingLemmas.{err_then, ok_then, on_err}
+use Rattle.vg_laws.proofs.Results.{on_err, err_then, ok_then}
 use Rattle.vg_journal.proofs.JournalLemmas.{head_some, head_printed, entries_some, entries_printed, counts_some, counts_printed, frames_some, frames_printed}
 use Rattle.vg_journal.proofs.printer.print_front.Goals as goal
 

@@ -1,6 +1,7 @@
 use Rattle.std.proofs.Common.{◌≡◌, ◌++◌, ◌∙◌, ℕ, List, ap}
 use Rattle.std.specs.List.{concat}
-use Rattle.vg_journal.proofs.PrintingLemmas.{err_then, first_some, ok_then, on_err, second_some, two_printed}
+use Rattle.vg_laws.proofs.Results.{on_err, err_then, ok_then}
+use Rattle.vg_journal.proofs.PrintingLemmas.{first_some, second_some, two_printed}
 use Rattle.vg_journal.proofs.printer.print_log.Goals as goal
 
 pub returns-in_err-print_pieces-clause-some : goal.returns-in_err-print_pieces-clause-some

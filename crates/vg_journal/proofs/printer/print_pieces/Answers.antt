@@ -1,7 +1,8 @@
 use Rattle.std.proofs.Common.{◌++◌, ◌∙◌, ℕ, List, subst, arith}
+use Rattle.vg_laws.proofs.Results.{on_err}
 use Rattle.vg_journal.specs.PrintingWithin.{Printed, PrintedSome}
 use Rattle.vg_journal.proofs.PieceLemmas.{piece_text, pieces_are}
-use Rattle.vg_journal.proofs.PrintingLemmas.{all_printed, on_err, some_more, printed_more}
+use Rattle.vg_journal.proofs.PrintingLemmas.{all_printed, some_more, printed_more}
 use Rattle.vg_journal.proofs.printer.print_pieces.Goals as goal
 
 pub returns-in_err-print_spelling-clause-some : goal.returns-in_err-print_spelling-clause-some

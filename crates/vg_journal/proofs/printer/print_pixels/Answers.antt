@@ -1,5 +1,6 @@
 use Rattle.std.proofs.Common.{◌∙◌, arith, refl}
-use Rattle.vg_journal.proofs.PrintingLemmas.{on_err, printed_start, strip_printed, strip_some, strips_printed}
+use Rattle.vg_laws.proofs.Results.{on_err}
+use Rattle.vg_journal.proofs.PrintingLemmas.{printed_start, strip_printed, strip_some, strips_printed}
 use Rattle.vg_journal.proofs.printer.print_pixels.Goals as goal
 
 pub returns-in_err-print_bytes-clause-some : goal.returns-in_err-print_bytes-clause-some

@@ -1,5 +1,6 @@
 use Rattle.std.proofs.Common.{◌∙◌, refl}
-use Rattle.vg_journal.proofs.PrintingLemmas.{next_printed, next_some, on_err, printed_none, some_of, spelled_whole}
+use Rattle.vg_laws.proofs.Results.{on_err}
+use Rattle.vg_journal.proofs.PrintingLemmas.{next_printed, next_some, printed_none, some_of, spelled_whole}
 use Rattle.vg_journal.proofs.printer.print_spelling.Goals as goal
 
 pub loop-text-init : goal.loop-text-init

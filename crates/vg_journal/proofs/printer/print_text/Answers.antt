@@ -1,5 +1,6 @@
 use Rattle.std.proofs.Common.{}
-use Rattle.vg_journal.proofs.PrintingLemmas.{on_err, some_of}
+use Rattle.vg_laws.proofs.Results.{on_err}
+use Rattle.vg_journal.proofs.PrintingLemmas.{some_of}
 use Rattle.vg_journal.proofs.JournalLemmas.{front_part, front_some, rest_some}
 use Rattle.vg_journal.proofs.printer.print_text.Goals as goal
 

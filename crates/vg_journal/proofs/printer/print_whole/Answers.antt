@@ -1,6 +1,7 @@
 use Rattle.std.proofs.Common.{◌+◌, ◌∙◌, arith, refl}
+use Rattle.vg_laws.proofs.Results.{on_err}
 use Rattle.vg_journal.specs.Text.{entry_line}
-use Rattle.vg_journal.proofs.PrintingLemmas.{all_printed, on_err, some_more, printed_more, printed_start}
+use Rattle.vg_journal.proofs.PrintingLemmas.{all_printed, some_more, printed_more, printed_start}
 use Rattle.vg_journal.proofs.printer.print_whole.Goals as goal
 
 pub returns-in_err-print_entry-clause-some : goal.returns-in_err-print_entry-clause-some

@@ -1,6 +1,6 @@
 use Rattle.std.proofs.Common.{◌++◌, append_assoc}
 use Rattle.std.specs.Prelude.{codes, decimal}
-use Rattle.vg_list.proofs.FrontLemmas.{on_err}
+use Rattle.vg_laws.proofs.Results.{on_err}
 use Rattle.vg_journal_words.specs.Text.{await_text}
 use Rattle.vg_journal_words.proofs.LineFronts.{first_of}
 use Rattle.vg_journal_words.proofs.acts.put_await.Goals as goal

@@ -1,6 +1,6 @@
 use Rattle.std.proofs.Common.{◌++◌, append_assoc}
 use Rattle.std.specs.Prelude.{codes, decimal}
-use Rattle.vg_list.proofs.FrontLemmas.{err_then}
+use Rattle.vg_laws.proofs.Results.{err_then}
 use Rattle.vg_journal_words.specs.Text.{reserve_text}
 use Rattle.vg_journal_words.proofs.LineFronts.{then_of}
 use Rattle.vg_journal_words.proofs.acts.put_reserve.Goals as goal

@@ -1,6 +1,6 @@
 use Rattle.std.proofs.Common.{◌++◌, append_assoc}
 use Rattle.std.specs.Prelude.{codes, decimal}
-use Rattle.vg_list.proofs.FrontLemmas.{on_err, err_then}
+use Rattle.vg_laws.proofs.Results.{on_err, err_then}
 use Rattle.vg_journal_words.specs.Text.{store_text}
 use Rattle.vg_journal_words.proofs.LineFronts.{first_of, then_of}
 use Rattle.vg_text.specs.Text.{hex_text}

@@ -1,5 +1,5 @@
 use Rattle.std.proofs.Common.{arith, refl}
-use Rattle.vg_list.proofs.FrontLemmas.{on_err}
+use Rattle.vg_laws.proofs.Results.{on_err}
 use Rattle.vg_text.proofs.NumberedLemmas.{written_more}
 use Rattle.vg_journal_words.proofs.PageLemmas.{front_more}
 use Rattle.vg_journal_words.proofs.replies.put_more_pages.Goals as goal

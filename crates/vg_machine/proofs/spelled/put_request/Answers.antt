@@ -1,10 +1,10 @@
 use Rattle.std.proofs.Common.{◌++◌, List, ℕ, append_assoc, subst}
 use Rattle.std.specs.Prelude.{codes, decimal}
+use Rattle.vg_laws.proofs.Results.{on_err, err_then}
 use Rattle.vg_text.specs.Text.{hex_text}
 use Rattle.vg_journal_words.specs.Text.{shape_text}
 use Rattle.vg_machine.specs.Lines.{request_text}
 use Rattle.vg_list.specs.Front.{HasFront}
-use Rattle.vg_list.proofs.FrontLemmas.{err_then, on_err}
 use Rattle.vg_journal_words.proofs.LineFronts.{first_of, then_of}
 use Rattle.vg_machine.proofs.spelled.put_request.Goals as goal
 

@@ -1,7 +1,7 @@
 use Rattle.std.proofs.Common.{◌++◌, append_assoc, refl}
 use Rattle.std.specs.Prelude.{codes}
+use Rattle.vg_laws.proofs.Results.{on_err}
 use Rattle.vg_machine.specs.Lines.{reply_text, request_text, rest_of_command}
-use Rattle.vg_list.proofs.FrontLemmas.{on_err}
 use Rattle.vg_journal_words.proofs.LineFronts.{first_of, then_of}
 use Rattle.vg_machine.proofs.spelled.put_rest_of_command.Goals as goal
 

@@ -1,8 +1,9 @@
 use Rattle.std.proofs.Common.{refl, subst, sym}
+use Rattle.vg_laws.proofs.Results.{on_err}
 use Rattle.vg_script_part.specs.Performing.{HasDoneLine, HasKept}
 use Rattle.vg_driver.specs.Tickets.{Account}
 use Rattle.vg_tasks.specs.Plans.{IsCallFit}
-use Rattle.vg_script_part.proofs.LineLemmas.{heard-fits, kept-behind, ok_more, on_err}
+use Rattle.vg_script_part.proofs.LineLemmas.{heard-fits, kept-behind, ok_more}
 use Rattle.vg_script_part.proofs.ToldLemmas.{gone-few, has-last, line-done}
 use Rattle.vg_script_part.proofs.performing.run_line.Goals as goal
 

@@ -1,16 +1,12 @@
 -- For want of memory the buffer that was found stands there as it was.
 use Rattle.std.proofs.Common.{◌≡◌, ◌∙◌, Some, ap, rules}
-use Rattle.std.specs.Prelude.{Result, Ok, Err, OnErr}
 use Rattle.std.specs.Map.{lookup, set_value}
 use Rattle.std.specs.BTreeMap.{is_at}
 use Rattle.std.specs.Ordering.{nat_cmp}
 use Rattle.std.proofs.lemmas.Map.Steps.{set_value_same}
+use Rattle.vg_laws.proofs.Results.{on_err}
 use Rattle.vg_share.specs.declared.share.Buffer.{Buffer}
 use Rattle.vg_share.proofs.share.import_in.Goals as goal
-
-on_err : {T E : Type 0} {P : Type 0} (r : Result T E) → P → OnErr r P
-on_err (Ok x) p = tt
-on_err (Err e) p = p
 
 pub returns-in_err-import-clause-err : goal.returns-in_err-import-clause-err
 returns-in_err-import-clause-err c =

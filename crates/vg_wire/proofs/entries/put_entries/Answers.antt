@@ -1,5 +1,5 @@
 use Rattle.std.proofs.Common.{refl}
-use Rattle.vg_list.proofs.FrontLemmas.{on_err}
+use Rattle.vg_laws.proofs.Results.{on_err}
 use Rattle.vg_wire.specs.Entries.{entry_bytes}
 use Rattle.vg_wire.proofs.EntryLemmas.{bytes-more, fit-more, front-more}
 use Rattle.vg_wire.proofs.entries.put_entries.Goals as goal

@@ -1,5 +1,5 @@
 use Rattle.std.proofs.Common.{None, refl}
-use Rattle.vg_list.proofs.FrontLemmas.{on_err}
+use Rattle.vg_laws.proofs.Results.{on_err}
 use Rattle.vg_wire.specs.Modes.{mode_bytes}
 use Rattle.vg_wire.proofs.EntryLemmas.{front-more}
 use Rattle.vg_wire.proofs.modes.put_each.Goals as goal

@@ -1,8 +1,9 @@
 use Rattle.std.proofs.Common.{◌∙◌, ◌++◌, ap, append_assoc, subst, ◌-◌, length, replicate, None, List, ℕ}
 use Rattle.std.specs.List.{flat_map}
+use Rattle.vg_laws.proofs.Results.{on_err}
 use Rattle.vg_wire.specs.Modes.{Mode, mode_bytes}
 use Rattle.vg_list.specs.Front.{HasFront}
-use Rattle.vg_list.proofs.FrontLemmas.{front_first, front_then, on_err}
+use Rattle.vg_list.proofs.FrontLemmas.{front_first, front_then}
 use Rattle.vg_wire.proofs.ModesLemmas.{modes_bytes-parts}
 use Rattle.vg_wire.proofs.modes.put_modes.Goals as goal
 

@@ -1,4 +1,4 @@
-use Rattle.vg_list.proofs.FrontLemmas.{on_err}
+use Rattle.vg_laws.proofs.Results.{on_err}
 use Rattle.vg_wire.proofs.ModesLemmas.{front-none}
 use Rattle.vg_wire.proofs.modes.put_nones.Goals as goal
 

@@ -1,5 +1,6 @@
 use Rattle.std.proofs.Common.{append_assoc}
-use Rattle.vg_list.proofs.FrontLemmas.{err_then, front_then}
+use Rattle.vg_laws.proofs.Results.{err_then}
+use Rattle.vg_list.proofs.FrontLemmas.{front_then}
 use Rattle.vg_wire.proofs.two_d.put_transfer.Goals as goal
 
 pub returns-clause-err : goal.returns-clause-err

@@ -1,6 +1,7 @@
-use Rattle.std.proofs.Common.{rules, ◌≡◌, ℕ, ◌≤◌, ◌-◌, ◌∙◌, List, true, take, drop, ap, sym, subst, refl, arith, length, Option, None, Some, Result, Ok, Err}
-use Rattle.std.specs.Prelude.{ok_or, option_map, IsOk, IsSome, OnErr}
+use Rattle.std.proofs.Common.{rules, ◌≡◌, ℕ, ◌≤◌, ◌-◌, ◌∙◌, List, true, take, drop, ap, sym, subst, refl, arith, length, Option, None, Some, Result}
+use Rattle.std.specs.Prelude.{ok_or, option_map, IsOk, IsSome}
 use Rattle.std.proofs.lemmas.Slice.{between_to_end}
+use Rattle.vg_laws.proofs.Results.{on_err}
 use Rattle.vg_wire.specs.declared.header.Header.{Header}
 use Rattle.vg_wire.specs.declared.request.Queue.{Queue}
 use Rattle.vg_wire_ext.specs.declared.command.Command.{Command}
@@ -29,11 +30,6 @@ read-behind queue bytes header found long same known right read =
 given-some : (header : Header) (found : Option Command) → IsSome found → IsOk (given header found)
 given-some header None is = is
 given-some header (Some command) is = is
-
--- a fact that holds whatever the result is
-on_err : {A E P : Type 0} (outcome : Result A E) → P → OnErr outcome P
-on_err (Ok value) p = tt
-on_err (Err error) p = p
 
 pub returns-in-Some-2-clause-exact : goal.returns-in-Some-2-clause-exact
 returns-in-Some-2-clause-exact c =

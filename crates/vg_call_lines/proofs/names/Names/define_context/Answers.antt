@@ -1,4 +1,4 @@
-use Rattle.vg_list.proofs.FrontLemmas.{on_err}
+use Rattle.vg_laws.proofs.Results.{on_err}
 use Rattle.vg_call_lines.specs.Tables.{labels_in}
 use Rattle.vg_call_lines.proofs.NameSets.{named_context, unchanged}
 use Rattle.vg_call_lines.proofs.names.Names.define_context.Goals as goal

@@ -4,8 +4,8 @@ use Rattle.std.specs.Ordering.{nat_cmp}
 use Rattle.std.specs.Map.{set_value}
 use Rattle.std.specs.BTreeMap.{is_at}
 use Rattle.std.proofs.lemmas.Map.Steps.{set_value_same}
+use Rattle.vg_laws.proofs.Results.{on_err}
 use Rattle.vg_context.specs.Contexts.{context_at}
-use Rattle.vg_context.proofs.ContextLemmas.{on_err}
 use Rattle.vg_context.proofs.contexts.Contexts.attach.Goals as goal
 
 pub returns-in_err-attach-clause-err : goal.returns-in_err-attach-clause-err

@@ -1,13 +1,9 @@
-use Rattle.std.proofs.Common.{◌∙◌, ap, sym, Result, Ok, Err, OnErr}
+use Rattle.std.proofs.Common.{◌∙◌, ap, sym}
+use Rattle.vg_laws.proofs.Results.{on_err}
 use Rattle.vg_device.specs.Step.{answered}
 use Rattle.vg_device.specs.FitsWithin.{by_read}
 use Rattle.vg_device.proofs.KeepLemmas.{accepted-is, answered-given, answered-ok, kept-given, told-kept}
 use Rattle.vg_device.proofs.device.Device.answer.Goals as goal
-
--- a fact that holds whatever the result is
-on_err : {A E P : Type 0} (outcome : Result A E) → P → OnErr outcome P
-on_err (Ok value) p = tt
-on_err (Err error) p = p
 
 pub returns-in-Nodata-clause-step : goal.returns-in-Nodata-clause-step
 returns-in-Nodata-clause-step c =

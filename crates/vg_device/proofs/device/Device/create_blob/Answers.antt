@@ -1,7 +1,8 @@
 use Rattle.std.proofs.Common.{◌≡◌, false, rules}
 use Rattle.std.specs.Prelude.{is_some}
+use Rattle.vg_laws.proofs.Options.{none-there}
 use Rattle.vg_resource.specs.Resource.{resource_at}
-use Rattle.vg_device.proofs.KeepLemmas.{if-nodata, lifted-blob, none-there}
+use Rattle.vg_device.proofs.KeepLemmas.{if-nodata, lifted-blob}
 use Rattle.vg_device.proofs.ShowingLemmas.{showing-blob}
 use Rattle.vg_device.proofs.device.Device.create_blob.Goals as goal
 

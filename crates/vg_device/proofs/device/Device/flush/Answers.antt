@@ -1,8 +1,9 @@
 use Rattle.std.proofs.Common.{◌≡◌, true, rules, arith}
 use Rattle.vg_formats.specs.Pixels.{is_inside}
 use Rattle.std.proofs.Common.{sym}
+use Rattle.vg_laws.proofs.Options.{none-there}
 use Rattle.vg_blob.specs.Blobs.{blob_at}
-use Rattle.vg_device.proofs.KeepLemmas.{if-nodata, none-there, step-flush}
+use Rattle.vg_device.proofs.KeepLemmas.{if-nodata, step-flush}
 use Rattle.vg_device.proofs.BoundLemmas.{fits-surface, showing-flush}
 use Rattle.vg_device.proofs.device.Device.flush.Goals as goal
 

@@ -3,11 +3,12 @@ use Rattle.std.specs.Prelude.{nat_le}
 use Rattle.std.proofs.lemmas.Bool.Decides.{nat_tests}
 use Rattle.vg_formats.specs.Pixels.{is_empty, is_inside}
 use Rattle.std.proofs.Common.{rules, subst, sym}
+use Rattle.vg_laws.proofs.Options.{none-there}
 use Rattle.vg_blob.specs.Blobs.{blob_at}
 use Rattle.vg_device.specs.State.{ShowsEither}
 use Rattle.vg_resource.specs.Resource.{resource_at}
 use Rattle.vg_device.specs.Step.{binding_of}
-use Rattle.vg_device.proofs.KeepLemmas.{none-there, step-show}
+use Rattle.vg_device.proofs.KeepLemmas.{step-show}
 use Rattle.vg_device.proofs.ShowingLemmas.{found-shown}
 use Rattle.vg_device.proofs.BoundLemmas.{showing-bind, shows-binding, within-true}
 use Rattle.vg_device.proofs.device.Device.show.Goals as goal

@@ -1,7 +1,7 @@
 use Rattle.std.proofs.Common.{◌≡◌, ◌+◌, ◌-◌, ◌≤◌, length, take, drop, ap, sym, ◌++◌, ◌∙◌, arith}
 use Rattle.std.proofs.lemmas.List.{length-take, length-drop, drop-drop}
 use borrow.Rule.Slice.PartMut.{put_mid}
-use Rattle.vg_pages.proofs.Spliced.{more-written}
+use Rattle.vg_laws.proofs.Lists.{more-written}
 use Rattle.vg_pages.proofs.blocks.Blocks.read.Goals as goal
 
 pub loop-done-preserved : goal.loop-done-preserved

@@ -1,5 +1,5 @@
 use Rattle.std.proofs.Common.{arith}
-use Rattle.vg_list.proofs.FrontLemmas.{on_err}
+use Rattle.vg_laws.proofs.Results.{on_err}
 use Rattle.vg_text.proofs.PackingLemmas.{nothing_spelled, spelled_front, spelled_more}
 use Rattle.vg_text.proofs.packed.Packed.put_hex.Goals as goal
 
