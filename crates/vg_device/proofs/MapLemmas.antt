@@ -19,6 +19,19 @@ at_same n m same = grind (arith, nat_tests)
 equal_same : (n m : ℕ) → nat_cmp n m ≡ Equal → n ≡ m
 equal_same n m same = grind (arith, nat_tests)
 
+found-by : {X : Type 0} (id : ℕ) (v : X) (e : ℕ × X) (es more : List (ℕ × X)) (o : Ordering) → nat_cmp id e.0 ≡ o → lookup (is_at (nat_cmp id)) more ≡ Some v
+    → lookup (is_at (nat_cmp id)) (match_ordering o ((id, v) ∷ e ∷ es) ((e.0, v) ∷ es) (e ∷ more)) ≡ Some v
+found-by id v e es more Less is rest = ap (λ b. cond b (Some v) (lookup (is_at (nat_cmp id)) (e ∷ es))) (at_itself id)
+found-by id v e es more Equal is rest = let at : is_at (nat_cmp id) e.0 ≡ true = grind (arith, nat_tests) in ap (λ b. cond b (Some v) (lookup (is_at (nat_cmp id)) es)) at
+found-by id v e es more Greater is rest =
+    let apart : is_at (nat_cmp id) e.0 ≡ false = grind (arith, nat_tests) in
+    ap (λ b. cond b (Some e.1) (lookup (is_at (nat_cmp id)) more)) apart ∙ rest
+
+-- what was put in is found
+pub insert-found : {X : Type 0} (id : ℕ) (v : X) (es : List (ℕ × X)) → lookup (is_at (nat_cmp id)) (insert_entry nat_cmp es id v) ≡ Some v
+insert-found id v [] = ap (λ b. cond b (Some v) None) (at_itself id)
+insert-found id v (e ∷ es) = found-by id v e es (insert_entry nat_cmp es id v) (nat_cmp id e.0) refl (insert-found id v es)
+
 -- another number's entry stays
 insert_other-by : {X : Type 0} (q id : ℕ) (r : X) (e : ℕ × X) (es more : List (ℕ × X)) (o : Ordering)
     → q ≢ id → nat_cmp id e.0 ≡ o → lookup (is_at (nat_cmp q)) more ≡ lookup (is_at (nat_cmp q)) es

@@ -1,5 +1,5 @@
 -- Laws of lists.
-use Rattle.std.proofs.Common.{◌≡◌, ℕ, ◌+◌, ◌≤◌, List, ◌++◌, length, take, drop, sym, ap, ◌∙◌, append_assoc, arith, zero, suc, get_or, replicate, refl, [], ◌∷◌, ◌<◌, Some, subst, true, rules, false, cond, None}
+use Rattle.std.proofs.Common.{◌≡◌, ℕ, ◌+◌, ◌≤◌, List, ◌++◌, length, take, drop, sym, ap, ◌∙◌, append_assoc, arith, zero, suc, get_or, replicate, refl, [], ◌∷◌, ◌<◌, Some, subst, true, rules}
 use Rattle.std.proofs.Math.Seq.{take-add, take-append_seam, drop-append_seam}
 use Rattle.std.proofs.lemmas.List.{length-take, drop-drop, map-id}
 use borrow.Rule.Slice.PartMut.{put_mid}
@@ -8,13 +8,6 @@ use Rattle.std.proofs.lemmas.List.FromFn.{map-range_with_len_more}
 use Rattle.std.specs.Prelude.{slice_get, bytes_eq}
 use Rattle.std.proofs.lemmas.Option.{get_or_from_slice_get, slice_get_within}
 use Rattle.std.proofs.lemmas.Slice.Eq.{bytes_eq-Decides}
-use Rattle.std.specs.Ordering.{nat_cmp, match_ordering}
-use Rattle.std.specs.declared.cmp.Ordering.{Ordering}
-use Rattle.std.specs.declared.cmp.Ordering.TheVariants.{Less, Equal, Greater}
-use Rattle.std.specs.Map.{lookup}
-use Rattle.std.specs.BTreeMap.{is_at, insert_entry}
-use Rattle.std.proofs.lemmas.Bool.Decides.{nat_tests}
-use Rattle.vg_device.proofs.MapLemmas.{at_itself}
 
 -- what is read on stands behind what was read
 pub more-written : (xs old part : List ℕ) (done n : ℕ) → done + n ≤ length xs → done ≤ length old → part ≡ take n (drop done xs)
@@ -62,16 +55,3 @@ all_one P x h (suc k) d lt = absurd (omega arith)
 
 pub same_bytes : (a b : List ℕ) → bytes_eq a b ≡ true → a ≡ b
 same_bytes a b h = search (rules, bytes_eq-Decides)
-
-pub found-by : {X : Type 0} (id : ℕ) (v : X) (e : ℕ × X) (es more : List (ℕ × X)) (o : Ordering) → nat_cmp id e.0 ≡ o → lookup (is_at (nat_cmp id)) more ≡ Some v
-    → lookup (is_at (nat_cmp id)) (match_ordering o ((id, v) ∷ e ∷ es) ((e.0, v) ∷ es) (e ∷ more)) ≡ Some v
-found-by id v e es more Less is rest = ap (λ b. cond b (Some v) (lookup (is_at (nat_cmp id)) (e ∷ es))) (at_itself id)
-found-by id v e es more Equal is rest = let at : is_at (nat_cmp id) e.0 ≡ true = grind (arith, nat_tests) in ap (λ b. cond b (Some v) (lookup (is_at (nat_cmp id)) es)) at
-found-by id v e es more Greater is rest =
-    let apart : is_at (nat_cmp id) e.0 ≡ false = grind (arith, nat_tests) in
-    ap (λ b. cond b (Some e.1) (lookup (is_at (nat_cmp id)) more)) apart ∙ rest
-
--- what was put in is found
-pub insert-found : {X : Type 0} (id : ℕ) (v : X) (es : List (ℕ × X)) → lookup (is_at (nat_cmp id)) (insert_entry nat_cmp es id v) ≡ Some v
-insert-found id v [] = ap (λ b. cond b (Some v) None) (at_itself id)
-insert-found id v (e ∷ es) = found-by id v e es (insert_entry nat_cmp es id v) (nat_cmp id e.0) refl (insert-found id v es)

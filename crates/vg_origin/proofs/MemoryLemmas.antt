@@ -4,7 +4,7 @@ use Rattle.std.specs.Map.{lookup, remove_entry, set_value}
 use Rattle.std.specs.Ordering.{nat_cmp}
 use Rattle.std.specs.BTreeMap.{insert_entry, is_at}
 use Rattle.std.proofs.lemmas.Bool.{cases_eq, cases_lt}
-use Rattle.vg_laws.proofs.Lists.{insert-found}
+use Rattle.vg_device.proofs.MapLemmas.{insert-found}
 use Rattle.vg_laws.proofs.Bools.{and-right}
 use Rattle.vg_pages.specs.Memory.{after_taking, is_among}
 use Rattle.vg_refusals.specs.Refusals.{refusal_of}

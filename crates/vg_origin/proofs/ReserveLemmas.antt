@@ -4,7 +4,7 @@ use Rattle.std.specs.Ordering.{nat_cmp}
 use Rattle.std.specs.Map.{lookup}
 use Rattle.std.specs.BTreeMap.{insert_entry, is_at}
 use Rattle.std.proofs.lemmas.Bool.{cases_eq}
-use Rattle.vg_laws.proofs.Lists.{insert-found}
+use Rattle.vg_device.proofs.MapLemmas.{insert-found}
 use Rattle.vg_pages.specs.Memory.{after_taking, is_among}
 use Rattle.vg_share.specs.declared.share.Buffer.{Buffer}
 use Rattle.vg_share.specs.declared.share.Geometry.{Geometry}
