@@ -4,6 +4,7 @@ use Rattle.std.proofs.lemmas.List.FromFn.{get_or-range_with_len}
 use Rattle.std.proofs.lemmas.List.{append-nil}
 use Rattle.std.proofs.lemmas.Bool.Decides.{nat_tests}
 use Rattle.vg_chain.specs.declared.descriptor.Descriptor.{Descriptor}
+use Rattle.vg_chain.specs.declared.form.Form.{Form}
 use Rattle.vg_chain.specs.declared.part.Part.{Part}
 use Rattle.vg_chain.specs.Made.{linked, in_table, bytes_of, bytes_in, table_bytes, link_of}
 
@@ -29,8 +30,8 @@ pub in_table_is : (parts : List Part) (at : ℕ) → slice_get (in_table parts) 
 in_table_is parts at = linked_is parts (range_with_len 1 (length parts)) at (at + 1) (λ h. get_or-range_with_len 1 (length parts) at 0 (omega arith) ∙ omega arith)
 
 -- the bytes of a table of at most two descriptors
-pub table_of_two : (table : List Descriptor) → length table ≤ 2 → bytes_in (slice_get table 0) ++ bytes_in (slice_get table 1) ≡ table_bytes table
-table_of_two [] few = refl
-table_of_two (d ∷ []) few = refl
-table_of_two (d ∷ e ∷ []) few = ap (λ (xs : List ℕ). bytes_of d ++ xs) (sym (append-nil (bytes_of e)))
-table_of_two (d ∷ e ∷ f ∷ more) few = absurd (omega arith)
+pub table_of_two : (form : Form) (table : List Descriptor) → length table ≤ 2 → bytes_in form (slice_get table 0) ++ bytes_in form (slice_get table 1) ≡ table_bytes form table
+table_of_two form [] few = refl
+table_of_two form (d ∷ []) few = refl
+table_of_two form (d ∷ e ∷ []) few = ap (λ (xs : List ℕ). bytes_of form d ++ xs) (sym (append-nil (bytes_of form e)))
+table_of_two form (d ∷ e ∷ f ∷ more) few = absurd (omega arith)

@@ -6,12 +6,12 @@ use Rattle.vg_chain.specs.declared.chain.Chain.{Chain}
 use Rattle.vg_chain.specs.declared.chain.ChainFault.TheVariants.{Loop, Nested, NextWithIndirect, TableLength, Order, Range}
 use Rattle.vg_chain.specs.declared.descriptor.Descriptor.{Descriptor}
 use Rattle.vg_chain.specs.declared.descriptor.Segment.{Segment}
-use Rattle.vg_chain.specs.Descriptor.{NEXT, WRITE, INDIRECT, has_next, is_writable, is_indirect}
+use Rattle.vg_chain.specs.Descriptor.{NEXT, WRITE, INDIRECT, flags_of, is_writable, is_indirect}
 use Rattle.vg_chain.specs.Memory.{Memory, lies_in, is_in_range}
-use Rattle.vg_chain.specs.Fault.{fault_of, is_bad_length}
+use Rattle.vg_chain.specs.Fault.{fault_of, is_bad_length, is_listed}
 use Rattle.vg_chain.specs.Walk.{Visit, there, goes_on, visit_after, Visits, was_met, read_of, written_of, all_read, all_written, fault_at, AreClean, IsChain}
 use Rattle.vg_chain.specs.declared.part.Part.{Part}
-use Rattle.vg_chain.specs.Made.{flags_of, last_of, joined, linked, Stands, AreOther, AreApart, segment_in, reads, writes}
+use Rattle.vg_chain.specs.Made.{last_of, joined, linked, Stands, AreOther, AreApart, segment_in, reads, writes}
 
 bit_indirect : (writes more : Bool) → eqb (flags_of writes more / INDIRECT % 2) 1 ≡ false
 bit_indirect true true = refl
@@ -19,7 +19,7 @@ bit_indirect true false = refl
 bit_indirect false true = refl
 bit_indirect false false = refl
 
-bit_write : (writes more : Bool) → eqb (flags_of writes more / WRITE % 2) 1 ≡ writes
+pub bit_write : (writes more : Bool) → eqb (flags_of writes more / WRITE % 2) 1 ≡ writes
 bit_write true true = refl
 bit_write true false = refl
 bit_write false true = refl
@@ -55,11 +55,11 @@ none_found false false inside next bad writable wrote false a b c d = cc
 none_found false false inside next bad true wrote true a b c d = refl
 none_found false false inside next bad false wrote true a b c d = rw (c refl) refl
 
-pub sound_part : (m : Memory) (size : ℕ) (inside met wrote : Bool) (d : Descriptor) (p : Part) → IsPartOf d p → met ≡ false → (p.writes ≡ false → wrote ≡ false) → part_range m p ≡ true
-    → fault_of m size inside met wrote (Some d) ≡ None
-sound_part m size inside met wrote d p is unmet order range =
+pub sound_part : (m : Memory) (size : ℕ) (inside met read wrote : Bool) (d : Descriptor) (p : Part) → IsPartOf d p → met ≡ false → (p.writes ≡ false → wrote ≡ false) → part_range m p ≡ true
+    → fault_of m size inside met read wrote (Some d) ≡ None
+sound_part m size inside met read wrote d p is unmet order range =
     let there : is_in_range m d ≡ true = rw (is.plain, is.writes, is.addr, is.len) range in
-    none_found met (is_indirect d) inside (has_next d) (is_bad_length size d) (is_writable d) wrote (is_in_range m d) unmet is.plain (λ e. order (sym is.writes ∙ e)) there
+    none_found met (is_indirect d) inside (is_listed m.form (read || wrote) d) (is_bad_length size d) (is_writable d) wrote (is_in_range m d) unmet is.plain (λ e. order (sym is.writes ∙ e)) there
 
 read_choice : (w : Bool) (s : Segment) → cond (not false && not w) (s ∷ []) [] ≡ cond w [] (s ∷ [])
 read_choice true s = refl
@@ -124,7 +124,7 @@ pub walks_linked : (m : Memory) (ring : List Descriptor) (head : ℕ) (parts : L
     → chain.readable ≡ all_read before ++ reads (p ∷ parts) → chain.writable ≡ all_written before ++ writes (p ∷ parts)
     → IsChain m ring head chain
 walks_linked m ring head [] nexts x before p chain visits clean unmet apart stands fine readable writable =
-    let sound : fault_at m (length ring) before x ≡ None = rw stands.0 (sound_part m (length ring) x.inside (was_met x.inside x.at before) (ltb 0 (length (all_written before))) (last_of p) p (last_is p) unmet.0 fine.0 fine.1) in
+    let sound : fault_at m (length ring) before x ≡ None = rw stands.0 (sound_part m (length ring) x.inside (was_met x.inside x.at before) (ltb 0 (length (all_read before))) (ltb 0 (length (all_written before))) (last_of p) p (last_is p) unmet.0 fine.0 fine.1) in
     record {
       before = before;
       last = x;
@@ -139,7 +139,7 @@ walks_linked m ring head [] nexts x before p chain visits clean unmet apart stan
 walks_linked m ring head (other ∷ parts) [] x before p chain visits clean unmet apart stands fine readable writable = absurd stands.1
 walks_linked m ring head (other ∷ parts) (next ∷ nexts) x before p chain visits clean unmet apart stands fine readable writable =
     let d = joined p next in
-    let sound : fault_at m (length ring) before x ≡ None = rw stands.0 (sound_part m (length ring) x.inside (was_met x.inside x.at before) (ltb 0 (length (all_written before))) d p (joined_is p next) unmet.0 fine.0 fine.1) in
+    let sound : fault_at m (length ring) before x ≡ None = rw stands.0 (sound_part m (length ring) x.inside (was_met x.inside x.at before) (ltb 0 (length (all_read before))) (ltb 0 (length (all_written before))) d p (joined_is p next) unmet.0 fine.0 fine.1) in
     let y : Visit = record { table = x.table; inside = x.inside; at = next } in
     let again : AreFine m (ltb 0 (length (all_written (x ∷ before)))) (other ∷ parts) = subst (λ (w : Bool). AreFine m w (other ∷ parts)) (sym (wrote_part x before d p stands.0 (joined_is p next))) fine.2 in
     let read : chain.readable ≡ all_read (x ∷ before) ++ reads (other ∷ parts) = readable ∙ rw (stands.0, read_part d p (joined_is p next)) (sym (append_assoc (all_read before) (cond p.writes [] (segment_in p ∷ [])) (reads (other ∷ parts)))) in

@@ -7,16 +7,18 @@ use Rattle.vg_chain.specs.declared.chain.Chain.{Chain}
 use Rattle.vg_chain.specs.declared.chain.ChainFault.{ChainFault}
 use Rattle.vg_chain.specs.declared.chain.ChainFault.TheVariants.{Index, Loop, Nested, NextWithIndirect, TableLength, Order, Range}
 use Rattle.vg_chain.specs.declared.descriptor.Descriptor.{Descriptor}
+use Rattle.vg_chain.specs.declared.form.Form.{Form}
+use Rattle.vg_chain.specs.declared.form.Form.TheVariants.{Split, Packed}
 use Rattle.vg_chain.specs.declared.shape.Shape.{Shape}
 use Rattle.vg_chain.specs.declared.shape.Shape.TheVariants.{Plain, Pieces, Indirect, Mixed, Bad}
 use Rattle.vg_chain.specs.Descriptor.{is_indirect}
 use Rattle.vg_chain.specs.Memory.{Memory, memory, lies_in, table_of}
 use Rattle.vg_chain.specs.Walk.{Visit, start, there, goes_on, visit_after, Visits, was_met, all_read, all_written, fault_at, AreClean, IsChain, Walks}
 use Rattle.vg_chain.specs.declared.part.Part.{Part}
-use Rattle.vg_chain.specs.Made.{joined, linked, pieces, room_of, or_empty, parts_of, rest_of, in_table, table_bytes, referring, made, mixed, flat, in_parts, by_table, Stands, AreApart, IsRequest, IsLaid, memory_of, Covers, reads, writes, chain_of, mixed_parts, GivesAll, GivesIts}
+use Rattle.vg_chain.specs.Made.{Spells, joined, linked, pieces, room_of, or_empty, parts_of, rest_of, in_table, table_bytes, referring, made, mixed, flat, in_parts, by_table, Stands, AreApart, IsRequest, IsLaid, memory_of, Covers, reads, writes, chain_of, mixed_parts, GivesAll, GivesIts}
 use Rattle.vg_chain.proofs.PartLemmas.{walks_linked, AreFine, Unmet, joined_is, sound_part}
 use Rattle.vg_chain.proofs.PieceLemmas.{lies, fine_pieces, fine_or_empty, covers_read, covers_written, covers_or_empty, writes_or_empty, enough, length_parts, length_or_empty, reads_room}
-use Rattle.vg_chain.proofs.TableLemmas.{table_is, refers_sound, apart_range, stands_in, length-linked, placed, fits_in, length-table_bytes}
+use Rattle.vg_chain.proofs.TableLemmas.{table_is, table_back, descriptors_in-table_bytes, unlisted_first, refers_sound, apart_range, stands_in, length-linked, placed, length-table_bytes}
 
 unmet_none : (inside : Bool) (places : List ℕ) → Unmet inside [] places
 unmet_none inside [] = tt
@@ -70,24 +72,24 @@ parts_read k n r b some = covers_or_empty b n (pieces k ((n + (k - 1)) / k) b n 
 parts_written : (k n r b : ℕ) → Covers (b + 49152) r (writes (parts_of k n r b))
 parts_written k n r b = rw (writes_or_empty b (pieces k ((n + (k - 1)) / k) b n ++ room_of r b)) (covers_written k ((n + (k - 1)) / k) b n r b)
 
-pub flat_gives : (k n r b : ℕ) (tables : List ℕ) (table : List Descriptor) (head : ℕ) (others : List ℕ) → 1 ≤ k
-    → AreApart (head ∷ others) → Stands table (head ∷ others) (linked (parts_of k n r b) others) → GivesAll (chain_of (parts_of k n r b)) (memory b n r tables) table head n r b
-flat_gives k n r b tables table head others some apart stands =
-    (flat_walk (memory b n r tables) table head others (parts_of k n r b) (fine_parts (memory b n r tables) k n r refl refl) (some_parts k n r b) apart stands, parts_read k n r b some, parts_written k n r b)
+pub flat_gives : (form : Form) (k n r b : ℕ) (tables : List ℕ) (table : List Descriptor) (head : ℕ) (others : List ℕ) → 1 ≤ k
+    → AreApart (head ∷ others) → Stands table (head ∷ others) (linked (parts_of k n r b) others) → GivesAll (chain_of (parts_of k n r b)) (memory form b n r tables) table head n r b
+flat_gives form k n r b tables table head others some apart stands =
+    (flat_walk (memory form b n r tables) table head others (parts_of k n r b) (fine_parts (memory form b n r tables) k n r refl refl) (some_parts k n r b) apart stands, parts_read k n r b some, parts_written k n r b)
 
-pub indirect_gives : (n r b q : ℕ) (table : List Descriptor) (head : ℕ) (others : List ℕ) → n ≤ 49152 → r ≤ 8192 → b + 65536 ≤ 2 ^ 64 → 2 ≤ q → length table ≡ q
-    → Stands table (head ∷ others) (by_table b (parts_of 1 n r b) 4 0).ring → GivesAll (chain_of (parts_of 1 n r b)) (memory b n r (by_table b (parts_of 1 n r b) 4 0).tables) table head n r b
-indirect_gives n r b q table head others request room base queue size stands =
+pub indirect_gives : (form : Form) (n r b q : ℕ) (table : List Descriptor) (head : ℕ) (others : List ℕ) → n ≤ 49152 → r ≤ 8192 → b + 65536 ≤ 2 ^ 64 → 2 ≤ q → length table ≡ q
+    → Stands table (head ∷ others) (by_table b (parts_of 1 n r b) 4 0).ring → GivesAll (chain_of (parts_of 1 n r b)) (memory form b n r ((by_table b (parts_of 1 n r b) 4 0).tables form)) table head n r b
+indirect_gives form n r b q table head others request room base queue size stands =
     let parts = parts_of 1 n r b in
-    let m = memory b n r (table_bytes (in_table parts)) in
+    let m = memory form b n r (table_bytes form (in_table parts)) in
     let d = referring b (16 * length (in_table parts)) 4 0 in
     let fine : AreFine m false parts = fine_parts m 1 n r refl refl in
     let long : length (in_table parts) ≡ length parts = length-linked parts (range_with_len 1 (length parts)) in
     let few : length parts ≤ 2 = few_parts n r b in
     let some : 1 ≤ length parts = some_parts 1 n r b in
     let x = start table head in
-    let sound : fault_at m (length table) [] x ≡ None = rw stands.0 (refers_sound m (length table) (length (in_table parts)) false (ltb 0 0) 0 refl (omega arith) (omega arith) (length-table_bytes (in_table parts))) in
-    let inner : table_of m d ≡ in_table parts = table_is m (in_table parts) 4 0 refl (fits_in parts few (placed m false parts base request room fine)) in (
+    let sound : fault_at m (length table) [] x ≡ None = rw stands.0 (refers_sound m (length table) (length (in_table parts)) false (ltb 0 0) (ltb 0 0) 0 refl (unlisted_first form d refl) (omega arith) (omega arith) (length-table_bytes form (in_table parts))) in
+    let inner : table_of m d ≡ in_table parts = table_is m (in_table parts) 4 0 refl (table_back form parts few (placed m false parts base request room fine)) in (
       table_walk m table head x [] d parts (chain_of parts) refl (sound, tt) stands.0 refl inner (λ k. refl) fine some (rw stands.0 refl) (rw stands.0 refl) refl,
       parts_read 1 n r b (omega arith),
       parts_written 1 n r b,
@@ -96,22 +98,22 @@ indirect_gives n r b q table head others request room base queue size stands =
 -- a request of which all but the first bytes stand in a table
 pub parts_give : (n r b q : ℕ) (rest : List Part) (table : List Descriptor) (head : ℕ) (others : List ℕ) → n ≤ 49152 → r ≤ 8192 → b + 65536 ≤ 2 ^ 64 → 2 ≤ q → length table ≡ q
     → AreApart (head ∷ others) → 1 ≤ length rest → length rest ≤ 2
-    → AreFine (memory b n r (table_bytes (in_table rest))) false rest → Covers (b + min 24 n) (n - min 24 n) (reads rest) → Covers (b + 49152) r (writes rest)
+    → AreFine (memory Split b n r (table_bytes Split (in_table rest))) false rest → Covers (b + min 24 n) (n - min 24 n) (reads rest) → Covers (b + 49152) r (writes rest)
     → Stands table (head ∷ others) (in_parts (record { addr = b; len = min 24 n; writes = false }) rest b (get_or others 0 0)).ring
-    → GivesAll (chain_of (record { addr = b; len = min 24 n; writes = false } ∷ rest)) (memory b n r (table_bytes (in_table rest))) table head n r b
+    → GivesAll (chain_of (record { addr = b; len = min 24 n; writes = false } ∷ rest)) (memory Split b n r (table_bytes Split (in_table rest))) table head n r b
 parts_give n r b q rest table head [] request room base queue size apart some few fine read written stands = absurd stands.1
 parts_give n r b q rest table head (other ∷ others) request room base queue size apart some few fine read written stands =
-    let m = memory b n r (table_bytes (in_table rest)) in
+    let m = memory Split b n r (table_bytes Split (in_table rest)) in
     let first : Part = record { addr = b; len = min 24 n; writes = false } in
     let d = joined first other in
     let e = referring b (16 * length (in_table rest)) 4 0 in
     let x = start table head in
     let y = start table other in
     let long : length (in_table rest) ≡ length rest = length-linked rest (range_with_len 1 (length rest)) in
-    let sound : fault_at m (length table) [] x ≡ None = rw stands.0 (sound_part m (length table) false false (ltb 0 0) d first (joined_is first other) refl (λ off. refl) (lies b n b (min 24 n) (omega arith) (omega arith))) in
+    let sound : fault_at m (length table) [] x ≡ None = rw stands.0 (sound_part m (length table) false false (ltb 0 0) (ltb 0 0) d first (joined_is first other) refl (λ off. refl) (lies b n b (min 24 n) (omega arith) (omega arith))) in
     let unmet : was_met false other (x ∷ []) ≡ false = rw (ne_eqb head other apart.0.0) refl in
-    let sound' : fault_at m (length table) (x ∷ []) y ≡ None = rw stands.1.0 (refers_sound m (length table) (length (in_table rest)) (was_met false other (x ∷ [])) (ltb 0 (length (all_written (x ∷ [])))) 0 unmet (omega arith) (omega arith) (length-table_bytes (in_table rest))) in
-    let inner : table_of m e ≡ in_table rest = table_is m (in_table rest) 4 0 refl (fits_in rest few (placed m false rest base request room fine)) in
+    let sound' : fault_at m (length table) (x ∷ []) y ≡ None = rw stands.1.0 (refers_sound m (length table) (length (in_table rest)) (was_met false other (x ∷ [])) (ltb 0 (length (all_read (x ∷ [])))) (ltb 0 (length (all_written (x ∷ [])))) 0 unmet refl (omega arith) (omega arith) (length-table_bytes Split (in_table rest))) in
+    let inner : table_of m e ≡ in_table rest = table_is m (in_table rest) 4 0 refl (table_back Split rest few (placed m false rest base request room fine)) in
     let chain : Chain = record { readable = record { addr = b; len = min 24 n } ∷ reads rest; writable = writes rest } in (
       table_walk m table head y (x ∷ []) e rest chain ((d, stands.0, refl, refl), refl) (sound', (sound, tt)) stands.1.0 refl inner (λ k. refl) fine some (rw (stands.0, stands.1.0) refl) (rw (stands.0, stands.1.0) refl) refl,
       (refl, omega arith, read),
@@ -131,18 +133,18 @@ rest_read n r b = elim (cases_lt 24 n) [
 
 mixed_choice : (n r b q : ℕ) (p : Part) (rest : List Part) (none : Bool) (table : List Descriptor) (head : ℕ) (others : List ℕ) → n ≤ 49152 → r ≤ 8192 → b + 65536 ≤ 2 ^ 64 → 2 ≤ q → length table ≡ q
     → AreApart (head ∷ others) → length (p ∷ rest) ≤ 2
-    → ((tables : List ℕ) → AreFine (memory b n r tables) false (p ∷ rest)) → Covers (b + min 24 n) (n - min 24 n) (reads (p ∷ rest)) → Covers (b + 49152) r (writes (p ∷ rest))
+    → ((tables : List ℕ) → AreFine (memory Split b n r tables) false (p ∷ rest)) → Covers (b + min 24 n) (n - min 24 n) (reads (p ∷ rest)) → Covers (b + 49152) r (writes (p ∷ rest))
     → Stands table (head ∷ others) (cond none (flat (parts_of 1 n r b) (head ∷ others)) (in_parts (record { addr = b; len = min 24 n; writes = false }) (p ∷ rest) b (get_or others 0 0))).ring
-    → GivesAll (chain_of (cond none (parts_of 1 n r b) (record { addr = b; len = min 24 n; writes = false } ∷ p ∷ rest))) (memory b n r (cond none (flat (parts_of 1 n r b) (head ∷ others)) (in_parts (record { addr = b; len = min 24 n; writes = false }) (p ∷ rest) b (get_or others 0 0))).tables) table head n r b
-mixed_choice n r b q p rest true table head others request room base queue size apart few fine read written stands = flat_gives 1 n r b [] table head others (omega arith) apart stands
+    → GivesAll (chain_of (cond none (parts_of 1 n r b) (record { addr = b; len = min 24 n; writes = false } ∷ p ∷ rest))) (memory Split b n r ((cond none (flat (parts_of 1 n r b) (head ∷ others)) (in_parts (record { addr = b; len = min 24 n; writes = false }) (p ∷ rest) b (get_or others 0 0))).tables Split)) table head n r b
+mixed_choice n r b q p rest true table head others request room base queue size apart few fine read written stands = flat_gives Split 1 n r b [] table head others (omega arith) apart stands
 mixed_choice n r b q p rest false table head others request room base queue size apart few fine read written stands =
-    parts_give n r b q (p ∷ rest) table head others request room base queue size apart (omega arith) few (fine (table_bytes (in_table (p ∷ rest)))) read written stands
+    parts_give n r b q (p ∷ rest) table head others request room base queue size apart (omega arith) few (fine (table_bytes Split (in_table (p ∷ rest)))) read written stands
 
 mixed_gives : (n r b q : ℕ) (rest : List Part) (table : List Descriptor) (head : ℕ) (others : List ℕ) → n ≤ 49152 → r ≤ 8192 → b + 65536 ≤ 2 ^ 64 → 2 ≤ q → length table ≡ q
     → AreApart (head ∷ others) → length rest ≤ 2
-    → ((tables : List ℕ) → AreFine (memory b n r tables) false rest) → Covers (b + min 24 n) (n - min 24 n) (reads rest) → Covers (b + 49152) r (writes rest)
-    → Stands table (head ∷ others) (mixed n r b rest (head ∷ others)).ring → GivesAll (chain_of (mixed_parts n r b rest)) (memory b n r (mixed n r b rest (head ∷ others)).tables) table head n r b
-mixed_gives n r b q [] table head others request room base queue size apart few fine read written stands = flat_gives 1 n r b [] table head others (omega arith) apart stands
+    → ((tables : List ℕ) → AreFine (memory Split b n r tables) false rest) → Covers (b + min 24 n) (n - min 24 n) (reads rest) → Covers (b + 49152) r (writes rest)
+    → Stands table (head ∷ others) (mixed n r b rest (head ∷ others)).ring → GivesAll (chain_of (mixed_parts n r b rest)) (memory Split b n r ((mixed n r b rest (head ∷ others)).tables Split)) table head n r b
+mixed_gives n r b q [] table head others request room base queue size apart few fine read written stands = flat_gives Split 1 n r b [] table head others (omega arith) apart stands
 mixed_gives n r b q (p ∷ rest) table head others request room base queue size apart few fine read written stands =
     mixed_choice n r b q p rest (eqb n 0) table head others request room base queue size apart few fine read written stands
 
@@ -155,49 +157,55 @@ fails_then : (m : Memory) (table : List Descriptor) (head : ℕ) (d : Descriptor
     → fault_at m (length table) [] (start table head) ≡ None → fault_at m (length table) (start table head ∷ []) y ≡ Some fault → Walks m table head (Err fault)
 fails_then m table head d y fault here on step sound e = record { before = start table head ∷ []; last = y; visits = ((d, here, on, step), refl); clean = (sound, tt); faulty = e }
 
-bad_gives : (fault : ChainFault) (n r b q : ℕ) (table : List Descriptor) (head : ℕ) (others : List ℕ) → n ≤ 49152 → r ≤ 8192 → b + 65536 ≤ 2 ^ 64 → 2 ≤ q → length table ≡ q
-    → AreApart (head ∷ others) → Stands table (head ∷ others) (made (Bad fault) n r b q (head ∷ others)).ring
-    → Walks (memory b n r (made (Bad fault) n r b q (head ∷ others)).tables) table head (Err fault)
-bad_gives Index n r b q table head others request room base queue size apart stands =
-    let m = memory b n r [] in
+bad_gives : (form : Form) (fault : ChainFault) (n r b q : ℕ) (table : List Descriptor) (head : ℕ) (others : List ℕ) → n ≤ 49152 → r ≤ 8192 → b + 65536 ≤ 2 ^ 64 → 2 ≤ q → length table ≡ q
+    → Spells form (Bad fault) → AreApart (head ∷ others) → Stands table (head ∷ others) (made (Bad fault) n r b q (head ∷ others)).ring
+    → Walks (memory form b n r ((made (Bad fault) n r b q (head ∷ others)).tables form)) table head (Err fault)
+bad_gives form Index n r b q table head others request room base queue size spells apart stands =
+    let m = memory form b n r [] in
     let p : Part = record { addr = b; len = n; writes = false } in
-    let sound : fault_at m (length table) [] (start table head) ≡ None = rw stands.0 (sound_part m (length table) false false (ltb 0 0) (joined p q) p (joined_is p q) refl (λ off. refl) (lies b n b n (omega arith) (omega arith))) in
+    let sound : fault_at m (length table) [] (start table head) ≡ None = rw stands.0 (sound_part m (length table) false false (ltb 0 0) (ltb 0 0) (joined p q) p (joined_is p q) refl (λ off. refl) (lies b n b n (omega arith) (omega arith))) in
     let past : slice_get table q ≡ None = slice_get_past table q (omega arith) in
     fails_then m table head (joined p q) (start table q) Index stands.0 refl refl sound (rw past refl)
-bad_gives Loop n r b q table head others request room base queue size apart stands =
-    let m = memory b n r [] in
+bad_gives form Loop n r b q table head others request room base queue size spells apart stands =
+    let m = memory form b n r [] in
     let p : Part = record { addr = b; len = n; writes = false } in
-    let sound : fault_at m (length table) [] (start table head) ≡ None = rw stands.0 (sound_part m (length table) false false (ltb 0 0) (joined p head) p (joined_is p head) refl (λ off. refl) (lies b n b n (omega arith) (omega arith))) in
+    let sound : fault_at m (length table) [] (start table head) ≡ None = rw stands.0 (sound_part m (length table) false false (ltb 0 0) (ltb 0 0) (joined p head) p (joined_is p head) refl (λ off. refl) (lies b n b n (omega arith) (omega arith))) in
     fails_then m table head (joined p head) (start table head) Loop stands.0 refl refl sound (rw (stands.0, eq-eqb head head refl) refl)
-bad_gives Nested n r b q table head others request room base queue size apart stands =
+bad_gives Packed Nested n r b q table head others request room base queue size spells apart stands = absurd spells
+bad_gives Split Nested n r b q table head others request room base queue size spells apart stands =
     let d = referring b 16 4 0 in
-    let m = memory b n r (table_bytes (d ∷ [])) in
-    let sound : fault_at m (length table) [] (start table head) ≡ None = rw stands.0 (refers_sound m (length table) 1 false (ltb 0 0) 0 refl (omega arith) (omega arith) (length-table_bytes (d ∷ []))) in
-    let inner : table_of m d ≡ d ∷ [] = table_is m (d ∷ []) 4 0 refl (record { addr = omega arith; len = omega arith; flags = omega arith; next = omega arith }, tt) in
+    let m = memory Split b n r (table_bytes Split (d ∷ [])) in
+    let sound : fault_at m (length table) [] (start table head) ≡ None = rw stands.0 (refers_sound m (length table) 1 false (ltb 0 0) (ltb 0 0) 0 refl refl (omega arith) (omega arith) (length-table_bytes Split (d ∷ []))) in
+    let inner : table_of m d ≡ d ∷ [] = table_is m (d ∷ []) 4 0 refl (descriptors_in-table_bytes (d ∷ []) (record { addr = omega arith; len = omega arith; flags = omega arith; next = omega arith }, tt)) in
     let y : Visit = record { table = d ∷ []; inside = true; at = 0 } in
     fails_then m table head d y Nested stands.0 refl (rw inner refl) sound refl
-bad_gives NextWithIndirect n r b q table head others request room base queue size apart stands =
-    fails_at_once (memory b n r (by_table b (parts_of 1 n r b) 5 head).tables) table head NextWithIndirect (rw stands.0 refl)
-bad_gives TableLength n r b q table head others request room base queue size apart stands =
-    fails_at_once (memory b n r (made (Bad TableLength) n r b q (head ∷ others)).tables) table head TableLength (rw stands.0 refl)
-bad_gives Order n r b q table head [] request room base queue size apart stands = absurd stands.1
-bad_gives Order n r b q table head (other ∷ others) request room base queue size apart stands =
-    let m = memory b n r [] in
+bad_gives Split NextWithIndirect n r b q table head others request room base queue size spells apart stands =
+    fails_at_once (memory Split b n r ((made (Bad NextWithIndirect) n r b q (head ∷ others)).tables Split)) table head NextWithIndirect (rw stands.0 refl)
+bad_gives Packed NextWithIndirect n r b q table head others request room base queue size spells apart stands =
+    fails_at_once (memory Packed b n r ((made (Bad NextWithIndirect) n r b q (head ∷ others)).tables Packed)) table head NextWithIndirect (rw stands.0 refl)
+bad_gives Split TableLength n r b q table head others request room base queue size spells apart stands =
+    fails_at_once (memory Split b n r ((made (Bad TableLength) n r b q (head ∷ others)).tables Split)) table head TableLength (rw stands.0 refl)
+bad_gives Packed TableLength n r b q table head others request room base queue size spells apart stands =
+    fails_at_once (memory Packed b n r ((made (Bad TableLength) n r b q (head ∷ others)).tables Packed)) table head TableLength (rw stands.0 refl)
+bad_gives form Order n r b q table head [] request room base queue size spells apart stands = absurd stands.1
+bad_gives form Order n r b q table head (other ∷ others) request room base queue size spells apart stands =
+    let m = memory form b n r [] in
     let p : Part = record { addr = b + 49152; len = r; writes = true } in
-    let sound : fault_at m (length table) [] (start table head) ≡ None = rw stands.0 (sound_part m (length table) false false (ltb 0 0) (joined p other) p (joined_is p other) refl (λ off. refl) (lies (b + 49152) r (b + 49152) r (omega arith) (omega arith))) in
+    let sound : fault_at m (length table) [] (start table head) ≡ None = rw stands.0 (sound_part m (length table) false false (ltb 0 0) (ltb 0 0) (joined p other) p (joined_is p other) refl (λ off. refl) (lies (b + 49152) r (b + 49152) r (omega arith) (omega arith))) in
     let unmet : was_met false other (start table head ∷ []) ≡ false = rw (ne_eqb head other apart.0.0) refl in
     fails_then m table head (joined p other) (start table other) Order stands.0 refl refl sound (rw (stands.1.0, unmet, stands.0) refl)
-bad_gives Range n r b q table head others request room base queue size apart stands =
+bad_gives form Range n r b q table head others request room base queue size spells apart stands =
     let over : lies_in b n b (n + 1) ≡ false = grind (arith, nat_tests) in
-    fails_at_once (memory b n r []) table head Range (rw (stands.0, over) refl)
+    fails_at_once (memory form b n r []) table head Range (rw (stands.0, over) refl)
 
-pub gives : (shape : Shape) (n r b q : ℕ) (table : List Descriptor) (head : ℕ) (others : List ℕ) → IsRequest shape n r b q → IsLaid shape n r b q table head others
-    → GivesIts shape (memory_of shape n r b q (head ∷ others)) table head n r b
-gives Plain n r b q table head others request laid = flat_gives 1 n r b [] table head others (omega arith) laid.apart laid.stands
-gives (Pieces k) n r b q table head others request laid = (let some : 1 ≤ k = (let c = request.count in omega (arith, c.0)) in flat_gives k n r b [] table head others some laid.apart laid.stands)
-gives Indirect n r b q table head others request laid = indirect_gives n r b q table head others request.request request.room request.base request.queue laid.size laid.stands
-gives Mixed n r b q table head others request laid =
+pub gives : (form : Form) (shape : Shape) (n r b q : ℕ) (table : List Descriptor) (head : ℕ) (others : List ℕ) → IsRequest form shape n r b q → IsLaid shape n r b q table head others
+    → GivesIts shape (memory_of form shape n r b q (head ∷ others)) table head n r b
+gives form Plain n r b q table head others request laid = flat_gives form 1 n r b [] table head others (omega arith) laid.apart laid.stands
+gives form (Pieces k) n r b q table head others request laid = (let some : 1 ≤ k = (let c = request.count in omega (arith, c.0)) in flat_gives form k n r b [] table head others some laid.apart laid.stands)
+gives form Indirect n r b q table head others request laid = indirect_gives form n r b q table head others request.request request.room request.base request.queue laid.size laid.stands
+gives Packed Mixed n r b q table head others request laid = absurd request.spells
+gives Split Mixed n r b q table head others request laid =
     mixed_gives n r b q (rest_of n r b) table head others request.request request.room request.base request.queue laid.size laid.apart (length_parts (n - 24) (b + 24) (n - 24) r b)
-    (λ tables. fine_pieces (memory b n r tables) 1 (n - 24) (b + 24) (n - 24) r (λ more. (omega arith, omega arith)) refl)
+    (λ tables. fine_pieces (memory Split b n r tables) 1 (n - 24) (b + 24) (n - 24) r (λ more. (omega arith, omega arith)) refl)
     (rest_read n r b) (covers_written 1 (n - 24) (b + 24) (n - 24) r b) laid.stands
-gives (Bad fault) n r b q table head others request laid = bad_gives fault n r b q table head others request.request request.room request.base request.queue laid.size laid.apart laid.stands
+gives form (Bad fault) n r b q table head others request laid = bad_gives form fault n r b q table head others request.request request.room request.base request.queue laid.size request.spells laid.apart laid.stands

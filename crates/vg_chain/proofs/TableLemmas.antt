@@ -1,16 +1,18 @@
-use Rattle.std.proofs.Common.{◌≡◌, ℕ, zero, suc, ◌+◌, ◌-◌, ◌*◌, ◌/◌, ◌%◌, ◌^◌, ◌<◌, ◌≤◌, Bool, true, false, not, ◌||◌, cond, eqb, ltb, Some, None, List, [], ◌∷◌, ◌++◌, length, map, drop, refl, subst, arith, slice_get, append_assoc, length-append}
+use Rattle.std.proofs.Common.{◌≡◌, ℕ, zero, suc, ◌+◌, ◌-◌, ◌*◌, ◌/◌, ◌%◌, ◌^◌, ◌<◌, ◌≤◌, Bool, true, false, not, ◌||◌, cond, eqb, ltb, Some, None, List, [], ◌∷◌, ◌++◌, length, map, drop, refl, ap, subst, ◌∙◌, arith, slice_get, append_assoc, length-append}
 use Rattle.std.specs.List.{range_with_len}
 use Rattle.std.proofs.lemmas.Bool.{ne_eqb}
 use Rattle.std.proofs.lemmas.Bool.Decides.{nat_tests}
 use Rattle.vg_chain.specs.declared.descriptor.Descriptor.{Descriptor}
+use Rattle.vg_chain.specs.declared.form.Form.{Form}
+use Rattle.vg_chain.specs.declared.form.Form.TheVariants.{Split, Packed}
 use Rattle.vg_numbers.specs.Numbers.{number_at, le}
-use Rattle.vg_chain.specs.Descriptor.{descriptor_at, descriptors_in}
+use Rattle.vg_chain.specs.Descriptor.{flags_of, is_writable, is_indirect, has_next, descriptor_at, descriptors_in, packed_at, packed_in, table_in}
 use Rattle.vg_chain.specs.Memory.{Memory, lies_in, table_of}
-use Rattle.vg_chain.specs.Fault.{fault_of}
+use Rattle.vg_chain.specs.Fault.{fault_of, is_listed}
 use Rattle.vg_chain.specs.declared.part.Part.{Part}
-use Rattle.vg_chain.specs.Made.{flags_of, linked, in_table, bytes_of, table_bytes, referring, Stands, AreOther, AreApart}
+use Rattle.vg_chain.specs.Made.{last_of, joined, linked, in_table, split_bytes, packed_bytes, bytes_of, table_bytes, referring, Stands, AreOther, AreApart}
 use Rattle.vg_numbers.proofs.NumberLemmas.{length-le, number_at-le}
-use Rattle.vg_chain.proofs.PartLemmas.{AreFine}
+use Rattle.vg_chain.proofs.PartLemmas.{AreFine, bit_write}
 use Rattle.vg_chain.proofs.PieceLemmas.{lies}
 
 -- a descriptor whose numbers fit its bytes
@@ -24,18 +26,26 @@ abbrev pub AreDescriptors : List Descriptor → Type 0
 AreDescriptors [] = Unit {0}
 AreDescriptors (d ∷ more) = IsDescriptor d × AreDescriptors more
 
-pub length-bytes_of : (d : Descriptor) → length (bytes_of d) ≡ 16
-unfolding bytes_of
-length-bytes_of d = simp length-append (omega (arith, length-le 8 d.addr, length-le 4 d.len, length-le 2 d.flags, length-le 2 d.next))
+length-split_bytes : (d : Descriptor) → length (split_bytes d) ≡ 16
+unfolding split_bytes
+length-split_bytes d = simp length-append (omega (arith, length-le 8 d.addr, length-le 4 d.len, length-le 2 d.flags, length-le 2 d.next))
 
-pub length-table_bytes : (table : List Descriptor) → length (table_bytes table) ≡ 16 * length table
-length-table_bytes [] = refl
-length-table_bytes (d ∷ more) = simp length-append (omega (arith, length-bytes_of d, length-table_bytes more))
+length-packed_bytes : (d : Descriptor) → length (packed_bytes d) ≡ 16
+unfolding packed_bytes
+length-packed_bytes d = simp length-append (omega (arith, length-le 8 d.addr, length-le 4 d.len, length-le 2 0, length-le 2 (cond (is_writable d) 2 0)))
+
+length-bytes_of : (form : Form) (d : Descriptor) → length (bytes_of form d) ≡ 16
+length-bytes_of Split d = length-split_bytes d
+length-bytes_of Packed d = length-packed_bytes d
+
+pub length-table_bytes : (form : Form) (table : List Descriptor) → length (table_bytes form table) ≡ 16 * length table
+length-table_bytes form [] = refl
+length-table_bytes form (d ∷ more) = simp length-append (omega (arith, length-bytes_of form d, length-table_bytes form more))
 
 -- what is written of a descriptor is read as itself
-descriptor_at-bytes_of : (d : Descriptor) (front rest : List ℕ) (at : ℕ) → length front ≡ at → IsDescriptor d → descriptor_at at (front ++ (bytes_of d ++ rest)) ≡ d
-unfolding bytes_of
-descriptor_at-bytes_of d front rest at here fits =
+descriptor_at-split_bytes : (d : Descriptor) (front rest : List ℕ) (at : ℕ) → length front ≡ at → IsDescriptor d → descriptor_at at (front ++ (split_bytes d ++ rest)) ≡ d
+unfolding split_bytes
+descriptor_at-split_bytes d front rest at here fits =
     let a = le 8 d.addr in
     let l = le 4 d.len in
     let f = le 2 d.flags in
@@ -52,25 +62,25 @@ descriptor_at-bytes_of d front rest at here fits =
 
 -- the descriptors that were written one after another
 descriptors-run : (table : List Descriptor) (front : List ℕ) (a : ℕ) → length front ≡ 16 * a → AreDescriptors table
-    → map (λ i. descriptor_at (16 * i) (front ++ table_bytes table)) (range_with_len a (length table)) ≡ table
+    → map (λ i. descriptor_at (16 * i) (front ++ table_bytes Split table)) (range_with_len a (length table)) ≡ table
 descriptors-run [] front a here fits = refl
 descriptors-run (d ∷ more) front a here fits =
-    let next : length (front ++ bytes_of d) ≡ 16 * (a + 1) = simp length-append (omega (arith, length-bytes_of d)) in
-    let rest = descriptors-run more (front ++ bytes_of d) (a + 1) next fits.1 in
-    let first = descriptor_at-bytes_of d front (table_bytes more) (16 * a) here fits.0 in
+    let next : length (front ++ split_bytes d) ≡ 16 * (a + 1) = simp length-append (omega (arith, length-split_bytes d)) in
+    let rest = descriptors-run more (front ++ split_bytes d) (a + 1) next fits.1 in
+    let first = descriptor_at-split_bytes d front (table_bytes Split more) (16 * a) here fits.0 in
     let moved = simp append_assoc at rest in
     cc (first, moved)
 
-pub descriptors_in-table_bytes : (table : List Descriptor) → AreDescriptors table → descriptors_in (length table) (table_bytes table) ≡ table
+pub descriptors_in-table_bytes : (table : List Descriptor) → AreDescriptors table → descriptors_in (length table) (table_bytes Split table) ≡ table
 descriptors_in-table_bytes table fits = descriptors-run table [] 0 refl fits
 
 -- the table to which a descriptor refers is the one that was written
-pub table_is : (m : Memory) (table : List Descriptor) (flags next : ℕ) → m.tables ≡ table_bytes table → AreDescriptors table
+pub table_is : (m : Memory) (table : List Descriptor) (flags next : ℕ) → m.tables ≡ table_bytes m.form table → table_in m.form (length table) (table_bytes m.form table) ≡ table
     → table_of m (referring m.base (16 * length table) flags next) ≡ table
-table_is m table flags next e fits =
+table_is m table flags next e back =
     let count : 16 * length table / 16 ≡ length table = omega arith in
     let front : m.base + 57344 - (m.base + 57344) ≡ 0 = omega arith in
-    rw (count, front, e) (descriptors_in-table_bytes table fits)
+    rw (count, front, e) back
 
 good_length : (size n : ℕ) → 1 ≤ n → n ≤ size → (eqb (16 * n) 0 || not (eqb (16 * n % 16) 0)) || ltb (16 * size) (16 * n) ≡ false
 good_length size n some few =
@@ -79,12 +89,21 @@ good_length size n some few =
     let c : ltb (16 * size) (16 * n) ≡ false = grind (arith, nat_tests) in
     rw (ne_eqb (16 * n) 0 a, b, c) refl
 
+-- a descriptor with INDIRECT alone stands in no list, in the split form or first in its chain
+pub unlisted_split : (behind : Bool) (d : Descriptor) → has_next d ≡ false → is_listed Split behind d ≡ false
+unlisted_split behind d last = last
+
+pub unlisted_first : (form : Form) (d : Descriptor) → has_next d ≡ false → is_listed form false d ≡ false
+unlisted_first Split d last = last
+unlisted_first Packed d last = rw last refl
+
 -- a descriptor that refers to a table has no fault
-pub refers_sound : (m : Memory) (size n : ℕ) (met wrote : Bool) (next : ℕ) → met ≡ false → 1 ≤ n → n ≤ size → length m.tables ≡ 16 * n
-    → fault_of m size false met wrote (Some (referring m.base (16 * n) 4 next)) ≡ None
-refers_sound m size n met wrote next unmet some few tables =
+pub refers_sound : (m : Memory) (size n : ℕ) (met read wrote : Bool) (next : ℕ) → met ≡ false → is_listed m.form (read || wrote) (referring m.base (16 * n) 4 next) ≡ false
+    → 1 ≤ n → n ≤ size → length m.tables ≡ 16 * n
+    → fault_of m size false met read wrote (Some (referring m.base (16 * n) 4 next)) ≡ None
+refers_sound m size n met read wrote next unmet unlisted some few tables =
     let there : lies_in (m.base + 57344) (length m.tables) (m.base + 57344) (16 * n) ≡ true = lies (m.base + 57344) (length m.tables) (m.base + 57344) (16 * n) (omega arith) (omega arith) in
-    rw (unmet, good_length size n some few, there) refl
+    rw (unmet, unlisted, good_length size n some few, there) refl
 
 -- the places of a table
 abbrev AreSmall : List ℕ → Type 0
@@ -155,5 +174,61 @@ placed m wrote (p ∷ parts) base request room fine =
     let here = placed_part m p.writes p.addr p.len base request room fine.1 in
     (here.0, here.1, placed m (wrote || p.writes) parts base request room fine.2)
 
-pub fits_in : (parts : List Part) → length parts ≤ 2 → ArePlaced parts → AreDescriptors (in_table parts)
+fits_in : (parts : List Part) → length parts ≤ 2 → ArePlaced parts → AreDescriptors (in_table parts)
 fits_in parts few places = fits_linked parts (range_with_len 1 (length parts)) places (small_range 1 (length parts) (omega arith))
+
+-- what is written of a descriptor of a packed table is read with the flags and the next one of its place
+packed_at-packed_bytes : (d : Descriptor) (front rest : List ℕ) (n i : ℕ) → length front ≡ 16 * i → d.addr < 2 ^ 64 → d.len < 2 ^ 32
+    → packed_at n i (front ++ (packed_bytes d ++ rest)) ≡ record { addr = d.addr; len = d.len; flags = flags_of (is_writable d) (ltb (i + 1) n); next = cond (ltb (i + 1) n) (i + 1) 0 }
+unfolding packed_bytes
+packed_at-packed_bytes d front rest n i here addr_fits len_fits =
+    let a = le 8 d.addr in
+    let l = le 4 d.len in
+    let k : List ℕ = le 2 0 in
+    let word : ℕ = cond (is_writable d) 2 0 in
+    let f : List ℕ = le 2 word in
+    let bytes : List ℕ = front ++ ((((a ++ l) ++ k) ++ f) ++ rest) in
+    let one : length (front ++ a) ≡ 16 * i + 8 = simp length-append (omega (arith, length-le 8 d.addr)) in
+    let three : length (((front ++ a) ++ l) ++ k) ≡ 16 * i + 14 = simp length-append (omega (arith, length-le 8 d.addr, length-le 4 d.len, length-le 2 0)) in
+    let small : word < 2 ^ 16 = small_write (is_writable d) in
+    let addr : number_at 8 (16 * i) bytes ≡ d.addr = simp append_assoc (number_at-le 8 front (l ++ (k ++ (f ++ rest))) (16 * i) d.addr here (omega (arith, addr_fits))) in
+    let len : number_at 4 (16 * i + 8) bytes ≡ d.len = simp append_assoc (simp append_assoc at (number_at-le 4 (front ++ a) (k ++ (f ++ rest)) (16 * i + 8) d.len one (omega (arith, len_fits)))) in
+    let flags : number_at 2 (16 * i + 14) bytes ≡ word = simp append_assoc (simp append_assoc at (number_at-le 2 (((front ++ a) ++ l) ++ k) rest (16 * i + 14) word three (omega (arith, small)))) in
+    rw (addr, len, flags, write_back (is_writable d)) refl
+  where
+    small_write : (w : Bool) → cond w 2 0 < 2 ^ 16
+    small_write true = omega arith
+    small_write false = omega arith
+    write_back : (w : Bool) → eqb (cond w 2 0 / 2 % 2) 1 ≡ w
+    write_back true = refl
+    write_back false = refl
+
+-- the parts that were written one after another, with n descriptors in all
+packed-run : (parts : List Part) (front : List ℕ) (a n : ℕ) → length front ≡ 16 * a → n ≡ a + length parts → ArePlaced parts
+    → map (λ i. packed_at n i (front ++ table_bytes Packed (linked parts (range_with_len (a + 1) (length parts))))) (range_with_len a (length parts)) ≡ linked parts (range_with_len (a + 1) (length parts))
+packed-run [] front a n here whole fits = refl
+packed-run (p ∷ []) front a n here whole fits =
+    let last : ltb (a + 1) n ≡ false = grind (arith, nat_tests) in
+    let first = packed_at-packed_bytes (last_of p) front [] n a here fits.0 fits.1 in
+    let first' : packed_at n a (front ++ (packed_bytes (last_of p) ++ [])) ≡ last_of p = first ∙ rw (last, bit_write p.writes false) refl in
+    ap (λ (x : Descriptor). x ∷ []) first'
+packed-run (p ∷ other ∷ parts) front a n here whole fits =
+    let d : Descriptor = joined p (a + 1) in
+    let left : List Descriptor = linked (other ∷ parts) (range_with_len (a + 1 + 1) (length (other ∷ parts))) in
+    let bytes : List ℕ = table_bytes Packed left in
+    let more : ltb (a + 1) n ≡ true = grind (arith, nat_tests) in
+    let next : length (front ++ packed_bytes d) ≡ 16 * (a + 1) = simp length-append (omega (arith, length-packed_bytes d)) in
+    let rest = packed-run (other ∷ parts) (front ++ packed_bytes d) (a + 1) n next (omega (arith, whole)) fits.2 in
+    let first = packed_at-packed_bytes d front bytes n a here fits.0 fits.1 in
+    let first' : packed_at n a (front ++ (packed_bytes d ++ bytes)) ≡ d = first ∙ rw (more, bit_write p.writes true) refl in
+    let moved : map (λ i. packed_at n i (front ++ (packed_bytes d ++ bytes))) (range_with_len (a + 1) (length (other ∷ parts))) ≡ left =
+    subst (λ (xs : List ℕ). map (λ i. packed_at n i xs) (range_with_len (a + 1) (length (other ∷ parts))) ≡ left) (append_assoc front (packed_bytes d) bytes) rest in
+    ap (λ (x : Descriptor). x ∷ map (λ i. packed_at n i (front ++ (packed_bytes d ++ bytes))) (range_with_len (a + 1) (length (other ∷ parts)))) first' ∙ ap (λ (xs : List Descriptor). d ∷ xs) moved
+
+packed_back : (parts : List Part) → ArePlaced parts → packed_in (length (in_table parts)) (table_bytes Packed (in_table parts)) ≡ in_table parts
+packed_back parts fits = rw (length-linked parts (range_with_len 1 (length parts))) (packed-run parts [] 0 (length parts) refl (omega arith) fits)
+
+-- the table of parts is read in either form as it was written
+pub table_back : (form : Form) (parts : List Part) → length parts ≤ 2 → ArePlaced parts → table_in form (length (in_table parts)) (table_bytes form (in_table parts)) ≡ in_table parts
+table_back Split parts few fits = descriptors_in-table_bytes (in_table parts) (fits_in parts few fits)
+table_back Packed parts few fits = packed_back parts fits

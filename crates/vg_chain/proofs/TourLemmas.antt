@@ -1,7 +1,7 @@
-use Rattle.std.proofs.Common.{◌≡◌, ◌≢◌, ℕ, zero, suc, ◌+◌, ◌/◌, ◌<◌, ◌≤◌, Bool, true, false, not, ◌&&◌, ◌||◌, cond, eqb, ltb, Option, Some, None, List, [], ◌∷◌, ◌++◌, length, get_or, set, replicate, refl, sym, inl, inr, ◌∙◌, arith}
+use Rattle.std.proofs.Common.{◌≡◌, ◌≢◌, ℕ, zero, suc, ◌+◌, ◌*◌, ◌/◌, ◌%◌, ◌<◌, ◌≤◌, Bool, true, false, not, ◌&&◌, ◌||◌, cond, eqb, ltb, Option, Some, None, List, [], ◌∷◌, ◌++◌, length, get_or, set, replicate, refl, sym, inl, inr, ◌∙◌, arith}
 use Rattle.std.proofs.lemmas.List.{append-nil, get_or-set_other, get_or-set_same, length-set, length-replicate}
 use Rattle.std.proofs.lemmas.List.Sums.{sum_by-set, count_by-le-length}
-use Rattle.std.proofs.lemmas.Bool.Decides.{eqb_tells}
+use Rattle.std.proofs.lemmas.Bool.Decides.{nat_tests, eqb_tells}
 use Rattle.std.proofs.lemmas.Option.{slice_get_within}
 use Rattle.std.specs.List.{count_by}
 use Rattle.vg_laws.proofs.Bools.{not-false}
@@ -12,7 +12,7 @@ use Rattle.vg_chain.specs.declared.descriptor.Descriptor.{Descriptor}
 use Rattle.vg_chain.specs.declared.descriptor.Segment.{Segment}
 use Rattle.vg_chain.specs.Descriptor.{has_next, is_indirect, is_read}
 use Rattle.vg_chain.specs.Memory.{Memory, table_of, is_in_range}
-use Rattle.vg_chain.specs.Fault.{fault_of, is_bad_length}
+use Rattle.vg_chain.specs.Fault.{fault_of, is_bad_length, is_listed}
 use Rattle.vg_chain.specs.Walk.{Visit, there, Visits, was_met, read_of, written_of, all_read, all_written, fault_at, AreClean, IsChain, IsFault}
 use Rattle.vg_chain.specs.TourWithin.{table_now, places_left}
 
@@ -69,17 +69,15 @@ and_right false b on off = cc
 pub record IsFree (m : Memory) (size : ℕ) (inside met : Bool) (d : Descriptor) : Type 0 where
   pub unmet : met ≡ false
   pub outer : is_indirect d ≡ true → inside ≡ false
-  pub ends : is_indirect d ≡ true → has_next d ≡ false
   pub good : is_indirect d ≡ true → is_bad_length size d ≡ false
   pub there : is_in_range m d ≡ true
 
-pub free : (m : Memory) (size : ℕ) (inside met wrote : Bool) (d : Descriptor) → fault_of m size inside met wrote (Some d) ≡ None → IsFree m size inside met d
-free m size inside met wrote d h =
-    let parts = no_fault met (is_indirect d && inside) (is_indirect d && has_next d) (is_indirect d && is_bad_length size d) (is_read d && wrote) (not (is_in_range m d)) h in
+pub free : (m : Memory) (size : ℕ) (inside met read wrote : Bool) (d : Descriptor) → fault_of m size inside met read wrote (Some d) ≡ None → IsFree m size inside met d
+free m size inside met read wrote d h =
+    let parts = no_fault met (is_indirect d && inside) (is_indirect d && is_listed m.form (read || wrote) d) (is_indirect d && is_bad_length size d) (is_read d && wrote) (not (is_in_range m d)) h in
     record {
       unmet = parts.0;
       outer = λ on. and_right (is_indirect d) inside on parts.1;
-      ends = λ on. and_right (is_indirect d) (has_next d) on parts.2;
       good = λ on. and_right (is_indirect d) (is_bad_length size d) on parts.3;
       there = not-false (is_in_range m d) parts.5;
     }
@@ -145,32 +143,32 @@ tour_enters m ring head inner inside at marks readable writable d tour here soun
 pub fault_is : (m : Memory) (ring : List Descriptor) (head : ℕ) (inner : List Descriptor) (inside : Bool) (at : ℕ) (marks : List Bool) (readable writable : List Segment) (d : Descriptor)
     → (tour : IsTour m ring head inner inside at marks readable writable)
     → there (visit_now ring inner inside at) ≡ Some d
-    → fault_at m (length ring) tour.before (visit_now ring inner inside at) ≡ fault_of m (length ring) inside (get_or marks at false) (ltb 0 (length writable)) (Some d)
+    → fault_at m (length ring) tour.before (visit_now ring inner inside at) ≡ fault_of m (length ring) inside (get_or marks at false) (ltb 0 (length readable)) (ltb 0 (length writable)) (Some d)
 fault_is m ring head inner inside at marks readable writable d tour here =
-    rw (here, tour.marked at, tour.written) refl
+    rw (here, tour.marked at, tour.read, tour.written) refl
 
 pub none_of : (r : Option ChainFault) → ((x : ChainFault) → r ≡ Some x → ⊥) → r ≡ None
 none_of None h = refl
 none_of (Some x) h = absurd (h x refl)
 
 -- the visit has no fault where none was found
-pub sound_of : (m : Memory) (ring : List Descriptor) (head : ℕ) (inner : List Descriptor) (inside : Bool) (at : ℕ) (marks : List Bool) (readable writable : List Segment) (d : Descriptor) (met wrote : Bool) (found : Option ChainFault)
+pub sound_of : (m : Memory) (ring : List Descriptor) (head : ℕ) (inner : List Descriptor) (inside : Bool) (at : ℕ) (marks : List Bool) (readable writable : List Segment) (d : Descriptor) (met read wrote : Bool) (found : Option ChainFault)
     → (tour : IsTour m ring head inner inside at marks readable writable)
     → there (visit_now ring inner inside at) ≡ Some d
-    → met ≡ get_or marks at false → wrote ≡ ltb 0 (length writable)
-    → found ≡ fault_of m (length ring) inside met wrote (Some d) → ((x : ChainFault) → found ≡ Some x → ⊥)
+    → met ≡ get_or marks at false → read ≡ ltb 0 (length readable) → wrote ≡ ltb 0 (length writable)
+    → found ≡ fault_of m (length ring) inside met read wrote (Some d) → ((x : ChainFault) → found ≡ Some x → ⊥)
     → fault_at m (length ring) tour.before (visit_now ring inner inside at) ≡ None
-sound_of m ring head inner inside at marks readable writable d met wrote found tour here met_is wrote_is found_is none =
-    fault_is m ring head inner inside at marks readable writable d tour here ∙ rw (← met_is, ← wrote_is) (sym found_is ∙ none_of found none)
+sound_of m ring head inner inside at marks readable writable d met read wrote found tour here met_is read_is wrote_is found_is none =
+    fault_is m ring head inner inside at marks readable writable d tour here ∙ rw (← met_is, ← read_is, ← wrote_is) (sym found_is ∙ none_of found none)
 
-pub fault_found : (m : Memory) (ring : List Descriptor) (head : ℕ) (inner : List Descriptor) (inside : Bool) (at : ℕ) (marks : List Bool) (readable writable : List Segment) (d : Descriptor) (met wrote : Bool) (fault : ChainFault)
+pub fault_found : (m : Memory) (ring : List Descriptor) (head : ℕ) (inner : List Descriptor) (inside : Bool) (at : ℕ) (marks : List Bool) (readable writable : List Segment) (d : Descriptor) (met read wrote : Bool) (fault : ChainFault)
     → (tour : IsTour m ring head inner inside at marks readable writable)
     → there (visit_now ring inner inside at) ≡ Some d
-    → met ≡ get_or marks at false → wrote ≡ ltb 0 (length writable)
-    → Some fault ≡ fault_of m (length ring) inside met wrote (Some d)
+    → met ≡ get_or marks at false → read ≡ ltb 0 (length readable) → wrote ≡ ltb 0 (length writable)
+    → Some fault ≡ fault_of m (length ring) inside met read wrote (Some d)
     → fault_at m (length ring) tour.before (visit_now ring inner inside at) ≡ Some fault
-fault_found m ring head inner inside at marks readable writable d met wrote fault tour here met_is wrote_is found_is =
-    fault_is m ring head inner inside at marks readable writable d tour here ∙ rw (← met_is, ← wrote_is) (sym found_is)
+fault_found m ring head inner inside at marks readable writable d met read wrote fault tour here met_is read_is wrote_is found_is =
+    fault_is m ring head inner inside at marks readable writable d tour here ∙ rw (← met_is, ← read_is, ← wrote_is) (sym found_is)
 
 -- a walk that ends
 pub tour_ends : (m : Memory) (ring : List Descriptor) (head : ℕ) (inner : List Descriptor) (inside : Bool) (at : ℕ) (marks : List Bool) (readable writable : List Segment) (d : Descriptor) (chain : Chain)
@@ -219,3 +217,13 @@ left_enters ring marks n small =
     let most = count_by-le-length not (replicate n false) in
     let long = length-replicate n false in
     omega (arith, most, long)
+
+-- a table of a good length has no more descriptors than the queue
+pub fits_queue : (size : ℕ) (d : Descriptor) → is_bad_length size d ≡ false → d.len / 16 ≤ size
+fits_queue size d good = by_tests (eqb d.len 0) (eqb (d.len % 16) 0) (ltb (16 * size) d.len) refl good
+  where
+    by_tests : (none whole more : Bool) → ltb (16 * size) d.len ≡ more → (none || not whole) || more ≡ false → d.len / 16 ≤ size
+    by_tests true whole more is h = absurd (cc)
+    by_tests false false more is h = absurd (cc)
+    by_tests false true true is h = absurd (cc)
+    by_tests false true false is h = (let most : d.len ≤ 16 * size = grind (arith, nat_tests) in omega (arith, most))

@@ -4,18 +4,16 @@ use Rattle.vg_chain.specs.declared.chain.Chain.{Chain}
 use Rattle.vg_chain.specs.declared.chain.ChainFault.TheVariants.{Index, Loop, Nested, NextWithIndirect, TableLength, Order, Range}
 use Rattle.vg_chain.specs.declared.descriptor.Descriptor.{Descriptor}
 use Rattle.vg_chain.specs.declared.descriptor.Segment.{Segment}
+use Rattle.vg_chain.specs.declared.form.Form.{Form}
+use Rattle.vg_chain.specs.declared.form.Form.TheVariants.{Split, Packed}
 use Rattle.vg_chain.specs.declared.part.Part.{Part}
 use Rattle.vg_chain.specs.declared.shape.Shape.{Shape}
 use Rattle.vg_chain.specs.declared.shape.Shape.TheVariants.{Plain, Pieces, Indirect, Mixed, Bad}
 use Rattle.vg_numbers.specs.Numbers.{le}
 use Rattle.vg_chain.specs.Space.{most_request, most_room, room_at, tables_at, header_size, IsPlaced}
-use Rattle.vg_chain.specs.Descriptor.{NEXT, WRITE, INDIRECT, descriptor_size}
+use Rattle.vg_chain.specs.Descriptor.{NEXT, WRITE, INDIRECT, is_writable, flags_of, descriptor_size}
 use Rattle.vg_chain.specs.Memory.{Memory, memory}
 use Rattle.vg_chain.specs.Walk.{Walks}
-
--- The flags of a part's descriptor.
-abbrev pub flags_of : Bool → Bool → ℕ
-flags_of writes more = (if writes then WRITE else 0) + (if more then NEXT else 0)
 
 -- The descriptor of a part after which none comes, and of one after which that at this place does.
 abbrev pub last_of : Part → Descriptor
@@ -55,12 +53,21 @@ parts_of k n r b = or_empty b (pieces k ((n + (k - 1)) / k) b n ++ room_of r b)
 abbrev pub rest_of : ℕ → ℕ → ℕ → List Part
 rest_of n r b = pieces 1 (n - header_size) (b + header_size) (n - header_size) ++ room_of r b
 
--- A descriptor's bytes (VIRTIO 1.2, 2.7.5), and those of a table.
-unfoldable pub bytes_of : Descriptor → List ℕ
-bytes_of d = le 8 d.addr ++ le 4 d.len ++ le 2 d.flags ++ le 2 d.next
+-- A descriptor's bytes in a table of the split form (VIRTIO 1.2, 2.7.5), and in one of the packed form (2.8 and 2.8.7), where the id
+-- is 0, and of the flags WRITE alone stands.
+unfoldable pub split_bytes : Descriptor → List ℕ
+split_bytes d = le 8 d.addr ++ le 4 d.len ++ le 2 d.flags ++ le 2 d.next
 
-abbrev pub table_bytes : List Descriptor → List ℕ
-table_bytes table = flat_map bytes_of table
+unfoldable pub packed_bytes : Descriptor → List ℕ
+packed_bytes d = le 8 d.addr ++ le 4 d.len ++ le 2 0 ++ le 2 (if is_writable d then WRITE else 0)
+
+abbrev pub bytes_of : Form → Descriptor → List ℕ
+bytes_of Split d = split_bytes d
+bytes_of Packed d = packed_bytes d
+
+-- The bytes of a table in this form.
+abbrev pub table_bytes : Form → List Descriptor → List ℕ
+table_bytes form table = flat_map (bytes_of form) table
 
 -- In a table the descriptors stand at 0, 1, 2 and so on.
 abbrev pub in_table : List Part → List Descriptor
@@ -70,24 +77,32 @@ in_table parts = linked parts (range_with_len 1 (length parts))
 abbrev pub referring : ℕ → ℕ → ℕ → ℕ → Descriptor
 referring b len flags next = record { addr = tables_at b; len = len; flags = flags; next = next }
 
--- The descriptors in the ring, and the bytes of the tables.
+-- The descriptors in the ring, and the bytes of the tables in each form.
 pub record Layout : Type 0 where
   pub ring : List Descriptor
-  pub tables : List ℕ
+  pub tables : Form → List ℕ
+
+-- No bytes in either form.
+abbrev pub no_tables : Form → List ℕ
+no_tables form = []
+
+-- The bytes of this table.
+abbrev pub one_table : List Descriptor → Form → List ℕ
+one_table table form = table_bytes form table
 
 abbrev pub flat : List Part → List ℕ → Layout
-flat parts places = record { ring = linked parts (drop 1 places); tables = [] }
+flat parts places = record { ring = linked parts (drop 1 places); tables = no_tables }
 
 abbrev pub in_parts : Part → List Part → ℕ → ℕ → Layout
 in_parts first rest b place = record {
   ring = joined first place ∷ referring b (descriptor_size * length (in_table rest)) INDIRECT 0 ∷ [];
-  tables = table_bytes (in_table rest);
+  tables = one_table (in_table rest);
 }
 
 abbrev pub by_table : ℕ → List Part → ℕ → ℕ → Layout
 by_table b parts flags next = record {
   ring = referring b (descriptor_size * length (in_table parts)) flags next ∷ [];
-  tables = table_bytes (in_table parts);
+  tables = one_table (in_table parts);
 }
 
 -- The header of a request in the ring, and the rest by a table; where that table were empty, or the request is, all in the ring.
@@ -105,16 +120,19 @@ made Plain n r b q places = flat (parts_of 1 n r b) places
 made (Pieces k) n r b q places = flat (parts_of k n r b) places
 made Indirect n r b q places = by_table b (parts_of 1 n r b) INDIRECT 0
 made Mixed n r b q places = mixed n r b (rest_of n r b) places
-made (Bad Index) n r b q places = record { ring = joined (record { addr = b; len = n; writes = false }) q ∷ []; tables = [] }
-made (Bad Loop) n r b q places = record { ring = joined (record { addr = b; len = n; writes = false }) (slice_index places 0) ∷ []; tables = [] }
-made (Bad Nested) n r b q places = record { ring = referring b descriptor_size INDIRECT 0 ∷ []; tables = table_bytes (referring b descriptor_size INDIRECT 0 ∷ []) }
-made (Bad NextWithIndirect) n r b q places = by_table b (parts_of 1 n r b) (INDIRECT + NEXT) (slice_index places 0)
-made (Bad TableLength) n r b q places = record { ring = referring b (descriptor_size + 8) INDIRECT 0 ∷ []; tables = replicate (2 * descriptor_size) 0 }
+made (Bad Index) n r b q places = record { ring = joined (record { addr = b; len = n; writes = false }) q ∷ []; tables = no_tables }
+made (Bad Loop) n r b q places = record { ring = joined (record { addr = b; len = n; writes = false }) (slice_index places 0) ∷ []; tables = no_tables }
+made (Bad Nested) n r b q places = record { ring = referring b descriptor_size INDIRECT 0 ∷ []; tables = one_table (referring b descriptor_size INDIRECT 0 ∷ []) }
+made (Bad NextWithIndirect) n r b q places = record {
+  ring = referring b (descriptor_size * length (in_table (parts_of 1 n r b))) (INDIRECT + NEXT) (slice_index places 1) ∷ last_of (record { addr = b; len = 0; writes = false }) ∷ [];
+  tables = one_table (in_table (parts_of 1 n r b));
+}
+made (Bad TableLength) n r b q places = record { ring = referring b (descriptor_size + 8) INDIRECT 0 ∷ []; tables = (λ form. replicate (2 * descriptor_size) 0) }
 made (Bad Order) n r b q places = record {
   ring = joined (record { addr = room_at b; len = r; writes = true }) (slice_index places 1) ∷ last_of (record { addr = b; len = n; writes = false }) ∷ [];
-  tables = [];
+  tables = no_tables;
 }
-made (Bad Range) n r b q places = record { ring = last_of (record { addr = b; len = n + 1; writes = false }) ∷ []; tables = [] }
+made (Bad Range) n r b q places = record { ring = last_of (record { addr = b; len = n + 1; writes = false }) ∷ []; tables = no_tables }
 
 -- The descriptors stand at these places of a table, one at each.
 abbrev pub Stands : List Descriptor → List ℕ → List Descriptor → Type 0
@@ -139,8 +157,25 @@ IsCount Indirect = Unit {0}
 IsCount Mixed = Unit {0}
 IsCount (Bad fault) = Unit {0}
 
--- A request, its room and its base that a shape can lay out in a queue of this size.
-pub record IsRequest (shape : Shape) (n r b q : ℕ) : Type 0 where
+-- The shapes that a virtqueue of this form can spell. In a packed ring the descriptors of a chain follow each other by place, so
+-- none of them can name another, in a table none refers to a table, and one in a list doesn't.
+abbrev pub Spells : Form → Shape → Type 0
+Spells Split shape = Unit {0}
+Spells Packed Plain = Unit {0}
+Spells Packed (Pieces k) = Unit {0}
+Spells Packed Indirect = Unit {0}
+Spells Packed Mixed = ⊥
+Spells Packed (Bad Index) = ⊥
+Spells Packed (Bad Loop) = ⊥
+Spells Packed (Bad Nested) = ⊥
+Spells Packed (Bad NextWithIndirect) = Unit {0}
+Spells Packed (Bad TableLength) = Unit {0}
+Spells Packed (Bad Order) = Unit {0}
+Spells Packed (Bad Range) = Unit {0}
+
+-- A request, its room and its base that a shape can lay out in a queue of this form and size.
+pub record IsRequest (form : Form) (shape : Shape) (n r b q : ℕ) : Type 0 where
+  pub spells : Spells form shape
   pub request : n ≤ most_request
   pub room : r ≤ most_room
   pub base : IsPlaced b
@@ -154,8 +189,8 @@ pub record IsLaid (shape : Shape) (n r b q : ℕ) (table : List Descriptor) (hea
   pub stands : Stands table (head ∷ others) (made shape n r b q (head ∷ others)).ring
 
 -- What it may refer to.
-abbrev pub memory_of : Shape → ℕ → ℕ → ℕ → ℕ → List ℕ → Memory
-memory_of shape n r b q places = memory b n r (made shape n r b q places).tables
+abbrev pub memory_of : Form → Shape → ℕ → ℕ → ℕ → ℕ → List ℕ → Memory
+memory_of form shape n r b q places = memory form b n r ((made shape n r b q places).tables form)
 
 -- The segments are the len bytes from addr, in order.
 abbrev pub Covers : ℕ → ℕ → List Segment → Type 0
@@ -223,17 +258,17 @@ IsInRing shape n r b q head at next d =
 abbrev pub IsLinked : List Part → ℕ → ℕ → Option Descriptor → Type 0
 IsLinked parts at next d = (nexts : List ℕ) → slice_index nexts at ≡ next → slice_get (linked parts nexts) at ≡ d
 
--- The bytes of the shape's tables, wherever the ring's descriptors stand.
-abbrev pub AreTables : Shape → ℕ → ℕ → ℕ → List ℕ → Type 0
-AreTables shape n r b tables = (q : ℕ) (places : List ℕ) → (made shape n r b q places).tables ≡ tables
+-- The bytes of the shape's tables in this form, wherever the ring's descriptors stand.
+abbrev pub AreTables : Form → Shape → ℕ → ℕ → ℕ → List ℕ → Type 0
+AreTables form shape n r b tables = (q : ℕ) (places : List ℕ) → (made shape n r b q places).tables form ≡ tables
 
 -- The parts in a table: all of them, or those after the header.
 abbrev pub inner_of : Bool → ℕ → ℕ → ℕ → List Part
 inner_of rest n r b = if rest then rest_of n r b else parts_of 1 n r b
 
-abbrev pub bytes_in : Option Descriptor → List ℕ
-bytes_in None = []
-bytes_in (Some d) = bytes_of d
+abbrev pub bytes_in : Form → Option Descriptor → List ℕ
+bytes_in form None = []
+bytes_in form (Some d) = bytes_of form d
 
 -- Measures of a request and its room, and a base, for which there is space.
 pub record IsMeasured (n r b : ℕ) : Type 0 where

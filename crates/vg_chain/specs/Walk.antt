@@ -31,7 +31,7 @@ visit_after m x d = record {
   at = if is_indirect d then 0 else d.next;
 }
 
--- These are the visits from the head on, the last one first (VIRTIO 1.2, 2.7.5 and 2.7.5.3).
+-- These are the visits from the head on, the last one first (VIRTIO 1.2, 2.7.5, 2.7.5.3 and 2.8.7).
 abbrev pub Visits : Memory → List Descriptor → ℕ → List Visit → Type 0
 Visits m table head [] = ⊥
 Visits m table head (x ∷ []) = x ≡ start table head
@@ -62,7 +62,7 @@ all_written (x ∷ before) = all_written before ++ written_of (there x)
 
 -- The fault of a visit that comes after others, in a queue of this size.
 abbrev pub fault_at : Memory → ℕ → List Visit → Visit → Option ChainFault
-fault_at m size before x = fault_of m size x.inside (was_met x.inside x.at before) (nat_lt 0 (length (all_written before))) (there x)
+fault_at m size before x = fault_of m size x.inside (was_met x.inside x.at before) (nat_lt 0 (length (all_read before))) (nat_lt 0 (length (all_written before))) (there x)
 
 -- No visit has a fault.
 abbrev pub AreClean : Memory → ℕ → List Visit → Type 0

@@ -1,11 +1,14 @@
 //! What a chain of descriptors refers to, and what can be wrong with it.
 
 use crate::descriptor::Segment;
+use crate::form::Form;
 use vg_list::Seq;
 
-/// Where a request, the room for its response and the indirect tables of its chain stand.
+/// Where a request, the room for its response and the indirect tables of its chain stand, and the form of these tables.
 #[derive(Clone, Copy, Debug)]
 pub struct Parts<'a> {
+    /// The form of the virtqueue, by which its tables are read.
+    pub form: Form,
     /// The address of the request's first byte. The room begins `ROOM_OFFSET` bytes above it, the
     /// tables `TABLES_OFFSET` bytes.
     pub base: u64,
@@ -33,9 +36,9 @@ pub enum ChainFault {
     Index,
     /// The place was visited before.
     Loop,
-    /// INDIRECT inside of an indirect table (VIRTIO 1.2, 2.7.5.3.1).
+    /// INDIRECT inside of an indirect table (VIRTIO 1.2, 2.7.5.3.1). In the packed form a table has none.
     Nested,
-    /// INDIRECT with NEXT (VIRTIO 1.2, 2.7.5.3.1).
+    /// INDIRECT with NEXT (VIRTIO 1.2, 2.7.5.3.1), and in the packed form behind a descriptor with NEXT too (2.8.7).
     NextWithIndirect,
     /// A table whose length is 0, is no multiple of a descriptor's, or is that of more descriptors than
     /// the queue has (VIRTIO 1.2, 2.7.5.3.1).

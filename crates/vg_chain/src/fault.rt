@@ -7,6 +7,7 @@ ghost use Rattle.vg_chain.specs.Memory.{memory};
 
 use crate::chain::{ChainFault, Parts};
 use crate::descriptor::{DESCRIPTOR_SIZE, Descriptor, has_next, is_indirect, is_writable};
+use crate::form::Form;
 use crate::space::{ROOM_OFFSET, TABLES_OFFSET};
 
 /// Whether the length is none that a table in a queue of this size may have.
@@ -27,9 +28,19 @@ fn lies_in(base: u64, offset: u64, size: usize, descriptor: Descriptor) -> bool
     start <= addr && addr + u128::from(descriptor.len) <= start + (size as u128)
 }
 
+/// Whether the descriptor stands in a list. `behind` says that others stand before it.
+fn is_listed(form: Form, behind: bool, descriptor: Descriptor) -> bool
+    ensures { result ≡ rule.is_listed form behind descriptor }
+{
+    match form {
+        Form::Split => has_next(descriptor),
+        Form::Packed => has_next(descriptor) || behind,
+    }
+}
+
 /// Whether what the descriptor refers to is there.
 fn is_in_range(parts: &Parts, descriptor: Descriptor) -> bool
-    ensures { result ≡ range.is_in_range (memory parts.now.base parts.now.request parts.now.room parts.now.tables.now) descriptor }
+    ensures { result ≡ range.is_in_range (memory parts.now.form parts.now.base parts.now.request parts.now.room parts.now.tables.now) descriptor }
 {
     if is_indirect(descriptor) {
         lies_in(parts.base, TABLES_OFFSET, parts.tables.len(), descriptor)
@@ -41,23 +52,24 @@ fn is_in_range(parts: &Parts, descriptor: Descriptor) -> bool
 }
 
 /// The first fault of a descriptor, if it has one. `size` is the queue's, `inside` says that it stands
-/// in an indirect table, `met` that it was visited before, `wrote` that a writable segment was.
+/// in an indirect table, `met` that it was visited before, `read` that a readable segment was, `wrote` that a writable one was.
 pub(crate) fn fault_of(
     parts: &Parts,
     size: usize,
     inside: bool,
     met: bool,
+    read: bool,
     wrote: bool,
     descriptor: Descriptor,
 ) -> Option<ChainFault>
-    ensures { result ≡ rule.fault_of (memory parts.now.base parts.now.request parts.now.room parts.now.tables.now) size inside met wrote (Some descriptor) }
+    ensures { result ≡ rule.fault_of (memory parts.now.form parts.now.base parts.now.request parts.now.room parts.now.tables.now) size inside met read wrote (Some descriptor) }
 {
     let indirect = is_indirect(descriptor);
     if met {
         Some(ChainFault::Loop)
     } else if indirect && inside {
         Some(ChainFault::Nested)
-    } else if indirect && has_next(descriptor) {
+    } else if indirect && is_listed(parts.form, read || wrote, descriptor) {
         Some(ChainFault::NextWithIndirect)
     } else if indirect && is_bad_length(size, descriptor) {
         Some(ChainFault::TableLength)

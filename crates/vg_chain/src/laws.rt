@@ -4,6 +4,7 @@ ghost use Rattle.std.specs.Prelude.{◌≡◌, ◌∷◌, ℕ, List, Result};
 ghost use Rattle.vg_chain.specs.declared.chain.Chain.{Chain as Chains};
 ghost use Rattle.vg_chain.specs.declared.chain.ChainFault.{ChainFault as Faults};
 ghost use Rattle.vg_chain.specs.declared.descriptor.Descriptor.{Descriptor as Descriptors};
+ghost use Rattle.vg_chain.specs.declared.form.Form.{Form as Forms};
 ghost use Rattle.vg_chain.specs.declared.shape.Shape.{Shape as Shapes};
 ghost use Rattle.vg_chain.specs.Memory.{Memory};
 ghost use Rattle.vg_chain.specs.Walk.{Walks};
@@ -16,8 +17,8 @@ pub fn a_walk_has_one_result()
 
 /// Where a shape's layout stands in the ring's table, whatever stands elsewhere in it, the walk from the
 /// head comes to the shape's fault, or to its segments, one by one, which are all bytes of the request
-/// and of the room, in order.
+/// and of the room, in order. The form is any in which the shape can be spelled.
 pub fn a_layout_is_walked()
-    ensures { (shape : Shapes) (n r b q : ℕ) (table : List Descriptors) (head : ℕ) (others : List ℕ) → IsRequest shape n r b q → IsLaid shape n r b q table head others
-        → GivesIts shape (memory_of shape n r b q (head ∷ others)) table head n r b }
+    ensures { (form : Forms) (shape : Shapes) (n r b q : ℕ) (table : List Descriptors) (head : ℕ) (others : List ℕ) → IsRequest form shape n r b q → IsLaid shape n r b q table head others
+        → GivesIts shape (memory_of form shape n r b q (head ∷ others)) table head n r b }
 {}

@@ -5,10 +5,13 @@ ghost use Rattle.vg_chain.specs.declared.shape.Shape.TheVariants.{Bad, Mixed};
 ghost use Rattle.vg_chain.specs.Space.{most_request, room_at};
 ghost use Rattle.vg_chain.specs.Descriptor.{descriptor_size};
 ghost use Rattle.vg_chain.specs.Made as made;
-ghost use Rattle.vg_chain.specs.Made.{parts_of, inner_of, in_table, joined, last_of, table_bytes, bytes_of, bytes_in, link_of, IsLinked, IsInRing, IsRequest, IsMeasured, AreTables, IsCount};
+ghost use Rattle.vg_chain.specs.Made.{parts_of, inner_of, in_table, joined, last_of, table_bytes, split_bytes, packed_bytes, bytes_in, link_of, IsLinked, IsInRing, IsRequest, IsMeasured, AreTables, IsCount};
 
 use crate::chain::ChainFault;
-use crate::descriptor::{DESCRIPTOR_SIZE, Descriptor, INDIRECT, NEXT, WRITE};
+use crate::descriptor::{
+    DESCRIPTOR_SIZE, Descriptor, INDIRECT, NEXT, WRITE, flags_of, is_writable,
+};
+use crate::form::Form;
 use crate::part::{Extent, Part, count_parts, count_rest, part_of, rest_of};
 use crate::shape::Shape;
 use crate::space::{HEADER_SIZE, ROOM_OFFSET, TABLES_OFFSET};
@@ -19,11 +22,10 @@ use vg_numbers::{put_u16, put_u32, put_u64};
 fn descriptor_of(part: Part, more: bool, next: u16) -> Descriptor
     ensures { result ≡ (if more then joined part next else last_of part) }
 {
-    let write = if part.writes { WRITE } else { 0 };
     Descriptor {
         addr: part.addr,
         len: part.len,
-        flags: if more { write + NEXT } else { write },
+        flags: flags_of(part.writes, more),
         next: if more { next } else { 0 },
     }
 }
@@ -164,7 +166,11 @@ fn bad_at(
         ChainFault::Index => only(at, descriptor_of(request, true, size)),
         ChainFault::Loop => only(at, descriptor_of(request, true, head)),
         ChainFault::Nested => only(at, referring(extent, DESCRIPTOR_SIZE, INDIRECT, 0)),
-        ChainFault::NextWithIndirect => only(at, to_table(false, extent, INDIRECT + NEXT, head)),
+        ChainFault::NextWithIndirect => either(
+            at,
+            to_table(false, extent, INDIRECT + NEXT, next),
+            descriptor_of(Part { len: 0, ..request }, false, 0),
+        ),
         ChainFault::TableLength => only(at, referring(extent, DESCRIPTOR_SIZE + 8, INDIRECT, 0)),
         ChainFault::Order => either(
             at,
@@ -198,47 +204,74 @@ fn longer(part: Part) -> Part
     }
 }
 
-/// Adds the bytes of a descriptor, if there is one.
-#[tactic(auto, unfolding(crate::specs::Made::bytes_of))]
-fn put(out: &mut Vec<u8>, descriptor: Option<Descriptor>) -> Result<(), AllocError>
-    ensures { OnOk result (out.new.items ≡ out.old.items ++ bytes_in descriptor) }
+/// Adds the bytes of a descriptor of a table in the split form.
+#[tactic(auto, unfolding(crate::specs::Made::split_bytes))]
+fn put_split(out: &mut Vec<u8>, descriptor: Descriptor) -> Result<(), AllocError>
+    ensures { OnOk result (out.new.items ≡ out.old.items ++ split_bytes descriptor) }
 {
-    let Some(descriptor) = descriptor else {
-        return Ok(());
-    };
     put_u64(out, descriptor.addr)?;
     put_u32(out, descriptor.len)?;
     put_u16(out, descriptor.flags)?;
     put_u16(out, descriptor.next)
 }
 
+/// Adds the bytes of a descriptor of a table in the packed form: its id is 0, and of its flags WRITE alone stands.
+#[tactic(auto, unfolding(crate::specs::Made::packed_bytes))]
+fn put_packed(out: &mut Vec<u8>, descriptor: Descriptor) -> Result<(), AllocError>
+    ensures { OnOk result (out.new.items ≡ out.old.items ++ packed_bytes descriptor) }
+{
+    put_u64(out, descriptor.addr)?;
+    put_u32(out, descriptor.len)?;
+    put_u16(out, 0)?;
+    put_u16(out, if is_writable(descriptor) { WRITE } else { 0 })
+}
+
+/// Adds the bytes of a descriptor of a table in this form, if there is one.
+fn put(out: &mut Vec<u8>, form: Form, descriptor: Option<Descriptor>) -> Result<(), AllocError>
+    ensures { OnOk result (out.new.items ≡ out.old.items ++ bytes_in form descriptor) }
+{
+    let Some(descriptor) = descriptor else {
+        return Ok(());
+    };
+    match form {
+        Form::Split => put_split(out, descriptor),
+        Form::Packed => put_packed(out, descriptor),
+    }
+}
+
 /// The bytes of a table of all parts, or of those after the header.
-fn table_of(alloc: Global, rest: bool, extent: &Extent) -> Result<Vec<u8>, AllocError>
+fn table_of(alloc: Global, form: Form, rest: bool, extent: &Extent) -> Result<Vec<u8>, AllocError>
     requires { IsMeasured extent.now.request extent.now.room extent.now.base }
-    ensures { IfOk result (λ bytes. bytes.items ≡ table_bytes (in_table (inner_of rest extent.now.request extent.now.room extent.now.base))) }
+    ensures { IfOk result (λ bytes. bytes.items ≡ table_bytes form (in_table (inner_of rest extent.now.request extent.now.room extent.now.base))) }
 {
     let mut out = Vec::new(alloc);
-    put(&mut out, inner_at(rest, extent, 0))?;
-    put(&mut out, inner_at(rest, extent, 1))?;
+    put(&mut out, form, inner_at(rest, extent, 0))?;
+    put(&mut out, form, inner_at(rest, extent, 1))?;
     let _few = count_inner(rest, extent);
     Ok(out)
 }
 
 /// The bytes of the tables of a chain with this fault.
-fn bad_tables(alloc: Global, fault: ChainFault, extent: &Extent) -> Result<Vec<u8>, AllocError>
+fn bad_tables(
+    alloc: Global,
+    form: Form,
+    fault: ChainFault,
+    extent: &Extent,
+) -> Result<Vec<u8>, AllocError>
     requires { IsMeasured extent.now.request extent.now.room extent.now.base }
-    ensures { IfOk result (λ tables. AreTables (Bad fault) extent.now.request extent.now.room extent.now.base tables.items) }
+    ensures { IfOk result (λ tables. AreTables form (Bad fault) extent.now.request extent.now.room extent.now.base tables.items) }
 {
     match fault {
         ChainFault::Nested => {
             let mut out = Vec::new(alloc);
             put(
                 &mut out,
+                form,
                 Some(referring(extent, DESCRIPTOR_SIZE, INDIRECT, 0)),
             )?;
             Ok(out)
         }
-        ChainFault::NextWithIndirect => table_of(alloc, false, extent),
+        ChainFault::NextWithIndirect => table_of(alloc, form, false, extent),
         ChainFault::TableLength => vec![in alloc; 0; 2 * DESCRIPTOR_SIZE as usize],
         _ => Ok(Vec::new(alloc)),
     }
@@ -268,22 +301,22 @@ impl Shape {
         }
     }
 
-    /// The bytes of the shape's indirect tables.
-    pub fn tables(&self, alloc: Global, extent: &Extent) -> Result<Vec<u8>, AllocError>
+    /// The bytes of the shape's indirect tables in this form.
+    pub fn tables(&self, alloc: Global, form: Form, extent: &Extent) -> Result<Vec<u8>, AllocError>
         requires { IsMeasured extent.now.request extent.now.room extent.now.base }
-        ensures { IfOk result (λ tables. AreTables self.now extent.now.request extent.now.room extent.now.base tables.items) }
+        ensures { IfOk result (λ tables. AreTables form self.now extent.now.request extent.now.room extent.now.base tables.items) }
     {
         match *self {
             Shape::Plain | Shape::Pieces { n: _ } => Ok(Vec::new(alloc)),
-            Shape::Indirect => table_of(alloc, false, extent),
+            Shape::Indirect => table_of(alloc, form, false, extent),
             Shape::Mixed => {
                 if extent.request == 0 {
                     Ok(Vec::new(alloc))
                 } else {
-                    table_of(alloc, true, extent)
+                    table_of(alloc, form, true, extent)
                 }
             }
-            Shape::Bad { fault } => bad_tables(alloc, fault, extent),
+            Shape::Bad { fault } => bad_tables(alloc, form, fault, extent),
         }
     }
 }

@@ -53,7 +53,7 @@ fn needed_of_bad(fault: ChainFault) -> u16
     ensures { (n r : ℕ) → IsNeeded (Bad fault) n r result }
 {
     match fault {
-        ChainFault::Order => 2,
+        ChainFault::NextWithIndirect | ChainFault::Order => 2,
         _ => 1,
     }
 }

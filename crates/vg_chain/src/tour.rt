@@ -1,6 +1,7 @@
-//! The walk of a chain (VIRTIO 1.2, 2.7.5 and 2.7.5.3).
+//! The walk of a chain (VIRTIO 1.2, 2.7.5, 2.7.5.3 and 2.8.7).
 
-ghost use Rattle.std.specs.Prelude.{◌≡◌, ◌+◌, ◌-◌, ◌*◌, ◌/◌, ◌<◌, ◌≤◌, ◌==◌, nat_lt, nat_le, true, false, Some, None, [], ◌++◌, length, slice_get, slice_set, slice_index_or, replicate, IfOk, OnOk, IsTrue};
+ghost use Rattle.std.specs.Prelude.{◌≡◌, ◌+◌, ◌-◌, ◌*◌, ◌/◌, ◌^◌, ◌<◌, ◌≤◌, ◌==◌, nat_lt, nat_le, true, false, Some, None, [], ◌++◌, length, slice_get, slice_set, slice_index_or, replicate, IfOk, OnOk, IsTrue};
+ghost use Rattle.vg_chain.specs.declared.form.Form.TheVariants.{Packed};
 ghost use Rattle.vg_chain.specs.Space.{tables_at};
 ghost use Rattle.vg_chain.specs.Descriptor as layout;
 ghost use Rattle.vg_chain.specs.Descriptor.{descriptor_size};
@@ -10,7 +11,7 @@ ghost use Rattle.vg_chain.specs.TourWithin.{table_now};
 
 use crate::chain::{Chain, ChainFault, Parts};
 use crate::descriptor::{
-    DESCRIPTOR_SIZE, Descriptor, Segment, has_next, is_indirect, is_writable, read_descriptors,
+    DESCRIPTOR_SIZE, Descriptor, Segment, has_next, is_indirect, is_writable, read_table,
 };
 use crate::fault::fault_of;
 use crate::space::TABLES_OFFSET;
@@ -67,6 +68,13 @@ impl Tour {
         self.marks.as_slice().get(self.at).copied().unwrap_or(false)
     }
 
+    /// Whether a readable segment was visited before.
+    fn has_read(&self) -> bool
+        ensures { result ≡ nat_lt 0 (length self.now.readable.items) }
+    {
+        !self.readable.is_empty()
+    }
+
     /// Whether a writable segment was visited before.
     fn has_written(&self) -> bool
         ensures { result ≡ nat_lt 0 (length self.now.writable.items) }
@@ -117,16 +125,17 @@ impl Tour {
         parts: &Parts,
         descriptor: Descriptor,
     ) -> Result<(), AllocError>
-        requires { IsTrue (lies_in (tables_at parts.now.base) (length parts.now.tables.now) descriptor.addr descriptor.len) }
+        requires place { IsTrue (lies_in (tables_at parts.now.base) (length parts.now.tables.now) descriptor.addr descriptor.len) }
+        requires count { parts.now.form ≡ Packed → descriptor.len / descriptor_size ≤ 2 ^ 16 }
         ensures segments { OnOk result ((self.new.readable.items ≡ self.old.readable.items) × (self.new.writable.items ≡ self.old.writable.items)) }
         ensures marks { OnOk result (self.new.marks.items ≡ replicate (descriptor.len / descriptor_size) false) }
-        ensures table { OnOk result (self.new.inner.items ≡ table_of (memory parts.now.base parts.now.request parts.now.room parts.now.tables.now) descriptor) }
+        ensures table { OnOk result (self.new.inner.items ≡ table_of (memory parts.now.form parts.now.base parts.now.request parts.now.room parts.now.tables.now) descriptor) }
         ensures count { OnOk result (length self.new.inner.items ≡ descriptor.len / descriptor_size) }
         ensures place { OnOk result ((self.new.inside ≡ true) × (self.new.at ≡ 0)) }
     {
         let count = (descriptor.len / DESCRIPTOR_SIZE) as usize;
         let from = (descriptor.addr - parts.base - TABLES_OFFSET) as usize;
-        self.inner = read_descriptors(alloc, &parts.tables[from..], count)?;
+        self.inner = read_table(alloc, parts.form, &parts.tables[from..], count)?;
         self.marks = SmallVec::from_elem(alloc, false, count)?;
         self.inside = true;
         self.at = 0;
@@ -146,23 +155,34 @@ impl Tour {
 }
 
 /// Walks the chain that begins at the head in the ring's table, which has as many descriptors as the
-/// queue's size. A chain ends with a descriptor without NEXT, in an indirect table if it enters one.
+/// queue's size. A chain ends with a descriptor without NEXT, in an indirect table if it enters one. In the packed form the table
+/// is one in which the descriptors of a chain were linked as they follow each other in the ring.
 pub fn walk(
     alloc: Global,
     table: &[Descriptor],
     head: u16,
     parts: &Parts,
 ) -> Result<Result<Chain, ChainFault>, AllocError>
-    ensures { IfOk result (λ walked. Walks (memory parts.now.base parts.now.request parts.now.room parts.now.tables.now) table.now head walked) }
+    requires { parts.now.form ≡ Packed → length table.now ≤ 2 ^ 16 }
+    ensures { IfOk result (λ walked. Walks (memory parts.now.form parts.now.base parts.now.request parts.now.room parts.now.tables.now) table.now head walked) }
 {
     let mut tour = Tour::new(alloc, table.len(), head)?;
     loop {
         let Some(descriptor) = tour.here(table) else {
             return Ok(Err(ChainFault::Index));
         };
+        let read = tour.has_read();
         let wrote = tour.has_written();
         let met = tour.is_met();
-        if let Some(fault) = fault_of(parts, table.len(), tour.inside, met, wrote, descriptor) {
+        if let Some(fault) = fault_of(
+            parts,
+            table.len(),
+            tour.inside,
+            met,
+            read,
+            wrote,
+            descriptor,
+        ) {
             return Ok(Err(fault));
         }
         if is_indirect(descriptor) {

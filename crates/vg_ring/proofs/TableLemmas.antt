@@ -4,6 +4,8 @@ use Rattle.std.proofs.lemmas.Bool.{cases_lt, eq-eqb}
 use Rattle.vg_chain.specs.declared.descriptor.Descriptor.{Descriptor}
 use Rattle.vg_chain.specs.declared.chain.Chain.{Chain}
 use Rattle.vg_chain.specs.declared.chain.ChainFault.{ChainFault}
+use Rattle.vg_chain.specs.declared.form.Form.{Form}
+use Rattle.vg_chain.specs.declared.form.Form.TheVariants.{Split}
 use Rattle.vg_chain.specs.declared.shape.Shape.{Shape}
 use Rattle.vg_chain.specs.declared.shape.Shape.TheVariants.{Plain, Pieces, Indirect, Mixed, Bad}
 use Rattle.vg_chain.specs.Memory.{Memory, memory}
@@ -88,35 +90,35 @@ some_places table shape n r b q (p ∷ places) some long apart stands = (record 
 -- The walk of the table that was read gives what the entry's shape asks.
 pub chain_is : {P : Type 0} (size : ℕ) (table : List Descriptor) (held : List Entry) (e : Entry) (cargo : CargoData P) (base m r : ℕ) (tables : List ℕ) (head : ℕ) (walked : Result Chain ChainFault)
     → ((m : Memory) (table : List Descriptor) (head : ℕ) (one other : Result Chain ChainFault) → Walks m table head one → Walks m table head other → one ≡ other)
-    → ((shape : Shape) (n r b q : ℕ) (table : List Descriptor) (head : ℕ) (others : List ℕ) → IsRequest shape n r b q → IsLaid shape n r b q table head others → GivesIts shape (memory_of shape n r b q (head ∷ others)) table head n r b)
+    → ((form : Form) (shape : Shape) (n r b q : ℕ) (table : List Descriptor) (head : ℕ) (others : List ℕ) → IsRequest form shape n r b q → IsLaid shape n r b q table head others → GivesIts shape (memory_of form shape n r b q (head ∷ others)) table head n r b)
     → 2 ≤ size → length table ≡ size → TellsTable size size table held → Has e held → IsWhole size e → ((p : ℕ) → times p e.places ≤ 1) → 0 < length e.places → ((p : ℕ) → 0 < times p e.places → p < size)
     → IsCargoOf e cargo → base ≡ base_of cargo.parcel.queue cargo.parcel.head → m ≡ length cargo.parcel.request → r ≡ cargo.parcel.room → IsMeasured m r base
-    → AreTables cargo.parcel.shape (length cargo.parcel.request) cargo.parcel.room (base_of cargo.parcel.queue cargo.parcel.head) tables
-    → head ≡ head_of e → Walks (memory base m r tables) table head walked → IsAnswer e.shape (length e.request) e.room (base_of e.queue (head_of e)) walked
+    → AreTables Split cargo.parcel.shape (length cargo.parcel.request) cargo.parcel.room (base_of cargo.parcel.queue cargo.parcel.head) tables
+    → head ≡ head_of e → Walks (memory Split base m r tables) table head walked → IsAnswer e.shape (length e.request) e.room (base_of e.queue (head_of e)) walked
 chain_is size table held e cargo base m r tables head walked one_law laid_law least long tells has whole apart some below is base_is m_is r_is measured tables_are head_is walks =
     let b = base_of e.queue (head_of e) in
     let ring = ring_of size e in
     let base' : base ≡ b = base_is ∙ (ap (λ (x : Entry). base_of x.queue cargo.parcel.head) is.0 ∙ ap (base_of e.queue) is.1) in
     let m' : m ≡ length e.request = m_is ∙ ap (λ (x : Entry). length x.request) is.0 in
     let r' : r ≡ e.room = r_is ∙ ap (λ (x : Entry). x.room) is.0 in
-    let t1 = subst (λ (x : Entry). AreTables x.shape (length x.request) x.room (base_of x.queue cargo.parcel.head) tables) is.0 tables_are in
-    let t2 = subst (λ (h : ℕ). AreTables e.shape (length e.request) e.room (base_of e.queue h) tables) is.1 t1 in
-    let tables' : tables ≡ (made e.shape (length e.request) e.room b size e.places).tables = sym (t2 size e.places) in
+    let t1 = subst (λ (x : Entry). AreTables Split x.shape (length x.request) x.room (base_of x.queue cargo.parcel.head) tables) is.0 tables_are in
+    let t2 = subst (λ (h : ℕ). AreTables Split e.shape (length e.request) e.room (base_of e.queue h) tables) is.1 t1 in
+    let tables' : tables ≡ (made e.shape (length e.request) e.room b size e.places).tables Split = sym (t2 size e.places) in
     let many : length ring ≡ length e.places = whole.needed b size e.places in
     let stands = stands_at table e.places ring (omega (arith, many)) whole.back (λ d is_in. tells e d has is_in (below d.place (in_times e.places ring d is_in))) in
     let laid = some_places table e.shape (length e.request) e.room b size e.places some long (apart_at e.places apart) stands in
     let request = measured.request in
     let room = measured.room in
     let placed = measured.base in
-    let asked : IsRequest e.shape (length e.request) e.room b size = record { request = omega (arith, request, m'); room = omega (arith, room, r'); base = omega (arith, placed, base'); queue = least; count = whole.count } in
-    let gives = subst (λ (ps : List ℕ). GivesIts e.shape (memory_of e.shape (length e.request) e.room b size ps) table (get_or e.places 0 0) (length e.request) e.room b) laid.1
-    (laid_law e.shape (length e.request) e.room b size table (get_or e.places 0 0) (drop 1 e.places) asked laid.0) in
-    let w1 = subst (λ (x : ℕ). Walks (memory x m r tables) table head walked) base' walks in
-    let w2 = subst (λ (x : ℕ). Walks (memory b x r tables) table head walked) m' w1 in
-    let w3 = subst (λ (x : ℕ). Walks (memory b (length e.request) x tables) table head walked) r' w2 in
-    let w4 = subst (λ (x : List ℕ). Walks (memory b (length e.request) e.room x) table head walked) tables' w3 in
-    let w5 = subst (λ (x : ℕ). Walks (memory_of e.shape (length e.request) e.room b size e.places) table x walked) head_is w4 in
-    answer_is e.shape (memory_of e.shape (length e.request) e.room b size e.places) table (head_of e) (length e.request) e.room b walked one_law gives w5
+    let asked : IsRequest Split e.shape (length e.request) e.room b size = record { spells = tt; request = omega (arith, request, m'); room = omega (arith, room, r'); base = omega (arith, placed, base'); queue = least; count = whole.count } in
+    let gives = subst (λ (ps : List ℕ). GivesIts e.shape (memory_of Split e.shape (length e.request) e.room b size ps) table (get_or e.places 0 0) (length e.request) e.room b) laid.1
+    (laid_law Split e.shape (length e.request) e.room b size table (get_or e.places 0 0) (drop 1 e.places) asked laid.0) in
+    let w1 = subst (λ (x : ℕ). Walks (memory Split x m r tables) table head walked) base' walks in
+    let w2 = subst (λ (x : ℕ). Walks (memory Split b x r tables) table head walked) m' w1 in
+    let w3 = subst (λ (x : ℕ). Walks (memory Split b (length e.request) x tables) table head walked) r' w2 in
+    let w4 = subst (λ (x : List ℕ). Walks (memory Split b (length e.request) e.room x) table head walked) tables' w3 in
+    let w5 = subst (λ (x : ℕ). Walks (memory_of Split e.shape (length e.request) e.room b size e.places) table x walked) head_is w4 in
+    answer_is e.shape (memory_of Split e.shape (length e.request) e.room b size e.places) table (head_of e) (length e.request) e.room b walked one_law gives w5
 
 -- A walk that answers for an entry answers for the entry's cargo.
 pub walk_of_cargo : {P : Type 0} (e : Entry) (cargo : CargoData P) (walked : Result Chain ChainFault) → IsCargoOf e cargo → IsAnswer e.shape (length e.request) e.room (base_of e.queue (head_of e)) walked → IsWalkOf cargo.parcel walked

@@ -1,7 +1,8 @@
 use Rattle.std.proofs.Common.{◌≡◌, ℕ, zero, suc, ◌+◌, ◌*◌, ◌/◌, ◌%◌, ◌^◌, ◌<◌, List, [], ◌∷◌, ◌++◌, map, slice_index, refl, ap, arith}
 use Rattle.std.specs.List.{range_with_len, flat_map}
 use Rattle.vg_numbers.specs.Numbers.{le}
-use Rattle.vg_chain.specs.Made.{bytes_of, table_bytes}
+use Rattle.vg_chain.specs.declared.form.Form.TheVariants.{Split}
+use Rattle.vg_chain.specs.Made.{split_bytes, table_bytes}
 use Rattle.vg_ring.specs.Words.{addr_place, rest_place, descriptor_from, used_word}
 
 pub used_bytes : (head len : ℕ) → head < 2 ^ 16 → len < 2 ^ 32 → le 8 (used_word head len) ≡ le 4 head ++ le 4 len
@@ -17,8 +18,8 @@ used_bytes head len small fits =
     let e7 : (head + len * 2 ^ 32) / 72057594037927936 % 256 ≡ len / 16777216 % 256 = omega arith in
     λ k. e0 k ∷ e1 k ∷ e2 k ∷ e3 k ∷ e4 k ∷ e5 k ∷ e6 k ∷ e7 k ∷ []
 
-pub rest_bytes : (addr rest : ℕ) → rest < 2 ^ 64 → le 8 addr ++ le 8 rest ≡ bytes_of (descriptor_from addr rest)
-unfolding le bytes_of
+pub rest_bytes : (addr rest : ℕ) → rest < 2 ^ 64 → le 8 addr ++ le 8 rest ≡ split_bytes (descriptor_from addr rest)
+unfolding le split_bytes
 rest_bytes addr rest fits =
     let e0 : rest % 256 ≡ rest % 2 ^ 32 % 256 = omega arith in
     let e1 : rest / 256 % 256 ≡ rest % 2 ^ 32 / 256 % 256 = omega arith in
@@ -33,7 +34,7 @@ rest_bytes addr rest fits =
 
 pub image_bytes : (a n : ℕ) (words : List ℕ) → ((i : ℕ) → slice_index words i < 2 ^ 64)
     → flat_map (λ h. le 8 (slice_index words (addr_place h)) ++ le 8 (slice_index words (rest_place h))) (range_with_len a n)
-    ≡ table_bytes (map (λ h. descriptor_from (slice_index words (addr_place h)) (slice_index words (rest_place h))) (range_with_len a n))
+    ≡ table_bytes Split (map (λ h. descriptor_from (slice_index words (addr_place h)) (slice_index words (rest_place h))) (range_with_len a n))
 image_bytes a zero words fits = refl
 image_bytes a (suc n) words fits =
     let first = rest_bytes (slice_index words (addr_place a)) (slice_index words (rest_place a)) (fits (rest_place a)) in

@@ -1,4 +1,5 @@
 use Rattle.std.specs.Prelude.{◌≡◌, ℕ, ◌+◌, ◌*◌, ◌^◌, ◌≤◌, Option, None, Some, List, length, take}
+use Rattle.vg_chain.specs.declared.form.Form.TheVariants.{Split}
 use Rattle.vg_chain.specs.declared.shape.Shape.{Shape}
 use Rattle.vg_chain.specs.Space.{space, most_request, most_room}
 use Rattle.vg_chain.specs.Made.{AreTables, IsMeasured}
@@ -35,7 +36,7 @@ pub record IsParcel (p : ParcelData) : Type 0 where
   pub room : p.room ≤ most_room
   pub response : length p.response ≤ p.room
   pub lane : IsLane p.queue p.lane
-  pub tables : AreTables p.shape (length p.request) p.room (base_of p.queue p.head) p.tables
+  pub tables : AreTables Split p.shape (length p.request) p.room (base_of p.queue p.head) p.tables
 
 -- Where a parcel's request and room lie.
 pub record IsExtent (p : ParcelData) (b n r : ℕ) : Type 0 where

@@ -4,6 +4,7 @@ ghost use Rattle.std.specs.Prelude.{◌≡◌, false, true, length, IfErr, IfOk}
 ghost use Rattle.vg_chain.specs.Asks.{asked};
 ghost use Rattle.vg_ring.specs.Cargo.{IsLane, IsExtent, Tells, asked_of, base_of};
 ghost use Rattle.vg_ring.specs.Walked.{IsWalkOf};
+ghost use Rattle.vg_chain.specs.declared.form.Form.TheVariants.{Split};
 ghost use Rattle.vg_chain.specs.Made.{AreTables};
 
 use crate::parcel::{Command, Opened, Parcel, Tag};
@@ -93,7 +94,8 @@ impl<P: Tagged> Cargo<P> {
 
     pub(crate) fn parts(&self) -> Parts
         ensures extent { IsExtent self.now.parcel result.base result.request result.room }
-        ensures tables { AreTables self.now.parcel.shape (length self.now.parcel.request) self.now.parcel.room (base_of self.now.parcel.queue self.now.parcel.head) result.tables.now }
+        ensures form { result.form ≡ Split }
+        ensures tables { AreTables Split self.now.parcel.shape (length self.now.parcel.request) self.now.parcel.room (base_of self.now.parcel.queue self.now.parcel.head) result.tables.now }
     {
         self.parcel.parts()
     }

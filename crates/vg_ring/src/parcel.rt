@@ -1,6 +1,7 @@
 //! A request with the room for its response.
 
 ghost use Rattle.std.specs.Prelude.{◌≡◌, ◌+◌, ◌≤◌, ◌^◌, Ok, false, [], length, take, min, IfErr, IfOk};
+ghost use Rattle.vg_chain.specs.declared.form.Form.TheVariants.{Split};
 ghost use Rattle.vg_chain.specs.Asks.{asked};
 ghost use Rattle.vg_chain.specs.Space.{most_request, most_room, IsPlaced};
 ghost use Rattle.vg_chain.specs.Made.{Covers, IsCount, AreTables};
@@ -12,7 +13,7 @@ use crate::gather::{read_by, scatter, total};
 use std::alloc::{AllocError, Global};
 use std::marker::Model;
 use std::snapshot::Snapshot;
-use vg_chain::{Chain, ChainFault, Extent, Parts, ROOM_OFFSET, SPACE, Segment, Shape};
+use vg_chain::{Chain, ChainFault, Extent, Form, Parts, ROOM_OFFSET, SPACE, Segment, Shape};
 use vg_wire::Queue;
 
 /// The lane of a request and its number in that lane.
@@ -119,7 +120,7 @@ impl Parcel {
         requires lane { IsLane queue tag.lane }
         requires count { IsCount shape }
         ensures parcel { IfOk result (λ p. p ≡ record { queue = queue; head = head; lane = tag.lane; ordinal = tag.ordinal; shape = shape; request = request.items; room = room; tables = p.tables; response = [] }) }
-        ensures tables { IfOk result (λ p. AreTables shape (length request.items) room (cargo.base_of queue head) p.tables) }
+        ensures tables { IfOk result (λ p. AreTables Split shape (length request.items) room (cargo.base_of queue head) p.tables) }
     {
         let size = request.len() as u32;
         let extent = Extent {
@@ -127,7 +128,7 @@ impl Parcel {
             request: size,
             room,
         };
-        let tables = shape.tables(alloc, &extent)?;
+        let tables = shape.tables(alloc, Form::Split, &extent)?;
         let opened = Opened {
             queue,
             head,
@@ -174,7 +175,8 @@ impl Opened {
     /// Where its parts lie, with the bytes of its tables.
     pub(crate) fn parts(&self) -> Parts
         ensures extent { IsExtent self.now result.base result.request result.room }
-        ensures tables { AreTables self.now.shape (length self.now.request) self.now.room (cargo.base_of self.now.queue self.now.head) result.tables.now }
+        ensures form { result.form ≡ Split }
+        ensures tables { AreTables Split self.now.shape (length self.now.request) self.now.room (cargo.base_of self.now.queue self.now.head) result.tables.now }
     {
         let Extent {
             base,
@@ -182,6 +184,7 @@ impl Opened {
             room,
         } = self.extent();
         Parts {
+            form: Form::Split,
             base,
             request,
             room,

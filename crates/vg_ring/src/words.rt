@@ -1,6 +1,7 @@
 //! How the parts of a ring stand in its words (VIRTIO 1.2, 2.7.5, 2.7.6 and 2.7.8).
 
 ghost use Rattle.std.specs.Prelude.{◌≡◌, ℕ, ◌+◌, ◌*◌, ◌/◌, ◌%◌, ◌^◌, ◌<◌, ◌++◌, List, slice_index};
+ghost use Rattle.vg_chain.specs.declared.form.Form.TheVariants.{Split};
 ghost use Rattle.vg_chain.specs.Made.{table_bytes};
 ghost use Rattle.vg_numbers.specs.Numbers.{le};
 ghost use Rattle.vg_ring.specs.Words as layout;
@@ -50,7 +51,7 @@ pub(crate) fn used_of(word: u64) -> (u16, u32)
 /// rings are their flags, their index and their elements in order, and the eight bytes of a used element
 /// are its head and its length, four bytes each.
 pub fn words_are_bytes()
-    ensures descriptors { (n : ℕ) (words : List ℕ) → ((i : ℕ) → slice_index words i < 2 ^ 64) → (image_of n words).descriptors ≡ table_bytes (table_from n words) }
+    ensures descriptors { (n : ℕ) (words : List ℕ) → ((i : ℕ) → slice_index words i < 2 ^ 64) → (image_of n words).descriptors ≡ table_bytes Split (table_from n words) }
     ensures available { (n : ℕ) (words : List ℕ) → IsAvailable n words (image_of n words).available }
     ensures used { (n : ℕ) (words : List ℕ) → IsUsed n words (image_of n words).used }
     ensures used_element { (head len : ℕ) → head < 2 ^ 16 → len < 2 ^ 32 → le 8 (layout.used_word head len) ≡ le 4 head ++ le 4 len }

@@ -1,20 +1,22 @@
-//! Walks of chains laid out by hand, and the descriptors of each shape (VIRTIO 1.2, 2.7.5).
+//! Walks of chains laid out by hand, and the descriptors of each shape, in the split form (VIRTIO 1.2, 2.7.5).
 
+ghost use Rattle.std.specs.Prelude.{◌≡◌};
+ghost use Rattle.vg_chain.specs.declared.form.Form.TheVariants.{Split};
 ghost use Rattle.vg_chain.specs.Made.{IsCount};
 
 use std::alloc::{AllocError, Global};
 use std::process::Abort;
 use std::test::Fail;
-use vg_chain::{Chain, ChainFault, Descriptor, Extent, Parts, Shape, walk};
+use vg_chain::{Chain, ChainFault, Descriptor, Extent, Form, Parts, Shape, walk};
 
-const BASE: u64 = 0x1_0000_0000_0000;
+pub(crate) const BASE: u64 = 0x1_0000_0000_0000;
 
-const ROOM: u64 = BASE + 49152;
+pub(crate) const ROOM: u64 = BASE + 49152;
 
-const TABLES: u64 = BASE + 57344;
+pub(crate) const TABLES: u64 = BASE + 57344;
 
 /// An address, a length, flags, and the next descriptor's place.
-type Row = (u64, u32, u16, u16);
+pub(crate) type Row = (u64, u32, u16, u16);
 
 /// The first descriptors of a ring of four and of a table of two, the head, and the fault's number or 0.
 type Case = (&'static [Row], &'static [Row], u16, u8);
@@ -71,7 +73,7 @@ static CASES: [Case; 27] = [
 ];
 
 /// The row's descriptor, or one of no bytes.
-fn descriptor_of(row: Option<&Row>) -> Descriptor {
+pub(crate) fn descriptor_of(row: Option<&Row>) -> Descriptor {
     let (addr, len, flags, next) = row.copied().unwrap_or(NONE);
     Descriptor {
         addr,
@@ -89,7 +91,7 @@ fn put(out: &mut Vec<u8>, descriptor: Descriptor) -> Result<(), AllocError> {
 }
 
 /// The fault's number, or 0.
-fn number_of(walked: &Result<Chain, ChainFault>) -> u8 {
+pub(crate) fn number_of(walked: &Result<Chain, ChainFault>) -> u8 {
     match walked {
         Ok(_) => 0,
         Err(ChainFault::Index) => 1,
@@ -103,8 +105,11 @@ fn number_of(walked: &Result<Chain, ChainFault>) -> u8 {
 }
 
 /// The parts of a request of 24 bytes and a room of 8, with these tables.
-fn parts_with(tables: &[u8]) -> Parts<'_> {
+fn parts_with(tables: &[u8]) -> Parts<'_>
+    ensures { result.form ≡ Split }
+{
     Parts {
+        form: Form::Split,
         base: BASE,
         request: 24,
         room: 8,
@@ -118,7 +123,9 @@ fn walked(
     ring: &[Descriptor],
     head: u16,
     parts: &Parts,
-) -> Result<(u8, usize), AllocError> {
+) -> Result<(u8, usize), AllocError>
+    requires { parts.now.form ≡ Split }
+{
     let walked = walk(alloc, ring, head, parts)?;
     let segments = match &walked {
         Ok(chain) => chain.readable.len(),
@@ -198,6 +205,7 @@ fn wide(alloc: Global, case: &Wide) -> Result<(u8, usize), AllocError> {
     }
     let tables = zeros(alloc, 1040)?;
     let parts = Parts {
+        form: Form::Split,
         base: 0,
         request: 24,
         room: 24,
@@ -309,7 +317,7 @@ static NEEDED: [[u16; 21]; 17] = [
         1, 1, 1, 1, 1, 1, 1, 1, 1, 1, 1, 1, 1, 1, 1, 1, 1, 1, 1, 1, 1,
     ],
     [
-        1, 1, 1, 1, 1, 1, 1, 1, 1, 1, 1, 1, 1, 1, 1, 1, 1, 1, 1, 1, 1,
+        2, 2, 2, 2, 2, 2, 2, 2, 2, 2, 2, 2, 2, 2, 2, 2, 2, 2, 2, 2, 2,
     ],
     [
         1, 1, 1, 1, 1, 1, 1, 1, 1, 1, 1, 1, 1, 1, 1, 1, 1, 1, 1, 1, 1,
@@ -359,7 +367,7 @@ fn a_table_is_its_descriptors_in_their_bytes(rt: HostRuntime) -> Result<(), Fail
         request: 24,
         room: 8,
     };
-    let tables = Shape::Indirect.tables(rt.alloc(), &extent)?;
+    let tables = Shape::Indirect.tables(rt.alloc(), Form::Split, &extent)?;
     assert!(rt; tables.as_slice() == TABLE.as_slice());
     Ok(())
 }

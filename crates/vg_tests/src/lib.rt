@@ -23,6 +23,8 @@ mod lending;
 #[cfg(test)]
 mod list;
 #[cfg(test)]
+mod packed;
+#[cfg(test)]
 mod pages;
 #[cfg(test)]
 mod places;

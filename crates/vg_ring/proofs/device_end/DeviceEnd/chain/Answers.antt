@@ -17,7 +17,8 @@ returns-clause-chain g c =
     let p = c.parts.result in
     let x = c.parts.ensures.extent in
     let table = c.read_table.new.table.items in
-    let walks = subst (λ xs. Walks (memory p.base p.request p.room p.tables.now) xs c.head.result c.in_ok-walked.walked) c.as_slice.ensures.value c.in_ok-walked.ensures in
+    let walks' = subst (λ xs. Walks (memory p.form p.base p.request p.room p.tables.now) xs c.head.result c.in_ok-walked.walked) c.as_slice.ensures.value c.in_ok-walked.ensures in
+    let walks = subst (λ f. Walks (memory f p.base p.request p.room p.tables.now) table c.head.result c.in_ok-walked.walked) c.parts.ensures.form walks' in
     walk_of_cargo e c.args.cargo.now c.in_ok-walked.walked c.requires.cargo
     (chain_is t.size table v.held e c.args.cargo.now p.base p.request p.room p.tables.now c.head.result c.in_ok-walked.walked c.a_walk_has_one_result.ensures c.a_layout_is_walked.ensures on.least c.in_ok-read_table.ensures.length c.in_ok-read_table.ensures.table held (k.whole e held) (k.apart e held) (k.some_place e held) (k.places_below e held)
     c.requires.cargo x.base x.request x.room x.measured c.parts.ensures.tables c.head.ensures walks)
