@@ -199,6 +199,7 @@ packed_at-packed_bytes d front rest n i here addr_fits len_fits =
     small_write : (w : Bool) → cond w 2 0 < 2 ^ 16
     small_write true = omega arith
     small_write false = omega arith
+
     write_back : (w : Bool) → eqb (cond w 2 0 / 2 % 2) 1 ≡ w
     write_back true = refl
     write_back false = refl
