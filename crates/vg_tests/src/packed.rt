@@ -30,39 +30,70 @@ static IDS: [u8; 32] = [
     0,
 ];
 
+/// One of the tables above.
+enum Table {
+    Plain,
+    Noisy,
+    Swapped,
+    Ids,
+}
+
 /// The first descriptors of a ring of two, as they were linked, a table, the fault's number or 0, and how many segments are read
 /// and written.
-type Case = (&'static [Row], &'static [u8; 32], u8, usize, usize);
+type Case = (&'static [Row], Table, u8, usize, usize);
 
 static CASES: [Case; 15] = [
     // whole tables: ids and flags but WRITE don't count, and none refers to a table
-    (&[(TABLES, 32, 4, 0)], &TABLE, 0, 1, 1),
-    (&[(TABLES, 32, 4, 0)], &NOISY, 0, 1, 1),
-    (&[(TABLES, 32, 4, 0)], &IDS, 0, 1, 1),
-    (&[(TABLES, 32, 6, 0)], &NOISY, 0, 1, 1),
+    (&[(TABLES, 32, 4, 0)], Table::Plain, 0, 1, 1),
+    (&[(TABLES, 32, 4, 0)], Table::Noisy, 0, 1, 1),
+    (&[(TABLES, 32, 4, 0)], Table::Ids, 0, 1, 1),
+    (&[(TABLES, 32, 6, 0)], Table::Noisy, 0, 1, 1),
     // the first descriptor alone, and the second
-    (&[(TABLES, 16, 4, 0)], &NOISY, 0, 1, 0),
-    (&[(TABLES + 16, 16, 4, 0)], &NOISY, 0, 0, 1),
+    (&[(TABLES, 16, 4, 0)], Table::Noisy, 0, 1, 0),
+    (&[(TABLES + 16, 16, 4, 0)], Table::Noisy, 0, 0, 1),
     // no table at all
-    (&[(BASE, 24, 1, 1), (ROOM, 8, 2, 0)], &TABLE, 0, 1, 1),
+    (&[(BASE, 24, 1, 1), (ROOM, 8, 2, 0)], Table::Plain, 0, 1, 1),
     // a descriptor that refers to a table has no other one behind it, nor before it
-    (&[(TABLES, 32, 5, 1), (BASE, 0, 0, 0)], &TABLE, 4, 0, 0),
-    (&[(BASE, 8, 1, 1), (TABLES, 32, 4, 0)], &TABLE, 4, 0, 0),
-    (&[(ROOM, 8, 3, 1), (TABLES, 32, 4, 0)], &TABLE, 4, 0, 0),
+    (
+        &[(TABLES, 32, 5, 1), (BASE, 0, 0, 0)],
+        Table::Plain,
+        4,
+        0,
+        0,
+    ),
+    (
+        &[(BASE, 8, 1, 1), (TABLES, 32, 4, 0)],
+        Table::Plain,
+        4,
+        0,
+        0,
+    ),
+    (
+        &[(ROOM, 8, 3, 1), (TABLES, 32, 4, 0)],
+        Table::Plain,
+        4,
+        0,
+        0,
+    ),
     // that comes before a bad length
-    (&[(BASE, 8, 1, 1), (TABLES, 0, 4, 0)], &TABLE, 4, 0, 0),
+    (&[(BASE, 8, 1, 1), (TABLES, 0, 4, 0)], Table::Plain, 4, 0, 0),
     // lengths of none, of no whole descriptor, and of more than the queue has
-    (&[(TABLES, 0, 4, 0)], &TABLE, 5, 0, 0),
-    (&[(TABLES, 24, 4, 0)], &TABLE, 5, 0, 0),
-    (&[(TABLES, 48, 4, 0)], &TABLE, 5, 0, 0),
+    (&[(TABLES, 0, 4, 0)], Table::Plain, 5, 0, 0),
+    (&[(TABLES, 24, 4, 0)], Table::Plain, 5, 0, 0),
+    (&[(TABLES, 48, 4, 0)], Table::Plain, 5, 0, 0),
     // what is read behind what is written
-    (&[(TABLES, 32, 4, 0)], &SWAPPED, 6, 0, 0),
+    (&[(TABLES, 32, 4, 0)], Table::Swapped, 6, 0, 0),
 ];
 
 /// The fault's number or 0, and how many segments are read and written.
 fn walked(alloc: Global, case: &Case) -> Result<(u8, usize, usize), AllocError> {
-    let (ring, table, ..) = *case;
-    let ring = [descriptor_of(ring.get(0)), descriptor_of(ring.get(1))];
+    let ring = [descriptor_of(case.0.get(0)), descriptor_of(case.0.get(1))];
+    let table = match case.1 {
+        Table::Plain => &TABLE,
+        Table::Noisy => &NOISY,
+        Table::Swapped => &SWAPPED,
+        Table::Ids => &IDS,
+    };
     let parts = Parts {
         form: Form::Packed,
         base: BASE,
