@@ -7,7 +7,7 @@ use Rattle.std.specs.List.{slice_set}
 use Rattle.std.specs.Ordering.{nat_cmp}
 use Rattle.std.specs.Map.{lookup, remove_entry, set_value}
 use Rattle.std.specs.BTreeMap.{insert_entry, is_at}
-use Rattle.vg_laws.proofs.Lists.{insert-found}
+use Rattle.vg_device.proofs.MapLemmas.{insert-found}
 use Rattle.vg_laws.proofs.Options.{some-same}
 use Rattle.vg_laws.proofs.Bools.{right-true, not-both}
 use Rattle.vg_formats.specs.declared.entry.MemEntry.{MemEntry}

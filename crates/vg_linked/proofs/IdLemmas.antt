@@ -7,7 +7,7 @@ use Rattle.std.specs.Ordering.{nat_cmp}
 use Rattle.std.specs.Map.{lookup, remove_entry, set_value}
 use Rattle.std.specs.BTreeMap.{insert_entry, is_at}
 use Rattle.std.proofs.lemmas.Bool.Decides.{nat_tests}
-use Rattle.vg_laws.proofs.Lists.{insert-found}
+use Rattle.vg_device.proofs.MapLemmas.{insert-found}
 use Rattle.vg_laws.proofs.Options.{none-there}
 use Rattle.vg_laws.proofs.Bools.{or-first, or-second, not-false}
 use Rattle.vg_formats.specs.declared.entry.MemEntry.{MemEntry}
