@@ -7,7 +7,6 @@ use Rattle.std.specs.List.{slice_set}
 use Rattle.std.specs.Ordering.{nat_cmp}
 use Rattle.std.specs.Map.{lookup, remove_entry, set_value}
 use Rattle.std.specs.BTreeMap.{insert_entry, is_at}
-use Rattle.vg_device.proofs.MapLemmas.{insert-found}
 use Rattle.vg_laws.proofs.Options.{some-same}
 use Rattle.vg_laws.proofs.Bools.{right-true, not-both}
 use Rattle.vg_formats.specs.declared.entry.MemEntry.{MemEntry}
@@ -19,7 +18,7 @@ use Rattle.vg_blob.specs.Blobs.{blob_at}
 use Rattle.vg_transfer.specs.Backings.{backing_at}
 use Rattle.vg_share.specs.declared.share.Buffer.{Buffer}
 use Rattle.vg_share.specs.Share.{ShareState, buffer_at, ended, entered, freed, imported, imported_buffer, new_pages, pages_at, pages_in, released, released_buffer, token_key, with_buffer}
-use Rattle.vg_device.proofs.MapLemmas.{insert_other, remove_other, set_other}
+use Rattle.vg_device.proofs.MapLemmas.{insert-found, insert_other, remove_other, set_other}
 use Rattle.vg_device.specs.ActStep.{shown_at}
 use Rattle.vg_device.specs.State.{State, has_resource}
 use Rattle.vg_linked.specs.Consistent.{AreInPages, AreOfBuffers}

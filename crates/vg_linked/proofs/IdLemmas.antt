@@ -7,7 +7,6 @@ use Rattle.std.specs.Ordering.{nat_cmp}
 use Rattle.std.specs.Map.{lookup, remove_entry, set_value}
 use Rattle.std.specs.BTreeMap.{insert_entry, is_at}
 use Rattle.std.proofs.lemmas.Bool.Decides.{nat_tests}
-use Rattle.vg_device.proofs.MapLemmas.{insert-found}
 use Rattle.vg_laws.proofs.Options.{none-there}
 use Rattle.vg_laws.proofs.Bools.{or-first, or-second, not-false}
 use Rattle.vg_formats.specs.declared.entry.MemEntry.{MemEntry}
@@ -22,7 +21,7 @@ use Rattle.vg_transfer.specs.Backings.{backing_at}
 use Rattle.vg_refusals.specs.Refusals.{refusal_of}
 use Rattle.vg_wire.specs.Kinds.{ERR_INVALID_PARAMETER, ERR_INVALID_RESOURCE_ID, ERR_OUT_OF_MEMORY, ERR_UNSPEC}
 use Rattle.vg_client_holds.specs.declared.setup.Setup.{Setup}
-use Rattle.vg_device.proofs.MapLemmas.{insert_other, remove_other, set_itself, set_other}
+use Rattle.vg_device.proofs.MapLemmas.{insert-found, insert_other, remove_other, set_itself, set_other}
 use Rattle.vg_device.specs.State.{State, is_blob, start}
 use Rattle.vg_device.specs.BlobStep.{create_blob_refusals}
 use Rattle.vg_device.specs.Step.{attach_2d_refusals, create_2d_refusals}

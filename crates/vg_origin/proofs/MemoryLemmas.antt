@@ -4,7 +4,6 @@ use Rattle.std.specs.Map.{lookup, remove_entry, set_value}
 use Rattle.std.specs.Ordering.{nat_cmp}
 use Rattle.std.specs.BTreeMap.{insert_entry, is_at}
 use Rattle.std.proofs.lemmas.Bool.{cases_eq, cases_lt}
-use Rattle.vg_device.proofs.MapLemmas.{insert-found}
 use Rattle.vg_laws.proofs.Bools.{and-right}
 use Rattle.vg_pages.specs.Memory.{after_taking, is_among}
 use Rattle.vg_refusals.specs.Refusals.{refusal_of}
@@ -23,7 +22,7 @@ use Rattle.vg_history.specs.declared.entry.Entry.TheVariants as entries
 use Rattle.vg_history.proofs.HistoryLemmas.{replay_append}
 use Rattle.vg_device.specs.ActStep.{effect_of, is_in_use, replied_by, shown_at}
 use Rattle.vg_device.specs.State.{State, counted, has_resource, start}
-use Rattle.vg_device.proofs.MapLemmas.{insert_other, remove_other, set_itself, set_other}
+use Rattle.vg_device.proofs.MapLemmas.{insert-found, insert_other, remove_other, set_itself, set_other}
 use Rattle.vg_machine.specs.CountedWithin.{act-counts, request-counts}
 use Rattle.vg_machine.specs.Entries.{Entry}
 use Rattle.vg_machine.specs.Replay.{after, display, replay, replay_from}

@@ -4,7 +4,6 @@ use Rattle.std.specs.Ordering.{nat_cmp}
 use Rattle.std.specs.Map.{lookup}
 use Rattle.std.specs.BTreeMap.{insert_entry, is_at}
 use Rattle.std.proofs.lemmas.Bool.{cases_eq}
-use Rattle.vg_device.proofs.MapLemmas.{insert-found}
 use Rattle.vg_pages.specs.Memory.{after_taking, is_among}
 use Rattle.vg_share.specs.declared.share.Buffer.{Buffer}
 use Rattle.vg_share.specs.declared.share.Geometry.{Geometry}
@@ -19,7 +18,7 @@ use Rattle.vg_client_holds.specs.declared.setup.Setup.{Setup}
 use Rattle.vg_history.specs.declared.entry.Entry.TheVariants as entries
 use Rattle.vg_device.specs.ActStep.{effect_of, is_in_use, replied_by, shown_at}
 use Rattle.vg_device.specs.State.{State, counted, has_resource}
-use Rattle.vg_device.proofs.MapLemmas.{insert_other}
+use Rattle.vg_device.proofs.MapLemmas.{insert-found, insert_other}
 use Rattle.vg_machine.specs.Entries.{Entry}
 use Rattle.vg_machine.specs.Replay.{after, replay}
 use Rattle.vg_painted.proofs.OnceLemmas.{Once}

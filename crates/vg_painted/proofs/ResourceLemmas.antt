@@ -6,7 +6,6 @@ use Rattle.std.specs.Ordering.{nat_cmp}
 use Rattle.std.specs.BTreeMap.{insert_entry}
 use Rattle.std.proofs.lemmas.Bool.{cases_eq, eq-eqb, ne_eqb, or_parts}
 use Rattle.std.proofs.lemmas.Bool.Decides.{nat_tests}
-use Rattle.vg_device.proofs.MapLemmas.{insert-found}
 use Rattle.vg_formats.specs.declared.entry.MemEntry.{MemEntry}
 use Rattle.vg_formats.specs.declared.format.Format.{Format}
 use Rattle.vg_formats.specs.declared.rect.Rect.{Rect}
@@ -15,7 +14,7 @@ use Rattle.vg_backing.specs.Backing.{AreHeld, are_bad, backing_bytes, is_bad}
 use Rattle.vg_resource.specs.declared.resource.Resource.{Resource}
 use Rattle.vg_resource.specs.Resource.{blank, resource_at, with_blank, with_pixels, without}
 use Rattle.vg_transfer.specs.Backings.{bytes_of_rect, transferred}
-use Rattle.vg_device.proofs.MapLemmas.{insert_other, remove_other, set_itself, set_other}
+use Rattle.vg_device.proofs.MapLemmas.{insert-found, insert_other, remove_other, set_itself, set_other}
 use Rattle.vg_painted.specs.Inks.{numbers}
 use Rattle.vg_painted.specs.Paint.{byte_of_entries, filled_at, with_one}
 use Rattle.vg_painted.specs.Painted.{IsAt}
