@@ -2,8 +2,6 @@
 #![tactic(auto)]
 
 #[cfg(test)]
-mod journal;
-#[cfg(test)]
 mod lanes;
 #[cfg(test)]
 mod machine;
@@ -13,5 +11,3 @@ mod run;
 mod words;
 #[cfg(test)]
 mod workers;
-#[cfg(test)]
-mod workload;

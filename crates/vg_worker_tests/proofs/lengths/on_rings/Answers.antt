@@ -1,8 +1,0 @@
-use Rattle.std.proofs.Common.{refl, arith}
-use Rattle.vg_worker_tests.proofs.lengths.on_rings.Goals as goal
-
-pub make-requires : goal.make-requires
-make-requires g c = record { least = omega arith; most = omega arith; power = (6, refl) }
-
-pub make-requires-2 : goal.make-requires-2
-make-requires-2 g c = record { least = omega arith; most = omega arith; power = (4, refl) }
