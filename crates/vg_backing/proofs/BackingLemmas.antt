@@ -23,7 +23,7 @@ bytes-within bytes addr length skip n start low fits =
     ∙ ap (take n) (drop-drop skip (addr - start) bytes)
     ∙ ap (λ m. take n (drop m bytes)) at
 
-length-bytes_at : (memory : Memory) (addr n : ℕ) → HoldsRange memory addr n → length (bytes_at memory.bytes addr n) ≡ n
+pub length-bytes_at : (memory : Memory) (addr n : ℕ) → HoldsRange memory addr n → length (bytes_at memory.bytes addr n) ≡ n
 length-bytes_at memory addr n held = omega (arith, length-take n (drop (addr - 1048576) memory.bytes), length-drop (addr - 1048576) memory.bytes, held)
 
 held-rest : (memory : Memory) (entry : MemEntry) (more : List MemEntry) → AreHeld memory (entry ∷ more) → AreHeld memory more

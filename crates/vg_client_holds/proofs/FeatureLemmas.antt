@@ -1,19 +1,9 @@
 -- The features of a setup have no faulty bit.
-use Rattle.std.proofs.Common.{◌≡◌, ◌<◌, ◌&&◌, ℕ, zero, suc, Bool, true, false, not, refl, sym, ap, ◌∙◌, subst, inl, inr, arith}
-use Rattle.std.proofs.lemmas.Bool.{and_parts, cases_eq, not-true}
+use Rattle.std.proofs.Common.{◌≡◌, ℕ, Bool, true, false, not, refl, sym, subst, arith}
+use Rattle.std.proofs.lemmas.Bool.{not-true}
+use Rattle.vg_laws.proofs.Below.{below, below_at}
 use Rattle.vg_config.specs.Features.{IsFaultless, is_faulty}
 use Rattle.vg_client_holds.specs.Setup.{AreAccepted, features_without}
-
-below : (ℕ → Bool) → ℕ → Bool
-below p zero = true
-below p (suc n) = p n && below p n
-
-below_at : (p : ℕ → Bool) (n k : ℕ) → below p n ≡ true → k < n → p k ≡ true
-unfolding below
-below_at p zero k all within = absurd (omega (arith, within))
-below_at p (suc n) k all within =
-    let both = and_parts (p n) (below p n) all in
-    elim (cases_eq k n) [ inl same ↦ ap p same ∙ both.0 | inr other ↦ below_at p n k both.1 (omega (arith, within, other)) ]
 
 -- none of the 64 bits is faulty
 is_good : ℕ → Bool

@@ -79,7 +79,7 @@ shows-binding id rect resource some within = record {
   offset = refl;
 }
 
-showing-flushed-one : (blobs : List (ℕ × Blob)) (resources : List (ℕ × Resource)) (rect : Rect) (surface : List ℕ) (b : Bool) (screen : Option Screen) → IsShowing blobs resources screen → IsShowing blobs resources (cond b (flushed_screen rect surface screen) screen)
+pub showing-flushed-one : (blobs : List (ℕ × Blob)) (resources : List (ℕ × Resource)) (rect : Rect) (surface : List ℕ) (b : Bool) (screen : Option Screen) → IsShowing blobs resources screen → IsShowing blobs resources (cond b (flushed_screen rect surface screen) screen)
 showing-flushed-one blobs resources rect surface true (Some screen) showing = showing
 showing-flushed-one blobs resources rect surface true None showing = tt
 showing-flushed-one blobs resources rect surface false screen showing = showing

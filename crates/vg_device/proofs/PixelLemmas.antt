@@ -27,6 +27,7 @@ use Rattle.vg_resource.specs.declared.resource.Resource.{Resource}
 use Rattle.vg_scanout.specs.Scanout.{Screen}
 use Rattle.vg_transfer.specs.Pixels.{CopiesRect}
 use Rattle.vg_transfer.specs.Backings.{transfer, transfer_refusals, entries_at, transferred}
+use Rattle.vg_transfer.proofs.CopyLemmas.{none-holds}
 use Rattle.vg_backing.specs.Backing.{backing_bytes}
 use Rattle.vg_scanout.specs.Fits.{IsScreen}
 use Rattle.vg_resource.specs.Resource.{IsWhole, height_of, resource_at, width_of}
@@ -48,11 +49,6 @@ use Rattle.vg_device.proofs.ShowingLemmas.{shown-found}
 accepted : (refusal : Option ℕ) (state next : State) → (answered_by refusal state next).1 ≡ responses.Nodata → (refusal ≡ None) × ((answered_by refusal state next).0 ≡ next)
 accepted (Some code) state next done = cc
 accepted None state next done = (refl, refl)
-
--- none of several reasons holds
-none-holds : (b : Bool) (code : ℕ) (more : List (Bool × ℕ)) → refusal_of ((b, code) ∷ more) ≡ None → (b ≡ false) × (refusal_of more ≡ None)
-none-holds true code more none = cc
-none-holds false code more none = (refl, none)
 
 there-is : {X : Type 0} (found : Option X) → is_none found ≡ false → (x : X) × (found ≡ Some x)
 there-is (Some x) some = (x, refl)

@@ -78,7 +78,7 @@ keeping-itself : (resources : List (ℕ × Resource)) → Keeping resources reso
 keeping-itself resources id resource is = (resource, is, like-itself resource)
 
 -- nothing is refused for the first of several reasons
-first-not : {R : Type 0} (b : Bool) (refusal : R) (more : List (Bool × R)) → refusal_of ((b, refusal) ∷ more) ≡ None → b ≡ false
+pub first-not : {R : Type 0} (b : Bool) (refusal : R) (more : List (Bool × R)) → refusal_of ((b, refusal) ∷ more) ≡ None → b ≡ false
 first-not true refusal more none = cc
 first-not false refusal more none = refl
 

@@ -1,29 +1,16 @@
 -- How long the requests of commands are.
-use Rattle.std.proofs.Common.{◌≡◌, ℕ, ℤ, ◌≤◌, length, w32, arith, length-append}
-use Rattle.std.specs.Int.{cast_unsigned}
+use Rattle.std.proofs.Common.{◌≤◌, length, arith, length-append}
 use Rattle.vg_wire.specs.declared.two_d.Command2d.{Command2d}
 use Rattle.vg_wire.specs.declared.two_d.Command2d.TheVariants as two_d
 use Rattle.vg_wire.specs.TwoD.{body_of_2d}
 use Rattle.vg_numbers.proofs.NumberLemmas.{length-le}
 use Rattle.vg_wire.proofs.EntryLemmas.{length-entries_bytes}
-use Rattle.vg_wire.proofs.TwoDLemmas.{length-attach, length-body_of_2d, length-four, length-rect_bytes, length-two}
+use Rattle.vg_wire.proofs.TwoDLemmas.{length-attach, length-body_of_2d, length-rect_bytes, length-two}
 use Rattle.vg_wire_ext.specs.declared.command.Command.{Command}
 use Rattle.vg_wire_ext.specs.declared.command.Command.TheVariants.{TwoD, CapsetInfo, Capset, Edid, AssignUuid, CreateBlob, SetScanoutBlob, CtxCreate, CtxDestroy, CtxAttach, CtxDetach, Submit, UpdateCursor, MoveCursor}
 use Rattle.vg_wire_ext.specs.Commands.{command_body}
-use Rattle.vg_wire_ext.specs.Fields.{signed_bytes, position, planes}
+use Rattle.vg_wire_ext.proofs.CommandLemmas.{length-planes, length-position}
 use Rattle.vg_driver.specs.Requests.{IsShort}
-
-length-planes : (n : ℕ) → length (planes n) ≡ 16
-unfolding planes
-length-planes n = length-four n 0 0 0
-
-length-signed_bytes : (x : ℤ) → length (signed_bytes x) ≡ 4
-unfolding signed_bytes
-length-signed_bytes x = length-le 4 (cast_unsigned w32 x)
-
-length-position : (s : ℕ) (x y : ℤ) → length (position s x y) ≡ 16
-unfolding position
-length-position s x y = simp length-append (omega (arith, length-le 4 s, length-signed_bytes x, length-signed_bytes y, length-le 4 0))
 
 short-2d : (command : Command2d) → IsShort (TwoD command) → length (body_of_2d command) ≤ 49128
 short-2d (two_d.Attach resource entries) short = omega (arith, length-attach resource entries, short)

@@ -1,12 +1,13 @@
 -- The words of a workload: numbers and digits are spelled as the grammar has them.
 use Rattle.std.proofs.Common.{◌≡◌, ℕ, zero, suc, ◌+◌, ◌/◌, ◌%◌, ◌^◌, ◌<◌, ◌==◌, ◌&&◌, ◌++◌, Bool, true, nat_lt, nat_le, if◌then◌else◌, List, [], ◌∷◌, length, codes, decimal, arith, refl, sym, ap, ◌∙◌, subst, inl, inr}
-use Rattle.std.proofs.lemmas.Bool.{and_parts, and_from, cases_eq, cases_lt, eqb-true, lt-ltb, le-ltb}
+use Rattle.std.proofs.lemmas.Bool.{and_parts, and_from, cases_lt, eqb-true, lt-ltb, le-ltb}
 use Rattle.std.proofs.lemmas.Bool.Decides.{nat_tests}
 use Rattle.std.proofs.lemmas.Fmt.{decimal_digit, decimal_step}
 use Rattle.std.proofs.lemmas.List.Elements.{All-cons, All-nil}
 use Rattle.std.proofs.lemmas.Nat.{mod_below}
 use Rattle.std.specs.Int.{is_in_range, byte_at, bytes_low_first}
 use Rattle.std.specs.List.{list_all}
+use Rattle.vg_laws.proofs.Below.{below, below_at}
 use Rattle.vg_numbers.specs.Numbers.{le}
 use Rattle.vg_script_words.specs.Words.{is_number, value, is_within, is_signed, is_position, is_hex, is_hex_digit}
 use Rattle.vg_line_words.specs.Words.{AreBelow}
@@ -14,18 +15,6 @@ use Rattle.vg_line_words.proofs.HexLaws.{digits_hex, length_hex}
 use Rattle.vg_line_words.proofs.NumberLaws.{all_weaker}
 use Rattle.vg_gen.specs.Generated.{hex_of}
 use Rattle.vg_gen.proofs.LineLemmas.{is_word}
-
--- A test that holds at each number below a bound, by computing.
-unfoldable pub below : (ℕ → Bool) → ℕ → Bool
-below p zero = true
-below p (suc n) = p n && below p n
-
-pub below_at : (p : ℕ → Bool) (n k : ℕ) → below p n ≡ true → k < n → p k ≡ true
-unfolding below
-below_at p zero k all within = absurd (omega (arith, within))
-below_at p (suc n) k all within =
-    let both = and_parts (p n) (below p n) all in
-    elim (cases_eq k n) [ inl same ↦ ap p same ∙ both.0 | inr other ↦ below_at p n k both.1 (omega (arith, within, other)) ]
 
 -- The digits of a number below 100.
 abbrev pub digits : ℕ → List ℕ

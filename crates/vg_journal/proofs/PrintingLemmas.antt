@@ -2,18 +2,12 @@ use Rattle.std.proofs.Common.{ℕ, codes, ◌≡◌, ◌+◌, ◌<◌, ◌≤◌
 use Rattle.std.proofs.Math.Seq.{take-add}
 use Rattle.std.proofs.lemmas.List.{take-append-drop, take_all, take_at}
 use Rattle.vg_io.specs.Streams.{Takes, TakesPart, TakesSome}
+use Rattle.vg_io.proofs.StreamLemmas.{takes_both}
 use Rattle.vg_journal.specs.PrintingWithin.{Printed, PrintedSome}
 use Rattle.vg_scanout.specs.declared.scanout.Frame.{Frame}
 use Rattle.vg_text.specs.Text.{numbered}
 use Rattle.vg_text.proofs.NumberedLemmas.{numbered_append, written_more}
 use Rattle.vg_journal.specs.Text.{frame_line, frame_text}
-
--- What a sink takes in two calls.
-pub takes_both : (a b c : Option (List ℕ)) (xs ys : List ℕ) → Takes a b xs → Takes b c ys → Takes a c (xs ++ ys)
-takes_both None b c xs ys first second = tt
-takes_both (Some us) None c xs ys first second = absurd first
-takes_both (Some us) (Some vs) None xs ys first second = absurd second
-takes_both (Some us) (Some vs) (Some ws) xs ys first second = rw (second, first, append_assoc)
 
 -- A sink that is left alone takes nothing.
 pub takes_nothing : (a : Option (List ℕ)) → Takes a a []

@@ -69,13 +69,13 @@ journal_goes commands journal r =
     (end_goes counts (length journal.frames) (frame_bytes journal.frames))
 
 -- Entries and frames among the items.
-entries_append : (xs ys : List Item) → entries_in (xs ++ ys) ≡ entries_in xs ++ entries_in ys
+pub entries_append : (xs ys : List Item) → entries_in (xs ++ ys) ≡ entries_in xs ++ entries_in ys
 entries_append [] ys = refl
 entries_append (Nothing ∷ xs) ys = entries_append xs ys
 entries_append (AnEntry entry ∷ xs) ys = ap (λ es. entry ∷ es) (entries_append xs ys)
 entries_append (AFrame frame ∷ xs) ys = entries_append xs ys
 
-frames_append : (xs ys : List Item) → frames_in (xs ++ ys) ≡ frames_in xs ++ frames_in ys
+pub frames_append : (xs ys : List Item) → frames_in (xs ++ ys) ≡ frames_in xs ++ frames_in ys
 frames_append [] ys = refl
 frames_append (Nothing ∷ xs) ys = frames_append xs ys
 frames_append (AnEntry entry ∷ xs) ys = frames_append xs ys

@@ -6,10 +6,11 @@ use Rattle.vg_scanout.specs.declared.scanout.Frame.{Frame}
 use Rattle.vg_journal.specs.declared.journal.Journal.{Journal}
 use Rattle.vg_journal.specs.Text.{text_of}
 use Rattle.vg_journal_lines.specs.declared.state.State.{State}
-use Rattle.vg_journal_lines.specs.States.{AFrame, AnEntry, Item, Nothing, start}
+use Rattle.vg_journal_lines.specs.States.{Item, start}
 use Rattle.vg_journal_lines.specs.Pieces.{IsReadAs, JournalInRange, done_of, entries_in, frames_in}
 use Rattle.vg_journal_lines.specs.Refusals.{IsJournal, IsRefusedAt}
 use Rattle.vg_journal_lines.proofs.StepLemmas.{accepted_told}
+use Rattle.vg_journal_lines.proofs.RunLaws.{entries_append, frames_append}
 use Rattle.vg_journal_read.specs.declared.pieces.Part.{Part}
 use Rattle.vg_journal_read.specs.PiecesWithin.{WentOn, item_of}
 use Rattle.vg_journal_read.specs.ScansWithin.{Passed}
@@ -25,18 +26,6 @@ pub record IsReading (bytes : List ℕ) (state : State) (pieces : ℕ) (rest : L
 
 pub reading_start : (bytes : List ℕ) → IsReading bytes start 0 bytes [] []
 reading_start bytes = record { at = at_start bytes; entries_are = refl; frames_are = refl }
-
-entries_append : (xs ys : List Item) → entries_in (xs ++ ys) ≡ entries_in xs ++ entries_in ys
-entries_append [] ys = refl
-entries_append (Nothing ∷ xs) ys = entries_append xs ys
-entries_append (AnEntry entry ∷ xs) ys = ap (λ es. entry ∷ es) (entries_append xs ys)
-entries_append (AFrame frame ∷ xs) ys = entries_append xs ys
-
-frames_append : (xs ys : List Item) → frames_in (xs ++ ys) ≡ frames_in xs ++ frames_in ys
-frames_append [] ys = refl
-frames_append (Nothing ∷ xs) ys = frames_append xs ys
-frames_append (AnEntry entry ∷ xs) ys = frames_append xs ys
-frames_append (AFrame frame ∷ xs) ys = ap (λ fs. frame ∷ fs) (frames_append xs ys)
 
 abbrev pub passed : (old new : State) (bytes : List ℕ) (part : Part) (piece after : List ℕ) → WentOn old new bytes part piece after → Passed old new bytes after
 passed old new bytes part piece after w = record { piece = piece; item = item_of part piece; cut = w.cut; step_is = w.step_is }

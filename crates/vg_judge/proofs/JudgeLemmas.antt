@@ -33,7 +33,7 @@ is_wrong_next journal done n m wrong number is =
 pub one_more : (journal : Journal) (done : List Entry) (judging : Judging) (n : ℕ) → (entry : Entry) × IsJudging journal (done ++ entry ∷ []) judging → length done ≡ n → (now : List Entry) × (length now ≡ n + 1) × IsJudging journal now judging
 one_more journal done judging n found number = (done ++ found.0 ∷ [], length-append done (found.0 ∷ []) ∙ ap (λ k. k + 1) number, found.1)
 
-are_all : (journal : Journal) (done left : List Entry) → journal.entries ≡ done ++ left → length journal.entries ≤ length done → done ≡ journal.entries
+pub are_all : (journal : Journal) (done left : List Entry) → journal.entries ≡ done ++ left → length journal.entries ≤ length done → done ≡ journal.entries
 are_all journal done [] place few = sym (append-nil done) ∙ sym place
 are_all journal done (entry ∷ left) place few =
     let size = ap length place in

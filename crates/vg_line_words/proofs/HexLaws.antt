@@ -1,28 +1,17 @@
 -- Bytes and their digits.
-use Rattle.std.proofs.Common.{◌≡◌, ℕ, ◌+◌, ◌*◌, ◌/◌, ◌%◌, ◌<◌, ◌≤◌, ◌==◌, ◌&&◌, Bool, true, false, nat_lt, nat_le, nat_eq, List, [], ◌∷◌, length, bytes_eq, codes, slice_index, if◌then◌else◌, Option, Some, None, arith, refl, sym, ap, ◌∙◌, subst, zero, suc, inl, inr}
-use Rattle.std.proofs.lemmas.Bool.{and_parts, and_from, eqb-true, eqb-false, and_right, and_left, le-ltb, lt-leb, cases_eq, ltb-true, lt-ltb, eq-eqb, leb-true, le-leb}
+use Rattle.std.proofs.Common.{◌≡◌, ℕ, ◌+◌, ◌*◌, ◌/◌, ◌%◌, ◌<◌, ◌≤◌, ◌==◌, ◌&&◌, Bool, true, false, nat_lt, nat_le, nat_eq, List, [], ◌∷◌, length, bytes_eq, codes, slice_index, if◌then◌else◌, Option, Some, None, arith, refl, sym, ap, ◌∙◌, subst}
+use Rattle.std.proofs.lemmas.Bool.{and_parts, and_from, eqb-true, eqb-false, and_right, and_left, le-ltb, lt-leb, ltb-true, lt-ltb, eq-eqb, leb-true, le-leb}
 use Rattle.std.proofs.lemmas.Bool.Decides.{nat_tests}
 use Rattle.std.proofs.lemmas.List.Elements.{All-head, All-tail, All-cons, All-nil}
 use Rattle.std.proofs.lemmas.Slice.Eq.{bytes_eq-Decides}
 use Rattle.std.specs.Char.{digit_value}
 use Rattle.std.specs.List.{list_all}
+use Rattle.vg_laws.proofs.Below.{below, below_at}
 use Rattle.hex.specs.Hex.{encode_with, encode_lower, lower_digits}
 use Rattle.vg_text.specs.Text.{hex_text}
 use Rattle.vg_script_words.specs.Words.{is_hex, is_hex_digit, hex_bytes}
 use Rattle.vg_line_words.specs.Words.{AreBelow, bytes_of, bytes_within, at_most, is_plain, is_plain_byte}
 use Rattle.vg_line_words.proofs.NumberLaws.{all_weaker}
-
--- A test that holds at each number below a bound, by computing.
-below : (ℕ → Bool) → ℕ → Bool
-below p zero = true
-below p (suc n) = p n && below p n
-
-below_at : (p : ℕ → Bool) (n k : ℕ) → below p n ≡ true → k < n → p k ≡ true
-unfolding below
-below_at p zero k all within = absurd (omega (arith, within))
-below_at p (suc n) k all within =
-    let both = and_parts (p n) (below p n) all in
-    elim (cases_eq k n) [ inl same ↦ ap p same ∙ both.0 | inr other ↦ below_at p n k both.1 (omega (arith, within, other)) ]
 
 -- A digit of a number is a digit and says it.
 abbrev says : ℕ → Bool

@@ -1,5 +1,5 @@
 -- What scanouts show, after every history.
-use Rattle.std.proofs.Common.{◌≡◌, ℕ, ◌==◌, ◌||◌, not, Bool, true, false, cond, List, [], ◌∷◌, length, get_or, set, Option, Some, None, refl, ap, sym, subst, ◌∙◌}
+use Rattle.std.proofs.Common.{◌≡◌, ℕ, ◌==◌, ◌||◌, not, Bool, true, false, List, [], ◌∷◌, length, get_or, set, Option, Some, None, refl, ap, sym, subst, ◌∙◌}
 use mathlib.Core.Logic.{dite}
 use native.Mathlib.Decide.{ℕ_discrete}
 use Rattle.std.specs.Prelude.{is_none, is_some, nat_le, slice_get, if◌then◌else◌}
@@ -19,11 +19,11 @@ use Rattle.vg_blob.specs.declared.blobs.Blob.{Blob}
 use Rattle.vg_blob.specs.Blobs.{blob_at}
 use Rattle.vg_refusals.specs.Refusals.{refusal_of}
 use Rattle.vg_scanout.specs.declared.scanout.Binding.{Binding}
-use Rattle.vg_scanout.specs.Scanout.{Screen, after_flush, binding_at, binding_of_screen, fresh_screen, flushed_screen, is_flushed, is_too_large}
+use Rattle.vg_scanout.specs.Scanout.{Screen, after_flush, binding_at, binding_of_screen, fresh_screen, is_flushed, is_too_large}
 use Rattle.vg_wire.specs.Kinds.{ERR_INVALID_PARAMETER, ERR_INVALID_RESOURCE_ID, ERR_INVALID_SCANOUT_ID, ERR_OUT_OF_MEMORY}
 use Rattle.vg_client_holds.specs.declared.setup.Setup.{Setup}
 use Rattle.vg_device.specs.declared.blobs.Layout.{Layout}
-use Rattle.vg_device.proofs.BoundLemmas.{none-showing, showing-unbound, showing-without, shows-binding, shows-blob}
+use Rattle.vg_device.proofs.BoundLemmas.{none-showing, showing-unbound, showing-without, shows-binding, shows-blob, showing-flushed-one}
 use Rattle.vg_device.proofs.MapLemmas.{insert_other}
 use Rattle.vg_device.proofs.ShowingLemmas.{Keeping, all-showing, found-shown, keeping-pixels}
 use Rattle.vg_device.specs.BlobStep.{blob_binding, is_in_blob, is_laid_out, set_scanout_blob_refusals, show_blob_refusals}
@@ -129,16 +129,10 @@ shows-bound-blob s rect scanout id layout format none some was =
     in
     All-set (IsShowing s.blobs s.resources) s.scanouts.screens scanout (Some (fresh_screen binding)) (bound-fresh s.blobs s.resources binding shown) was)
 
-flushed-one : (blobs : List (ℕ × Blob)) (resources : List (ℕ × Resource)) (rect : Rect) (surface : List ℕ) (b : Bool) (screen : Option Screen) → IsShowing blobs resources screen
-    → IsShowing blobs resources (cond b (flushed_screen rect surface screen) screen)
-flushed-one blobs resources rect surface true (Some screen) showing = showing
-flushed-one blobs resources rect surface true None showing = tt
-flushed-one blobs resources rect surface false screen showing = showing
-
 shows-flushed : (s : State) (rect : Rect) (id : ℕ) (surface : List ℕ) (screens : List (Option Screen)) → Shows s.blobs s.resources screens
     → All (λ screen. IsShowing s.blobs s.resources (after_flush id rect surface screen)) screens
 shows-flushed s rect id surface screens was = λ k d within.
-    flushed-one s.blobs s.resources rect surface (is_flushed id rect (get_or screens k d)) (get_or screens k d) (was k d within)
+    showing-flushed-one s.blobs s.resources rect surface (is_flushed id rect (get_or screens k d)) (get_or screens k d) (was k d within)
 
 -- ---- every history
 

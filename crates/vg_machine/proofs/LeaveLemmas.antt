@@ -1,31 +1,30 @@
 -- What a step that isn't blocked leaves of the parts that a lent job stands on.
-use Rattle.std.proofs.Common.{◌≡◌, ◌≢◌, ◌≤◌, ◌<◌, ℕ, ◌+◌, ◌*◌, ◌/◌, ◌%◌, ◌==◌, ◌||◌, ◌&&◌, not, inl, inr, Bool, true, false, cond, List, [], ◌∷◌, ◌++◌, length, drop, Option, Some, None, Result, Ok, Err, ap, sym, ◌∙◌, refl, subst, get_or}
-use Rattle.std.specs.Prelude.{is_none, is_some, ok_or, option_map, nat_lt, nat_le, slice_get, slice_index, if◌then◌else◌}
+use Rattle.std.proofs.Common.{◌≡◌, ◌≢◌, ℕ, ◌+◌, ◌*◌, ◌%◌, ◌==◌, ◌||◌, ◌&&◌, not, inl, inr, Bool, true, false, cond, List, [], ◌∷◌, length, drop, Option, Some, None, Result, Ok, Err, ap, sym, ◌∙◌, refl, subst}
+use Rattle.std.specs.Prelude.{is_none, is_some, ok_or, option_map, nat_lt, slice_get, if◌then◌else◌}
 use Rattle.std.specs.List.{list_any}
 use Rattle.std.specs.Ordering.{nat_cmp}
-use Rattle.std.specs.Map.{lookup, remove_entry, set_value}
-use Rattle.std.specs.BTreeMap.{insert_entry, is_at}
+use Rattle.std.specs.Map.{lookup, set_value}
+use Rattle.std.specs.BTreeMap.{is_at}
 use Rattle.vg_laws.proofs.Numbers.{differs}
 use Rattle.vg_laws.proofs.Bools.{or-first, or-second}
 use Rattle.vg_history.specs.Lists.{Has}
 use Rattle.vg_cursor.specs.declared.cursor.Cursor.{Cursor}
-use Rattle.vg_cursor.specs.Cursor.{placed_at}
 use Rattle.vg_formats.specs.declared.rect.Rect.{Rect}
 use Rattle.vg_formats.specs.Formats.{format_of}
 use Rattle.vg_formats.specs.declared.format.Format.{Format}
-use Rattle.vg_pages.specs.Memory.{Memory, is_among}
+use Rattle.vg_pages.specs.Memory.{Memory}
 use Rattle.vg_resource.specs.declared.resource.Resource.{Resource}
 use Rattle.vg_refusals.specs.Refusals.{refusal_of}
 use Rattle.vg_resource.specs.Resource as resources
-use Rattle.vg_resource.specs.Resource.{pixel_bytes, resource_at, with_blank, with_pixels}
+use Rattle.vg_resource.specs.Resource.{pixel_bytes, resource_at, with_blank}
 use Rattle.vg_wire.specs.Kinds.{ERR_INVALID_CONTEXT_ID, ERR_INVALID_PARAMETER, ERR_INVALID_RESOURCE_ID, ERR_OUT_OF_MEMORY}
 use Rattle.vg_blob.specs.declared.blobs.Blob.{Blob}
 use Rattle.vg_blob.specs.Blobs as blobs
-use Rattle.vg_blob.specs.Blobs.{blob_at, with_blob}
+use Rattle.vg_blob.specs.Blobs.{blob_at}
 use Rattle.vg_blob.specs.Uuids.{assign_refusals, assigned, number_for, uuid_bytes}
 use Rattle.vg_context.specs.Contexts as contexts
-use Rattle.vg_context.specs.Contexts.{Context, NAME_BYTES, attached, changed, context_at, create_refusals, created, destroy_refusals, destroyed, detach_refusals, forgotten, is_live, submit_refusals, with_resource, without_resource}
-use Rattle.vg_transfer.specs.Backings.{backing_at, detached}
+use Rattle.vg_context.specs.Contexts.{Context, NAME_BYTES, changed, context_at, create_refusals, destroy_refusals, destroyed, detach_refusals, forgotten, is_live, submit_refusals, with_resource, without_resource}
+use Rattle.vg_transfer.specs.Backings.{backing_at}
 use Rattle.vg_formats.specs.declared.entry.MemEntry.{MemEntry}
 use Rattle.vg_scanout.specs.Scanout.{ScanoutState, unbound}
 use Rattle.vg_wire.specs.Header.{header_of}
@@ -36,7 +35,7 @@ use Rattle.vg_wire_ext.specs.declared.command.Command.TheVariants.{TwoD, CapsetI
 use Rattle.vg_wire_ext.specs.declared.response.Response.{Response}
 use Rattle.vg_wire_ext.specs.declared.response.Response.TheVariants as responses
 use Rattle.vg_device.specs.declared.blobs.Layout.{Layout}
-use Rattle.vg_device.specs.Answered.{answered_by, answered_with}
+use Rattle.vg_device.specs.Answered.{answered_with}
 use Rattle.vg_device.specs.BlobStep.{create_blob_refusals, set_scanout_blob_refusals, with_scanout_blob, with_shown_blob}
 use Rattle.vg_device.specs.ContextStep.{ctx_attach_refusals}
 use Rattle.vg_device.specs.Receive.{receive_refusal, with_received}
@@ -52,8 +51,9 @@ use Rattle.vg_wire.specs.declared.request.Malformed.{Malformed}
 use Rattle.vg_wire.specs.declared.request.Malformed.TheVariants.{ShortHeader, UnknownKind, WrongQueue, ShortBody}
 use Rattle.vg_wire_ext.specs.Commands.{command_of, is_known}
 use Rattle.vg_wire_ext.specs.Request.{is_queue_of, request_of}
-use Rattle.vg_device.specs.Step.{answer_of, attach_2d_refusals, block_of, command_step, create_2d_refusals, cursor_change, cursor_refusals, detach_2d_refusals, edid_refusals, flush_refusals, flushed_by, move_refusals, refused_or_ran, request_refusals, set_scanout_refusals, timeline_refusals, transfer_2d_step, transfer_step, two_d_step, unref_refusals, unreferenced, with_cursor, with_scanout, with_shown}
+use Rattle.vg_device.specs.Step.{answer_of, attach_2d_refusals, block_of, command_step, create_2d_refusals, cursor_refusals, detach_2d_refusals, edid_refusals, flush_refusals, flushed_by, move_refusals, refused_or_ran, request_refusals, set_scanout_refusals, timeline_refusals, transfer_2d_step, two_d_step, unref_refusals, unreferenced, with_scanout, with_shown}
 use Rattle.vg_device.proofs.MapLemmas.{insert_other, remove_other, set_other}
+use Rattle.vg_device.proofs.ShowingLemmas.{first-not}
 use Rattle.vg_pages.specs.Lending.{AreSameIn}
 use Rattle.vg_machine.specs.Blocks.{blocks, blocks_named, blocks_shaped, is_lent, is_of_context, keeps_context, names_context}
 use Rattle.vg_machine.specs.Jobs.{Job}
@@ -123,11 +123,6 @@ found-apart entries q id x there none = λ same. some-not (lookup (is_at (nat_cm
     some-not : {X : Type 0} (found : Option X) (x : X) → found ≡ Some x → is_some found ≡ false → ⊥
     some-not (Some y) x is none = cc
     some-not None x is none = cc
-
--- no reason of several holds
-first-not : {R : Type 0} (b : Bool) (refusal : R) (more : List (Bool × R)) → refusal_of ((b, refusal) ∷ more) ≡ None → b ≡ false
-first-not true refusal more none = cc
-first-not false refusal more none = refl
 
 second-not : {R : Type 0} (a : Bool) (first : R) (b : Bool) (refusal : R) (more : List (Bool × R)) → refusal_of ((a, first) ∷ (b, refusal) ∷ more) ≡ None → b ≡ false
 second-not true first b refusal more none = cc

@@ -15,7 +15,7 @@ use Rattle.vg_cursor.specs.declared.cursor.Cursor.{Cursor}
 use Rattle.vg_cursor.specs.Cursor.{cursor_of, hidden_at, placed_at, shown_as}
 use Rattle.vg_scanout.specs.declared.scanout.Binding.{Binding}
 use Rattle.vg_scanout.specs.Scanout as scanouts
-use Rattle.vg_scanout.specs.Scanout.{Screen, after_flush, area_of, flushed_screen, fresh_screen, is_bound_to, is_flushed, is_too_large, screen_at, screen_of, unbound, unbound_screen}
+use Rattle.vg_scanout.specs.Scanout.{Screen, after_flush, area_of, fresh_screen, is_bound_to, is_flushed, is_too_large, screen_at, screen_of, unbound, unbound_screen}
 use Rattle.vg_wire.specs.declared.two_d.Command2d.{Command2d}
 use Rattle.vg_wire.specs.declared.two_d.Command2d.TheVariants.{DisplayInfo, Create2d, Unref, SetScanout, Flush, Transfer, Attach, Detach}
 use Rattle.vg_wire_ext.specs.declared.command.Command.{Command}
@@ -33,7 +33,7 @@ use Rattle.vg_painted.specs.Inks.{Opaque, Tag, Zero, shown_by, tags}
 use Rattle.vg_painted.specs.Paint.{bound, commanded, commanded_2d, filled_at, flushed_at, image_at, received, shown_at, surface, unless, with_one}
 use Rattle.vg_origin.specs.Shown.{IsBoundTo, PointsTo}
 use Rattle.vg_painted.proofs.OnceLemmas.{map-found, set-found}
-use Rattle.vg_painted.proofs.ScreenLemmas.{cursor-there, still-there}
+use Rattle.vg_painted.proofs.ScreenLemmas.{cursor-there, still-there, no-screen}
 use Rattle.vg_painted.proofs.StandLemmas.{set-blob-some, set-some}
 
 -- A byte of a screen is cleared, opaque, as before on a scanout that was bound, or shown from the resource to which it was bound.
@@ -127,9 +127,6 @@ transfer-shows state command rect offset id p =
     (answered-show refusal state command next responses.Nodata p q (λ none. received-shows state command rect offset id found p))
 
 -- ---- scanouts
-
-no-screen : (one : Screen) → ◌≡◌ {A = Option Screen} (Some one) None → ⊥
-no-screen one eq = cc
 
 unbound-shows : (state : State) (command : Command) (scanout : ℕ) (p : Painting Tag (List Tag)) → AllShow state command (record state { scanouts = unbound scanout state.scanouts }) p p
 unbound-shows state command scanout p = record {

@@ -1,5 +1,5 @@
 -- The frames that an entry makes are of its screens and cursors.
-use Rattle.std.proofs.Common.{rules, ◌≡◌, ℕ, zero, suc, ◌+◌, ◌*◌, ◌==◌, Bool, true, false, cond, List, [], ◌∷◌, ◌++◌, append-nil, length, drop, map, slice_get, Option, Some, None, refl, ap, sym, subst, ◌∙◌, arith}
+use Rattle.std.proofs.Common.{rules, ◌≡◌, ℕ, zero, suc, ◌+◌, ◌*◌, ◌==◌, Bool, true, false, cond, List, [], ◌∷◌, ◌++◌, append-nil, length, drop, map, slice_get, Option, Some, None, refl, sym, subst, ◌∙◌, arith}
 use Rattle.vg_wire_ext.specs.declared.command.Command.{Command}
 use Rattle.vg_wire_ext.specs.declared.command.Command.TheVariants.{TwoD, CapsetInfo, Capset, Edid, AssignUuid, CreateBlob, SetScanoutBlob, CtxCreate, CtxDestroy, CtxAttach, CtxDetach, Submit, UpdateCursor, MoveCursor}
 use Rattle.vg_wire.specs.declared.request.Queue.{Queue}
@@ -25,6 +25,7 @@ use Rattle.vg_resource.specs.declared.resource.Resource.{Resource}
 use Rattle.vg_resource.specs.Resource.{resource_at}
 use Rattle.vg_scanout.specs.declared.scanout.Frame.{Frame}
 use Rattle.vg_scanout.specs.Scanout.{Screen, after_flush, flushed_screen, frame_of, is_flushed, new_frame, new_frames, screen_of}
+use Rattle.vg_scanout.proofs.LawLemmas.{flushed-at, chosen-frames}
 use Rattle.vg_share.specs.declared.share.ShareRefusal.{ShareRefusal}
 use Rattle.vg_share.specs.Share.{drop_refusal, export_refusal, free_refusal, import_refusal, place_refusal, release_refusal, reserve_refusal, take_refusal}
 use Rattle.vg_device.specs.ActStep.{effect_of, is_in_use, replied_by, shown_at}
@@ -73,15 +74,6 @@ in-either : (P : Frame → Type 0) (xs ys : List Frame) → ((k : ℕ) (x : Fram
 in-either P [] ys first second k x at = second k x at
 in-either P (z ∷ xs) ys first second zero x at = first 0 x at
 in-either P (z ∷ xs) ys first second (suc k) x at = in-either P xs ys (λ n. first (suc n)) second k x at
-
-chosen-frames : (P : Frame → Type 0) (b : Bool) (xs : List Frame) → (b ≡ true → (k : ℕ) (x : Frame) → slice_get xs k ≡ Some x → P x) → (k : ℕ) (x : Frame) → slice_get (cond b xs []) k ≡ Some x → P x
-chosen-frames P true xs each k x at = each refl k x at
-chosen-frames P false xs each k x at = cc
-
-flushed-at : (id : ℕ) (rect : Rect) (surface : List ℕ) (screen : Option Screen) (screens : List (Option Screen)) (n : ℕ) → slice_get screens n ≡ Some (after_flush id rect surface screen)
-    → is_flushed id rect screen ≡ true → slice_get screens n ≡ Some (flushed_screen rect surface screen)
-flushed-at id rect surface screen screens n at test =
-    at ∙ ap (λ (b : Bool). Some (cond b (flushed_screen rect surface screen) screen)) test
 
 -- those of the screens from number n on, of which the list after the flush is all
 frames-from : (entry id : ℕ) (rect : Rect) (surface : List ℕ) (cursors : List Cursor) (all : List (Option Screen)) (n : ℕ) (screens : List (Option Screen))

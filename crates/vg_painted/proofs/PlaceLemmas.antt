@@ -3,7 +3,7 @@ use Rattle.std.proofs.Common.{◌≡◌, ℕ, zero, suc, ◌+◌, ◌-◌, ◌*�
 use Rattle.std.specs.Prelude.{ℤ, pos, negsuc}
 use Rattle.std.proofs.lemmas.Bool.{cases_lt, lt-ltb, le-ltb}
 use Rattle.std.proofs.lemmas.Bool.Decides.{nat_tests}
-use Rattle.std.proofs.lemmas.List.{get_or-take, get_or-drop, get_or_past, get_or-replicate, get_or_append_left, get_or-append_right, length-take, length-drop, length-replicate}
+use Rattle.std.proofs.lemmas.List.{get_or-take, get_or-drop, get_or_past, get_or-replicate, get_or_append_left, get_or-append_right, length-take, length-replicate}
 use Rattle.std.proofs.lemmas.Nat.{mod_below}
 use Rattle.vg_formats.specs.declared.entry.MemEntry.{MemEntry}
 use Rattle.vg_formats.specs.declared.format.Format.{Format}
@@ -13,10 +13,11 @@ use Rattle.vg_places.specs.declared.rectangles.Area.{Area}
 use Rattle.vg_places.specs.Places.{tabulate}
 use Rattle.vg_places.specs.Rectangles.{filled, filled_place, is_inside}
 use Rattle.vg_places.proofs.Places.{length-tabulate, get_or-tabulate}
-use Rattle.vg_pages.specs.Memory.{Memory, HoldsRange, bytes_at, is_among, zeroed}
+use Rattle.vg_pages.specs.Memory.{Memory, bytes_at, is_among, zeroed}
 use Rattle.vg_share.specs.Cells.{place_in_buffer, repeated, stored, stored_byte}
 use Rattle.vg_share.proofs.CellLemmas.{length-repeated}
 use Rattle.vg_backing.specs.Backing.{AreHeld, backing_bytes}
+use Rattle.vg_backing.proofs.BackingLemmas.{length-bytes_at}
 use Rattle.vg_cursor.specs.declared.cursor.Cursor.{Cursor}
 use Rattle.vg_cursor.specs.Blended.{blended, blended_place, covered, image_place, mixed, over}
 use Rattle.vg_formats.specs.Shown.{shown_byte, shown_row}
@@ -104,9 +105,6 @@ stored-at entry client pages offset bytes times memory at is =
     past-and k (length memory) (nat_le offset b && nat_lt b (offset + n)) (slice_index bytes ((b - offset) % length bytes)) (at k) past (past-at memory at is k past))
 
 -- the bytes of entries
-length-held : (memory : Memory) (addr n : ℕ) → HoldsRange memory addr n → length (bytes_at memory.bytes addr n) ≡ n
-length-held memory addr n held = omega (arith, length-take n (drop (addr - 1048576) memory.bytes), length-drop (addr - 1048576) memory.bytes, held)
-
 pub entries-at : (memory : Memory) (at : ℕ → ℕ) → IsAt memory.bytes at → (parts : List MemEntry) → AreHeld memory parts → IsAt (backing_bytes memory parts) (byte_of_entries numbers at parts)
 unfolding backing_bytes
 entries-at memory at is [] held = λ k. get_or_past [] k 0 (omega arith)
@@ -114,7 +112,7 @@ entries-at memory at is (entry ∷ more) held = λ k.
     let here = bytes_at memory.bytes entry.addr entry.length in
     let rest = backing_bytes memory more in
     let start = entry.addr - 1048576 in
-    let long : length here ≡ entry.length = length-held memory entry.addr entry.length (held zero entry (omega arith)).1 in
+    let long : length here ≡ entry.length = length-bytes_at memory entry.addr entry.length (held zero entry (omega arith)).1 in
     let later : AreHeld memory more = λ n d within. held (suc n) d (omega arith) in
     elim (cases_lt k entry.length) [
       | inl within ↦

@@ -32,7 +32,7 @@ fresh-at binding = zeros-at (4 * binding.rect.width * binding.rect.height)
 screen-same : (one other : Screen) → ◌≡◌ {A = Option Screen} (Some one) (Some other) → one ≡ other
 screen-same one other eq = cc
 
-no-screen : (one : Screen) → ◌≡◌ {A = Option Screen} (Some one) None → ⊥
+pub no-screen : (one : Screen) → ◌≡◌ {A = Option Screen} (Some one) None → ⊥
 no-screen one eq = cc
 
 pub bound-screens : (scanout : ℕ) (binding : Binding) (screens : List (Option Screen)) (at : ℕ → ℕ → ℕ) → ScreensAt screens at

@@ -75,11 +75,11 @@ in-either P [] ys first second k x at = second k x at
 in-either P (z ∷ xs) ys first second zero x at = first 0 x at
 in-either P (z ∷ xs) ys first second (suc k) x at = in-either P xs ys (λ n. first (suc n)) second k x at
 
-chosen-frames : (P : Frame → Type 0) (b : Bool) (xs : List Frame) → (b ≡ true → (k : ℕ) (x : Frame) → slice_get xs k ≡ Some x → P x) → (k : ℕ) (x : Frame) → slice_get (cond b xs []) k ≡ Some x → P x
+pub chosen-frames : (P : Frame → Type 0) (b : Bool) (xs : List Frame) → (b ≡ true → (k : ℕ) (x : Frame) → slice_get xs k ≡ Some x → P x) → (k : ℕ) (x : Frame) → slice_get (cond b xs []) k ≡ Some x → P x
 chosen-frames P true xs each k x at = each refl k x at
 chosen-frames P false xs each k x at = cc
 
-flushed-at : (id : ℕ) (rect : Rect) (surface : List ℕ) (screen : Option Screen) (screens : List (Option Screen)) (n : ℕ) → slice_get screens n ≡ Some (after_flush id rect surface screen)
+pub flushed-at : (id : ℕ) (rect : Rect) (surface : List ℕ) (screen : Option Screen) (screens : List (Option Screen)) (n : ℕ) → slice_get screens n ≡ Some (after_flush id rect surface screen)
     → is_flushed id rect screen ≡ true → slice_get screens n ≡ Some (flushed_screen rect surface screen)
 flushed-at id rect surface screen screens n at test =
     at ∙ ap (λ (b : Bool). Some (cond b (flushed_screen rect surface screen) screen)) test

@@ -1,7 +1,7 @@
 -- The digits of HEX, a pair at a time.
-use Rattle.std.proofs.Common.{◌≡◌, ℕ, ◌+◌, ◌*◌, ◌%◌, ◌<◌, ◌&&◌, Bool, true, List, [], ◌∷◌, ◌++◌, ◌/◌, if◌then◌else◌, length, take, drop, drop-drop, get_or, bit_and, nat_eq, w16, arith, refl, ap, ◌∙◌, suc, zero, sym, inl, inr}
+use Rattle.std.proofs.Common.{◌≡◌, ℕ, ◌+◌, ◌*◌, ◌%◌, ◌<◌, ◌&&◌, Bool, true, List, [], ◌∷◌, ◌++◌, ◌/◌, if◌then◌else◌, length, take, drop, drop-drop, get_or, bit_and, nat_eq, w16, arith, refl, ap, ◌∙◌, suc, zero, sym}
 use Rattle.std.proofs.lemmas.Bool.Decides.{nat_tests}
-use Rattle.std.proofs.lemmas.Bool.{and_parts, eqb-true, cases_eq}
+use Rattle.std.proofs.lemmas.Bool.{and_parts, eqb-true}
 use Rattle.std.proofs.lemmas.List.Folds.{list_all-append}
 use Rattle.std.proofs.lemmas.List.{take-append-drop, length-take-le}
 use Rattle.std.proofs.Math.Seq.{take-add}
@@ -9,6 +9,7 @@ use Rattle.std.specs.Char.{digit_value}
 use Rattle.std.specs.Int.{from_le_bytes}
 use Rattle.std.specs.List.{list_all}
 use Rattle.std.specs.Simd.{first_chunks}
+use Rattle.vg_laws.proofs.Below.{below, below_at}
 use Rattle.vg_script_words.specs.Words.{is_hex_digit, hex_bytes}
 
 -- Whole pairs, and others behind them.
@@ -47,17 +48,6 @@ abbrev pub told : ℕ → ℕ
 told n = both_digits n % 16 * 16 + both_digits n / 256
 
 -- It is held against the definition at each two digits, by computing.
-below : (ℕ → Bool) → ℕ → Bool
-below p zero = true
-below p (suc n) = p n && below p n
-
-below_at : (p : ℕ → Bool) (n k : ℕ) → below p n ≡ true → k < n → p k ≡ true
-unfolding below
-below_at p zero k all within = absurd (omega (arith, within))
-below_at p (suc n) k all within =
-    let both = and_parts (p n) (below p n) all in
-    elim (cases_eq k n) [ inl same ↦ ap p same ∙ both.0 | inr other ↦ below_at p n k both.1 (omega (arith, within, other)) ]
-
 abbrev tells : ℕ → ℕ → Bool
 tells a b = if is_hex_digit b then nat_eq (told (a + b * 256)) (digit_value a * 16 + digit_value b) else true
 

@@ -1,5 +1,5 @@
 -- The entries of a journal are gone over one after another.
-use Rattle.std.proofs.Common.{◌≡◌, ℕ, ◌+◌, ◌-◌, ◌^◌, ◌<◌, ◌≤◌, ◌↔◌, true, List, [], ◌∷◌, ◌++◌, length, arith, sym, ap, subst, ◌∙◌, append-nil, length-append}
+use Rattle.std.proofs.Common.{◌≡◌, ℕ, ◌+◌, ◌-◌, ◌^◌, ◌<◌, ◌≤◌, ◌↔◌, true, List, [], ◌∷◌, ◌++◌, length, arith, sym, ap, subst, ◌∙◌, length-append}
 use Rattle.std.specs.List.{All}
 use Rattle.std.proofs.lemmas.List.Elements.{All-weaker}
 use Rattle.vg_history.specs.declared.entry.Entry.TheVariants as entries
@@ -14,6 +14,7 @@ use Rattle.vg_judge.specs.declared.verdicts.Outline.{Outline}
 use Rattle.vg_judge.specs.Entries.{HasGone, HasNext}
 use Rattle.vg_judge.specs.Outline.{IsOutline}
 use Rattle.vg_judge.specs.Verdicts.{IsLegal}
+use Rattle.vg_judge.proofs.JudgeLemmas.{are_all}
 use Rattle.vg_painted.specs.Inks.{tags}
 use Rattle.vg_painted.specs.Paint.{painting}
 use Rattle.vg_drawn.specs.declared.drawn.Drawn.{Drawn}
@@ -51,13 +52,6 @@ pub more_are : (bytes : List ℕ) (journal : Journal) (outline : Outline) (n : �
 more_are bytes journal outline n is more = let count = is.entries in omega (arith, count, more)
 
 -- ---- all of them
-
-are_all : (journal : Journal) (done left : List Entry) → journal.entries ≡ done ++ left → length journal.entries ≤ length done → done ≡ journal.entries
-are_all journal done [] place few = sym (append-nil done) ∙ sym place
-are_all journal done (entry ∷ left) place few =
-    let size = ap length place in
-    let sum = length-append done (entry ∷ left) in
-    absurd (omega (arith, size, sum, few))
 
 pub all_drawn : (journal : Journal) (n : ℕ) (now : Entries) (drawn : Drawn) → length journal.entries ≤ n → AreTraced journal n now drawn → IsDrawn journal.setup journal.entries drawn
 all_drawn journal n now drawn end t =

@@ -94,7 +94,7 @@ copies-in memory entries rect offset width height pixels whole held inside few =
     }
 
 -- none of several reasons holds
-none-holds : (b : Bool) (code : ℕ) (more : List (Bool × ℕ)) → refusal_of ((b, code) ∷ more) ≡ None → (b ≡ false) × (refusal_of more ≡ None)
+pub none-holds : (b : Bool) (code : ℕ) (more : List (Bool × ℕ)) → refusal_of ((b, code) ∷ more) ≡ None → (b ≡ false) × (refusal_of more ≡ None)
 none-holds true code more none = cc
 none-holds false code more none = (refl, none)
 

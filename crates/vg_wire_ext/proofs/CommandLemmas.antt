@@ -170,15 +170,15 @@ size_of_command (Submit stream) = 8 + length stream
 size_of_command (UpdateCursor scanout x y resource hot_x hot_y) = 32
 size_of_command (MoveCursor scanout x y) = 32
 
-length-planes : (n : ℕ) → length (planes n) ≡ 16
+pub length-planes : (n : ℕ) → length (planes n) ≡ 16
 unfolding planes
 length-planes n = length-four n 0 0 0
 
-length-signed_bytes : (x : ℤ) → length (signed_bytes x) ≡ 4
+pub length-signed_bytes : (x : ℤ) → length (signed_bytes x) ≡ 4
 unfolding signed_bytes
 length-signed_bytes x = length-le 4 (cast_unsigned w32 x)
 
-length-position : (s : ℕ) (x y : ℤ) → length (position s x y) ≡ 16
+pub length-position : (s : ℕ) (x y : ℤ) → length (position s x y) ≡ 16
 unfolding position
 length-position s x y = simp length-append (omega (arith, length-le 4 s, length-signed_bytes x, length-signed_bytes y, length-le 4 0))
 
