@@ -1,6 +1,6 @@
 -- A request that is read as a transfer, and what it copies.
 use Rattle.std.proofs.Common.{◌≡◌, ◌≢◌, ◌≤◌, ℕ, ◌+◌, ◌*◌, ◌&&◌, not, Bool, true, false, List, [], ◌∷◌, length, arith, Option, Some, None, Result, Ok, Err, drop, ap, sym, ◌∙◌, refl, subst}
-use Rattle.std.specs.Prelude.{is_none, nat_lt, IfErr, IfOk, IfSome, IfNone}
+use Rattle.std.specs.Prelude.{is_none, nat_lt, IfErr, IfOk}
 use Rattle.vg_formats.specs.declared.rect.Rect.{Rect}
 use Rattle.std.specs.Option.{option_map}
 use Rattle.std.proofs.lemmas.Bool.Decides.{nat_tests}

@@ -1,5 +1,5 @@
 -- A job that is lent stays so while what isn't blocked runs, and what it comes to in the end.
-use Rattle.std.proofs.Common.{◌≡◌, ℕ, ◌*◌, ◌==◌, ◌&&◌, ◌||◌, not, Bool, true, false, cond, List, [], ◌∷◌, length, drop, Option, Some, None, ap, sym, ◌∙◌, refl, subst}
+use Rattle.std.proofs.Common.{◌≡◌, ℕ, ◌==◌, ◌&&◌, not, Bool, true, false, cond, List, [], ◌∷◌, length, drop, Option, Some, None, ap, sym, ◌∙◌, refl, subst}
 use Rattle.std.specs.Prelude.{bit_and, is_none, is_some, nat_le, nat_lt}
 use Rattle.std.specs.Option.{unwrap_or}
 use Rattle.vg_laws.proofs.Bools.{and-right}
@@ -11,23 +11,17 @@ use Rattle.vg_backing.specs.Backing.{total}
 use Rattle.vg_refusals.specs.Refusals.{refusal_of}
 use Rattle.vg_resource.specs.declared.resource.Resource.{Resource}
 use Rattle.vg_resource.specs.Resource.{resource_at, with_pixels}
-use Rattle.vg_blob.specs.Blobs.{blob_at}
 use Rattle.vg_context.specs.Contexts.{is_live}
-use Rattle.vg_transfer.specs.Backings.{backing_at, entries_at, transfer_end, transfer_refusals, transferred}
+use Rattle.vg_transfer.specs.Backings.{entries_at, transfer_end, transfer_refusals, transferred}
 use Rattle.vg_chain.specs.declared.shape.Shape.{Shape}
 use Rattle.vg_chain.specs.declared.shape.Shape.TheVariants.{Plain, Pieces, Indirect, Mixed, Bad}
-use Rattle.vg_wire.specs.declared.header.Header.{Header}
 use Rattle.vg_wire.specs.declared.request.Queue.{Queue}
-use Rattle.vg_wire.specs.declared.two_d.Command2d.TheVariants.{Transfer}
 use Rattle.vg_wire.specs.Header.{header_of}
-use Rattle.vg_wire_ext.specs.declared.command.Command.{Command}
-use Rattle.vg_wire_ext.specs.declared.command.Command.TheVariants.{TwoD}
 use Rattle.vg_wire_ext.specs.declared.response.Response.{Response}
 use Rattle.vg_wire_ext.specs.declared.response.Response.TheVariants as responses
 use Rattle.vg_wire_ext.specs.Commands.{command_of, is_known}
 use Rattle.vg_config.specs.Features.{CONTEXT_INIT}
 use Rattle.vg_device.specs.declared.request.Request.{Request}
-use Rattle.vg_device.specs.declared.request.Reply.{Reply}
 use Rattle.vg_device.specs.declared.request.Reply.TheVariants as replies
 use Rattle.vg_device.specs.Answered.{answered_by}
 use Rattle.vg_device.specs.Features.{has_feature, is_usable}
@@ -35,10 +29,9 @@ use Rattle.vg_wire.specs.Kinds.{ERR_INVALID_CONTEXT_ID, ERR_INVALID_PARAMETER, E
 use Rattle.vg_wire_ext.specs.Request.{is_queue_of}
 use Rattle.vg_device.specs.Receive.{receive_refusal, with_received}
 use Rattle.vg_device.specs.RequestStep.{plain_step, request_step, shaped_step}
-use Rattle.vg_device.specs.State.{State, counted, is_blob}
-use Rattle.vg_device.specs.Step.{answer_of, answered, command_step, names_timeline, refused_or_ran, request_refusals, transfer_2d_step, transfer_step}
+use Rattle.vg_device.specs.State.{State, counted}
+use Rattle.vg_device.specs.Step.{answer_of, answered, names_timeline, refused_or_ran, request_refusals, transfer_2d_step}
 use Rattle.vg_pages.specs.Lending.{AreSameIn}
-use Rattle.vg_transfer.specs.Backings.{placed}
 use Rattle.vg_machine.specs.Jobs.{Job, after_placing, worked}
 use Rattle.vg_machine.specs.OutWithin.{IsOut}
 use Rattle.vg_device.specs.Copies.{IsRun}

@@ -1,10 +1,10 @@
 -- A request that isn't read as a transfer copies nothing.
-use Rattle.std.proofs.Common.{rules, ◌≡◌, Some, None, sym, ap, ◌∙◌}
+use Rattle.std.proofs.Common.{rules, ◌≡◌, Some, None}
 use Rattle.std.specs.Prelude.{IfErr, IfOk}
 use Rattle.vg_refusals.specs.Refusals.{refusal_of}
 use Rattle.vg_device.specs.FitsWithin.{IsLetIn, transfer_read}
 use Rattle.vg_device.specs.Step.{request_refusals}
-use Rattle.vg_device.proofs.CopyLemmas.{asks-one, copies-none, copies-one, is-run}
+use Rattle.vg_device.proofs.CopyLemmas.{copies-none, is-run}
 use Rattle.vg_device.proofs.device.Device.asked_copy.Goals as goal
 
 pub returns-in_default-transfer_in : goal.returns-in_default-transfer_in

@@ -1,5 +1,5 @@
 -- Screens show resources that there are, also once pixels came back.
-use Rattle.std.proofs.Common.{◌≡◌, ◌≤◌, ◌+◌, true, length, arith, rules, refl}
+use Rattle.std.proofs.Common.{◌≡◌, true, length, arith, rules, refl}
 use Rattle.vg_resource.specs.Resource.{resource_at}
 use Rattle.vg_device.specs.Copies.{has_as_many}
 use Rattle.vg_device.proofs.ShowingLemmas.{all-showing, keeping-brought}

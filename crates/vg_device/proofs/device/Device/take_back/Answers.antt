@@ -2,7 +2,7 @@
 use Rattle.std.proofs.Common.{◌≡◌, ℕ, List, ap, refl, sym, subst, rules}
 use Rattle.vg_resource.specs.declared.resource.Resource.{Resource}
 use Rattle.vg_resource.specs.Resource.{resource_at}
-use Rattle.vg_device.specs.State.{IsConsistent, State}
+use Rattle.vg_device.specs.State.{IsConsistent}
 use Rattle.vg_device.proofs.ShowingLemmas.{brought-same}
 use Rattle.vg_device.proofs.device.Device.take_back.Goals as goal
 

@@ -1,5 +1,5 @@
 -- What names no transfer copies nothing.
-use Rattle.std.proofs.Common.{◌≡◌, ◌≢◌, ℕ, rules, sym, ◌∙◌}
+use Rattle.std.proofs.Common.{◌≡◌, rules, ◌∙◌}
 use Rattle.vg_wire_ext.specs.Request.{request_of}
 use Rattle.vg_wire_ext.specs.Named.{named_in}
 use Rattle.vg_wire_ext.specs.declared.names.Named.TheVariants as names

@@ -1,13 +1,13 @@
 -- The job of the lane is the one that comes back, and the others stay out.
-use Rattle.std.proofs.Common.{◌≡◌, [], List, ap, refl, sym, subst, ◌∙◌, rules}
+use Rattle.std.proofs.Common.{List, ap, refl, sym, subst, ◌∙◌, rules}
 use Rattle.std.specs.List.{AllByRecursion}
-use Rattle.vg_history.specs.Jobs.{IsBack, but_lane}
+use Rattle.vg_history.specs.Jobs.{IsBack}
 use Rattle.vg_device.specs.State.{State}
 use Rattle.vg_resource.specs.Resource.{resource_at}
 use Rattle.vg_device.specs.Copies.{brought_back}
 use Rattle.vg_machine.specs.Jobs.{Job, worked}
 use Rattle.vg_machine.specs.Lender.{Lender}
-use Rattle.vg_machine.specs.OutWithin.{IsOut, job_lane}
+use Rattle.vg_machine.specs.OutWithin.{IsOut}
 use Rattle.vg_machine.proofs.DisplayLemmas.{back-step, brought-setup, ended-out, none-back}
 use Rattle.vg_machine.proofs.display.Display.bring_back.Goals as goal
 

@@ -6,7 +6,7 @@ use Rattle.vg_wire_ext.specs.declared.names.Named.TheVariants as names
 use Rattle.vg_device.proofs.CopyLemmas.{is-run}
 use Rattle.vg_machine.specs.Blocks.{blocks, is_lent, lent_pages}
 use Rattle.vg_machine.specs.Lender.{Lender}
-use Rattle.vg_machine.proofs.DisplayLemmas.{kept-flush, kept-transfer, none-blocks, shaped-named}
+use Rattle.vg_machine.proofs.DisplayLemmas.{kept-flush, kept-transfer}
 use Rattle.vg_machine.proofs.display.Display.keeps_from.Goals as goal
 
 pub returns-else-has_resource : goal.returns-else-has_resource

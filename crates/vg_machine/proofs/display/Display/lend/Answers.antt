@@ -1,10 +1,9 @@
 -- The new job is out, and apart from those that are.
-use Rattle.std.proofs.Common.{◌≡◌, ◌<◌, ◌≤◌, ◌∷◌, [], List, length, false, ap, refl, sym, subst, ◌∙◌, rules}
+use Rattle.std.proofs.Common.{◌≡◌, [], false, ap, refl, sym, subst, ◌∙◌}
 use Rattle.std.specs.List.{AllByRecursion}
 use Rattle.vg_history.specs.Jobs.{of_lane}
 use Rattle.vg_device.specs.Copies.{AsksFor, IsAccepted}
 use Rattle.vg_device.specs.State.{State}
-use Rattle.vg_device.proofs.CopyLemmas.{copy-columns}
 use Rattle.vg_machine.specs.Blocks.{blocks}
 use Rattle.vg_machine.specs.Jobs.{Job}
 use Rattle.vg_machine.specs.Lender.{Lender}
