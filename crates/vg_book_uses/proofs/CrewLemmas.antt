@@ -1,12 +1,12 @@
 -- Clients that are made for jobs, one each, and what the jobs give is taken in.
-use Rattle.std.proofs.Common.{◌≡◌, ℕ, suc, ◌+◌, ◌<◌, ◌≤◌, inl, inr, List, [], ◌∷◌, ◌++◌, map, refl, ap, sym, subst, ◌∙◌, arith, append_assoc, add-one, Option}
+use Rattle.std.proofs.Common.{◌≡◌, ℕ, suc, ◌+◌, ◌<◌, ◌≤◌, inl, inr, List, [], ◌∷◌, ◌++◌, map, refl, ap, sym, subst, ◌∙◌, arith, append_assoc, Option}
 use Rattle.std.specs.Prelude.{All, Result, Ok, IfOk}
 use Rattle.std.proofs.lemmas.List.{map-append}
 use Rattle.std.proofs.lemmas.List.Elements.{All-append, All-nil}
 use Rattle.std.proofs.lemmas.Simd.{map-map}
 use Rattle.vg_history.specs.declared.machine.Machine.{Ghosts}
 use Rattle.vg_history.specs.Lists.{Has, upto}
-use Rattle.vg_history.proofs.ListLemmas.{has_map, map_has, has_upto}
+use Rattle.vg_history.proofs.ListLemmas.{has_map, map_has, has_upto, upto_more}
 use Rattle.vg_book.specs.declared.board.Counted.{Counted}
 use Rattle.std.specs.declared.alloc.AllocError.{AllocError}
 use Rattle.vg_laws.proofs.Lists.{all_one}
@@ -18,9 +18,6 @@ use Rattle.vg_book_uses.specs.declared.counter.Request.{Request}
 use Rattle.vg_jobs.specs.Jobs.{AllGive}
 use Rattle.vg_jobs.proofs.JobLemmas.{all_of_map, given_all, given_ok, given_same, ok_more}
 use Rattle.vg_book_uses.specs.Adding.{E, Cl, Ro, number_of, account_of, AreNew, HasTakenAll, IsNew, IsRootWith}
-
-upto_more : (n : ℕ) → upto n ++ (n + 1) ∷ [] ≡ upto (n + 1)
-upto_more n = rw add-one refl
 
 module _ (g : Ghosts Counter Counter Act ℕ Request ℕ ℕ Request) where
   module _ {X : Type 0} (client : X → Cl) (held : ℕ) (Fits : X → Type 0) where

@@ -20,6 +20,7 @@ use Rattle.vg_machine.specs.Entries.{Entry}
 use Rattle.vg_machine.specs.Order.{client_of, is_of_lane}
 use Rattle.vg_machine.specs.Replay as machine
 use Rattle.vg_machine.specs.Replay.{after, replay}
+use Rattle.vg_machine.proofs.ReplayLemmas.{replay-more}
 use Rattle.vg_device.specs.State.{State, start}
 use Rattle.vg_device.specs.declared.request.Request.{Request}
 use Rattle.vg_device.specs.declared.request.Reply.{Reply}
@@ -34,7 +35,7 @@ use Rattle.vg_check.proofs.ActLemmas as acting
 use Rattle.vg_check.proofs.ActLemmas.{above-unused, below-test}
 use Rattle.vg_check.proofs.CommandLemmas as asking
 use Rattle.vg_check.proofs.CommandLemmas.{lane-low}
-use Rattle.vg_check.proofs.EntryLemmas.{counted-more, counted-no, counted-yes, order-more, replay-more}
+use Rattle.vg_check.proofs.EntryLemmas.{counted-more, counted-no, counted-yes, order-more}
 use Rattle.vg_check.proofs.PlaceLemmas.{get-none, get-pushed, get-set, get-some}
 use Rattle.vg_check.proofs.SeenLemmas.{NumberLaws, seen-act, seen-command, seen-none, seen-other}
 

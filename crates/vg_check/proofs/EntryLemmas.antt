@@ -9,12 +9,11 @@ use Rattle.vg_call_numbers.specs.Taken as taken
 use Rattle.vg_call_numbers.specs.Taken.{by_number}
 use Rattle.vg_client_holds.specs.declared.setup.Setup.{Setup}
 use Rattle.vg_client_holds.specs.Holds.{first_holds}
-use Rattle.vg_history.proofs.HistoryLemmas.{holds_append, replay_append, updated_other}
+use Rattle.vg_history.proofs.HistoryLemmas.{holds_append, updated_other}
 use Rattle.vg_history.specs.History as history
 use Rattle.vg_machine.specs.Entries.{Entry}
 use Rattle.vg_machine.specs.Order.{AreInOrder, IsInOrder, by_call, call_of, client_of, holds_of, is_leave, of_client, placed}
-use Rattle.vg_machine.specs.Replay.{after, display, replay}
-use Rattle.vg_device.specs.State.{start}
+use Rattle.vg_machine.specs.Replay.{display}
 use Rattle.vg_check.specs.Checked.{greatest}
 
 -- ---- counts and filters
@@ -93,9 +92,6 @@ greatest-more [] n = refl
 greatest-more (m ∷ more) n = let rest = greatest-more more n in omega (arith, rest)
 
 -- ---- the display, and what a client holds
-
-pub replay-more : (setup : Setup) (H : List Entry) (entry : Entry) → replay setup (H ++ entry ∷ []) ≡ after (replay setup H) entry
-replay-more setup H entry = replay_append display (start setup) H (entry ∷ [])
 
 pub holds-more : (setup : Setup) (client : ℕ) (H : List Entry) (entry : Entry) → holds_of setup client (H ++ entry ∷ []) ≡ history.updated display client (holds_of setup client H) entry
 holds-more setup client H entry = holds_append display client (first_holds setup client) H (entry ∷ [])

@@ -32,6 +32,7 @@ use Rattle.vg_device.specs.Answered.{answered_with}
 use Rattle.vg_device.specs.BlobStep.{with_shown_blob}
 use Rattle.vg_machine.specs.Entries.{Entry}
 use Rattle.vg_machine.specs.Replay.{after, replay, replay_from}
+use Rattle.vg_machine.proofs.ReplayLemmas.{replay-more}
 use Rattle.vg_device.specs.RequestStep.{shaped_step}
 use Rattle.vg_device.specs.State.{State, counted, has_resource, is_blob}
 use Rattle.vg_device.specs.Step.{answer_of, command_step, cursor_change, cursor_refusals, flush_refusals, flushed_by, move_refusals, ran, refused_or_ran, request_refusals, transfer_2d_step, two_d_step, with_cursor, with_shown}
@@ -39,7 +40,6 @@ use Rattle.vg_device.specs.declared.blobs.Layout.{Layout}
 use Rattle.vg_device.specs.declared.request.Request.{Request}
 use Rattle.vg_refusals.specs.Refusals.{refusal_of}
 use Rattle.vg_check.specs.Right.{frames_after}
-use Rattle.vg_check.proofs.EntryLemmas.{replay-more}
 
 -- the frames of before stand in front of those of after
 record Grows (old new : State) : Type 0 where

@@ -6,9 +6,9 @@ use Rattle.vg_scanout.specs.declared.scanout.Frame.{Frame}
 use Rattle.vg_machine.specs.Entries.{Entry}
 use Rattle.vg_machine.specs.Order.{AreAllowed, AreInOrder, Sound}
 use Rattle.vg_machine.specs.Replay.{AgreesFrom, replay, replay_from}
+use Rattle.vg_machine.proofs.ReplayLemmas.{replay-more}
 use Rattle.vg_device.specs.State.{State}
 use Rattle.vg_check.specs.Right.{AreRight, IsRight, IsWrongAt, frames_after}
-use Rattle.vg_check.proofs.EntryLemmas.{replay-more}
 use Rattle.vg_check.proofs.FrameLemmas.{frames-grow}
 
 moved : (before : List Entry) (entry : Entry) (more : List Entry) → before ++ (entry ∷ more) ≡ (before ++ entry ∷ []) ++ more

@@ -21,8 +21,8 @@ use Rattle.vg_machine.specs.CountedWithin.{act-counts, request-counts}
 use Rattle.vg_machine.specs.Entries.{Entry}
 use Rattle.vg_machine.specs.Replay as machine
 use Rattle.vg_machine.specs.Replay.{after, replay}
+use Rattle.vg_machine.proofs.ReplayLemmas.{replay-more}
 use Rattle.vg_linked.specs.Consistent.{IsReplayed}
-use Rattle.vg_linked.proofs.SoundLemmas.{replay-more}
 use Rattle.vg_painted.specs.Ink.{Painting}
 use Rattle.vg_painted.specs.Inks.{numbers}
 use Rattle.vg_painted.specs.Paint.{blended_at, framed, framed_at, fresh, moved, painted, painting}

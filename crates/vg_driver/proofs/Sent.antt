@@ -3,7 +3,6 @@ use denote.RattleType.{RattleType}
 use denote.Param.Send.{IsSend, sendable, recorded_send, struct_send, view_send}
 use denote.Struct.Declared.{shape}
 use Rattle.std.proofs.Crossing.{crosses}
-use Rattle.std.proofs.MapsCrossing.{BTreeMap-send}
 use Rattle.vg_history.specs.declared.machine.Machine as Machine
 use Rattle.vg_book.specs.declared.board.Naming as Naming
 use Rattle.vg_book.specs.contracts.outcome.Carried as carried
@@ -26,35 +25,8 @@ use Rattle.vg_device.specs.contracts.request.Request as request
 use Rattle.vg_client_holds.specs.contracts.holds.Holds as holds
 use Rattle.vg_machine.specs.contracts.display.Display as display
 use Rattle.vg_machine.specs.contracts.display.Display.TheInside as display_in
-use Rattle.vg_machine.proofs.Sent.{loans_send}
 use Rattle.vg_device.specs.contracts.device.Device as device
 use Rattle.vg_device.specs.contracts.device.Device.TheInside as device_in
-
-seq_send : (T : RattleType) → IsSend T → IsSend (seq.the_row T)
-seq_send T t = search (sendable, crosses) depth 20
-
-pub act_send : IsSend act.the_row
-act_send = search (sendable, crosses) depth 40
-
-pub act_reply_send : IsSend act_reply.the_row
-act_reply_send = search (sendable, crosses) depth 20
-
-pub reply_send : IsSend reply.the_row
-reply_send = search (sendable, crosses) depth 20
-
-pub request_send : IsSend request.the_row
-request_send = let T = request.the_type in
-    recorded_send _ _ _ T.to_one (struct_send (shape T) (search (sendable, crosses) depth 20, (search sendable, (search sendable, (search sendable, (search (sendable, crosses) depth 40, (search (sendable, crosses) depth 20, tt)))))))
-
-pub holds_send : IsSend holds.the_row
-holds_send = search (sendable, crosses, seq_send) depth 20
-
-device_send : IsSend device.the_row
-device_send = let T = device_in.the_type in
-    view_send _ _ _ _ _ (recorded_send _ _ _ T.to_one (struct_send (shape T) (search (sendable, crosses) depth 20, (search sendable, (search (sendable, crosses) depth 30, (search (sendable, crosses, BTreeMap-send) depth 40, (search (sendable, crosses, BTreeMap-send) depth 40, (search (sendable, crosses, BTreeMap-send) depth 40, (search (sendable, crosses, BTreeMap-send) depth 40, (search (sendable, crosses, BTreeMap-send) depth 40, (search (sendable, crosses) depth 20, (search (sendable, crosses) depth 60 fits 100000, (search (sendable, crosses, BTreeMap-send) depth 40, tt)))))))))))))
-
-pub display_send : IsSend display.the_row
-display_send = let T = display_in.the_type in view_send _ _ _ _ _ (recorded_send _ _ _ T.to_one (struct_send (shape T) (device_send, (loans_send, tt))))
 
 module _ (M S A R Q P H W : RattleType) (m : IsSend M) (a : IsSend A) (r : IsSend R) (q : IsSend Q) (p : IsSend P) (B : RattleType) (gm : Machine.Ghosts M.Denot S.Denot A.Denot R.Denot Q.Denot P.Denot H.Denot W.Denot) (gb : Naming.Ghosts B.Denot) where
   heard_send : IsSend (heard.the_row M B S A R Q P H W gm gb)

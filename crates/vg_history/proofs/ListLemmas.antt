@@ -1,5 +1,5 @@
 -- Lists by their elements, how often a number stands in one, and beginnings.
-use Rattle.std.proofs.Common.{◌≡◌, ◌⊎◌, inl, inr, ⊎_elim, ℕ, zero, suc, ◌+◌, ◌<◌, ◌≤◌, ◌==◌, List, [], ◌∷◌, ◌++◌, map, refl, ap, sym, subst, ◌∙◌, arith, eq-eqb, ne_eqb, append_assoc}
+use Rattle.std.proofs.Common.{◌≡◌, ◌⊎◌, inl, inr, ⊎_elim, ℕ, zero, suc, ◌+◌, ◌<◌, ◌≤◌, ◌==◌, List, [], ◌∷◌, ◌++◌, map, refl, ap, sym, subst, ◌∙◌, arith, add-one, eq-eqb, ne_eqb, append_assoc}
 use mathlib.Core.List.{IsPrefix}
 use mathlib.Core.Option.{some, some-ne-none, some-injective}
 use mathlib.Core.Logic.{dite}
@@ -83,6 +83,9 @@ pub has_upto : (u n : ℕ) → 0 < n → n ≤ u → Has (upto u) n
 has_upto zero n a b = absurd (omega arith)
 has_upto (suc u) n a b = dite (ℕ_discrete n (suc u)) (λ e. subst (λ k. Has (upto u ++ suc u ∷ []) k) (sym e) (has_last (upto u) (suc u)))
     (λ ne. has_left (upto u) (suc u ∷ []) n (has_upto u n a (omega arith)))
+
+pub upto_more : (n : ℕ) → upto n ++ (n + 1) ∷ [] ≡ upto (n + 1)
+upto_more n = rw add-one refl
 
 pub upto_one : (u n : ℕ) → times n (upto u) ≤ 1
 upto_one zero n = omega arith

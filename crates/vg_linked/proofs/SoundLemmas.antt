@@ -24,7 +24,7 @@ use Rattle.vg_client_holds.specs.declared.holds.Holds.{Holds}
 use Rattle.vg_client_holds.specs.declared.setup.Setup.{Setup}
 use Rattle.vg_client_holds.specs.Holds.{Allowed, context_in, denied_command, denied_request, entries_in, first_denied, has_key, has_number, has_page, is_allowed, is_allowed_page, is_allowed_resource, key_of, names_in, pages_in}
 use Rattle.vg_history.specs.declared.entry.Entry.TheVariants as entries
-use Rattle.vg_history.proofs.HistoryLemmas.{agrees_beginning, replay_append}
+use Rattle.vg_history.proofs.HistoryLemmas.{agrees_beginning}
 use Rattle.vg_device.specs.State.{State, counted, start}
 use Rattle.vg_device.specs.Step.{request_refusals}
 use Rattle.vg_device.specs.declared.request.Request.{Request}
@@ -32,6 +32,7 @@ use Rattle.vg_machine.proofs.LeaveLemmas.{read-of}
 use Rattle.vg_machine.specs.Entries.{Entry}
 use Rattle.vg_machine.specs.Order.{AreAllowed, IsAllowed, Sound, client_of, holds_of}
 use Rattle.vg_machine.specs.Replay.{Agrees, after, display, replay}
+use Rattle.vg_machine.proofs.ReplayLemmas.{replay-more}
 use Rattle.vg_linked.specs.Consistent.{AreInPages, AreOfBuffers}
 use Rattle.vg_linked.specs.Linked.{Linked, is_taken_by, one_if, parts_of}
 use Rattle.vg_linked.proofs.BufferLemmas.{HasBuffer, InBuffer, IsBuffered, IsOfAct, buffered, buffered_commands, of-buffered, of_acts}
@@ -160,9 +161,6 @@ module _ (client count : ℕ) (holds : Holds) (share : ShareState) (linked : Lin
 
 counted-of : (s : State) → AreOfBuffers s → AreOfBuffers (counted s)
 counted-of s was = record { live = was.live; backings = was.backings; blobs = was.blobs }
-
-pub replay-more : (setup : Setup) (H : List Entry) (entry : Entry) → replay setup (H ++ entry ∷ []) ≡ after (replay setup H) entry
-replay-more setup H entry = replay_append display (start setup) H (entry ∷ [])
 
 after-of : (setup : Setup) (before : List Entry) (entry : Entry) → Agrees setup before → IsAllowed (holds_of setup (client_of entry) before) entry → AreOfBuffers (replay setup before)
     → AreOfBuffers (after (replay setup before) entry)

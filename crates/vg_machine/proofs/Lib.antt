@@ -3,4 +3,5 @@ pub mod ActLeaveLemmas
 pub mod OutLemmas
 pub mod LoanLemmas
 pub mod DisplayLemmas
+pub mod ReplayLemmas
 pub mod Sent

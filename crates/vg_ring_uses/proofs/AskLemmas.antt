@@ -1,5 +1,5 @@
 -- What the driver's thread knows of the cargoes that it has asked, one at a time.
-use Rattle.std.proofs.Common.{◌≡◌, ℕ, zero, suc, ◌+◌, ◌<◌, ◌≤◌, Bool, true, false, List, [], ◌∷◌, ◌++◌, length, map, refl, ap, sym, subst, ◌∙◌, arith, length-append, add-one, take, min}
+use Rattle.std.proofs.Common.{◌≡◌, ℕ, zero, suc, ◌+◌, ◌<◌, ◌≤◌, Bool, true, false, List, [], ◌∷◌, ◌++◌, length, map, refl, ap, sym, subst, ◌∙◌, arith, length-append, take, min}
 use Rattle.std.specs.Prelude.{All}
 use Rattle.std.proofs.lemmas.List.{map-append, append-nil, take_all}
 use Rattle.std.proofs.lemmas.List.Elements.{All-append, All-nil}
@@ -11,6 +11,7 @@ use Rattle.vg_chain.specs.declared.shape.Shape.TheVariants.{Plain, Pieces, Indir
 use Rattle.vg_wire.specs.declared.request.Queue.{Queue}
 use Rattle.vg_wire.specs.declared.request.Queue.TheVariants.{Control, Cursor}
 use Rattle.vg_history.specs.Lists.{upto}
+use Rattle.vg_history.proofs.ListLemmas.{upto_more}
 use Rattle.vg_ring.specs.declared.views.Entry.{Entry}
 use Rattle.vg_ring.specs.declared.views.Answer.{Answer}
 use Rattle.vg_ring.specs.Cargo.{CargoData, IsLane}
@@ -22,9 +23,6 @@ use Rattle.vg_ring_uses.specs.Carried.{ordinal_of, echo_in, IsAsked, IsGood, IsE
 pub lane_small : (queue : Queue) (lane : ℕ) → IsLane queue lane → lane < 66
 lane_small Control lane is = omega (arith, is)
 lane_small Cursor lane is = omega (arith, is)
-
-upto_more : (n : ℕ) → upto n ++ (n + 1) ∷ [] ≡ upto (n + 1)
-upto_more n = rw add-one refl
 
 length_upto : (n : ℕ) → length (upto n) ≡ n
 length_upto zero = refl

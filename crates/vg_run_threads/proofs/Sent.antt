@@ -13,7 +13,8 @@ use Rattle.vg_history.specs.contracts.fence.Fence as fence
 use Rattle.vg_book.specs.declared.board.Naming as Naming
 use Rattle.vg_ring.specs.declared.rings.Rings as Rings
 use Rattle.vg_driver.specs.contracts.driver.Driver as driver
-use Rattle.vg_driver.proofs.Sent.{act_reply_send, act_send, display_send, half_send, reply_send, request_send}
+use Rattle.vg_driver.proofs.Sent.{half_send}
+use Rattle.vg_machine.proofs.Sent.{act_reply_send, act_send, display_send, reply_send, request_send, seq_send}
 use Rattle.vg_worker.proofs.Sent.{book_shared, client_sent}
 use Rattle.vg_labels.proofs.Sent.{label_sync, told_send}
 use Rattle.vg_labels.specs.contracts.label.Label as label
@@ -29,9 +30,6 @@ use Rattle.vg_device.specs.contracts.request.Reply as reply
 use Rattle.vg_run_threads.specs.contracts.threads.Performing as performing
 use Rattle.vg_run_threads.specs.contracts.threads.Waiting as waiting
 use Rattle.vg_script_part.specs.contracts.performing.Performed as performed
-
-seq_send : (X : RattleType) → IsSend X → IsSend (seq.the_row X)
-seq_send X x = search (sendable, crosses) depth 20
 
 -- what is begun, and a fence
 body_send : IsSend (enum.field body.the_type).row

@@ -1,5 +1,5 @@
 -- Clients on threads, and what they leave.
-use Rattle.std.proofs.Common.{◌≡◌, inl, inr, ⊎_elim, ◌+◌, ◌-◌, ◌<◌, ◌≤◌, ◌∙◌, sym, ap, refl, subst, subst₂, arith, add-one, append_assoc, append-nil, ℕ, zero, suc, true, false, List, [], ◌∷◌, ◌++◌, length, map, get_or, take, Option, Some, None}
+use Rattle.std.proofs.Common.{◌≡◌, inl, inr, ⊎_elim, ◌+◌, ◌-◌, ◌<◌, ◌≤◌, ◌∙◌, sym, ap, refl, subst, subst₂, arith, append_assoc, append-nil, ℕ, zero, suc, true, false, List, [], ◌∷◌, ◌++◌, length, map, get_or, take, Option, Some, None}
 use Rattle.std.specs.Prelude.{All, sum_by}
 use Rattle.std.specs.List.{fold, range_with_len}
 use Rattle.std.proofs.lemmas.List.{map-append}
@@ -11,7 +11,7 @@ use native.Mathlib.Decide.{ℕ_discrete}
 use Rattle.vg_laws.proofs.Lists.{all_one}
 use Rattle.vg_history.specs.History.{ordinals}
 use Rattle.vg_history.specs.Lists.{Has, upto}
-use Rattle.vg_history.proofs.ListLemmas.{has_left, has_map, has_right, has_snoc, has_upto, map_has, prefix_self, prefix_trans}
+use Rattle.vg_history.proofs.ListLemmas.{has_left, has_map, has_right, has_snoc, has_upto, map_has, prefix_self, prefix_trans, upto_more}
 use Rattle.vg_book.specs.Places.{IsCurrent}
 use Rattle.vg_book.specs.Tokens.{AllJoined, IsClosed, MakesClient, TakesIn}
 use Rattle.vg_jobs.specs.Jobs.{AllGive}
@@ -25,7 +25,7 @@ use Rattle.vg_client_holds.specs.declared.setup.Setup.{Setup}
 use Rattle.vg_machine.specs.Entries.{Entry}
 use Rattle.vg_client_holds.specs.Holds.{first_holds}
 use Rattle.vg_machine.specs.Replay.{display}
-use Rattle.vg_device.specs.State.{State, start}
+use Rattle.vg_device.specs.State.{start}
 use Rattle.vg_machine.specs.Lender.{Lender}
 use Rattle.vg_scanout.specs.declared.scanout.Frame.{Frame}
 use Rattle.vg_script.specs.declared.types.Line.{Line}
@@ -43,9 +43,6 @@ use Rattle.vg_script_part.specs.Performing.{AreInLimits, HasPerformed, IsLabel, 
 use Rattle.vg_script_part.specs.Setup.{setup_of}
 use Rattle.vg_run_threads.proofs.RangeLemmas.{upto-range}
 use Rattle.vg_run_threads.proofs.CrossingLemmas.{all-asked-more, completed-lane}
-
-upto-more : (n : ℕ) → upto n ++ (n + 1) ∷ [] ≡ upto (n + 1)
-upto-more n = rw add-one refl
 
 -- a new client's token
 new-client : (setup : Setup) (n : ℕ) (root root' : Root) (holds : Holds) (token : Token) → IsRootWith setup n root → MakesClient display root holds root' token → IsCurrent display token → holds ≡ first_holds setup (n + 1) → IsNew setup token
@@ -137,7 +134,7 @@ module _ {X : Type 0} (token : X → Token) (lines : X → List Line) (labels : 
       let has : HasLines s job = of ∙ ap (λ (k : ℕ). get_or s.clients k []) at in
       let split : map token (jobs ++ job ∷ []) ≡ map token jobs ++ made ∷ [] = map-append token jobs (job ∷ []) ∙ ap (λ (t : Token). map token jobs ++ t ∷ []) is in
       let numbers : map number_of (map token jobs ++ made ∷ []) ≡ upto (n + 1) =
-      map-append number_of (map token jobs) (made ∷ []) ∙ ap (λ (ns : List ℕ). ns ++ made.account.number ∷ []) h.1.numbers ∙ ap (λ (k : ℕ). upto n ++ k ∷ []) number ∙ upto-more n in
+      map-append number_of (map token jobs) (made ∷ []) ∙ ap (λ (ns : List ℕ). ns ++ made.account.number ∷ []) h.1.numbers ∙ ap (λ (k : ℕ). upto n ++ k ∷ []) number ∙ upto_more n in
       let all : AreNew setup (n + 1) (map token jobs ++ made ∷ []) = record {
         numbers = numbers;
         new = λ t at. ⊎_elim (λ there. h.1.new t there) (λ same. subst (IsNew setup) same fresh) (has_snoc (map token jobs) made t at);
