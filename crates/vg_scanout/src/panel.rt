@@ -17,7 +17,7 @@ pub(crate) enum Ground {
     Blank,
     /// They are those of the frame of this number.
     Shared(usize),
-    /// The screen has pixels of its own, which no frame has: its frame has a cursor in it.
+    /// The screen has strips of its own: its frame has a cursor in it, or the frames were taken.
     Kept(Strips),
 }
 

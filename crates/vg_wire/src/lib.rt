@@ -19,4 +19,4 @@ pub use laws::what_is_written_is_read;
 pub use modes::{Modes, put_modes, read_modes};
 pub use rect::{put_rect, rect_at};
 pub use request::{Malformed, Queue};
-pub use two_d::{Command2d, is_2d, put_2d, read_2d, size_2d};
+pub use two_d::{Command2d, is_2d, put_2d, put_two, read_2d, size_2d};

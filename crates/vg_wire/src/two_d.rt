@@ -64,81 +64,60 @@ pub enum Command2d {
     },
 }
 
-/// RESOURCE_CREATE_2D, if its 16 bytes are there.
+/// RESOURCE_CREATE_2D, whose bytes are there.
 #[tactic(auto, unfolding(crate::specs::TwoD::create_2d))]
-fn read_create_2d(body: &[u8]) -> Option<Command2d>
-    ensures exact { result ≡ whole 16 body.now (layout.create_2d body.now) }
-    ensures count { IfSome result FitsCount }
+fn read_create_2d(body: &[u8]) -> Command2d
+    requires { 16 ≤ length body.now }
+    ensures exact { result ≡ layout.create_2d body.now }
+    ensures count { FitsCount result }
 {
-    if body.len() < 16 {
-        return None;
-    }
-    Some(Command2d::Create2d {
+    Command2d::Create2d {
         resource: u32_at(body, 0),
         format: u32_at(body, 4),
         width: u32_at(body, 8),
         height: u32_at(body, 12),
-    })
-}
-
-/// RESOURCE_UNREF, if its eight bytes are there.
-#[tactic(auto, unfolding(crate::specs::TwoD::unref))]
-fn read_unref(body: &[u8]) -> Option<Command2d>
-    ensures exact { result ≡ whole 8 body.now (layout.unref body.now) }
-    ensures count { IfSome result FitsCount }
-{
-    if body.len() < 8 {
-        return None;
     }
-    let resource = u32_at(body, 0);
-    Some(Command2d::Unref { resource })
 }
 
-/// SET_SCANOUT, if its 24 bytes are there.
+/// SET_SCANOUT, whose bytes are there.
 #[tactic(auto, unfolding(crate::specs::TwoD::set_scanout))]
-fn read_set_scanout(body: &[u8]) -> Option<Command2d>
-    ensures exact { result ≡ whole 24 body.now (layout.set_scanout body.now) }
-    ensures count { IfSome result FitsCount }
+fn read_set_scanout(body: &[u8]) -> Command2d
+    requires { 24 ≤ length body.now }
+    ensures exact { result ≡ layout.set_scanout body.now }
+    ensures count { FitsCount result }
 {
-    if body.len() < 24 {
-        return None;
-    }
-    Some(Command2d::SetScanout {
+    Command2d::SetScanout {
         rect: rect_at(body, 0),
         scanout: u32_at(body, 16),
         resource: u32_at(body, 20),
-    })
+    }
 }
 
-/// RESOURCE_FLUSH, if its 24 bytes are there.
+/// RESOURCE_FLUSH, whose bytes are there.
 #[tactic(auto, unfolding(crate::specs::TwoD::flush))]
-fn read_flush(body: &[u8]) -> Option<Command2d>
-    ensures exact { result ≡ whole 24 body.now (layout.flush body.now) }
-    ensures count { IfSome result FitsCount }
+fn read_flush(body: &[u8]) -> Command2d
+    requires { 24 ≤ length body.now }
+    ensures exact { result ≡ layout.flush body.now }
+    ensures count { FitsCount result }
 {
-    if body.len() < 24 {
-        return None;
-    }
-    Some(Command2d::Flush {
+    Command2d::Flush {
         rect: rect_at(body, 0),
         resource: u32_at(body, 16),
-    })
+    }
 }
 
-/// TRANSFER_TO_HOST_2D, if its 32 bytes are there.
+/// TRANSFER_TO_HOST_2D, whose bytes are there.
 #[tactic(auto, unfolding(crate::specs::TwoD::transfer))]
-fn read_transfer(body: &[u8]) -> Option<Command2d>
-    ensures exact { result ≡ whole 32 body.now (layout.transfer body.now) }
-    ensures count { IfSome result FitsCount }
+fn read_transfer(body: &[u8]) -> Command2d
+    requires { 32 ≤ length body.now }
+    ensures exact { result ≡ layout.transfer body.now }
+    ensures count { FitsCount result }
 {
-    if body.len() < 32 {
-        return None;
-    }
-    Some(Command2d::Transfer {
+    Command2d::Transfer {
         rect: rect_at(body, 0),
         offset: u64_at(body, 16),
         resource: u32_at(body, 24),
-    })
+    }
 }
 
 /// RESOURCE_ATTACH_BACKING, if its eight bytes and the 16 of each entry are there.
@@ -160,19 +139,6 @@ fn read_attach(alloc: Global, body: &[u8]) -> Result<Option<Command2d>, AllocErr
     }
     let entries = read_entries(alloc, body, 8, count)?;
     Ok(Some(Command2d::Attach { resource, entries }))
-}
-
-/// RESOURCE_DETACH_BACKING, if its eight bytes are there.
-#[tactic(auto, unfolding(crate::specs::TwoD::detach))]
-fn read_detach(body: &[u8]) -> Option<Command2d>
-    ensures exact { result ≡ whole 8 body.now (layout.detach body.now) }
-    ensures count { IfSome result FitsCount }
-{
-    if body.len() < 8 {
-        return None;
-    }
-    let resource = u32_at(body, 0);
-    Some(Command2d::Detach { resource })
 }
 
 impl Command2d {
@@ -202,7 +168,7 @@ pub fn is_2d(kind: u32) -> bool
 
 /// The 2D command of this header's kind, whose fields are at the front of `body`, the bytes after
 /// the header. None where the kind is no 2D command's or its fields aren't all there.
-#[tactic(auto, unfolding(crate::specs::TwoD::two_d_of))]
+#[tactic(auto, unfolding(crate::specs::TwoD::two_d_of, crate::specs::TwoD::unref, crate::specs::TwoD::detach))]
 pub fn read_2d(alloc: Global, header: &Header, body: &[u8]) -> Result<Option<Command2d>, AllocError>
     ensures exact { IfOk result (λ command. command ≡ two_d_of header.now.kind body.now) }
     // Memory is asked for only once all of the command is there.
@@ -211,13 +177,17 @@ pub fn read_2d(alloc: Global, header: &Header, body: &[u8]) -> Result<Option<Com
 {
     match header.kind {
         GET_DISPLAY_INFO => Ok(Some(Command2d::DisplayInfo)),
-        RESOURCE_CREATE_2D => Ok(read_create_2d(body)),
-        RESOURCE_UNREF => Ok(read_unref(body)),
-        SET_SCANOUT => Ok(read_set_scanout(body)),
-        RESOURCE_FLUSH => Ok(read_flush(body)),
-        TRANSFER_TO_HOST_2D => Ok(read_transfer(body)),
+        RESOURCE_CREATE_2D if body.len() >= 16 => Ok(Some(read_create_2d(body))),
+        RESOURCE_UNREF if body.len() >= 8 => Ok(Some(Command2d::Unref {
+            resource: u32_at(body, 0),
+        })),
+        SET_SCANOUT if body.len() >= 24 => Ok(Some(read_set_scanout(body))),
+        RESOURCE_FLUSH if body.len() >= 24 => Ok(Some(read_flush(body))),
+        TRANSFER_TO_HOST_2D if body.len() >= 32 => Ok(Some(read_transfer(body))),
         RESOURCE_ATTACH_BACKING => read_attach(alloc, body),
-        RESOURCE_DETACH_BACKING => Ok(read_detach(body)),
+        RESOURCE_DETACH_BACKING if body.len() >= 8 => Ok(Some(Command2d::Detach {
+            resource: u32_at(body, 0),
+        })),
         _ => Ok(None),
     }
 }
@@ -240,15 +210,16 @@ pub fn size_2d(command: &Command2d) -> usize
     }
 }
 
-/// Adds a resource's number and four bytes of padding.
+/// Adds two numbers of four bytes. For want of memory a front of them is added.
 #[tactic(auto, using(vg_list::proofs::FrontLemmas::fronts))]
-fn put_resource(out: &mut Vec<u8>, resource: u32) -> Result<(), AllocError>
-    ensures bytes { OnOk result (out.new.items ≡ out.old.items ++ (le 4 resource ++ le 4 0)) }
-    ensures err { OnErr result (HasFront out.old.items out.new.items (le 4 resource ++ le 4 0)) }
-    ensures fits { resource < 2 ^ 32 }
+pub fn put_two(out: &mut Vec<u8>, first: u32, second: u32) -> Result<(), AllocError>
+    ensures bytes { OnOk result (out.new.items ≡ out.old.items ++ (le 4 first ++ le 4 second)) }
+    ensures err { OnErr result (HasFront out.old.items out.new.items (le 4 first ++ le 4 second)) }
+    ensures first { first < 2 ^ 32 }
+    ensures second { second < 2 ^ 32 }
 {
-    put_u32(out, resource)?;
-    put_u32(out, 0)
+    put_u32(out, first)?;
+    put_u32(out, second)
 }
 
 /// Adds the fields of RESOURCE_CREATE_2D.
@@ -266,10 +237,8 @@ fn put_create_2d(
         HasFront out.old.items out.new.items (body_of_2d (Create2d resource format width height))) }
     ensures fits { IsCommand2d (Create2d resource format width height) }
 {
-    put_u32(out, resource)?;
-    put_u32(out, format)?;
-    put_u32(out, width)?;
-    put_u32(out, height)
+    put_two(out, resource, format)?;
+    put_two(out, width, height)
 }
 
 /// Adds the fields of SET_SCANOUT.
@@ -287,8 +256,7 @@ fn put_set_scanout(
     ensures fits { IsCommand2d (SetScanout rect scanout resource) }
 {
     put_rect(out, rect)?;
-    put_u32(out, scanout)?;
-    put_u32(out, resource)
+    put_two(out, scanout, resource)
 }
 
 /// Adds the fields of RESOURCE_FLUSH.
@@ -301,7 +269,7 @@ fn put_flush(out: &mut Vec<u8>, rect: Rect, resource: u32) -> Result<(), AllocEr
     ensures fits { IsCommand2d (Flush rect resource) }
 {
     put_rect(out, rect)?;
-    put_resource(out, resource)
+    put_two(out, resource, 0)
 }
 
 /// Adds the fields of TRANSFER_TO_HOST_2D.
@@ -315,7 +283,7 @@ fn put_transfer(out: &mut Vec<u8>, rect: Rect, offset: u64, resource: u32) -> Re
 {
     put_rect(out, rect)?;
     put_u64(out, offset)?;
-    put_resource(out, resource)
+    put_two(out, resource, 0)
 }
 
 /// Adds the fields of RESOURCE_ATTACH_BACKING.
@@ -328,8 +296,7 @@ fn put_attach(out: &mut Vec<u8>, resource: u32, entries: &[MemEntry]) -> Result<
         HasFront out.old.items out.new.items (body_of_2d (Attach resource entries.now))) }
     ensures fits { OnOk result (IsCommand2d (Attach resource entries.now)) }
 {
-    put_u32(out, resource)?;
-    put_u32(out, entries.len() as u32)?;
+    put_two(out, resource, entries.len() as u32)?;
     put_entries(out, entries)
 }
 
@@ -349,7 +316,7 @@ pub fn put_2d(out: &mut Vec<u8>, command: &Command2d) -> Result<(), AllocError>
             width,
             height,
         } => put_create_2d(out, *resource, *format, *width, *height),
-        Command2d::Unref { resource } => put_resource(out, *resource),
+        Command2d::Unref { resource } => put_two(out, *resource, 0),
         Command2d::SetScanout {
             rect,
             scanout,
@@ -362,6 +329,6 @@ pub fn put_2d(out: &mut Vec<u8>, command: &Command2d) -> Result<(), AllocError>
             resource,
         } => put_transfer(out, *rect, *offset, *resource),
         Command2d::Attach { resource, entries } => put_attach(out, *resource, entries.as_slice()),
-        Command2d::Detach { resource } => put_resource(out, *resource),
+        Command2d::Detach { resource } => put_two(out, *resource, 0),
     }
 }

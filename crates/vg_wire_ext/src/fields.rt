@@ -56,13 +56,3 @@ pub(crate) fn put_planes(out: &mut Vec<u8>, first: u32) -> Result<(), AllocError
     put_u32(out, 0)?;
     put_u32(out, 0)
 }
-
-/// Adds two numbers.
-pub(crate) fn put_two(out: &mut Vec<u8>, first: u32, second: u32) -> Result<(), AllocError>
-    ensures bytes { OnOk result (out.new.items ≡ out.old.items ++ (le 4 first ++ le 4 second)) }
-    ensures first { first < 2 ^ 32 }
-    ensures second { second < 2 ^ 32 }
-{
-    put_u32(out, first)?;
-    put_u32(out, second)
-}

@@ -18,42 +18,6 @@ use vg_wire::kinds::{
 };
 use vg_wire::{Queue, is_2d, read_header};
 
-/// By RESOURCE_UNREF: eight bytes.
-#[tactic(auto, unfolding(vg_wire::specs::TwoD::unref))]
-fn by_unref(body: &[u8]) -> Named
-    ensures { result ≡ found_2d (whole 8 body.now (two_d.unref body.now)) }
-{
-    if body.len() < 8 {
-        return Named::Nothing;
-    }
-    let id = u32_at(body, 0);
-    Named::Resource { id }
-}
-
-/// By RESOURCE_FLUSH: 24 bytes.
-#[tactic(auto, unfolding(vg_wire::specs::TwoD::flush))]
-fn by_flush(body: &[u8]) -> Named
-    ensures { result ≡ found_2d (whole 24 body.now (two_d.flush body.now)) }
-{
-    if body.len() < 24 {
-        return Named::Nothing;
-    }
-    let id = u32_at(body, 16);
-    Named::Flush { id }
-}
-
-/// By TRANSFER_TO_HOST_2D: 32 bytes.
-#[tactic(auto, unfolding(vg_wire::specs::TwoD::transfer))]
-fn by_transfer(body: &[u8]) -> Named
-    ensures { result ≡ found_2d (whole 32 body.now (two_d.transfer body.now)) }
-{
-    if body.len() < 32 {
-        return Named::Nothing;
-    }
-    let id = u32_at(body, 24);
-    Named::Transfer { id }
-}
-
 /// By RESOURCE_ATTACH_BACKING: eight bytes, and the 16 of each entry.
 #[tactic(auto, unfolding(vg_wire::specs::TwoD::attach, vg_wire::specs::TwoD::attach_size))]
 fn by_attach(body: &[u8]) -> Named
@@ -70,53 +34,39 @@ fn by_attach(body: &[u8]) -> Named
     Named::Resource { id }
 }
 
-/// By RESOURCE_DETACH_BACKING: eight bytes.
-#[tactic(auto, unfolding(vg_wire::specs::TwoD::detach))]
-fn by_detach(body: &[u8]) -> Named
-    ensures { result ≡ found_2d (whole 8 body.now (two_d.detach body.now)) }
-{
-    if body.len() < 8 {
-        return Named::Nothing;
-    }
-    let id = u32_at(body, 0);
-    Named::Resource { id }
-}
-
-/// By UPDATE_CURSOR: 32 bytes.
-#[tactic(auto, unfolding(crate::specs::Commands::update_cursor))]
-fn by_cursor(body: &[u8]) -> Named
-    ensures { (context : ℕ) → result ≡ found context (whole 32 body.now (layout.update_cursor body.now)) }
-{
-    if body.len() < 32 {
-        return Named::Nothing;
-    }
-    let id = u32_at(body, 16);
-    Named::Resource { id }
-}
-
 /// By a 2D command, of this kind.
-#[tactic(auto, unfolding(vg_wire::specs::TwoD::two_d_of))]
+#[tactic(auto, unfolding(vg_wire::specs::TwoD::two_d_of, vg_wire::specs::TwoD::unref, vg_wire::specs::TwoD::flush, vg_wire::specs::TwoD::transfer, vg_wire::specs::TwoD::detach))]
 fn by_2d(kind: u32, body: &[u8]) -> Named
     ensures { result ≡ found_2d (two_d_of kind body.now) }
 {
     match kind {
-        RESOURCE_UNREF => by_unref(body),
-        RESOURCE_FLUSH => by_flush(body),
-        TRANSFER_TO_HOST_2D => by_transfer(body),
+        RESOURCE_UNREF if body.len() >= 8 => Named::Resource {
+            id: u32_at(body, 0),
+        },
+        RESOURCE_FLUSH if body.len() >= 24 => Named::Flush {
+            id: u32_at(body, 16),
+        },
+        TRANSFER_TO_HOST_2D if body.len() >= 32 => Named::Transfer {
+            id: u32_at(body, 24),
+        },
         RESOURCE_ATTACH_BACKING => by_attach(body),
-        RESOURCE_DETACH_BACKING => by_detach(body),
+        RESOURCE_DETACH_BACKING if body.len() >= 8 => Named::Resource {
+            id: u32_at(body, 0),
+        },
         _ => Named::Nothing,
     }
 }
 
 /// By another command, of this kind, whose header has this context.
-#[tactic(auto, unfolding(crate::specs::Commands::row_of, crate::specs::Commands::ctx_destroy))]
+#[tactic(auto, unfolding(crate::specs::Commands::row_of, crate::specs::Commands::ctx_destroy, crate::specs::Commands::update_cursor))]
 fn by_other(kind: u32, context: u32, body: &[u8]) -> Named
     ensures { result ≡ found context (by_row (row_of kind) body.now) }
 {
     match kind {
         CTX_DESTROY => Named::Context { id: context },
-        UPDATE_CURSOR => by_cursor(body),
+        UPDATE_CURSOR if body.len() >= 32 => Named::Resource {
+            id: u32_at(body, 16),
+        },
         _ => Named::Nothing,
     }
 }

@@ -18,60 +18,6 @@ use vg_wire::kinds::{
 };
 use vg_wire::{Header, is_2d, read_2d, read_entries, rect_at};
 
-/// GET_CAPSET_INFO: eight bytes.
-#[tactic(auto, unfolding(crate::specs::Commands::capset_info))]
-fn read_capset_info(body: &[u8]) -> Option<Command>
-    ensures exact { result ≡ whole 8 body.now (layout.capset_info body.now) }
-    ensures count { IfSome result FitsEntries }
-{
-    if body.len() < 8 {
-        return None;
-    }
-    let index = u32_at(body, 0);
-    Some(Command::CapsetInfo { index })
-}
-
-/// GET_CAPSET: eight bytes.
-#[tactic(auto, unfolding(crate::specs::Commands::capset))]
-fn read_capset(body: &[u8]) -> Option<Command>
-    ensures exact { result ≡ whole 8 body.now (layout.capset body.now) }
-    ensures count { IfSome result FitsEntries }
-{
-    if body.len() < 8 {
-        return None;
-    }
-    Some(Command::Capset {
-        id: u32_at(body, 0),
-        version: u32_at(body, 4),
-    })
-}
-
-/// GET_EDID: eight bytes.
-#[tactic(auto, unfolding(crate::specs::Commands::edid))]
-fn read_edid(body: &[u8]) -> Option<Command>
-    ensures exact { result ≡ whole 8 body.now (layout.edid body.now) }
-    ensures count { IfSome result FitsEntries }
-{
-    if body.len() < 8 {
-        return None;
-    }
-    let scanout = u32_at(body, 0);
-    Some(Command::Edid { scanout })
-}
-
-/// RESOURCE_ASSIGN_UUID: eight bytes.
-#[tactic(auto, unfolding(crate::specs::Commands::assign_uuid))]
-fn read_assign_uuid(body: &[u8]) -> Option<Command>
-    ensures exact { result ≡ whole 8 body.now (layout.assign_uuid body.now) }
-    ensures count { IfSome result FitsEntries }
-{
-    if body.len() < 8 {
-        return None;
-    }
-    let resource = u32_at(body, 0);
-    Some(Command::AssignUuid { resource })
-}
-
 /// RESOURCE_CREATE_BLOB: 32 bytes and the 16 of each entry.
 #[tactic(auto, unfolding(crate::specs::Commands::create_blob, crate::specs::Commands::create_blob_size))]
 fn read_create_blob(alloc: Global, body: &[u8]) -> Result<Option<Command>, AllocError>
@@ -101,14 +47,12 @@ fn read_create_blob(alloc: Global, body: &[u8]) -> Result<Option<Command>, Alloc
 
 /// SET_SCANOUT_BLOB: 72 bytes. Strides and offsets of planes 1 to 3 are not looked at.
 #[tactic(auto, unfolding(crate::specs::Commands::set_scanout_blob))]
-fn read_set_scanout_blob(body: &[u8]) -> Option<Command>
-    ensures exact { result ≡ whole 72 body.now (layout.set_scanout_blob body.now) }
-    ensures count { IfSome result FitsEntries }
+fn read_set_scanout_blob(body: &[u8]) -> Command
+    requires { 72 ≤ length body.now }
+    ensures exact { result ≡ layout.set_scanout_blob body.now }
+    ensures count { FitsEntries result }
 {
-    if body.len() < 72 {
-        return None;
-    }
-    Some(Command::SetScanoutBlob {
+    Command::SetScanoutBlob {
         rect: rect_at(body, 0),
         scanout: u32_at(body, 16),
         resource: u32_at(body, 20),
@@ -117,51 +61,23 @@ fn read_set_scanout_blob(body: &[u8]) -> Option<Command>
         format: u32_at(body, 32),
         stride: u32_at(body, 40),
         offset: u32_at(body, 56),
-    })
+    }
 }
 
 /// CTX_CREATE: 72 bytes.
 #[tactic(auto, unfolding(crate::specs::Commands::ctx_create))]
-fn read_ctx_create(body: &[u8]) -> Option<Command>
-    ensures exact { result ≡ whole 72 body.now (layout.ctx_create body.now) }
-    ensures count { IfSome result FitsEntries }
+fn read_ctx_create(body: &[u8]) -> Command
+    requires { 72 ≤ length body.now }
+    ensures exact { result ≡ layout.ctx_create body.now }
+    ensures count { FitsEntries result }
 {
-    if body.len() < 72 {
-        return None;
-    }
     let mut name = [0; 64];
     name.copy_from_slice(&body[8..72]);
-    Some(Command::CtxCreate {
+    Command::CtxCreate {
         nlen: u32_at(body, 0),
         context_init: u32_at(body, 4),
         name,
-    })
-}
-
-/// CTX_ATTACH_RESOURCE: eight bytes.
-#[tactic(auto, unfolding(crate::specs::Commands::ctx_attach))]
-fn read_ctx_attach(body: &[u8]) -> Option<Command>
-    ensures exact { result ≡ whole 8 body.now (layout.ctx_attach body.now) }
-    ensures count { IfSome result FitsEntries }
-{
-    if body.len() < 8 {
-        return None;
     }
-    let resource = u32_at(body, 0);
-    Some(Command::CtxAttach { resource })
-}
-
-/// CTX_DETACH_RESOURCE: eight bytes.
-#[tactic(auto, unfolding(crate::specs::Commands::ctx_detach))]
-fn read_ctx_detach(body: &[u8]) -> Option<Command>
-    ensures exact { result ≡ whole 8 body.now (layout.ctx_detach body.now) }
-    ensures count { IfSome result FitsEntries }
-{
-    if body.len() < 8 {
-        return None;
-    }
-    let resource = u32_at(body, 0);
-    Some(Command::CtxDetach { resource })
 }
 
 /// SUBMIT_3D: eight bytes, and those of the stream.
@@ -188,41 +104,37 @@ fn read_submit(alloc: Global, body: &[u8]) -> Result<Option<Command>, AllocError
 
 /// UPDATE_CURSOR: 32 bytes.
 #[tactic(auto, unfolding(crate::specs::Commands::update_cursor))]
-fn read_update_cursor(body: &[u8]) -> Option<Command>
-    ensures exact { result ≡ whole 32 body.now (layout.update_cursor body.now) }
-    ensures count { IfSome result FitsEntries }
+fn read_update_cursor(body: &[u8]) -> Command
+    requires { 32 ≤ length body.now }
+    ensures exact { result ≡ layout.update_cursor body.now }
+    ensures count { FitsEntries result }
 {
-    if body.len() < 32 {
-        return None;
-    }
-    Some(Command::UpdateCursor {
+    Command::UpdateCursor {
         scanout: u32_at(body, 0),
         x: i32_at(body, 4),
         y: i32_at(body, 8),
         resource: u32_at(body, 16),
         hot_x: u32_at(body, 20),
         hot_y: u32_at(body, 24),
-    })
+    }
 }
 
 /// MOVE_CURSOR: 32 bytes, of which those behind the position are not looked at.
 #[tactic(auto, unfolding(crate::specs::Commands::move_cursor))]
-fn read_move_cursor(body: &[u8]) -> Option<Command>
-    ensures exact { result ≡ whole 32 body.now (layout.move_cursor body.now) }
-    ensures count { IfSome result FitsEntries }
+fn read_move_cursor(body: &[u8]) -> Command
+    requires { 32 ≤ length body.now }
+    ensures exact { result ≡ layout.move_cursor body.now }
+    ensures count { FitsEntries result }
 {
-    if body.len() < 32 {
-        return None;
-    }
-    Some(Command::MoveCursor {
+    Command::MoveCursor {
         scanout: u32_at(body, 0),
         x: i32_at(body, 4),
         y: i32_at(body, 8),
-    })
+    }
 }
 
 /// The command of a kind that no 2D command has. CTX_DESTROY has no fields, so it is always there.
-#[tactic(auto, unfolding(crate::specs::Commands::row_of, crate::specs::Commands::ctx_destroy))]
+#[tactic(auto, unfolding(crate::specs::Commands::row_of, crate::specs::Commands::ctx_destroy, crate::specs::Commands::capset_info, crate::specs::Commands::capset, crate::specs::Commands::edid, crate::specs::Commands::assign_uuid, crate::specs::Commands::ctx_attach, crate::specs::Commands::ctx_detach))]
 fn read_by_row(alloc: Global, kind: u32, body: &[u8]) -> Result<Option<Command>, AllocError>
     ensures exact { IfOk result (λ command. command ≡ by_row (row_of kind) body.now) }
     // Memory is asked for only once all of the command is there.
@@ -230,19 +142,32 @@ fn read_by_row(alloc: Global, kind: u32, body: &[u8]) -> Result<Option<Command>,
     ensures count { IfOk result (λ command. IfSome command FitsEntries) }
 {
     match kind {
-        GET_CAPSET_INFO => Ok(read_capset_info(body)),
-        GET_CAPSET => Ok(read_capset(body)),
-        GET_EDID => Ok(read_edid(body)),
-        RESOURCE_ASSIGN_UUID => Ok(read_assign_uuid(body)),
+        GET_CAPSET_INFO if body.len() >= 8 => Ok(Some(Command::CapsetInfo {
+            index: u32_at(body, 0),
+        })),
+        GET_CAPSET if body.len() >= 8 => Ok(Some(Command::Capset {
+            id: u32_at(body, 0),
+            version: u32_at(body, 4),
+        })),
+        GET_EDID if body.len() >= 8 => Ok(Some(Command::Edid {
+            scanout: u32_at(body, 0),
+        })),
+        RESOURCE_ASSIGN_UUID if body.len() >= 8 => Ok(Some(Command::AssignUuid {
+            resource: u32_at(body, 0),
+        })),
         RESOURCE_CREATE_BLOB => read_create_blob(alloc, body),
-        SET_SCANOUT_BLOB => Ok(read_set_scanout_blob(body)),
-        CTX_CREATE => Ok(read_ctx_create(body)),
+        SET_SCANOUT_BLOB if body.len() >= 72 => Ok(Some(read_set_scanout_blob(body))),
+        CTX_CREATE if body.len() >= 72 => Ok(Some(read_ctx_create(body))),
         CTX_DESTROY => Ok(Some(Command::CtxDestroy)),
-        CTX_ATTACH_RESOURCE => Ok(read_ctx_attach(body)),
-        CTX_DETACH_RESOURCE => Ok(read_ctx_detach(body)),
+        CTX_ATTACH_RESOURCE if body.len() >= 8 => Ok(Some(Command::CtxAttach {
+            resource: u32_at(body, 0),
+        })),
+        CTX_DETACH_RESOURCE if body.len() >= 8 => Ok(Some(Command::CtxDetach {
+            resource: u32_at(body, 0),
+        })),
         SUBMIT_3D => read_submit(alloc, body),
-        UPDATE_CURSOR => Ok(read_update_cursor(body)),
-        MOVE_CURSOR => Ok(read_move_cursor(body)),
+        UPDATE_CURSOR if body.len() >= 32 => Ok(Some(read_update_cursor(body))),
+        MOVE_CURSOR if body.len() >= 32 => Ok(Some(read_move_cursor(body))),
         _ => Ok(None),
     }
 }

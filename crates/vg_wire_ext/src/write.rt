@@ -5,11 +5,11 @@ ghost use Rattle.vg_wire_ext.specs.declared.command.Command.TheVariants.{CreateB
 ghost use Rattle.vg_wire_ext.specs.Commands.{command_body, FitsEntries, IsCommand};
 
 use crate::command::Command;
-use crate::fields::{put_planes, put_position, put_two};
+use crate::fields::{put_planes, put_position};
 use std::alloc::AllocError;
 use vg_formats::{MemEntry, Rect};
 use vg_numbers::{put_u32, put_u64};
-use vg_wire::{put_2d, put_entries, put_rect, size_2d};
+use vg_wire::{put_2d, put_entries, put_rect, put_two, size_2d};
 
 /// Adds the fields of RESOURCE_CREATE_BLOB.
 fn put_create_blob(

@@ -2,5 +2,5 @@ use Rattle.std.proofs.Common.{rules, sym}
 use Rattle.vg_wire_ext.proofs.NamedLemmas.{other-row}
 use Rattle.vg_wire_ext.proofs.naming.by_other.Goals as goal
 
-pub returns-in_default : goal.returns-in_default
-returns-in_default c = sym (other-row c.args.kind c.args.context c.args.body.now (search rules) (search rules))
+pub returns-in_default-2 : goal.returns-in_default-2
+returns-in_default-2 c = sym (other-row c.args.kind c.args.context c.args.body.now (search rules) (search rules))
