@@ -2,20 +2,21 @@
 
 ghost use Rattle.std.specs.Prelude.{◌≡◌, ◌≤◌, ℕ, true, length, IfOk, IfSome};
 ghost use Rattle.vg_chain.specs.Made.{IsCount, IsNeeded};
-ghost use Rattle.vg_ring.specs.Cargo.{IsLane};
-ghost use Rattle.vg_ring.specs.Ends.{HasRoom};
+ghost use Rattle.vg_cargo.specs.Cargo.{IsLane};
+ghost use Rattle.vg_cargo.specs.Ends.{HasRoom};
 ghost use Rattle.vg_worker_tests.specs.Ways.{shape_by};
 ghost use Rattle.vg_wire.specs.declared.request.Queue.TheVariants as queues;
 
 use std::alloc::{AllocError, Global};
 use vg_book::{Book, Carried, ClientToken, Naming};
+use vg_cargo::{Parcel, Tag};
 use vg_chain::{ChainFault, Shape};
 use vg_client_holds::denied;
 use vg_history::Tagged;
 use vg_list::Seq;
 use vg_machine::{Display, Request, lane_of};
 use vg_notify::Ringer;
-use vg_ring::{ControlOf, CursorOf, DriverEnd, Parcel, Reaped, Rings, Tag};
+use vg_ring::{ControlOf, CursorOf, DriverEnd, Reaped, Rings};
 use vg_wire::Queue;
 
 /// A client, with the driver's ends of both rings and their bells.

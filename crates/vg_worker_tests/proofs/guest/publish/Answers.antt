@@ -1,6 +1,6 @@
 use Rattle.std.proofs.Common.{rules, ◌≡◌, ◌∙◌, ap, length, refl, subst, sym, ℕ}
 use Rattle.vg_chain.specs.Made.{IsNeeded}
-use Rattle.vg_ring.specs.Ends.{HasRoom}
+use Rattle.vg_cargo.specs.Ends.{HasRoom}
 use Rattle.vg_worker_tests.proofs.guest.publish.Goals as goal
 
 pub publish-requires-clause-room : goal.publish-requires-clause-room
