@@ -20,11 +20,11 @@ use Rattle.vg_chain.specs.declared.shape.Shape.{Shape}
 use Rattle.vg_chain.specs.Made.{IsNeeded}
 use Rattle.vg_wire.specs.declared.request.Queue.{Queue}
 use Rattle.vg_wire.specs.declared.request.Queue.TheVariants.{Control, Cursor}
-use Rattle.vg_ring.specs.declared.views.Answer.{Answer}
-use Rattle.vg_ring.specs.Cargo.{CargoData, IsLane}
-use Rattle.vg_ring.specs.Cargo as cargoes
-use Rattle.vg_ring.specs.Ends.{DriverLists, HasRoom, Publishes, Reaps}
-use Rattle.vg_ring.specs.Entries.{IsDone}
+use Rattle.vg_cargo.specs.declared.entries.Answer.{Answer}
+use Rattle.vg_cargo.specs.Cargo.{CargoData, IsLane}
+use Rattle.vg_cargo.specs.Cargo as cargoes
+use Rattle.vg_cargo.specs.Ends.{DriverLists, HasRoom, Publishes, Reaps}
+use Rattle.vg_cargo.specs.Entries.{IsDone}
 use Rattle.vg_ring.specs.Making.{IsNewDriver}
 use Rattle.vg_ring.proofs.KeptLemmas.{made_some}
 use Rattle.vg_driver.specs.Halves.{AreBack, AreHeard, AreKnown, HasFor, HasHeard, HasJoined, HeardData, Hears, IsHalf, IsHeard, IsJoined, IsKnown, NoteKnows, Signals, asked_in, seen_by, top_of, unheard}

@@ -15,10 +15,10 @@ use Rattle.vg_wire_ext.specs.declared.command.Command.{Command}
 use Rattle.vg_wire_ext.specs.declared.command.Command.TheVariants.{TwoD, Edid, AssignUuid, CreateBlob}
 use Rattle.vg_wire_ext.specs.Commands.{command_body, command_kind}
 use Rattle.vg_wire_ext.specs.Request.{request_bytes, request_of}
-use Rattle.vg_ring.specs.Cargo.{IsLane}
-use Rattle.vg_ring.specs.Ends.{DriverLists, HasRoom}
-use Rattle.vg_ring.specs.declared.views.Entry as ring
-use Rattle.vg_ring.specs.Entries.{lane_count}
+use Rattle.vg_cargo.specs.Cargo.{IsLane}
+use Rattle.vg_cargo.specs.Ends.{DriverLists, HasRoom}
+use Rattle.vg_cargo.specs.declared.entries.Entry as ring
+use Rattle.vg_cargo.specs.Entries.{lane_count}
 use Rattle.vg_device.specs.declared.request.Request.{Request}
 use Rattle.vg_client_holds.specs.declared.holds.Holds.{Holds}
 use Rattle.vg_client_holds.specs.Holds.{denied_of, denied_request}

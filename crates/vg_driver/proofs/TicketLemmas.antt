@@ -21,7 +21,7 @@ use Rattle.vg_machine.specs.Lender.{Lender}
 use Rattle.vg_machine.specs.Replay.{display}
 use Rattle.vg_driver.specs.declared.ticket.Ticket.{Ticket}
 use Rattle.vg_chain.specs.declared.shape.Shape.{Shape}
-use Rattle.vg_ring.specs.Cargo.{Tells}
+use Rattle.vg_cargo.specs.Cargo.{Tells}
 use Rattle.vg_book.specs.declared.outcome.Carried.{Carried}
 use Rattle.vg_book.specs.declared.outcome.Carried.TheVariants as carried
 use Rattle.vg_machine.specs.Written.{read_by, written_in}

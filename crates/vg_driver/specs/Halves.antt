@@ -14,13 +14,13 @@ use Rattle.vg_history.specs.Fences.{FenceData}
 use Rattle.vg_chain.specs.declared.shape.Shape.{Shape}
 use Rattle.vg_chain.specs.Made.{IsCount, IsNeeded}
 use Rattle.vg_wire.specs.declared.request.Queue.{Queue}
-use Rattle.vg_ring.specs.declared.views.Answer.{Answer}
-use Rattle.vg_ring.specs.declared.views.Entry as ring
+use Rattle.vg_cargo.specs.declared.entries.Answer.{Answer}
+use Rattle.vg_cargo.specs.declared.entries.Entry as ring
 use Rattle.vg_chain.specs.declared.asked.Asked.{Asked}
 use Rattle.vg_chain.specs.Asks.{asked}
-use Rattle.vg_ring.specs.Cargo.{ParcelData}
-use Rattle.vg_ring.specs.Ends.{DriverLists, HasRoom}
-use Rattle.vg_ring.specs.Entries.{lane_count}
+use Rattle.vg_cargo.specs.Cargo.{ParcelData}
+use Rattle.vg_cargo.specs.Ends.{DriverLists, HasRoom}
+use Rattle.vg_cargo.specs.Entries.{lane_count}
 
 -- The greatest ordinal of a lane among answers, run or not; 0 where there is none.
 abbrev pub top_of : ℕ → List Answer → ℕ

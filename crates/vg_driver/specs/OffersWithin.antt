@@ -2,9 +2,9 @@
 use Rattle.std.specs.Prelude.{◌≡◌, ℕ, ◌+◌, ◌-◌, ◌^◌, ◌<◌, ◌≤◌, length, Option, Some, None}
 use Rattle.vg_chain.specs.Space.{most_request, most_room}
 use Rattle.vg_chain.specs.Made.{IsCount, IsNeeded}
-use Rattle.vg_ring.specs.Cargo.{IsLane, ParcelData}
-use Rattle.vg_ring.specs.Ends.{DriverLists, HasRoom}
-use Rattle.vg_ring.specs.Entries.{lane_count}
+use Rattle.vg_cargo.specs.Cargo.{IsLane, ParcelData}
+use Rattle.vg_cargo.specs.Ends.{DriverLists, HasRoom}
+use Rattle.vg_cargo.specs.Entries.{lane_count}
 use Rattle.vg_device.specs.declared.request.Request.{Request}
 use Rattle.vg_client_holds.specs.declared.holds.Holds.{Holds}
 use Rattle.vg_client_holds.specs.Holds.{Allowed}

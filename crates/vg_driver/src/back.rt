@@ -2,16 +2,16 @@
 
 ghost use Rattle.std.specs.Prelude.{◌≡◌, length};
 ghost use Rattle.vg_book.specs.Outcomes.{asks_of, tag_of, told_by};
-ghost use Rattle.vg_ring.specs.Cargo.{Tells, asked_of};
+ghost use Rattle.vg_cargo.specs.Cargo.{Tells, asked_of};
 ghost use Rattle.vg_driver.specs.Halves.{Hears};
 ghost use Rattle.vg_driver.specs.Halves as halves;
 
 use crate::heard::Heard;
 use std::marker::Model;
 use vg_book::{Book, Carried, Naming};
+use vg_cargo::Cargo;
 use vg_chain::Shape;
 use vg_history::Machine;
-use vg_ring::Cargo;
 
 /// The pass of a command that came back, with the shape of its chain and what is in the room for its response. A clause sees the
 /// pass alone.
@@ -26,7 +26,7 @@ impl<M: Machine, B: Naming> Model for Back<M, B> {
     ghost use Rattle.std.specs.Prelude.{◌≡◌};
     ghost use Rattle.vg_book.specs.declared.outcome.Carried as carried;
     ghost use Rattle.vg_book.specs.Outcomes.{asks_of, told_by};
-    ghost use Rattle.vg_ring.specs.Cargo.{Tells};
+    ghost use Rattle.vg_cargo.specs.Cargo.{Tells};
 
     ghost Value = { carried.Carried M B M.State M.Act M.ActReply M.Request M.Reply M.Holds M.Job };
 

@@ -1,9 +1,9 @@
 //! One queue of a device, as the clients share it under a lock.
 
 ghost use Rattle.std.specs.Prelude.{◌≡◌, ℕ, ◌+◌, ◌-◌, ◌^◌, ◌<◌, ◌%◌, true, [], length, nat_le, IfOk, IfSome, MatchResult, OnOk};
-ghost use Rattle.vg_ring.specs.Cargo.{asked_of};
-ghost use Rattle.vg_ring.specs.Ends.{HasRoom};
-ghost use Rattle.vg_ring.specs.Entries.{lane_count};
+ghost use Rattle.vg_cargo.specs.Cargo.{asked_of};
+ghost use Rattle.vg_cargo.specs.Ends.{HasRoom};
+ghost use Rattle.vg_cargo.specs.Entries.{lane_count};
 ghost use Rattle.vg_ring.specs.Making.{IsNewDriver};
 ghost use Rattle.vg_driver.specs.Halves.{AreBack, AreHeard, HasHeard, HasJoined, HasReaped, IsOf, IsOffered, IsSent, ReapsOne, Signals, top_of};
 
@@ -16,10 +16,11 @@ use std::marker::Model;
 use std::snapshot::Snapshot;
 use std::sync::Wait;
 use vg_book::{Book, Carried, ClientToken, Root};
+use vg_cargo::{Parcel, Tag};
 use vg_chain::Shape;
 use vg_history::{Fence, Machine};
 use vg_notify::Ringer;
-use vg_ring::{DriverEnd, OfQueue, Parcel, Reaped, Tag};
+use vg_ring::{DriverEnd, OfQueue, Reaped};
 
 /// The most cargoes that a ring carries.
 const MOST_PUBLISHED: u64 = 9223372036854775807;
@@ -36,7 +37,7 @@ pub struct Half<M: Machine, B: vg_book::Naming, Q: vg_ring::Naming + OfQueue> {
 
 impl<M: Machine, B: vg_book::Naming, Q: vg_ring::Naming + OfQueue> Model for Half<M, B, Q> {
     ghost use Rattle.std.specs.Prelude.{◌≡◌, length};
-    ghost use Rattle.vg_ring.specs.Ends.{DriverLists};
+    ghost use Rattle.vg_cargo.specs.Ends.{DriverLists};
     ghost use Rattle.vg_driver.specs.Halves.{IsHalf};
 
     ghost Value = { DriverLists };

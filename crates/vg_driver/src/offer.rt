@@ -3,7 +3,7 @@
 ghost use Rattle.std.specs.Prelude.{◌≡◌, ◌-◌, ◌^◌, ◌<◌, ◌≤◌, None, length, IfOk, MatchResult};
 ghost use Rattle.vg_chain.specs.Space.{most_request, most_room};
 ghost use Rattle.vg_chain.specs.Made.{IsCount};
-ghost use Rattle.vg_ring.specs.Cargo.{IsLane};
+ghost use Rattle.vg_cargo.specs.Cargo.{IsLane};
 ghost use Rattle.vg_driver.specs.Asks.{IsAsk, denied_for, queue_for, request_for};
 ghost use Rattle.vg_driver.specs.Tickets.{Submitted};
 ghost use Rattle.vg_driver.specs.OffersWithin.{IsNext, IsParcelOf, MayOffer};
@@ -14,9 +14,10 @@ use crate::ticket::Ticket;
 use std::alloc::{AllocError, Global};
 use std::snapshot::Snapshot;
 use vg_book::{Book, ClientToken};
+use vg_cargo::{Parcel, Tag};
 use vg_history::Fence;
 use vg_machine::{Display, Request};
-use vg_ring::{OfQueue, Parcel, Tag};
+use vg_ring::OfQueue;
 
 /// The parcel of a request, for this head. The request's bytes move to it.
 fn parcel_of(alloc: Global, head: u16, request: Request) -> Result<Parcel, AllocError>

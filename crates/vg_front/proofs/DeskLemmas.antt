@@ -7,15 +7,13 @@ use Rattle.vg_ring.specs.Making.{IsNewDevice}
 use Rattle.std.proofs.lemmas.Bool.{cases_eq, cases_lt, ne_eqb}
 use Rattle.std.proofs.lemmas.List.{get_or-set_other, get_or-set_same, get_or-take, get_or_default, get_or_past, length-map}
 use Rattle.vg_laws.proofs.Options.{some_is}
-use Rattle.vg_ring.specs.declared.views.Entry.{Entry}
-use Rattle.vg_ring.specs.declared.views.Answer.{Answer}
-use Rattle.vg_ring.specs.Cargo.{CargoData}
-use Rattle.vg_ring.specs.Entries.{head_of, head_in, entries, weigh, heads, without, answer_with, Has, InOrder}
-use Rattle.vg_ring.specs.DeviceEnds.{DeviceLists, Fetches, FetchesNone, RightData, HasAt, IsCargoOf, TakesIn, completing}
-use Rattle.vg_ring.proofs.Counts.{weigh-append, entries-append}
-use Rattle.vg_ring.proofs.Heads.{has_heads, held_cut, held_is}
-use Rattle.vg_ring.proofs.RightSteps.{has_without, heads_without}
-use Rattle.vg_ring.proofs.TendedLemmas.{has_left}
+use Rattle.vg_cargo.specs.declared.entries.Entry.{Entry}
+use Rattle.vg_cargo.specs.declared.entries.Answer.{Answer}
+use Rattle.vg_cargo.specs.Cargo.{CargoData}
+use Rattle.vg_cargo.specs.Entries.{head_of, head_in, entries, weigh, heads, without, answer_with, Has, InOrder}
+use Rattle.vg_cargo.specs.DeviceEnds.{DeviceLists, Fetches, FetchesNone, RightData, HasAt, IsCargoOf, TakesIn, completing}
+use Rattle.vg_cargo.proofs.Counts.{weigh-append, entries-append}
+use Rattle.vg_cargo.proofs.Heads.{has_heads, held_cut, held_is, has_without, heads_without, has_left}
 use Rattle.vg_front.specs.Lanes.{AreLanes, AreWaiting, IsDesk, IsHome, of_lane}
 use Rattle.vg_front.specs.Desks.{AddsTokens, AreNew, DeskData, Finishes, HasFetched, HasRunAll, IsAway, IsFirstReady, Takes, any_waits, is_busy, is_some_away}
 use Rattle.vg_front.proofs.LaneLemmas.{alone_of, has_of_lane, of_lane-append, of_lane-here, of_lane-mid, of_lane-mid_skip, of_lane-skip, ordinal_at, ordinals_rise}

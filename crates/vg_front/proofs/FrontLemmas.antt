@@ -3,8 +3,8 @@ use Rattle.std.proofs.Common.{◌≡◌, ℕ, zero, suc, ◌+◌, ◌<◌, List,
 use Rattle.std.specs.Prelude.{Option}
 use Rattle.std.proofs.lemmas.List.{length-map}
 use Rattle.vg_wire.specs.declared.request.Queue.TheVariants.{Control, Cursor}
-use Rattle.vg_ring.specs.Entries.{entries}
-use Rattle.vg_ring.specs.DeviceEnds.{DeviceLists}
+use Rattle.vg_cargo.specs.Entries.{entries}
+use Rattle.vg_cargo.specs.DeviceEnds.{DeviceLists}
 use Rattle.vg_front.specs.Lanes.{AreLanes}
 use Rattle.vg_front.specs.Desks.{AddsTokens, AreNew, HasRunAll}
 use Rattle.vg_front.specs.Fronts.{Closes, FrontData}

@@ -3,9 +3,9 @@ use Rattle.std.proofs.Common.{◌≡◌, ◌≢◌, ℕ, ◌+◌, Bool, true, fa
 use Rattle.std.specs.List.{range_with_len}
 use Rattle.std.proofs.lemmas.Bool.{eq-eqb, ne_eqb}
 use Rattle.std.proofs.lemmas.Bool.Decides.{eqb_tells}
-use Rattle.vg_ring.specs.declared.views.Entry.{Entry}
-use Rattle.vg_ring.specs.Entries.{lane_count, InOrder, Has}
-use Rattle.vg_ring.proofs.KeptLemmas.{lane_count-snoc}
+use Rattle.vg_cargo.specs.declared.entries.Entry.{Entry}
+use Rattle.vg_cargo.specs.Entries.{lane_count, InOrder, Has}
+use Rattle.vg_cargo.proofs.Counts.{lane_count-snoc}
 use Rattle.vg_front.specs.Lanes.{of_lane}
 
 choice : (e : Entry) (all left right : List Entry) (b : Bool) → all ≡ left ++ right → cond b (e ∷ all) all ≡ cond b (e ∷ left) left ++ right

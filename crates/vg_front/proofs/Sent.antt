@@ -7,7 +7,8 @@ use Rattle.vg_history.specs.declared.machine.Tagged as Tagged
 use Rattle.vg_history.specs.declared.machine.Turn as Turn
 use Rattle.vg_ring.specs.declared.naming.Naming as Naming
 use Rattle.vg_notify.proofs.Sent.{sleeper_send}
-use Rattle.vg_ring.proofs.Sent.{cargo_send, device_send}
+use Rattle.vg_cargo.proofs.Sent.{cargo_send}
+use Rattle.vg_ring.proofs.Sent.{device_send}
 use Rattle.vg_ring.specs.declared.rings.Rings as Rings
 use Rattle.vg_ring.specs.contracts.rings.ControlOf as control
 use Rattle.vg_ring.specs.contracts.rings.CursorOf as cursor

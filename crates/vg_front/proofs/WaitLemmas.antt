@@ -4,10 +4,10 @@ use Rattle.std.specs.Prelude.{Option, IsSome, is_none, is_some}
 use Rattle.std.proofs.lemmas.List.{get_or_default}
 use Rattle.vg_wire.specs.declared.request.Queue.{Queue}
 use Rattle.vg_wire.specs.declared.request.Queue.TheVariants.{Control, Cursor}
-use Rattle.vg_ring.specs.declared.views.Entry.{Entry}
-use Rattle.vg_ring.specs.Cargo.{CargoData, IsLane}
-use Rattle.vg_ring.specs.Entries.{weigh, Has}
-use Rattle.vg_ring.proofs.Counts.{weigh-append}
+use Rattle.vg_cargo.specs.declared.entries.Entry.{Entry}
+use Rattle.vg_cargo.specs.Cargo.{CargoData, IsLane}
+use Rattle.vg_cargo.specs.Entries.{weigh, Has}
+use Rattle.vg_cargo.proofs.Counts.{weigh-append}
 use Rattle.vg_front.specs.Lanes.{AreLanes, AreWaiting, IsWaiting, of_lane}
 use Rattle.vg_front.specs.Desks.{any_waits, is_some_away}
 use Rattle.vg_front.proofs.LaneLemmas.{of_lane-skip}

@@ -1,10 +1,10 @@
 -- What the calls of a queue's desk do.
 use Rattle.std.specs.Prelude.{◌≡◌, ℕ, ◌+◌, ◌-◌, ◌<◌, ◌≤◌, ◌||◌, Bool, true, false, Option, Some, None, is_none, is_some, List, [], ◌∷◌, ◌++◌, map, length, get_or, slice_index_or, set}
 use Rattle.std.specs.List.{All, AllWithin, range_with_len}
-use Rattle.vg_ring.specs.declared.views.Entry.{Entry}
-use Rattle.vg_ring.specs.Cargo.{CargoData}
-use Rattle.vg_ring.specs.Entries.{head_of, entries, answer_with, without}
-use Rattle.vg_ring.specs.DeviceEnds.{DeviceLists, Fetches, FetchesNone, RightData, IsCargoOf}
+use Rattle.vg_cargo.specs.declared.entries.Entry.{Entry}
+use Rattle.vg_cargo.specs.Cargo.{CargoData}
+use Rattle.vg_cargo.specs.Entries.{head_of, entries, answer_with, without}
+use Rattle.vg_cargo.specs.DeviceEnds.{DeviceLists, Fetches, FetchesNone, RightData, IsCargoOf}
 use Rattle.vg_front.specs.Lanes.{of_lane}
 
 -- A queue at the device: the lists of its end, the number of its first lane, each lane's token where nobody works on the

@@ -1,9 +1,9 @@
 -- What the calls of a front do.
 use Rattle.std.specs.Prelude.{◌≡◌, ℕ, ◌+◌, ◌⊎◌, ◌<◌, Bool, true, false, not, Some, None, List, [], ◌++◌, map, length, get_or}
 use Rattle.vg_notify.specs.Halves.{SleeperData, Listens}
-use Rattle.vg_ring.specs.Cargo.{CargoData}
-use Rattle.vg_ring.specs.Entries.{entries, Has}
-use Rattle.vg_ring.specs.DeviceEnds.{DeviceLists}
+use Rattle.vg_cargo.specs.Cargo.{CargoData}
+use Rattle.vg_cargo.specs.Entries.{entries, Has}
+use Rattle.vg_cargo.specs.DeviceEnds.{DeviceLists}
 use Rattle.vg_front.specs.declared.loan.Loan.{Loan}
 use Rattle.vg_front.specs.declared.loan.Loan.TheVariants as loans
 use Rattle.vg_front.specs.declared.front.Work.{Work}

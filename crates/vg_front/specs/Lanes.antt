@@ -2,10 +2,10 @@
 use Rattle.std.specs.Prelude.{◌≡◌, ℕ, ◌+◌, ◌==◌, ◌<◌, ◌≤◌, Bool, true, false, Option, Some, None, List, [], ◌∷◌, ◌++◌, length, get_or, if◌then◌else◌}
 use Rattle.vg_wire.specs.declared.request.Queue.{Queue}
 use Rattle.vg_wire.specs.declared.request.Queue.TheVariants.{Control, Cursor}
-use Rattle.vg_ring.specs.declared.views.Entry.{Entry}
-use Rattle.vg_ring.specs.Cargo.{CargoData}
-use Rattle.vg_ring.specs.Entries.{head_of, entries, weigh, heads, Has, InOrder}
-use Rattle.vg_ring.specs.DeviceEnds.{DeviceLists, IsCargoOf}
+use Rattle.vg_cargo.specs.declared.entries.Entry.{Entry}
+use Rattle.vg_cargo.specs.Cargo.{CargoData}
+use Rattle.vg_cargo.specs.Entries.{head_of, entries, weigh, heads, Has, InOrder}
+use Rattle.vg_cargo.specs.DeviceEnds.{DeviceLists, IsCargoOf}
 
 abbrev pub of_lane : ℕ → List Entry → List Entry
 of_lane lane [] = []

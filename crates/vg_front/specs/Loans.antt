@@ -1,4 +1,4 @@
-use Rattle.vg_ring.specs.DeviceEnds.{RightData}
+use Rattle.vg_cargo.specs.DeviceEnds.{RightData}
 use Rattle.vg_front.specs.declared.loan.Loan.{Loan}
 use Rattle.vg_front.specs.declared.loan.Loan.TheVariants.{Control, Cursor}
 

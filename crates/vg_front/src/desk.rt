@@ -3,18 +3,19 @@
 ghost use Rattle.std.specs.Prelude.{◌≡◌, ℕ, ◌⊎◌, ◌+◌, ◌<◌, ◌≤◌, true, false, Some, [], ◌++◌, length, map, vec_capacity, vec_len, IfOk, OnOk, OnErr, MatchOption};
 ghost use Rattle.std.specs.List.{All};
 ghost use Rattle.vg_wire.specs.declared.request.Queue.{Queue};
-ghost use Rattle.vg_ring.specs.Entries.{Has};
-ghost use Rattle.vg_ring.specs.Walked.{IsWalkOf};
-ghost use Rattle.vg_ring.specs.DeviceEnds.{IsCargoOf};
+ghost use Rattle.vg_cargo.specs.Entries.{Has};
+ghost use Rattle.vg_cargo.specs.Walked.{IsWalkOf};
+ghost use Rattle.vg_cargo.specs.DeviceEnds.{IsCargoOf};
 ghost use Rattle.vg_ring.specs.Making.{IsNewDevice};
 ghost use Rattle.vg_front.specs.Lanes.{AreLanes};
 ghost use Rattle.vg_front.specs.Desks.{AddsTokens, AreNew, Finishes, IsAway, IsFirstReady, IsIdle, IsOfLanes, Looks, Takes, is_busy, is_some_away};
 
 use std::alloc::{AllocError, Global};
 use std::marker::Model;
+use vg_cargo::Cargo;
 use vg_chain::{Chain, ChainFault};
 use vg_history::{Tagged, Turn};
-use vg_ring::{Cargo, DeviceEnd, Fetched, Naming, Right};
+use vg_ring::{DeviceEnd, Fetched, Naming, Right};
 
 /// The device's end of a queue, and the queue's lanes.
 #[derive(Drop)]
@@ -32,7 +33,7 @@ pub(crate) struct Desk<P: Tagged, T: Turn + Drop, N: Naming> {
 
 impl<P: Tagged, T: Turn + Drop, N: Naming> Model for Desk<P, T, N> {
     ghost use Rattle.std.specs.Prelude.{◌≡◌, ◌≤◌, List, length, vec_capacity};
-    ghost use Rattle.vg_ring.specs.declared.views.Entry.{Entry};
+    ghost use Rattle.vg_cargo.specs.declared.entries.Entry.{Entry};
     ghost use Rattle.vg_front.specs.Lanes.{IsDesk};
     ghost use Rattle.vg_front.specs.Desks.{DeskData};
 

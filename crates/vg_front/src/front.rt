@@ -3,8 +3,8 @@
 ghost use Rattle.std.specs.Prelude.{◌≡◌, ℕ, ◌⊎◌, ◌||◌, ◌&&◌, not, true, false, length, IfOk, OnOk, OnErr};
 ghost use Rattle.vg_wire.specs.declared.request.Queue.TheVariants as queues;
 ghost use Rattle.vg_notify.specs.Halves.{Arms};
-ghost use Rattle.vg_ring.specs.Walked.{IsWalkOf};
-ghost use Rattle.vg_ring.specs.DeviceEnds.{IsCargoOf};
+ghost use Rattle.vg_cargo.specs.Walked.{IsWalkOf};
+ghost use Rattle.vg_cargo.specs.DeviceEnds.{IsCargoOf};
 ghost use Rattle.vg_ring.specs.Making.{IsNewDevice};
 ghost use Rattle.vg_front.specs.Desks.{AreNew, is_busy};
 ghost use Rattle.vg_front.specs.Loans.{right_of};
@@ -14,10 +14,11 @@ use crate::desk::Desk;
 use crate::loan::Loan;
 use std::alloc::{AllocError, Global};
 use std::marker::Model;
+use vg_cargo::Cargo;
 use vg_chain::{Chain, ChainFault};
 use vg_history::{Tagged, Turn};
 use vg_notify::Sleeper;
-use vg_ring::{Cargo, ControlOf, CursorOf, DeviceEnd, Rings};
+use vg_ring::{ControlOf, CursorOf, DeviceEnd, Rings};
 
 /// What a step gave.
 #[derive(Drop)]

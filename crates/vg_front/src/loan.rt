@@ -1,11 +1,12 @@
 //! The right to a cargo of either ring.
 
 ghost use Rattle.std.specs.Prelude.{◌≡◌};
-ghost use Rattle.vg_ring.specs.Entries.{head_of};
+ghost use Rattle.vg_cargo.specs.Entries.{head_of};
 ghost use Rattle.vg_front.specs.Loans.{right_of};
 
 use std::marker::Model;
-use vg_ring::{ControlOf, CursorOf, Right, Rings, Tag};
+use vg_cargo::Tag;
+use vg_ring::{ControlOf, CursorOf, Right, Rings};
 
 /// The right to a cargo that is lent to a worker, by the queue that it came on.
 #[derive(Drop)]

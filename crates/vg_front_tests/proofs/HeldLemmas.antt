@@ -3,8 +3,8 @@ use Rattle.std.proofs.Common.{◌≡◌, Bool, refl}
 use Rattle.std.specs.Prelude.{Result}
 use Rattle.vg_chain.specs.declared.chain.Chain.{Chain}
 use Rattle.vg_chain.specs.declared.chain.ChainFault.{ChainFault}
-use Rattle.vg_ring.specs.Cargo.{CargoData}
-use Rattle.vg_ring.specs.Walked.{IsWalkOf}
+use Rattle.vg_cargo.specs.Cargo.{CargoData}
+use Rattle.vg_cargo.specs.Walked.{IsWalkOf}
 use Rattle.vg_ring_uses.specs.declared.ticket.Ticket.{Ticket}
 use Rattle.vg_front.specs.declared.loan.Loan.{Loan}
 use Rattle.vg_front.specs.declared.loan.Loan.TheVariants.{Control, Cursor}

@@ -1,7 +1,7 @@
 -- A command that a worker has taken.
 use Rattle.std.specs.Prelude.{◌≡◌, ℕ, ◌+◌, Bool, true, false}
-use Rattle.vg_ring.specs.DeviceEnds.{IsCargoOf}
-use Rattle.vg_ring.specs.Walked.{IsWalkOf}
+use Rattle.vg_cargo.specs.DeviceEnds.{IsCargoOf}
+use Rattle.vg_cargo.specs.Walked.{IsWalkOf}
 use Rattle.vg_front.specs.Loans.{right_of}
 use Rattle.vg_front_tests.specs.declared.rig.Held.{Held}
 use Rattle.vg_front_tests.specs.declared.rig.Token.{Token}

@@ -4,17 +4,18 @@ ghost use Rattle.std.specs.Prelude.{◌≡◌, ℕ, IfOk, IfSome, length};
 ghost use Rattle.vg_chain.specs.Made.{IsCount};
 ghost use Rattle.vg_front.specs.Desks.{AreNew};
 ghost use Rattle.vg_wire.specs.declared.request.Queue.TheVariants.{Control, Cursor};
-ghost use Rattle.vg_ring.specs.Cargo.{IsLane};
+ghost use Rattle.vg_cargo.specs.Cargo.{IsLane};
 ghost use Rattle.vg_ring.specs.Making.{IsNewDevice};
 ghost use Rattle.vg_front_tests.specs.Held.{IsHeld, count_in, lane_in};
 
 use std::alloc::{AllocError, Global};
 use std::marker::Model;
+use vg_cargo::{Cargo, Tag};
 use vg_chain::{Chain, ChainFault, Shape};
 use vg_front::{Front, Loan, Work};
 use vg_history::Turn;
 use vg_notify::Sleeper;
-use vg_ring::{Cargo, ControlOf, CursorOf, DeviceEnd, DriverEnd, Naming, Rings, Tag};
+use vg_ring::{ControlOf, CursorOf, DeviceEnd, DriverEnd, Naming, Rings};
 use vg_ring_uses::{Ticket, answered, ticketed, unanswered};
 use vg_wire::Queue;
 

@@ -2,7 +2,7 @@
 
 ghost use Rattle.std.specs.Prelude.{◌≡◌, ◌≤◌, length, Some, IfOk};
 ghost use Rattle.vg_wire.specs.declared.request.Queue.TheVariants as queues;
-ghost use Rattle.vg_ring.specs.DeviceEnds.{DeviceLists};
+ghost use Rattle.vg_cargo.specs.DeviceEnds.{DeviceLists};
 ghost use Rattle.vg_front.specs.Desks as desks;
 ghost use Rattle.vg_device.specs.State.{start};
 ghost use Rattle.vg_script.specs.Limits.{ScriptInLimits};

@@ -8,22 +8,23 @@ use Rattle.vg_chain.specs.declared.shape.Shape.TheVariants.{Plain, Pieces, Indir
 use Rattle.vg_chain.specs.declared.chain.ChainFault.TheVariants as fault
 use Rattle.vg_chain.specs.Made.{made, mixed, linked, or_empty, Layout, IsCount, IsNeeded}
 use Rattle.vg_wire.specs.declared.request.Queue.{Queue}
-use Rattle.vg_ring.specs.declared.views.Entry.{Entry}
-use Rattle.vg_ring.specs.declared.views.DriverView.{DriverView}
-use Rattle.vg_ring.specs.declared.views.DriverStage.{DriverStage}
-use Rattle.vg_ring.specs.declared.views.DriverStage.TheVariants as driver
-use Rattle.vg_ring.specs.declared.views.View.{View}
-use Rattle.vg_ring.specs.declared.views.View.TheVariants.{Driver}
+use Rattle.vg_cargo.specs.declared.entries.Entry.{Entry}
+use Rattle.vg_split.specs.declared.views.DriverView.{DriverView}
+use Rattle.vg_split.specs.declared.views.DriverStage.{DriverStage}
+use Rattle.vg_split.specs.declared.views.DriverStage.TheVariants as driver
+use Rattle.vg_split.specs.declared.views.View.{View}
+use Rattle.vg_split.specs.declared.views.View.TheVariants.{Driver}
 use Rattle.vg_wire.specs.declared.request.Queue.TheVariants.{Control, Cursor}
-use Rattle.vg_ring.specs.Cargo.{CargoData, ParcelData, IsExtent, IsLane}
-use Rattle.vg_ring.specs.Entries.{entries, times, weigh, uses, uses_in, places_in, spread, lane_count, published_as}
-use Rattle.vg_ring.specs.Rule.{staged, published_after, reaped_after, looked_by_driver}
-use Rattle.vg_ring.specs.Places.{wrong, wrong_in, IsGiven, IsGivenBack}
-use Rattle.vg_ring.specs.Plays.{resting_driver}
-use Rattle.vg_ring.specs.TellsWithin.{HasReaped}
-use Rattle.vg_ring.specs.Ends.{DriverLists, driver_lists, HasRoom, IsKept, IsSendable, Publishes, Reaps}
-use Rattle.vg_ring.proofs.Counts.{weigh-append, entries-append}
-use Rattle.vg_ring.proofs.PlaceLemmas.{drop_get, times_take_drop, wrong_kept}
+use Rattle.vg_cargo.specs.Cargo.{CargoData, ParcelData, IsExtent, IsLane}
+use Rattle.vg_cargo.specs.Entries.{entries, times, weigh, uses, uses_in, places_in, spread, lane_count, published_as}
+use Rattle.vg_split.specs.Rule.{staged, published_after, reaped_after, looked_by_driver}
+use Rattle.vg_split.specs.Places.{wrong, wrong_in, IsGiven, IsGivenBack}
+use Rattle.vg_split.specs.Plays.{resting_driver}
+use Rattle.vg_split.specs.Tells.{HasReaped, IsSendable}
+use Rattle.vg_cargo.specs.Ends.{DriverLists, HasRoom, Publishes, Reaps}
+use Rattle.vg_ring.specs.Kept.{driver_lists, IsKept}
+use Rattle.vg_cargo.proofs.Counts.{lane_count-snoc, weigh-append, entries-append}
+use Rattle.vg_split.proofs.PlaceLemmas.{drop_get, times_take_drop, wrong_kept}
 
 -- every shape has a descriptor in the ring
 linked_some : (b : ℕ) (parts : List _) (places : List ℕ) → 0 < length (linked (or_empty b parts) places)
@@ -86,18 +87,6 @@ weigh_wrong (e ∷ es) links new places apart same =
     let here = wrong_kept links new e.places (λ p some. same p (let once = apart p in omega (arith, once, some))) in
     let rest = weigh_wrong es links new places (λ p. (let once = apart p in omega (arith, once))) same in
     omega (arith, here, rest)
-
-pub lane_count-snoc : (lane : ℕ) (es : List Entry) (e : Entry) → lane_count lane (es ++ e ∷ []) ≡ lane_count lane es + lane_count lane (e ∷ [])
-lane_count-snoc lane [] e = omega arith
-lane_count-snoc lane (f ∷ es) e = (let rest = lane_count-snoc lane es e in omega (arith, rest))
-
-lane_if : (c : Bool) → cond {A = ℕ} c 1 0 ≤ 1
-lane_if true = omega arith
-lane_if false = omega arith
-
-pub lane_few : (lane : ℕ) (es : List Entry) → lane_count lane es ≤ length es
-lane_few lane [] = omega arith
-lane_few lane (e ∷ es) = (let one = lane_if (eqb e.lane lane) in let rest = lane_few lane es in omega (arith, one, rest))
 
 module _ (size : ℕ) (d : DriverView) (published reaped : ℕ) (free links : List ℕ) (at : ℕ) (counts : List ℕ) (k : IsKept size d published reaped free links at counts) where
   pub room_is : (count : ℕ) → spread d.published + count ≤ size + spread (entries d.reaped) → at + count ≤ size

@@ -3,12 +3,12 @@ use Rattle.std.specs.List.{range_with_len}
 use Rattle.std.proofs.lemmas.List.{length-replicate, get_or-replicate}
 use Rattle.std.proofs.lemmas.List.FromFn.{length-range_with_len}
 use Rattle.vg_wire.specs.declared.request.Queue.{Queue}
-use Rattle.vg_ring.specs.declared.parcel.Tag.{Tag}
-use Rattle.vg_ring.specs.Entries.{times}
-use Rattle.vg_ring.specs.Rule.{new_driver, new_device}
-use Rattle.vg_ring.specs.Ends.{IsKept}
-use Rattle.vg_ring.specs.DeviceEnds.{IsTended}
-use Rattle.vg_ring.proofs.PlaceLemmas.{range_once, range_below}
+use Rattle.vg_cargo.specs.declared.parcel.Tag.{Tag}
+use Rattle.vg_cargo.specs.Entries.{times}
+use Rattle.vg_split.specs.Rule.{new_driver, new_device}
+use Rattle.vg_ring.specs.Kept.{IsKept}
+use Rattle.vg_ring.specs.Tended.{IsTended}
+use Rattle.vg_split.proofs.PlaceLemmas.{range_once, range_below}
 
 pub kept_new : (size : ℕ) (free links : List ℕ) (at : ℕ) (counts : List ℕ) → free ≡ range_with_len 0 size → at ≡ 0 → length links ≡ size → counts ≡ replicate 66 0 → IsKept size new_driver 0 0 free links at counts
 kept_new size free links at counts free_is at_is links_size counts_is =

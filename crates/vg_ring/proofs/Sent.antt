@@ -18,11 +18,12 @@ use Rattle.atomic_table.proofs.Rights.{right_send}
 use Rattle.atomic_table.proofs.Sent.{seat_keyless, owns_keyless, shares_keyless}
 use Rattle.vg_history.specs.declared.machine.Tagged as Tagged
 use Rattle.vg_ring.specs.declared.naming.Naming as Naming
-use Rattle.vg_ring.specs.contracts.law.Law as law
-use Rattle.vg_ring.specs.contracts.law.Size as size
-use Rattle.vg_ring.specs.contracts.law.LawTableRuleOptionCargoViewSize.TheImpl as rule
-use Rattle.vg_ring.specs.contracts.views.View as view
-use Rattle.vg_ring.specs.contracts.cargo.Cargo as cargo
+use Rattle.vg_cargo.proofs.Sent.{cargo_send}
+use Rattle.vg_split.specs.contracts.law.Law as law
+use Rattle.vg_split.specs.contracts.law.Size as size
+use Rattle.vg_split.specs.contracts.law.LawTableRuleOptionCargoViewSize.TheImpl as rule
+use Rattle.vg_split.specs.contracts.views.View as view
+use Rattle.vg_cargo.specs.contracts.cargo.Cargo as cargo
 use Rattle.vg_ring.specs.contracts.driver_end.DriverEnd as driver
 use Rattle.vg_ring.specs.contracts.driver_end.DriverEnd.TheInside as driver_in
 use Rattle.vg_ring.specs.contracts.device_end.DeviceEnd as device
@@ -50,9 +51,6 @@ table_send X V K T Z gt ga s z f = let O = table.the_type X V K T Z gt ga in
     recorded_send _ _ _ O.to_one (struct_send (shape O) (shared_send X V K T gt s, (search sendable, (search sendable, (right_send _ Z ga f, (right_send X Z ga f, (z, tt)))))))
 
 module _ (P N : RattleType) (gp : Tagged.Ghosts P.Denot) (gn : Naming.Ghosts N.Denot) (p : IsSend P) (n : IsSend N) where
-  pub cargo_send : IsSend (cargo.the_row P gp)
-  cargo_send = search (sendable, crosses) depth 40
-
   slot_send : IsSend (option.the_row (cargo.the_row P gp))
   slot_send = search (sendable, cargo_send) depth 20
 

@@ -4,25 +4,25 @@ use Rattle.std.proofs.lemmas.Bool.{cases_lt, cases_eq, eq-eqb, ne_eqb}
 use Rattle.std.proofs.lemmas.Bool.Decides.{eqb_tells}
 use Rattle.atomic_table.specs.Table.{Me}
 use Rattle.vg_wire.specs.declared.request.Queue.{Queue}
-use Rattle.vg_ring.specs.declared.parcel.Tag.{Tag}
-use Rattle.vg_ring.specs.declared.views.Entry.{Entry}
-use Rattle.vg_ring.specs.declared.views.Answer.{Answer}
-use Rattle.vg_ring.specs.declared.views.DeviceView.{DeviceView}
-use Rattle.vg_ring.specs.declared.views.DeviceStage.TheVariants as device
-use Rattle.vg_ring.specs.declared.views.View.{View}
-use Rattle.vg_ring.specs.declared.views.View.TheVariants.{Device, Right}
-use Rattle.vg_ring.specs.Cargo.{CargoData, IsLane}
-use Rattle.vg_ring.specs.Entries.{head_of, head_in, entries, weigh, heads, without, published_as, answer_with, held_at, times, Has, IsWhole, IsDone, InOrder}
-use Rattle.vg_ring.specs.Rule.{set_stage, fetched_after, completed_after, lent_after, returned_after, looked_by_device}
-use Rattle.vg_ring.specs.Plays.{device_of, queue_of, right_of, resting_device}
-use Rattle.vg_ring.specs.TellsWithin.{HasTaken}
-use Rattle.vg_ring.specs.DeviceEnds.{DeviceLists, device_lists, RightData, HasAt, IsCargoOf, Fetches, TakesIn, IsTended, IsRight, tag_of, completing}
-use Rattle.vg_ring.specs.Ends.{IsOnLine}
+use Rattle.vg_cargo.specs.declared.parcel.Tag.{Tag}
+use Rattle.vg_cargo.specs.declared.entries.Entry.{Entry}
+use Rattle.vg_cargo.specs.declared.entries.Answer.{Answer}
+use Rattle.vg_split.specs.declared.views.DeviceView.{DeviceView}
+use Rattle.vg_split.specs.declared.views.DeviceStage.TheVariants as device
+use Rattle.vg_split.specs.declared.views.View.{View}
+use Rattle.vg_split.specs.declared.views.View.TheVariants.{Device, Right}
+use Rattle.vg_cargo.specs.Cargo.{CargoData, IsLane}
+use Rattle.vg_cargo.specs.Entries.{head_of, head_in, entries, weigh, heads, without, published_as, answer_with, held_at, times, Has, IsWhole, IsDone, InOrder}
+use Rattle.vg_split.specs.Rule.{set_stage, fetched_after, completed_after, lent_after, returned_after, looked_by_device}
+use Rattle.vg_split.specs.Plays.{device_of, queue_of, right_of, resting_device}
+use Rattle.vg_split.specs.Tells.{HasTaken}
+use Rattle.vg_cargo.specs.DeviceEnds.{DeviceLists, RightData, HasAt, IsCargoOf, Fetches, TakesIn, completing}
+use Rattle.vg_ring.specs.Tended.{device_lists, IsTended, IsRight, tag_of}
+use Rattle.vg_ring.specs.Kept.{IsOnLine}
 use Rattle.atomic_table.specs.Seated.{TableId}
-use Rattle.vg_ring.specs.declared.law.Size.{Size}
-use Rattle.vg_ring.proofs.Counts.{weigh-append, weigh-ones, entries-append, length-entries}
-use Rattle.vg_ring.proofs.Heads.{has_heads, held_is, held_cut}
-use Rattle.vg_ring.proofs.RightSteps.{has_without, heads_without}
+use Rattle.vg_split.specs.declared.law.Size.{Size}
+use Rattle.vg_cargo.proofs.Counts.{weigh-append, weigh-ones, entries-append, length-entries}
+use Rattle.vg_cargo.proofs.Heads.{has_one, has_left, has_heads, held_cut, has_without, heads_without}
 
 pub rests_device : {P : Type 0} (me : Me (Option (CargoData P)) View) (v : DeviceView) → me ≡ (Device (set_stage v device.Resting), []) → me ≡ (resting_device me.0, [])
 rests_device me v e = e ∙ sym (ap {B = Me (Option (CargoData _)) View} (λ (m : Me (Option (CargoData _)) View). (resting_device m.0, [])) e)
@@ -37,20 +37,6 @@ some_there h [] some = absurd (omega arith)
 some_there h (e ∷ es) some = elim (eqb_tells (head_of e) h) [
   | inl w ↦ (e, (inl refl, w.1))
   | inr w ↦ (let rest = some_there h es (let here : head_in h e ≡ 0 = rw w.0 refl in omega (arith, here, some)) in (rest.0, (inr rest.1.0, rest.1.1)))
-]
-
-pub has_one : (e : Entry) (h : ℕ) (es : List Entry) → HasAt e h es → heads h es ≤ 1 → (heads h es ≡ 1) × (held_at h es ≡ e)
-has_one e h es has few =
-    let some = has_heads e es has.0 in
-    let same : heads (head_of e) es ≡ heads h es = ap (λ (k : ℕ). heads k es) has.1 in
-    (omega (arith, some, same, few), ap (λ (k : ℕ). held_at k es) (sym has.1) ∙ held_is e es has.0 (omega (arith, same, few)))
-
--- the entries that are left after one is taken out were there before
-pub has_left : (e : Entry) (h : ℕ) (es : List Entry) → Has e (without h es) → Has e es
-has_left e h [] has = absurd has
-has_left e h (f ∷ es) has = elim (eqb_tells (head_of f) h) [
-  | inl w ↦ (let same : without h (f ∷ es) ≡ es = rw w.0 refl in inr (subst (Has e) same has))
-  | inr w ↦ (let same : without h (f ∷ es) ≡ f ∷ without h es = rw w.0 refl in elim (subst (Has e) same has) [ inl here ↦ inl here | inr rest ↦ inr (has_left e h es rest) ])
 ]
 
 -- a tag is put at a head

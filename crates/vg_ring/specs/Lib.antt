@@ -1,11 +1,3 @@
-pub mod Cargo
-pub mod Walked
-pub mod Words
-pub mod Entries
-pub mod Rule
-pub mod TellsWithin
-pub mod Plays
-pub mod Places
-pub mod Ends
-pub mod DeviceEnds
+pub mod Kept
+pub mod Tended
 pub mod Making

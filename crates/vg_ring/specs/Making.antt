@@ -1,16 +1,17 @@
-use Rattle.std.specs.Prelude.{◌≡◌, ℕ, ◌^◌, ◌≤◌, List, []}
+use Rattle.std.specs.Prelude.{◌≡◌, ℕ, ◌^◌, ◌≤◌, List, [], Option}
 use Rattle.atomic_table.specs.Seated.{TableId}
 use Rattle.atomic_table.specs.Table.{Me}
 use Rattle.vg_wire.specs.declared.request.Queue.{Queue}
-use Rattle.std.specs.Prelude.{Option}
-use Rattle.vg_ring.specs.declared.law.Size.{Size}
-use Rattle.vg_ring.specs.declared.parcel.Tag.{Tag}
-use Rattle.vg_ring.specs.declared.views.View.{View}
-use Rattle.vg_ring.specs.declared.views.View.TheVariants.{Driver, Device}
-use Rattle.vg_ring.specs.Cargo.{CargoData}
-use Rattle.vg_ring.specs.Rule.{new_driver, new_device}
-use Rattle.vg_ring.specs.Ends.{DriverLists, IsOnLine, IsKept}
-use Rattle.vg_ring.specs.DeviceEnds.{DeviceLists, IsTended}
+use Rattle.vg_split.specs.declared.law.Size.{Size}
+use Rattle.vg_cargo.specs.declared.parcel.Tag.{Tag}
+use Rattle.vg_split.specs.declared.views.View.{View}
+use Rattle.vg_split.specs.declared.views.View.TheVariants.{Driver, Device}
+use Rattle.vg_cargo.specs.Cargo.{CargoData}
+use Rattle.vg_split.specs.Rule.{new_driver, new_device}
+use Rattle.vg_cargo.specs.Ends.{DriverLists}
+use Rattle.vg_ring.specs.Kept.{IsOnLine, IsKept}
+use Rattle.vg_cargo.specs.DeviceEnds.{DeviceLists}
+use Rattle.vg_ring.specs.Tended.{IsTended}
 
 -- A queue's size is a power of two, of at most 32,768 (VIRTIO 1.2, 2.7).
 pub record IsSize (size : ℕ) : Type 0 where

@@ -2,8 +2,8 @@
 
 ghost use Rattle.std.specs.Prelude.{◌≡◌, ℕ, ◌+◌};
 ghost use mathlib.Core.List.{IsPrefix};
-ghost use Rattle.vg_ring.specs.declared.views.Entry.{Entry};
-ghost use Rattle.vg_ring.specs.Entries.{entries, weigh};
+ghost use Rattle.vg_cargo.specs.declared.entries.Entry.{Entry};
+ghost use Rattle.vg_cargo.specs.Entries.{entries, weigh};
 
 use crate::device_end::DeviceEnd;
 use crate::driver_end::DriverEnd;

@@ -2,31 +2,30 @@
 
 ghost use Rattle.std.specs.Prelude.{◌≡◌, ℕ, ◌+◌, ◌<◌, true, false, [], ◌∷◌, length, MatchOption, IfOk, OnOk, OnErr};
 ghost use mathlib.Core.List.{IsPrefix};
-ghost use Rattle.vg_ring.specs.declared.views.Entry.{Entry};
-ghost use Rattle.vg_ring.specs.Entries.{heads, weigh, entries, Has};
+ghost use Rattle.vg_cargo.specs.declared.entries.Entry.{Entry};
+ghost use Rattle.vg_cargo.specs.Entries.{heads, weigh, entries, Has};
 ghost use Rattle.vg_wire.specs.declared.request.Queue.{Queue};
-ghost use Rattle.vg_ring.specs.declared.views.View.TheVariants.{Device, Note};
-ghost use Rattle.vg_ring.specs.Plays.{fetched_of, reaped_of};
-ghost use Rattle.vg_ring.specs.Rule.{new_device};
-ghost use Rattle.vg_ring.specs.Ends.{IsOnLine};
+ghost use Rattle.vg_split.specs.declared.views.View.TheVariants.{Device, Note};
+ghost use Rattle.vg_split.specs.Plays.{fetched_of, reaped_of};
+ghost use Rattle.vg_split.specs.Rule.{new_device};
+ghost use Rattle.vg_ring.specs.Kept.{IsOnLine};
 ghost use Rattle.vg_ring.specs.Making.{IsNewDevice};
-ghost use Rattle.vg_ring.specs.DeviceEnds.{HasAt, IsCargoOf, Fetches, FetchesNone, TakesIn, completing, IsTended};
-ghost use Rattle.vg_ring.specs.Walked.{IsWalkOf};
+ghost use Rattle.vg_cargo.specs.DeviceEnds.{HasAt, IsCargoOf, Fetches, FetchesNone, TakesIn, completing};
+ghost use Rattle.vg_ring.specs.Tended.{IsTended};
+ghost use Rattle.vg_cargo.specs.Walked.{IsWalkOf};
 
-use crate::cargo::Cargo;
-use crate::device::{
-    cut_right, give_back, join_right, look_at_available, note_fetched, take_entry, take_reaped,
-};
-use crate::law::{Line, Pass};
 use crate::naming::Naming;
-use crate::parcel::Tag;
 use crate::right::Right;
-use crate::table::read_table;
 use std::alloc::{AllocError, Global};
 use std::marker::{Model, PhantomData};
 use std::sync::Arc;
+use vg_cargo::{Cargo, Tag};
 use vg_chain::{Chain, ChainFault, Descriptor, a_layout_is_walked, a_walk_has_one_result, walk};
 use vg_history::Tagged;
+use vg_split::{
+    Line, Pass, cut_right, give_back, join_right, look_at_available, note_fetched, read_table,
+    take_entry, take_reaped,
+};
 
 /// A cargo that was fetched, and the place of its head descriptor.
 #[derive(Drop)]
@@ -52,9 +51,10 @@ pub struct DeviceEnd<P: Tagged, N: Naming> {
 
 impl<P: Tagged, N: Naming> Model for DeviceEnd<P, N> {
     ghost use Rattle.std.specs.Prelude.{◌≡◌, []};
-    ghost use Rattle.vg_ring.specs.Ends.{IsOnLine};
-    ghost use Rattle.vg_ring.specs.DeviceEnds.{DeviceLists, device_lists, IsTended};
-    ghost use Rattle.vg_ring.specs.Plays.{device_of, queue_of, resting_device};
+    ghost use Rattle.vg_ring.specs.Kept.{IsOnLine};
+    ghost use Rattle.vg_cargo.specs.DeviceEnds.{DeviceLists};
+    ghost use Rattle.vg_ring.specs.Tended.{device_lists, IsTended};
+    ghost use Rattle.vg_split.specs.Plays.{device_of, queue_of, resting_device};
 
     ghost Value = { DeviceLists };
 

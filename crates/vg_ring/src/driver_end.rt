@@ -3,23 +3,21 @@
 ghost use Rattle.std.specs.Prelude.{◌≡◌, ℕ, ◌+◌, ◌-◌, ◌^◌, ◌<◌, nat_le, true, [], length, MatchOption};
 ghost use mathlib.Core.List.{IsPrefix};
 ghost use Rattle.vg_chain.specs.Made.{IsCount, IsNeeded};
-ghost use Rattle.vg_ring.specs.Entries.{uses, spread, entries, lane_count};
-ghost use Rattle.vg_ring.specs.declared.views.View.TheVariants.{Driver, Note};
-ghost use Rattle.vg_ring.specs.Plays.{fetched_of, reaped_of};
-ghost use Rattle.vg_ring.specs.Rule.{new_driver};
+ghost use Rattle.vg_cargo.specs.Entries.{uses, spread, entries, lane_count};
+ghost use Rattle.vg_split.specs.declared.views.View.TheVariants.{Driver, Note};
+ghost use Rattle.vg_split.specs.Plays.{fetched_of, reaped_of};
+ghost use Rattle.vg_split.specs.Rule.{new_driver};
 ghost use Rattle.vg_ring.specs.Making.{IsNewDriver};
-ghost use Rattle.vg_ring.specs.Ends.{HasRoom, Publishes, Reaps, ReapsNone, IsOnLine, IsKept};
+ghost use Rattle.vg_cargo.specs.Ends.{HasRoom, Publishes, Reaps, ReapsNone};
+ghost use Rattle.vg_ring.specs.Kept.{IsOnLine, IsKept};
 
-use crate::cargo::Cargo;
-use crate::driver::{look_at_used, note_reaped, take_answer, take_fetched};
-use crate::law::{Line, Pass};
 use crate::naming::Naming;
-use crate::places::Places;
-use crate::sending::send;
 use std::marker::{Model, PhantomData};
 use std::sync::Arc;
+use vg_cargo::Cargo;
 use vg_chain::Shape;
 use vg_history::Tagged;
+use vg_split::{Line, Pass, Places, look_at_used, note_reaped, send, take_answer, take_fetched};
 use vg_wire::Queue;
 
 /// A cargo that came back, from the chain whose head is there, with the number of bytes that were written.
@@ -47,8 +45,9 @@ pub struct DriverEnd<P: Tagged, N: Naming> {
 
 impl<P: Tagged, N: Naming> Model for DriverEnd<P, N> {
     ghost use Rattle.std.specs.Prelude.{◌≡◌, [], slice_index};
-    ghost use Rattle.vg_ring.specs.Ends.{DriverLists, driver_lists, IsOnLine, IsKept};
-    ghost use Rattle.vg_ring.specs.Plays.{driver_of, resting_driver};
+    ghost use Rattle.vg_cargo.specs.Ends.{DriverLists};
+    ghost use Rattle.vg_ring.specs.Kept.{driver_lists, IsOnLine, IsKept};
+    ghost use Rattle.vg_split.specs.Plays.{driver_of, resting_driver};
 
     ghost Value = { DriverLists };
 

@@ -1,18 +1,16 @@
 //! The right to a cargo that the device's end has lent.
 
 ghost use Rattle.std.specs.Prelude.{◌≡◌, [], ◌∷◌, true, false};
-ghost use Rattle.vg_ring.specs.declared.views.View.TheVariants as views;
-ghost use Rattle.vg_ring.specs.Entries.{head_of};
-ghost use Rattle.vg_ring.specs.DeviceEnds.{IsRight, right_data};
+ghost use Rattle.vg_split.specs.declared.views.View.TheVariants as views;
+ghost use Rattle.vg_cargo.specs.Entries.{head_of};
+ghost use Rattle.vg_ring.specs.Tended.{IsRight, right_data};
 
-use crate::cargo::Cargo;
-use crate::law::Pass;
 use crate::naming::Naming;
-use crate::parcel::Tag;
-use crate::views::View;
 use atomic_table::Badge;
 use std::marker::{Model, PhantomData};
+use vg_cargo::{Cargo, Tag};
 use vg_history::Tagged;
+use vg_split::{Pass, View};
 
 /// A right to the cargo of a head: while it is outside, the head isn't completed.
 #[derive(Drop)]
@@ -26,7 +24,8 @@ pub struct Right<N: Naming> {
 
 impl<N: Naming> Model for Right<N> {
     ghost use Rattle.std.specs.Prelude.{◌≡◌};
-    ghost use Rattle.vg_ring.specs.DeviceEnds.{RightData, right_data, IsRight};
+    ghost use Rattle.vg_cargo.specs.DeviceEnds.{RightData};
+    ghost use Rattle.vg_ring.specs.Tended.{right_data, IsRight};
 
     ghost Value = { RightData };
 

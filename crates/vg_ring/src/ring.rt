@@ -5,15 +5,13 @@ ghost use Rattle.vg_ring.specs.Making.{IsSize, IsNewDriver, IsNewDevice};
 
 use crate::device_end::DeviceEnd;
 use crate::driver_end::DriverEnd;
-use crate::law::{Line, Pass};
-use crate::made::make_line;
 use crate::naming::Naming;
-use crate::parcel::Tag;
-use crate::places::Places;
 use std::alloc::{AllocError, Global};
 use std::marker::Model;
 use std::sync::Arc;
+use vg_cargo::Tag;
 use vg_history::Tagged;
+use vg_split::{Line, Pass, Places, make_line};
 use vg_wire::Queue;
 
 /// Makes rings.

@@ -1,10 +1,10 @@
 //! The ends of a ring, its rights and its cargoes may go to other threads, where their passes may.
 
-use crate::cargo::Cargo;
 use crate::device_end::DeviceEnd;
 use crate::driver_end::DriverEnd;
 use crate::naming::Naming;
 use crate::right::Right;
+use vg_cargo::Cargo;
 use vg_history::Tagged;
 
 /// Does nothing: it can be called where T may go to another thread.

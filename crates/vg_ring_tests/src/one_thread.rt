@@ -8,8 +8,9 @@ use std::alloc::{AllocError, Global};
 use std::marker::Brand;
 use std::process::Abort;
 use std::test::Fail;
+use vg_cargo::{Command, Tag};
 use vg_chain::{Chain, ChainFault, Segment, Shape};
-use vg_ring::{Command, DeviceEnd, DriverEnd, Fetched, Made, Naming, Reaped, Ring, Tag};
+use vg_ring::{DeviceEnd, DriverEnd, Fetched, Made, Naming, Reaped, Ring};
 use vg_ring_uses::{Ticket, answer_turned, answered, ticketed};
 use vg_wire::Queue;
 

@@ -1,7 +1,7 @@
 //! Two threads carry cargoes across rings and back.
 
 ghost use Rattle.std.specs.Prelude.{◌≡◌};
-ghost use Rattle.vg_ring.specs.Cargo.{IsLane};
+ghost use Rattle.vg_cargo.specs.Cargo.{IsLane};
 
 use std::alloc::Global;
 use std::marker::{Brand, Send, Sync};

@@ -5,11 +5,11 @@ use Rattle.std.proofs.lemmas.List.{map-append}
 use Rattle.std.proofs.lemmas.List.Elements.{All-append}
 use Rattle.std.proofs.lemmas.Bool.{eq-eqb}
 use Rattle.vg_laws.proofs.Lists.{all_one}
-use Rattle.vg_ring.specs.declared.views.Entry.{Entry}
-use Rattle.vg_ring.specs.declared.views.Answer.{Answer}
-use Rattle.vg_ring.specs.Cargo.{CargoData, ParcelData}
-use Rattle.vg_ring.specs.Entries.{head_of, entries, entry_of, heads, without, answer_with, published_as}
-use Rattle.vg_ring.specs.DeviceEnds.{DeviceLists, Fetches, HasAt, IsCargoOf, completing}
+use Rattle.vg_cargo.specs.declared.entries.Entry.{Entry}
+use Rattle.vg_cargo.specs.declared.entries.Answer.{Answer}
+use Rattle.vg_cargo.specs.Cargo.{CargoData, ParcelData}
+use Rattle.vg_cargo.specs.Entries.{head_of, entries, entry_of, heads, without, answer_with, published_as}
+use Rattle.vg_cargo.specs.DeviceEnds.{DeviceLists, Fetches, HasAt, IsCargoOf, completing}
 use Rattle.vg_ring_uses.specs.declared.answering.Look.{Look}
 use Rattle.vg_ring_uses.specs.declared.answering.Look.TheVariants.{Answered, Unread, Nothing}
 use Rattle.vg_ring_uses.specs.Carried.{is_unread, IsAnswered, HasAnswered, HasAnsweredIf, Answers, MayAnswer, Turns}

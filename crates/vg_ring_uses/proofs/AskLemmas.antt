@@ -12,12 +12,12 @@ use Rattle.vg_wire.specs.declared.request.Queue.{Queue}
 use Rattle.vg_wire.specs.declared.request.Queue.TheVariants.{Control, Cursor}
 use Rattle.vg_history.specs.Lists.{upto}
 use Rattle.vg_history.proofs.ListLemmas.{upto_more}
-use Rattle.vg_ring.specs.declared.views.Entry.{Entry}
-use Rattle.vg_ring.specs.declared.views.Answer.{Answer}
-use Rattle.vg_ring.specs.Cargo.{CargoData, IsLane}
-use Rattle.vg_ring.specs.Entries.{entries, lane_count}
-use Rattle.vg_ring.specs.Ends.{DriverLists, Reaps, ReapsNone}
-use Rattle.vg_ring.specs.DeviceEnds.{DeviceLists}
+use Rattle.vg_cargo.specs.declared.entries.Entry.{Entry}
+use Rattle.vg_cargo.specs.declared.entries.Answer.{Answer}
+use Rattle.vg_cargo.specs.Cargo.{CargoData, IsLane}
+use Rattle.vg_cargo.specs.Entries.{entries, lane_count}
+use Rattle.vg_cargo.specs.Ends.{DriverLists, Reaps, ReapsNone}
+use Rattle.vg_cargo.specs.DeviceEnds.{DeviceLists}
 use Rattle.vg_ring_uses.specs.Carried.{ordinal_of, echo_in, IsAsked, IsGood, IsEchoed, IsAnswered, HasAsked, Asks, MayAsk, TakesBack, HasAnswered, HaveCarried}
 
 pub lane_small : (queue : Queue) (lane : ℕ) → IsLane queue lane → lane < 66

@@ -7,12 +7,12 @@ use Rattle.vg_chain.specs.declared.shape.Shape.{Shape}
 use Rattle.vg_chain.specs.declared.shape.Shape.TheVariants.{Plain, Pieces, Indirect, Mixed, Bad}
 use Rattle.vg_wire.specs.declared.request.Queue.{Queue}
 use Rattle.vg_history.specs.Lists.{upto}
-use Rattle.vg_ring.specs.declared.views.Entry.{Entry}
-use Rattle.vg_ring.specs.declared.views.Answer.{Answer}
-use Rattle.vg_ring.specs.Cargo.{ParcelData}
-use Rattle.vg_ring.specs.Entries.{entries, lane_count}
-use Rattle.vg_ring.specs.Ends.{DriverLists}
-use Rattle.vg_ring.specs.DeviceEnds.{DeviceLists}
+use Rattle.vg_cargo.specs.declared.entries.Entry.{Entry}
+use Rattle.vg_cargo.specs.declared.entries.Answer.{Answer}
+use Rattle.vg_cargo.specs.Cargo.{ParcelData}
+use Rattle.vg_cargo.specs.Entries.{entries, lane_count}
+use Rattle.vg_cargo.specs.Ends.{DriverLists}
+use Rattle.vg_cargo.specs.DeviceEnds.{DeviceLists}
 use Rattle.vg_ring_uses.specs.declared.answering.Look.{Look}
 use Rattle.vg_ring_uses.specs.declared.answering.Look.TheVariants.{Answered, Unread, Nothing}
 

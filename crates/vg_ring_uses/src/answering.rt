@@ -2,7 +2,7 @@
 
 ghost use Rattle.std.specs.Prelude.{◌≡◌, [], false, true, length, IfOk};
 ghost use Rattle.vg_ring_uses.specs.declared.answering.Look.TheVariants.{Unread};
-ghost use Rattle.vg_ring.specs.Walked.{IsWalkOf};
+ghost use Rattle.vg_cargo.specs.Walked.{IsWalkOf};
 ghost use Rattle.vg_ring_uses.specs.Carried.{HasAnswered, HasSeenAll, IsRespondedTo, MayAnswer, is_unread};
 
 use crate::asking::pause;
@@ -13,9 +13,10 @@ use std::marker::{Model, Sync};
 use std::sync::Wait;
 use std::sync::atomic::{AtomicBool, Ordering};
 use std::thread::Threads;
+use vg_cargo::{Cargo, Opening};
 use vg_chain::{Chain, ChainFault};
 use vg_jobs::Job;
-use vg_ring::{Cargo, DeviceEnd, Fetched, Naming, Opening};
+use vg_ring::{DeviceEnd, Fetched, Naming};
 
 /// What a look for a cargo came to.
 #[derive(Clone, Copy, PartialEq, Eq)]

@@ -2,7 +2,7 @@
 
 ghost use Rattle.std.specs.Prelude.{◌≡◌, [], IfOk, length};
 ghost use Rattle.vg_chain.specs.Made.{IsCount};
-ghost use Rattle.vg_ring.specs.Cargo.{IsLane};
+ghost use Rattle.vg_cargo.specs.Cargo.{IsLane};
 ghost use Rattle.vg_ring_uses.specs.Carried.{HasAsked, IsGood, MayAsk, TakesBack};
 
 use crate::ticket::{Ticket, ticketed};
@@ -11,9 +11,10 @@ use std::alloc::{AllocError, Global};
 use std::marker::{Model, Sync};
 use std::sync::Wait;
 use std::thread::Threads;
+use vg_cargo::Tag;
 use vg_chain::Shape;
 use vg_jobs::Job;
-use vg_ring::{DriverEnd, Naming, Reaped, Tag};
+use vg_ring::{DriverEnd, Naming, Reaped};
 use vg_wire::Queue;
 
 /// How many bytes there are of an ordinal, and how much room for them.
@@ -144,7 +145,7 @@ pub(crate) struct Asking<N: Naming> {
 
 impl<N: Naming> Job<Result<(DriverEnd<Ticket, N>, u64), AllocError>> for Asking<N> {
     ghost use Rattle.std.specs.Prelude.{◌≡◌, [], IfOk, length};
-    ghost use Rattle.vg_ring.specs.Cargo.{IsLane};
+    ghost use Rattle.vg_cargo.specs.Cargo.{IsLane};
     ghost use Rattle.vg_ring_uses.specs.Carried.{HasAsked};
 
     ghost is_ready = { λ job. ((job.driver.queue ≡ job.order.queue) × (job.driver.published ≡ []) × (job.driver.reaped ≡ [])) × IsLane job.order.queue job.order.lane };

@@ -1,7 +1,7 @@
 //! Cargoes across a ring and back, between two threads.
 
 ghost use Rattle.std.specs.Prelude.{◌≡◌, ◌%◌, ◌+◌, IfOk, MatchOption, length};
-ghost use Rattle.vg_ring.specs.Cargo.{IsLane};
+ghost use Rattle.vg_cargo.specs.Cargo.{IsLane};
 ghost use Rattle.vg_ring_uses.specs.Carried.{HaveCarried};
 
 use crate::answering::Answering;

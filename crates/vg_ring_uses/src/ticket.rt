@@ -3,17 +3,17 @@
 ghost use Rattle.std.specs.Prelude.{◌≡◌, ◌≤◌, None, true, false, [], length, take, min, IfOk};
 ghost use Rattle.vg_chain.specs.Space.{most_request, most_room};
 ghost use Rattle.vg_chain.specs.Made.{IsCount};
-ghost use Rattle.vg_ring.specs.Cargo.{IsLane, asked_of};
-ghost use Rattle.vg_ring.specs.Walked.{IsWalkOf};
+ghost use Rattle.vg_cargo.specs.Cargo.{IsLane, asked_of};
+ghost use Rattle.vg_cargo.specs.Walked.{IsWalkOf};
 ghost use Rattle.vg_ring_uses.specs.Carried.{written};
 
 use std::alloc::{AllocError, Global};
 use std::marker::Model;
 use std::snapshot::Snapshot;
+use vg_cargo::{Cargo, Opened, Parcel, Tag};
 use vg_chain::{Asked, Chain, ChainFault, Shape};
 use vg_history::Tagged;
 use vg_list::Seq;
-use vg_ring::{Cargo, Opened, Parcel, Tag};
 use vg_wire::Queue;
 
 /// A pass that says its tag itself, and tells nothing of its response.

@@ -7,10 +7,10 @@ use Rattle.vg_history.specs.declared.entry.Entry.TheVariants as entries
 use Rattle.vg_history.specs.History.{ordinals}
 use Rattle.vg_history.specs.Lists.{Has, upto}
 use Rattle.vg_history.proofs.ListLemmas.{has_map, has_prefix, map_has}
-use Rattle.vg_ring.specs.declared.views.Answer.{Answer}
-use Rattle.vg_ring.specs.declared.views.Entry as ring
-use Rattle.vg_ring.specs.Entries as ring_entries
-use Rattle.vg_ring.specs.Entries.{weigh}
+use Rattle.vg_cargo.specs.declared.entries.Answer.{Answer}
+use Rattle.vg_cargo.specs.declared.entries.Entry as ring
+use Rattle.vg_cargo.specs.Entries as ring_entries
+use Rattle.vg_cargo.specs.Entries.{weigh}
 use Rattle.vg_front.specs.Lanes.{of_lane}
 use Rattle.vg_device.specs.declared.request.Reply.{Reply}
 use Rattle.vg_device.specs.declared.request.Request.{Request}

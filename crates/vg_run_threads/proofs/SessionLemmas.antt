@@ -16,8 +16,8 @@ use Rattle.vg_book.specs.Places.{IsCurrent}
 use Rattle.vg_book.specs.Tokens.{AllJoined, IsClosed, MakesClient, TakesIn}
 use Rattle.vg_jobs.specs.Jobs.{AllGive}
 use Rattle.vg_jobs.proofs.JobLemmas.{given_same}
-use Rattle.vg_ring.specs.DeviceEnds.{DeviceLists}
-use Rattle.vg_ring.specs.Entries as ring_entries
+use Rattle.vg_cargo.specs.DeviceEnds.{DeviceLists}
+use Rattle.vg_cargo.specs.Entries as ring_entries
 use Rattle.vg_front.specs.Desks.{HasRunAll}
 use Rattle.vg_front.specs.Fronts.{Closes, FrontData}
 use Rattle.vg_client_holds.specs.declared.holds.Holds.{Holds}

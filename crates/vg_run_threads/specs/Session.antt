@@ -9,10 +9,10 @@ use Rattle.vg_book.specs.Tokens.{IsClosed, Rooted}
 use Rattle.vg_book.specs.Tokens as tokens
 use Rattle.vg_chain.specs.declared.asked.Asked.{Asked}
 use Rattle.vg_chain.specs.Asks.{asked}
-use Rattle.vg_ring.specs.declared.views.Answer.{Answer}
-use Rattle.vg_ring.specs.declared.views.Entry as ring
-use Rattle.vg_ring.specs.DeviceEnds.{DeviceLists}
-use Rattle.vg_ring.specs.Entries as ring_entries
+use Rattle.vg_cargo.specs.declared.entries.Answer.{Answer}
+use Rattle.vg_cargo.specs.declared.entries.Entry as ring
+use Rattle.vg_cargo.specs.DeviceEnds.{DeviceLists}
+use Rattle.vg_cargo.specs.Entries as ring_entries
 use Rattle.vg_front.specs.Desks.{is_busy}
 use Rattle.vg_front.specs.Fronts.{FrontData}
 use Rattle.vg_front.specs.Lanes.{of_lane}

@@ -1,6 +1,6 @@
 -- What becomes of a command that a worker runs.
 use Rattle.std.specs.Prelude.{◌≡◌, ◌⊎◌, ℕ, Bool, true, false, List, []}
-use Rattle.vg_ring.specs.Cargo.{CargoData, ParcelData}
+use Rattle.vg_cargo.specs.Cargo.{CargoData, ParcelData}
 use Rattle.vg_book.specs.declared.outcome.Carried as books
 use Rattle.vg_book.specs.declared.outcome.Carried.TheVariants.{Wanted, Done, Unrun}
 use Rattle.vg_book.specs.Tokens as tokens

@@ -3,9 +3,9 @@ use Rattle.std.specs.Prelude.{◌≡◌, ℕ, ◌+◌, Bool, true, false, Option
 use Rattle.vg_notify.specs.Halves.{SleeperData}
 use Rattle.vg_chain.specs.declared.chain.Chain.{Chain}
 use Rattle.vg_chain.specs.declared.chain.ChainFault.{ChainFault}
-use Rattle.vg_ring.specs.Cargo.{CargoData}
-use Rattle.vg_ring.specs.DeviceEnds.{IsCargoOf}
-use Rattle.vg_ring.specs.Walked.{IsWalkOf}
+use Rattle.vg_cargo.specs.Cargo.{CargoData}
+use Rattle.vg_cargo.specs.DeviceEnds.{IsCargoOf}
+use Rattle.vg_cargo.specs.Walked.{IsWalkOf}
 use Rattle.vg_front.specs.declared.loan.Loan.{Loan}
 use Rattle.vg_front.specs.Desks.{is_busy}
 use Rattle.vg_front.specs.Loans.{right_of}

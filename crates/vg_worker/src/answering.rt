@@ -2,19 +2,19 @@
 
 ghost use Rattle.std.specs.Prelude.{◌≡◌, ◌+◌, true, false, [], None, length};
 ghost use Rattle.vg_chain.specs.Asks.{asked};
-ghost use Rattle.vg_ring.specs.Cargo.{asked_of};
-ghost use Rattle.vg_ring.specs.Walked.{IsWalkOf};
+ghost use Rattle.vg_cargo.specs.Cargo.{asked_of};
+ghost use Rattle.vg_cargo.specs.Walked.{IsWalkOf};
 ghost use Rattle.vg_machine.specs.Written.{asks_of, read_by, written_in};
 ghost use Rattle.vg_worker.specs.Answers.{Answers, ComesBack, turned};
 
 use std::alloc::Global;
 use std::sync::Wait;
 use vg_book::{Book, Carried, DonePass, LaneToken, Naming, Pass};
+use vg_cargo::{Cargo, Command, Opened, Opening};
 use vg_chain::{Chain, ChainFault};
 use vg_history::{Machine, Tagged};
 use vg_list::Seq;
 use vg_machine::{Display, Reply, Request};
-use vg_ring::{Cargo, Command, Opened, Opening};
 
 /// A cargo on its way back.
 #[derive(Drop)]

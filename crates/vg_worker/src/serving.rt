@@ -1,8 +1,8 @@
 //! A worker's loop.
 
 ghost use Rattle.std.specs.Prelude.{◌≡◌, ◌+◌, true, false};
-ghost use Rattle.vg_ring.specs.DeviceEnds.{IsCargoOf};
-ghost use Rattle.vg_ring.specs.Walked.{IsWalkOf};
+ghost use Rattle.vg_cargo.specs.DeviceEnds.{IsCargoOf};
+ghost use Rattle.vg_cargo.specs.Walked.{IsWalkOf};
 ghost use Rattle.vg_front.specs.Loans.{right_of};
 ghost use Rattle.vg_worker.specs.Taking.{IsOut, IsReady, IsReadyIf};
 
@@ -15,11 +15,12 @@ use std::alloc::Global;
 use std::sync::atomic::{AtomicBool, Ordering};
 use std::sync::{Mutex, Wait};
 use vg_book::{Book, Carried, LaneToken, Naming};
+use vg_cargo::{Cargo, Tag};
 use vg_chain::{Chain, ChainFault};
 use vg_front::{Front, Loan};
 use vg_history::{Tagged, Turn};
 use vg_machine::Display;
-use vg_ring::{Cargo, Rings, Tag};
+use vg_ring::Rings;
 
 /// Takes commands, runs them and completes them, until the flag is up and there is nothing to do and nobody works on a lane.
 /// It waits for work, for the front's lock and for the turn of the book: once nothing is in either ring it dozes, and asks the

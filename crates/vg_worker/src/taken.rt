@@ -1,18 +1,19 @@
 //! What a worker takes from the front that it shares with others, and gives back to it.
 
 ghost use Rattle.std.specs.Prelude.{◌≡◌, true, false, [], length, MatchOption};
-ghost use Rattle.vg_ring.specs.DeviceEnds.{IsCargoOf};
-ghost use Rattle.vg_ring.specs.Walked.{IsWalkOf};
+ghost use Rattle.vg_cargo.specs.DeviceEnds.{IsCargoOf};
+ghost use Rattle.vg_cargo.specs.Walked.{IsWalkOf};
 ghost use Rattle.vg_front.specs.Loans.{right_of};
 ghost use Rattle.vg_front.specs.Fronts.{HasWalked, IsLent};
 ghost use Rattle.vg_worker.specs.Taking.{Dozes, DozesIf, EndsIf, IsFound, IsOutOf, says_ended};
 
 use std::alloc::Global;
 use std::sync::{Mutex, Wait};
+use vg_cargo::Cargo;
 use vg_chain::{Chain, ChainFault};
 use vg_front::{Front, Loan, Work};
 use vg_history::{Tagged, Turn};
-use vg_ring::{Cargo, Rings};
+use vg_ring::Rings;
 
 /// What a worker finds in one look.
 #[derive(Drop)]

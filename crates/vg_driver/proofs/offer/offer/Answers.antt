@@ -1,5 +1,5 @@
 use Rattle.std.proofs.Common.{Bool, ◌+◌, ◌∙◌, refl, sym, ap}
-use Rattle.vg_ring.specs.Entries.{lane_count}
+use Rattle.vg_cargo.specs.Entries.{lane_count}
 use Rattle.vg_driver.specs.Asks.{request_for}
 use Rattle.vg_driver.proofs.OfferLemmas.{made_as, next_for, submitted_as}
 use Rattle.vg_driver.proofs.offer.offer.Goals as goal

@@ -1,5 +1,5 @@
 use Rattle.std.proofs.Common.{sym, subst, refl, inl}
-use Rattle.vg_ring.specs.DeviceEnds.{HasAt, IsCargoOf}
+use Rattle.vg_cargo.specs.DeviceEnds.{HasAt, IsCargoOf}
 use Rattle.vg_ring_tests.proofs.one_thread.answer.Goals as goal
 
 pub chain-requires-clause-cargo : goal.chain-requires-clause-cargo

@@ -3,8 +3,8 @@ use denote.Param.Send.{IsSend, sendable, param_send}
 use Rattle.std.proofs.Common.{◌≡◌, length, sym, subst}
 use Rattle.std.specs.Prelude.{IfOk}
 use Rattle.std.proofs.Crossing.{crosses}
-use Rattle.vg_ring.specs.Ends.{DriverLists}
-use Rattle.vg_ring.specs.DeviceEnds.{DeviceLists}
+use Rattle.vg_cargo.specs.Ends.{DriverLists}
+use Rattle.vg_cargo.specs.DeviceEnds.{DeviceLists}
 use Rattle.vg_ring.proofs.Sent.{driver_send, device_send}
 use Rattle.vg_ring_uses.specs.Carried.{HasAnswered, HasAsked, HaveCarried}
 use Rattle.vg_ring_uses.proofs.AskLemmas.{have_carried}

@@ -1,5 +1,5 @@
 use Rattle.std.proofs.Common.{◌∙◌, ap}
-use Rattle.vg_ring.specs.DeviceEnds.{DeviceLists}
+use Rattle.vg_cargo.specs.DeviceEnds.{DeviceLists}
 use Rattle.vg_run_threads.proofs.CrossingLemmas.{all-back}
 use Rattle.vg_run_threads.proofs.closing.agreed.Goals as goal
 

@@ -1,5 +1,5 @@
 use Rattle.std.proofs.Common.{◌≡◌, length, sym, subst}
-use Rattle.vg_ring.specs.Ends.{DriverLists}
+use Rattle.vg_cargo.specs.Ends.{DriverLists}
 use Rattle.vg_driver.proofs.HalfLemmas.{back_by}
 use Rattle.vg_driver.proofs.half.Half.close.Goals as goal
 

@@ -1,6 +1,6 @@
 use Rattle.std.proofs.Common.{◌∙◌, ℕ, length, sym, ap, subst}
 use Rattle.vg_chain.specs.Made.{IsNeeded}
-use Rattle.vg_ring.specs.Ends.{HasRoom}
+use Rattle.vg_cargo.specs.Ends.{HasRoom}
 use Rattle.vg_driver.proofs.HalfLemmas.{half_sent, has_room}
 use Rattle.vg_driver.proofs.half.Half.send.Goals as goal
 

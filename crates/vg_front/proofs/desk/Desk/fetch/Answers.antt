@@ -1,5 +1,5 @@
 use Rattle.std.proofs.Common.{◌++◌, ◌∷◌, [], refl, sym, subst, arith}
-use Rattle.vg_ring.specs.DeviceEnds.{Fetches, FetchesNone}
+use Rattle.vg_cargo.specs.DeviceEnds.{Fetches, FetchesNone}
 use Rattle.vg_front.specs.Lanes.{IsDesk}
 use Rattle.vg_front.specs.Desks.{DeskData, HasFetched}
 use Rattle.vg_front.proofs.DeskLemmas.{desk_fetched, desk_none, has_fetched, room_is}

@@ -1,5 +1,5 @@
 use Rattle.std.proofs.Common.{[], length, sym, ap, subst, arith}
-use Rattle.vg_ring.specs.DeviceEnds.{DeviceLists}
+use Rattle.vg_cargo.specs.DeviceEnds.{DeviceLists}
 use Rattle.vg_ring.specs.Making.{IsNewDevice}
 use Rattle.vg_front.specs.Lanes.{AreLanes}
 use Rattle.vg_front.proofs.DeskLemmas.{desk_new}

@@ -1,5 +1,5 @@
 use Rattle.std.proofs.Common.{◌∙◌, ◌++◌, ℕ, length, sym, ap, subst, arith, slice_set, ◌-◌}
-use Rattle.vg_ring.specs.DeviceEnds.{DeviceLists}
+use Rattle.vg_cargo.specs.DeviceEnds.{DeviceLists}
 use Rattle.vg_front.specs.Desks.{DeskData, Takes}
 use Rattle.vg_front.proofs.DeskLemmas.{desk_taken_at, first_here, has_taken, lanes_all, ready_here, taken_high, taken_low, taken_token}
 use Rattle.vg_front.proofs.WaitLemmas.{is_there}

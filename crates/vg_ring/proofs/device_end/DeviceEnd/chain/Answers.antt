@@ -1,9 +1,9 @@
 use Rattle.std.proofs.Common.{sym, subst}
 use Rattle.vg_chain.specs.Memory.{memory}
 use Rattle.vg_chain.specs.Walk.{Walks}
-use Rattle.vg_ring.specs.Entries.{Has}
-use Rattle.vg_ring.specs.Plays.{device_of}
-use Rattle.vg_ring.proofs.TableLemmas.{chain_is, walk_of_cargo}
+use Rattle.vg_cargo.specs.Entries.{Has}
+use Rattle.vg_split.specs.Plays.{device_of}
+use Rattle.vg_split.proofs.TableLemmas.{chain_is, walk_of_cargo}
 use Rattle.vg_ring.proofs.device_end.DeviceEnd.chain.Goals as goal
 
 pub returns-clause-chain : goal.returns-clause-chain

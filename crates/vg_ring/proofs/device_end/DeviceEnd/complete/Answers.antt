@@ -1,9 +1,11 @@
 use Rattle.std.proofs.Common.{◌≡◌, ◌+◌, refl, sym, ap, subst, arith}
-use Rattle.vg_ring.specs.Entries.{heads, held_at, answer_with, without}
-use Rattle.vg_ring.specs.Rule.{completed_after}
-use Rattle.vg_ring.specs.Plays.{device_of}
-use Rattle.vg_ring.specs.DeviceEnds.{HasAt, device_lists, completing}
-use Rattle.vg_ring.proofs.TendedLemmas.{has_one, last_completed, tended_completed, completes_is, device_ok, done_is}
+use Rattle.vg_cargo.specs.Entries.{heads, held_at, answer_with, without}
+use Rattle.vg_split.specs.Rule.{completed_after}
+use Rattle.vg_split.specs.Plays.{device_of}
+use Rattle.vg_cargo.specs.DeviceEnds.{HasAt, completing}
+use Rattle.vg_ring.specs.Tended.{device_lists}
+use Rattle.vg_cargo.proofs.Heads.{has_one}
+use Rattle.vg_ring.proofs.TendedLemmas.{last_completed, tended_completed, completes_is, device_ok, done_is}
 use Rattle.vg_ring.proofs.device_end.DeviceEnd.complete.Goals as goal
 
 pub give_back-requires-clause-last : goal.give_back-requires-clause-last

@@ -1,10 +1,11 @@
 use Rattle.std.proofs.Common.{◌∙◌, ◌+◌, ◌%◌, slice_set, refl, sym, ap, subst}
-use Rattle.vg_ring.specs.declared.views.DeviceStage.TheVariants.{Newer}
-use Rattle.vg_ring.specs.Rule.{fetched_after}
-use Rattle.vg_ring.specs.Plays.{device_of}
-use Rattle.vg_ring.specs.TellsWithin.{HasTaken}
-use Rattle.vg_ring.specs.DeviceEnds.{Fetches, device_lists}
-use Rattle.vg_ring.specs.Cargo.{IsLane}
+use Rattle.vg_split.specs.declared.views.DeviceStage.TheVariants.{Newer}
+use Rattle.vg_split.specs.Rule.{fetched_after}
+use Rattle.vg_split.specs.Plays.{device_of}
+use Rattle.vg_split.specs.Tells.{HasTaken}
+use Rattle.vg_cargo.specs.DeviceEnds.{Fetches}
+use Rattle.vg_ring.specs.Tended.{device_lists}
+use Rattle.vg_cargo.specs.Cargo.{IsLane}
 use Rattle.vg_ring.proofs.TendedLemmas.{look_newer_device, look_none_device, tended_looked, tended_taken, fetches_is, device_ok, tag_is}
 use Rattle.vg_ring.proofs.device_end.DeviceEnd.fetch.Goals as goal
 

@@ -1,10 +1,11 @@
 use Rattle.std.proofs.Common.{◌≡◌, ◌∙◌, ◌<◌, length, refl, sym, ap, subst, arith}
-use Rattle.vg_ring.specs.Entries.{heads, held_at}
-use Rattle.vg_ring.specs.Rule.{lent_after}
-use Rattle.vg_ring.specs.Plays.{device_of, right_of}
-use Rattle.vg_ring.specs.DeviceEnds.{HasAt}
+use Rattle.vg_cargo.specs.Entries.{heads, held_at}
+use Rattle.vg_split.specs.Rule.{lent_after}
+use Rattle.vg_split.specs.Plays.{device_of, right_of}
+use Rattle.vg_cargo.specs.DeviceEnds.{HasAt}
 use Rattle.std.proofs.lemmas.Option.{slice_get_read}
-use Rattle.vg_ring.proofs.TendedLemmas.{has_one, tended_lent, device_ok, right_ok}
+use Rattle.vg_cargo.proofs.Heads.{has_one}
+use Rattle.vg_ring.proofs.TendedLemmas.{tended_lent, device_ok, right_ok}
 use Rattle.vg_ring.proofs.device_end.DeviceEnd.lend.Goals as goal
 
 pub cut_right-seat-requires-clause-held : goal.cut_right-seat-requires-clause-held

@@ -1,10 +1,11 @@
 use Rattle.std.proofs.Common.{◌∙◌, [], refl, ap, subst}
-use Rattle.vg_ring.specs.declared.views.View.TheVariants.{Device}
-use Rattle.vg_ring.specs.declared.views.DeviceStage.TheVariants.{Resting}
-use Rattle.vg_ring.specs.Entries.{Has}
-use Rattle.vg_ring.specs.Rule.{set_stage, returned_after}
-use Rattle.vg_ring.specs.Plays.{device_of, right_of}
-use Rattle.vg_ring.specs.DeviceEnds.{TakesIn, device_lists}
+use Rattle.vg_split.specs.declared.views.View.TheVariants.{Device}
+use Rattle.vg_split.specs.declared.views.DeviceStage.TheVariants.{Resting}
+use Rattle.vg_cargo.specs.Entries.{Has}
+use Rattle.vg_split.specs.Rule.{set_stage, returned_after}
+use Rattle.vg_split.specs.Plays.{device_of, right_of}
+use Rattle.vg_cargo.specs.DeviceEnds.{TakesIn}
+use Rattle.vg_ring.specs.Tended.{device_lists}
 use Rattle.vg_ring.proofs.TendedLemmas.{tended_returned, takes_in_is, device_ok}
 use Rattle.vg_ring.proofs.device_end.DeviceEnd.take_in.Goals as goal
 

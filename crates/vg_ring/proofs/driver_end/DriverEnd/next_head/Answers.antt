@@ -1,6 +1,6 @@
 use Rattle.std.proofs.Common.{◌<◌, sym, subst, arith}
-use Rattle.vg_ring.specs.Ends.{HasRoom}
-use Rattle.vg_ring.specs.Plays.{driver_of}
+use Rattle.vg_cargo.specs.Ends.{HasRoom}
+use Rattle.vg_split.specs.Plays.{driver_of}
 use Rattle.vg_ring.proofs.KeptLemmas.{room_is, next_small}
 use Rattle.vg_ring.proofs.driver_end.DriverEnd.next_head.Goals as goal
 

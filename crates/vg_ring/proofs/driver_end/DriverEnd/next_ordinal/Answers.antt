@@ -1,7 +1,7 @@
 use Rattle.std.proofs.Common.{arith}
 use Rattle.std.proofs.lemmas.List.{get_or_read}
-use Rattle.vg_ring.specs.Plays.{driver_of}
-use Rattle.vg_ring.proofs.KeptLemmas.{lane_few}
+use Rattle.vg_split.specs.Plays.{driver_of}
+use Rattle.vg_cargo.proofs.Counts.{lane_few}
 use Rattle.vg_ring.proofs.driver_end.DriverEnd.next_ordinal.Goals as goal
 
 pub overflow_add-result : goal.overflow_add-result

@@ -1,11 +1,13 @@
 use Rattle.std.proofs.Common.{◌≡◌, ◌∙◌, ◌+◌, ◌-◌, ◌^◌, ◌<◌, length, take, drop, slice_index, slice_set, [], refl, sym, ap, subst, arith}
 use Rattle.std.proofs.lemmas.List.{get_or_read}
-use Rattle.vg_ring.specs.declared.views.View.TheVariants.{Driver}
-use Rattle.vg_ring.specs.Entries.{lane_count, published_as}
-use Rattle.vg_ring.specs.Rule.{published_after}
-use Rattle.vg_ring.specs.Ends.{IsKept, Publishes, driver_lists}
-use Rattle.vg_ring.specs.Plays.{driver_of}
-use Rattle.vg_ring.proofs.KeptLemmas.{needed_is, count_fits, sendable, kept_published, published_is, lane_small, lane_few, rests}
+use Rattle.vg_split.specs.declared.views.View.TheVariants.{Driver}
+use Rattle.vg_cargo.specs.Entries.{lane_count, published_as}
+use Rattle.vg_split.specs.Rule.{published_after}
+use Rattle.vg_ring.specs.Kept.{IsKept, driver_lists}
+use Rattle.vg_cargo.specs.Ends.{Publishes}
+use Rattle.vg_split.specs.Plays.{driver_of}
+use Rattle.vg_ring.proofs.KeptLemmas.{needed_is, count_fits, sendable, kept_published, published_is, lane_small, rests}
+use Rattle.vg_cargo.proofs.Counts.{lane_few}
 use Rattle.vg_ring.proofs.driver_end.DriverEnd.publish.Goals as goal
 
 pub first-head-requires : goal.first-head-requires

@@ -1,9 +1,10 @@
 use Rattle.std.proofs.Common.{◌∙◌, ◌+◌, ◌%◌, refl, sym, ap, subst}
-use Rattle.vg_ring.specs.Ends.{IsKept, Reaps, driver_lists}
-use Rattle.vg_ring.specs.Plays.{driver_of}
-use Rattle.vg_ring.specs.Rule.{reaped_after, staged}
-use Rattle.vg_ring.specs.declared.views.DriverStage.TheVariants.{Newer, Resting}
-use Rattle.vg_ring.specs.TellsWithin.{HasReaped}
+use Rattle.vg_ring.specs.Kept.{IsKept, driver_lists}
+use Rattle.vg_cargo.specs.Ends.{Reaps}
+use Rattle.vg_split.specs.Plays.{driver_of}
+use Rattle.vg_split.specs.Rule.{reaped_after, staged}
+use Rattle.vg_split.specs.declared.views.DriverStage.TheVariants.{Newer, Resting}
+use Rattle.vg_split.specs.Tells.{HasReaped}
 use Rattle.vg_ring.proofs.KeptLemmas.{look_newer, given_is, kept_reaped, reaps_is, rests}
 use Rattle.std.specs.Prelude.{slice_index}
 use Rattle.vg_ring.proofs.driver_end.DriverEnd.reap.Goals as goal

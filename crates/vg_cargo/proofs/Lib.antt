@@ -1,0 +1,5 @@
+mod GatherLemmas
+pub mod Counts
+pub mod Slots
+pub mod Heads
+pub mod Sent

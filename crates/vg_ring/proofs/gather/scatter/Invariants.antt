@@ -1,6 +1,0 @@
-use Rattle.std.proofs.Common.{drop}
-use Rattle.vg_ring.specs.Walked.{IsWritten}
-use Rattle.vg_ring.proofs.gather.scatter.Given as goal
-
-abbrev pub invariant-loop-segment : goal.invariant-loop-segment
-invariant-loop-segment l = IsWritten l.room l.bytes l.start (drop l.segment-index l.segments)

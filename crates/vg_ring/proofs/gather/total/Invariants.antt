@@ -1,6 +1,0 @@
-use Rattle.std.proofs.Common.{drop}
-use Rattle.vg_ring.specs.Walked.{IsSummed}
-use Rattle.vg_ring.proofs.gather.total.Given as goal
-
-abbrev pub invariant-loop-segment : goal.invariant-loop-segment
-invariant-loop-segment l = IsSummed l.segments l.total (drop l.segment-index l.segments)

@@ -1,0 +1,6 @@
+use Rattle.std.proofs.Common.{sym}
+use Rattle.vg_laws.proofs.Lists.{range-more}
+use Rattle.vg_split.proofs.places.all_places.Goals as goal
+
+pub loop-place-preserved : goal.loop-place-preserved
+loop-place-preserved c = rw (c.in_ok-push.ensures.items, c.loop-place.invariant) (sym (range-more c.loop-place.place))

@@ -1,0 +1,5 @@
+pub mod Words
+pub mod Rule
+pub mod Tells
+pub mod Plays
+pub mod Places
