@@ -16,7 +16,7 @@ use vg_cursor::{Cursors, Look};
 use vg_formats::show_row;
 use vg_list::Seq;
 use vg_places::zeros;
-use vg_resource::Resource;
+use vg_resource::Surface;
 use vg_wire::kinds::{ERR_INVALID_PARAMETER, ERR_INVALID_RESOURCE_ID, ERR_INVALID_SCANOUT_ID};
 use vg_wire_ext::Response;
 
@@ -151,9 +151,9 @@ impl Device {
 }
 
 /// A resource's pixels as they are shown.
-fn shown_image(alloc: Global, surface: &Resource, pixels: &[u8]) -> Result<Vec<u8>, AllocError>
+fn shown_image(alloc: Global, surface: &Surface, pixels: &[u8]) -> Result<Vec<u8>, AllocError>
     requires whole { IsWhole surface.now }
-    requires pixels { pixels.now ≡ surface.now.pixels }
+    requires pixels { pixels.now ≡ surface.now.pixels.bytes }
     ensures { IfOk result (λ image. image.items ≡ image_of (Some surface.now)) }
 {
     let mut image = zeros(alloc, pixels.len())?;
