@@ -7,7 +7,7 @@ ghost use Rattle.vg_device.specs.FitsWithin.{IfDone, IfRefused, IfWant};
 ghost use Rattle.vg_device.specs.ChangeWithin.{IsChange, IsImage, change_of, pointed_step};
 ghost use Rattle.vg_device.specs.Step.{cursor_step, image_of, image_refusals, move_step};
 ghost use Rattle.vg_refusals.specs.Refusals.{refusal_of};
-ghost use Rattle.vg_resource.specs.Resource.{IsWhole, resource_at};
+ghost use Rattle.vg_resource.specs.Resource.{IsWhole, resource_at, resource_of};
 
 use crate::device::Device;
 use crate::stop::Stop;
@@ -152,7 +152,7 @@ impl Device {
 
 /// A resource's pixels as they are shown.
 fn shown_image(alloc: Global, surface: &Surface, pixels: &[u8]) -> Result<Vec<u8>, AllocError>
-    requires whole { IsWhole surface.now }
+    requires whole { IsWhole (resource_of surface.now) }
     requires pixels { pixels.now ≡ surface.now.pixels.bytes }
     ensures { IfOk result (λ image. image.items ≡ image_of (Some surface.now)) }
 {
