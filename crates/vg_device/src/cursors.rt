@@ -154,7 +154,7 @@ impl Device {
 fn shown_image(alloc: Global, surface: &Surface, pixels: &[u8]) -> Result<Vec<u8>, AllocError>
     requires whole { IsWhole (resource_of surface.now) }
     requires pixels { pixels.now ≡ surface.now.pixels.bytes }
-    ensures { IfOk result (λ image. image.items ≡ image_of (Some surface.now)) }
+    ensures { IfOk result (λ image. image.items ≡ image_of (Some (resource_of surface.now))) }
 {
     let mut image = zeros(alloc, pixels.len())?;
     show_row(surface.format, image.as_mut_slice(), pixels);
