@@ -32,3 +32,8 @@ pub returns-clause-loans : goal.returns-clause-loans
 returns-clause-loans c =
     let a = c.args in
     c.restore.ensures.loans ∙ ap (λ lent. with_lent a.id false lent) c.lend.ensures.loans ∙ here-again a.id a.resources.now.lent (sym c.in_ok-pixels.ensures.here)
+
+pub returns-in_err-pixels-clause-loans : goal.returns-in_err-pixels-clause-loans
+returns-in_err-pixels-clause-loans c =
+    let a = c.args in
+    c.lend.ensures.loans ∙ not-here a.id a.resources.now.lent (sym c.in_err-pixels.ensures.here)
