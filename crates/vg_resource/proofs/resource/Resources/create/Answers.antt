@@ -1,19 +1,16 @@
 -- The sum of the pixels' bytes is with those of the new resource, which are here.
-use Rattle.std.proofs.Common.{rules, ◌≡◌, ◌+◌, ℕ, List, Option, Some, None, Bool, true, false, length, refl, sym, ap, subst, ◌∙◌, arith}
-use Rattle.std.specs.Option.{option_map}
+use Rattle.std.proofs.Common.{◌≡◌, ℕ, List, None, false, length, sym, ap, subst, ◌∙◌, arith}
 use Rattle.std.specs.List.{All}
 use Rattle.std.specs.List.Sorted.{IsStrictlySortedBy}
 use Rattle.std.specs.Ordering.{nat_cmp}
-use Rattle.std.specs.Map.{keys_of, lookup, remove_entry, set_value, values_of}
-use Rattle.std.specs.BTreeMap.{insert_entry, is_at}
-use Rattle.std.proofs.lemmas.Map.Steps.{set_value_same}
-use Rattle.std.proofs.lemmas.Map.Views.{All-map-remove_entry, All-values-insert_entry}
+use Rattle.std.specs.Map.{values_of}
+use Rattle.std.specs.BTreeMap.{insert_entry}
+use Rattle.std.proofs.lemmas.Map.Views.{All-values-insert_entry}
 use Rattle.vg_resource.specs.declared.resource.Resource.{Resource}
 use Rattle.vg_resource.specs.declared.resource.Surface.{Surface}
-use Rattle.vg_resource.specs.Resource.{IsWhole, ResourceState, is_here, is_lent, on_values, pixel_bytes, pixels_at, resource_at, resource_of, with_lent, blank}
-use Rattle.vg_resource.proofs.MappedLemmas.{insert-mapped, keys-mapped, lookup-mapped, remove-mapped, set-mapped}
-use Rattle.vg_resource.proofs.ResourceLemmas.{as-many, bytes-with, bytes-without, here-of, left-none, length-blank, restored-keeps, seen-none, seen-some, told-none, whole-at, whole-blank, created, gone-some, gone-none-there, lent-seen, pixels-told, there-mut}
-use Rattle.vg_resource.specs.Pixels.{Seen}
+use Rattle.vg_resource.specs.Resource.{IsWhole, ResourceState, is_lent, on_values, pixel_bytes, resource_at, resource_of, blank}
+use Rattle.vg_resource.proofs.MappedLemmas.{insert-mapped, keys-mapped}
+use Rattle.vg_resource.proofs.ResourceLemmas.{bytes-with, length-blank, whole-blank, created}
 use Rattle.vg_resource.proofs.resource.Resources.create.Goals as goal
 
 pub invariant_of-self-2 : goal.invariant_of-self-2
