@@ -1,8 +1,9 @@
 -- The resources after the pixels of one were lent to a transfer.
-use Rattle.std.proofs.Common.{◌≡◌, ℕ, ◌*◌, ◌++◌, take, drop, List, Option, Some, None, Result, Err, true, length, refl, sym, ap, ◌∙◌}
+use Rattle.std.proofs.Common.{◌≡◌, ℕ, ◌*◌, ◌++◌, take, drop, List, [], ◌∷◌, Option, Some, None, Result, Err, Bool, true, false, cond, length, refl, sym, ap, ◌∙◌}
 use Rattle.std.specs.Option.{option_map}
 use Rattle.std.specs.BTreeMap.{is_at}
 use Rattle.std.specs.Ordering.{nat_cmp}
+use Rattle.std.specs.Map.{lookup, set_value}
 use Rattle.std.proofs.lemmas.Map.Steps.{set_value_same}
 use Rattle.std.proofs.Math.Seq.{take-append_seam}
 use Rattle.vg_laws.proofs.Options.{some-same}
@@ -13,7 +14,8 @@ use Rattle.vg_places.proofs.Filled.{length-filled}
 use Rattle.vg_refusals.specs.Refusals.{refusal_of, unless_refused}
 use Rattle.vg_transfer.specs.Backings.{bytes_of_rect, entries_at, transfer, transfer_refusals, transferred}
 use Rattle.vg_resource.specs.declared.resource.Resource.{Resource}
-use Rattle.vg_resource.specs.Resource.{pixels_at, resource_at, with_pixels}
+use Rattle.vg_resource.specs.Resource.{flag_is_here, is_here, pixels_at, resource_at, with_lent, with_pixels}
+use Rattle.vg_resource.proofs.ResourceLemmas.{told-none}
 use Rattle.vg_device.specs.Receive.{receive, with_received}
 
 -- a resource that was written to, or refused, and the resources after it
@@ -74,3 +76,31 @@ pub as-many : (memory : Memory) (id : ℕ) (rect : Rect) (offset width height : 
     → length new ≡ length pixels
 as-many memory id rect offset width height backings pixels new done step =
     ap (λ (pair : List ℕ × Result (Unit {0}) ℕ). length pair.0) step ∙ length-transfer memory id rect offset width height backings pixels
+
+-- ---- what is lent and brought back
+
+again-by : {X : Type 0} (test : ℕ → Bool) (t : Bool) (e : ℕ × X) (es : List (ℕ × X)) (a b : X) → test e.0 ≡ t → set_value test (set_value test es a) b ≡ set_value test es b
+    → set_value test (cond t ((e.0, a) ∷ es) (e ∷ set_value test es a)) b ≡ cond t ((e.0, b) ∷ es) (e ∷ set_value test es b)
+again-by test true e es a b is same = ap (λ t. cond t ((e.0, b) ∷ es) ((e.0, a) ∷ set_value test es b)) is
+again-by test false e es a b is same =
+    ap (λ t. cond t ((e.0, b) ∷ set_value test es a) (e ∷ set_value test (set_value test es a) b)) is ∙ ap (λ l. e ∷ l) same
+
+set-again : {X : Type 0} (test : ℕ → Bool) (es : List (ℕ × X)) (a b : X) → set_value test (set_value test es a) b ≡ set_value test es b
+set-again test [] a b = refl
+set-again test (e ∷ es) a b = again-by test (test e.0) e es a b refl (set-again test es a b)
+
+same-here : (id : ℕ) (lent : List (ℕ × Bool)) (found : Option Bool) → lookup (is_at (nat_cmp id)) lent ≡ found → flag_is_here found ≡ true → with_lent id false lent ≡ lent
+same-here id lent (Some false) is here = set_value_same (is_at (nat_cmp id)) lent false is
+same-here id lent (Some true) is here = cc
+same-here id lent None is here = cc
+
+pub here-again : (id : ℕ) (lent : List (ℕ × Bool)) → is_here id lent ≡ true → with_lent id false (with_lent id true lent) ≡ lent
+here-again id lent here = set-again (is_at (nat_cmp id)) lent true false ∙ same-here id lent (lookup (is_at (nat_cmp id)) lent) refl here
+
+same-not : (id : ℕ) (lent : List (ℕ × Bool)) (found : Option Bool) → lookup (is_at (nat_cmp id)) lent ≡ found → flag_is_here found ≡ false → with_lent id true lent ≡ lent
+same-not id lent (Some false) is none = cc
+same-not id lent (Some true) is none = set_value_same (is_at (nat_cmp id)) lent true is
+same-not id lent None is none = told-none (is_at (nat_cmp id)) lent true is
+
+pub not-here : (id : ℕ) (lent : List (ℕ × Bool)) → is_here id lent ≡ false → with_lent id true lent ≡ lent
+not-here id lent none = same-not id lent (lookup (is_at (nat_cmp id)) lent) refl none

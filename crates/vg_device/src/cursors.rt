@@ -7,7 +7,7 @@ ghost use Rattle.vg_device.specs.FitsWithin.{IfDone, IfRefused, IfWant};
 ghost use Rattle.vg_device.specs.ChangeWithin.{IsChange, IsImage, change_of, pointed_step};
 ghost use Rattle.vg_device.specs.Step.{cursor_step, image_of, image_refusals, move_step};
 ghost use Rattle.vg_refusals.specs.Refusals.{refusal_of};
-ghost use Rattle.vg_resource.specs.Resource.{IsWhole, resource_at};
+ghost use Rattle.vg_resource.specs.Resource.{IsWhole, resource_at, resource_of};
 
 use crate::device::Device;
 use crate::stop::Stop;
@@ -16,7 +16,7 @@ use vg_cursor::{Cursors, Look};
 use vg_formats::show_row;
 use vg_list::Seq;
 use vg_places::zeros;
-use vg_resource::Resource;
+use vg_resource::Surface;
 use vg_wire::kinds::{ERR_INVALID_PARAMETER, ERR_INVALID_RESOURCE_ID, ERR_INVALID_SCANOUT_ID};
 use vg_wire_ext::Response;
 
@@ -151,10 +151,10 @@ impl Device {
 }
 
 /// A resource's pixels as they are shown.
-fn shown_image(alloc: Global, surface: &Resource, pixels: &[u8]) -> Result<Vec<u8>, AllocError>
-    requires whole { IsWhole surface.now }
-    requires pixels { pixels.now ≡ surface.now.pixels }
-    ensures { IfOk result (λ image. image.items ≡ image_of (Some surface.now)) }
+fn shown_image(alloc: Global, surface: &Surface, pixels: &[u8]) -> Result<Vec<u8>, AllocError>
+    requires whole { IsWhole (resource_of surface.now) }
+    requires pixels { pixels.now ≡ surface.now.pixels.bytes }
+    ensures { IfOk result (λ image. image.items ≡ image_of (Some (resource_of surface.now))) }
 {
     let mut image = zeros(alloc, pixels.len())?;
     show_row(surface.format, image.as_mut_slice(), pixels);

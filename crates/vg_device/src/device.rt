@@ -54,9 +54,9 @@ impl Model for Device {
 
     ghost Value = { State };
 
-    ghost view = { λ d. record { setup = d.setup; entries = d.entries; memory = d.pages; resources = d.resources; backings = d.backings; blobs = d.blobs; contexts = d.contexts; uuids = d.uuids; cursors = d.cursors; scanouts = d.scanouts; share = d.share } };
+    ghost view = { λ d. record { setup = d.setup; entries = d.entries; memory = d.pages; resources = d.resources.resources; backings = d.backings; blobs = d.blobs; contexts = d.contexts; uuids = d.uuids; cursors = d.cursors; scanouts = d.scanouts; share = d.share } };
 
-    ghost invariant = { λ d. IsConsistent (record { setup = d.setup; entries = d.entries; memory = d.pages; resources = d.resources; backings = d.backings; blobs = d.blobs; contexts = d.contexts; uuids = d.uuids; cursors = d.cursors; scanouts = d.scanouts; share = d.share }) };
+    ghost invariant = { λ d. IsConsistent (record { setup = d.setup; entries = d.entries; memory = d.pages; resources = d.resources.resources; backings = d.backings; blobs = d.blobs; contexts = d.contexts; uuids = d.uuids; cursors = d.cursors; scanouts = d.scanouts; share = d.share }) };
 }
 
 impl Device {
@@ -97,7 +97,7 @@ impl Device {
 
     /// Its 2D resources, with their pixels.
     pub fn resources(&self) -> &Resources
-        ensures { result.now ≡ self.now.resources }
+        ensures { result.now.resources ≡ self.now.resources }
     {
         &self.resources
     }

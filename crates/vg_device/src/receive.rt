@@ -21,8 +21,9 @@ pub(crate) fn receive(
     offset: u64,
 ) -> Option<Result<(), u32>>
     requires held { All (λ entry. AreHeld pages.now entry.1) backings.now }
-    ensures done { IfSome result (λ done. (resources.new, done) ≡ receive pages.now id rect.now offset backings.now resources.old) }
-    ensures lent { IfNone result (resources.new ≡ resources.old) }
+    ensures done { IfSome result (λ done. (resources.new.resources, done) ≡ receive pages.now id rect.now offset backings.now resources.old.resources) }
+    ensures err { IfNone result (resources.new.resources ≡ resources.old.resources) }
+    ensures loans { resources.new.lent ≡ resources.old.lent }
 {
     let Some(resource) = resources.get(id) else {
         return Some(Err(ERR_INVALID_RESOURCE_ID));

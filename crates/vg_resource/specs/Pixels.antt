@@ -5,3 +5,8 @@ use Rattle.std.specs.Prelude.{ℕ, Bool, true, false, List}
 abbrev pub seen_of : Bool → List ℕ → List ℕ → List ℕ
 seen_of true bytes was = was
 seen_of false bytes was = bytes
+
+-- The bytes of pixels, and whether they are lent.
+pub record Seen : Type 0 where
+  pub bytes : List ℕ
+  pub lent : Bool

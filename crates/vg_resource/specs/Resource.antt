@@ -1,5 +1,5 @@
 -- The 2D resources by their ids, rising (VIRTIO 1.2, 5.7.6.8, RESOURCE_CREATE_2D and RESOURCE_UNREF).
-use Rattle.std.specs.Prelude.{◌≡◌, ◌<◌, ◌≤◌, ℕ, ◌+◌, ◌*◌, ◌==◌, ◌||◌, Bool, nat_lt, is_some, is_none, List, [], ◌∷◌, length, replicate, Option, Some, None, Result}
+use Rattle.std.specs.Prelude.{◌≡◌, ◌<◌, ◌≤◌, ℕ, ◌+◌, ◌*◌, ◌==◌, ◌||◌, Bool, false, nat_lt, is_some, is_none, List, [], ◌∷◌, length, map, not, replicate, Option, Some, None, Result, Ok, Err}
 use Rattle.std.specs.List.{sum_by}
 use Rattle.std.specs.Option.{option_map}
 use Rattle.std.specs.Ordering.{nat_cmp}
@@ -8,6 +8,7 @@ use Rattle.std.specs.BTreeMap.{insert_entry, is_at}
 use Rattle.vg_formats.specs.declared.format.Format.{Format}
 use Rattle.vg_formats.specs.Formats.{format_of}
 use Rattle.vg_resource.specs.declared.resource.Resource.{Resource}
+use Rattle.vg_resource.specs.declared.resource.Surface.{Surface}
 use Rattle.vg_wire.specs.Kinds.{ERR_INVALID_PARAMETER, ERR_INVALID_RESOURCE_ID, ERR_OUT_OF_MEMORY}
 use Rattle.vg_refusals.specs.Refusals.{refusal_of, unless_refused}
 
@@ -69,3 +70,40 @@ pixels_at id resources = option_map (λ resource. resource.pixels) (resource_at 
 -- A resource has its pixels, of four bytes each, and not too many.
 abbrev pub IsWhole : Resource → Type 0
 IsWhole resource = (length resource.pixels ≡ 4 * resource.width * resource.height) × (length resource.pixels ≤ 134217728) × (0 < resource.width) × (0 < resource.height)
+
+-- The 2D resources by their ids, and for each whether its pixels are lent.
+pub record ResourceState : Type 0 where
+  pub resources : List (ℕ × Resource)
+  pub lent : List (ℕ × Bool)
+
+-- A resource with the bytes of its pixels, whether they are lent or not.
+abbrev pub resource_of : Surface → Resource
+resource_of surface = record { width = surface.width; height = surface.height; format = surface.format; pixels = surface.pixels.bytes }
+
+abbrev pub is_lent : Surface → Bool
+is_lent surface = surface.pixels.lent
+
+-- The values of entries, each as this says.
+abbrev pub on_values : {X Y : Type 0} → (X → Y) → List (ℕ × X) → List (ℕ × Y)
+on_values says entries = map (λ entry. (entry.0, says entry.1)) entries
+
+-- There is such a resource, and its pixels aren't lent.
+abbrev pub flag_is_here : Option Bool → Bool
+flag_is_here (Some lent) = not lent
+flag_is_here None = false
+
+abbrev pub is_here : ℕ → List (ℕ × Bool) → Bool
+is_here id lent = flag_is_here (lookup (is_at (nat_cmp id)) lent)
+
+-- Whether the pixels of the resource with this id are lent is as told.
+abbrev pub with_lent : ℕ → Bool → List (ℕ × Bool) → List (ℕ × Bool)
+with_lent id told lent = set_value (is_at (nat_cmp id)) lent told
+
+-- A new resource's pixels aren't lent.
+abbrev pub with_new : ℕ → Result Unit ℕ → List (ℕ × Bool) → List (ℕ × Bool)
+with_new id (Ok done) lent = insert_entry nat_cmp lent id false
+with_new id (Err code) lent = lent
+
+-- The resource with this id is gone.
+abbrev pub without_lent : ℕ → List (ℕ × Bool) → List (ℕ × Bool)
+without_lent id lent = remove_entry (is_at (nat_cmp id)) lent

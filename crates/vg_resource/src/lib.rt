@@ -5,4 +5,4 @@ mod pixels;
 mod resource;
 
 pub use pixels::Pixels;
-pub use resource::{Resource, Resources};
+pub use resource::{Resource, Resources, Surface};

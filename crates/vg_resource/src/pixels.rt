@@ -1,13 +1,13 @@
 //! The pixels of a resource, which may be lent.
 
-ghost use Rattle.std.specs.Prelude.{◌≡◌, IfSome, length};
+ghost use Rattle.std.specs.Prelude.{◌≡◌, false, true, not, is_some, IfSome, length};
 
 use std::marker::Model;
 use std::mem;
 use std::snapshot::Snapshot;
 
 /// The bytes of a resource's pixels, row by row, four bytes each. While they are lent nobody reads them here, and a clause sees
-/// them as they were.
+/// them as they were, and that they are lent.
 #[derive(Drop)]
 pub struct Pixels {
     bytes: Vec<u8>,
@@ -19,12 +19,12 @@ pub struct Pixels {
 }
 
 impl Model for Pixels {
-    ghost use Rattle.std.specs.Prelude.{◌≡◌, ℕ, List, length};
-    ghost use Rattle.vg_resource.specs.Pixels.{seen_of};
+    ghost use Rattle.std.specs.Prelude.{◌≡◌, length};
+    ghost use Rattle.vg_resource.specs.Pixels.{Seen, seen_of};
 
-    ghost Value = { List ℕ };
+    ghost Value = { Seen };
 
-    ghost view = { λ p. seen_of p.lent p.bytes.items p.was.value.items };
+    ghost view = { λ p. record { bytes = seen_of p.lent p.bytes.items p.was.value.items; lent = p.lent } };
 
     ghost invariant = { λ p. p.size ≡ length (seen_of p.lent p.bytes.items p.was.value.items) };
 }
@@ -32,7 +32,7 @@ impl Model for Pixels {
 impl Pixels {
     /// These bytes.
     pub fn of(bytes: Vec<u8>) -> Pixels
-        ensures { result ≡ bytes.items }
+        ensures { result ≡ record { bytes = bytes.items; lent = false } }
     {
         let was = Snapshot::of(&bytes);
         let size = bytes.len();
@@ -46,14 +46,15 @@ impl Pixels {
 
     /// How many bytes there are.
     pub fn len(&self) -> usize
-        ensures { result ≡ length self.now }
+        ensures { result ≡ length self.now.bytes }
     {
         self.size
     }
 
-    /// The bytes. None while they are lent.
+    /// The bytes. None exactly while they are lent.
     pub fn as_slice(&self) -> Option<&[u8]>
-        ensures { IfSome result (λ bytes. bytes.now ≡ self.now) }
+        ensures bytes { IfSome result (λ bytes. bytes.now ≡ self.now.bytes) }
+        ensures here { is_some result ≡ not self.now.lent }
     {
         let here = !self.lent;
         if here {
@@ -62,10 +63,11 @@ impl Pixels {
         None
     }
 
-    /// Lends the bytes, which takes no memory and copies none. None where they are lent.
+    /// Lends the bytes, which takes no memory and copies none. None exactly where they are lent.
     pub fn lend(&mut self) -> Option<Vec<u8>>
-        ensures same { self.new ≡ self.old }
-        ensures bytes { IfSome result (λ bytes. bytes.items ≡ self.old) }
+        ensures lent { self.new ≡ record self.old { lent = true } }
+        ensures bytes { IfSome result (λ bytes. bytes.items ≡ self.old.bytes) }
+        ensures here { is_some result ≡ not self.old.lent }
     {
         if self.lent {
             return None;
@@ -76,10 +78,10 @@ impl Pixels {
         Some(mem::replace(&mut self.bytes, none))
     }
 
-    /// Takes as many bytes back, which may be others now.
+    /// Takes as many bytes back, which may be others now and aren't lent any more.
     pub fn restore(&mut self, bytes: Vec<u8>)
-        requires { length bytes.items ≡ length self.old }
-        ensures { self.new ≡ bytes.items }
+        requires { length bytes.items ≡ length self.old.bytes }
+        ensures { self.new ≡ record { bytes = bytes.items; lent = false } }
     {
         self.lent = false;
         self.bytes = bytes;

@@ -10,9 +10,9 @@ pub invariant_of-self-2 : goal.invariant_of-self-2
 invariant_of-self-2 c =
     let was = c.self.invariant in
     let s = c.self.inside in
-    let apart : is_some (resource_at c.args.resource s.resources) ≡ false = search rules in
+    let apart : is_some (resource_at c.args.resource s.resources.resources) ≡ false = search rules in
     let now = showing-blob s.pages c.args.resource c.args.mem c.args.flags c.args.size c.args.entries.now s.blobs c.create.new.self c.in_ok-done.done c.in_ok-done.ensures.done
-    s.resources s.scanouts.screens (none-there (resource_at c.args.resource s.resources) apart) was.showing in
+    s.resources.resources s.scanouts.screens (none-there (resource_at c.args.resource s.resources.resources) apart) was.showing in
     record {
       setup = was.setup;
       pages = was.pages;
@@ -31,8 +31,8 @@ invariant_of-self-2 c =
 pub returns-clause-step : goal.returns-clause-step
 returns-clause-step c =
     let s = c.self.inside in
-    let apart : is_some (resource_at c.args.resource s.resources) ≡ false = search rules in
+    let apart : is_some (resource_at c.args.resource s.resources.resources) ≡ false = search rules in
     rw (c.nodata.ensures, ← c.self.view_is, apart)
     (if-nodata c.in_ok-done.done _
-    (lifted-blob (λ blobs. record { setup = s.setup; entries = s.entries; memory = s.pages; resources = s.resources; backings = s.backings; blobs = blobs; contexts = s.contexts; uuids = s.uuids; cursors = s.cursors; scanouts = s.scanouts; share = s.share })
+    (lifted-blob (λ blobs. record { setup = s.setup; entries = s.entries; memory = s.pages; resources = s.resources.resources; backings = s.backings; blobs = blobs; contexts = s.contexts; uuids = s.uuids; cursors = s.cursors; scanouts = s.scanouts; share = s.share })
     s.pages c.args.resource c.args.mem c.args.flags c.args.size c.args.entries.now s.blobs c.create.new.self c.in_ok-done.done c.in_ok-done.ensures.done))

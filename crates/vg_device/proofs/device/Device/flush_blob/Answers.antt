@@ -14,14 +14,14 @@ flush-requires c =
     record {
       cursors = omega (arith, c.self.invariant.screens, c.self.invariant.cursors);
       surface = subst (λ n. All (FitSurface c.args.resource n) s.scanouts.screens) (sym (ap length c.as_slice-bytes.ensures.value ∙ size))
-          (fits-blob s.blobs s.resources c.args.resource blob s.scanouts.screens found c.self.invariant.showing);
+          (fits-blob s.blobs s.resources.resources c.args.resource blob s.scanouts.screens found c.self.invariant.showing);
     }
 
 pub invariant_of-self-2 : goal.invariant_of-self-2
 invariant_of-self-2 c =
     let was = c.self.invariant in
     let s = c.self.inside in
-    let now = showing-flush s.blobs s.resources _ c.args.resource c.args.rect.now _ _ s.scanouts c.flush.new.self c.in_ok-done.done _ c.in_ok-done.ensures.done (record { count_is = was.screens; showing = was.showing }) in
+    let now = showing-flush s.blobs s.resources.resources _ c.args.resource c.args.rect.now _ _ s.scanouts c.flush.new.self c.in_ok-done.done _ c.in_ok-done.ensures.done (record { count_is = was.screens; showing = was.showing }) in
     record {
       setup = was.setup;
       pages = was.pages;
@@ -43,5 +43,5 @@ returns-clause-step c =
     let (blob, found, bytes, size) = surface-found s.pages c.args.resource s.blobs c.in-Some.surface.items (search rules) (search rules) in
     rw (c.nodata.ensures, ← c.self.view_is)
     (if-nodata c.in_ok-done.done _
-    (step-flush-blob (record { setup = s.setup; entries = s.entries; memory = s.pages; resources = s.resources; backings = s.backings; blobs = s.blobs; contexts = s.contexts; uuids = s.uuids; cursors = s.cursors; scanouts = s.scanouts; share = s.share }) c.args.rect.now c.args.resource blob c.flush.new.self c.in_ok-done.done found
+    (step-flush-blob (record { setup = s.setup; entries = s.entries; memory = s.pages; resources = s.resources.resources; backings = s.backings; blobs = s.blobs; contexts = s.contexts; uuids = s.uuids; cursors = s.cursors; scanouts = s.scanouts; share = s.share }) c.args.rect.now c.args.resource blob c.flush.new.self c.in_ok-done.done found
     (subst (λ surface. ◌≡◌ {A = ScanoutState × Result (Unit {0}) ℕ} (c.flush.new.self, c.in_ok-done.done) (flush s.entries c.args.resource c.args.rect.now surface s.cursors s.scanouts)) (c.as_slice-bytes.ensures.value ∙ bytes) c.in_ok-done.ensures.done)))

@@ -22,7 +22,7 @@ invariant_of-self-in-Err c =
       backings = was.backings;
       blobs = was.blobs;
       screens = ap length same ∙ was.screens;
-      showing = subst (λ (screens : List (Option Screen)). All (IsShowing s.blobs s.resources) screens) (sym same) was.showing;
+      showing = subst (λ (screens : List (Option Screen)). All (IsShowing s.blobs s.resources.resources) screens) (sym same) was.showing;
       leases = was.leases;
       share = was.share;
       reserved = was.reserved;
@@ -38,7 +38,7 @@ returns-in-Err-clause-step c =
     let displays = subst (λ (state : State). c.args.scanout < length state.setup.displays) (sym c.self.view_is) c.requires.scanout in
     let like = cursor-changed change s.cursors c.args.scanout (omega (arith, displays, c.self.invariant.cursors)) ∙ sym c.look_after-look.ensures.look in
     let step = c.in_ok-code.ensures.done (changed change c.args.scanout s.cursors) like in
-    let state : State = record { setup = s.setup; entries = s.entries; memory = s.pages; resources = s.resources; backings = s.backings; blobs = s.blobs; contexts = s.contexts; uuids = s.uuids; cursors = s.cursors; scanouts = s.scanouts; share = s.share } in
+    let state : State = record { setup = s.setup; entries = s.entries; memory = s.pages; resources = s.resources.resources; backings = s.backings; blobs = s.blobs; contexts = s.contexts; uuids = s.uuids; cursors = s.cursors; scanouts = s.scanouts; share = s.share } in
     rw (← c.self.view_is)
     (pointed-refused state c.args.scanout change (changed change c.args.scanout s.cursors) c.snap.new.self c.in_ok-code.field-0 c.in-Err.code step c.in-Err.is)
 
@@ -57,7 +57,7 @@ invariant_of-self-2 c =
       backings = was.backings;
       blobs = was.blobs;
       screens = ap length same ∙ was.screens;
-      showing = subst (λ (screens : List (Option Screen)). All (IsShowing s.blobs s.resources) screens) (sym same) was.showing;
+      showing = subst (λ (screens : List (Option Screen)). All (IsShowing s.blobs s.resources.resources) screens) (sym same) was.showing;
       leases = was.leases;
       share = was.share;
       reserved = was.reserved;
@@ -73,6 +73,6 @@ returns-clause-step c =
     let displays = subst (λ (state : State). c.args.scanout < length state.setup.displays) (sym c.self.view_is) c.requires.scanout in
     let like = cursor-changed change s.cursors c.args.scanout (omega (arith, displays, c.self.invariant.cursors)) ∙ sym c.look_after-look.ensures.look in
     let step = c.in_ok-code.ensures.done (changed change c.args.scanout s.cursors) like in
-    let state : State = record { setup = s.setup; entries = s.entries; memory = s.pages; resources = s.resources; backings = s.backings; blobs = s.blobs; contexts = s.contexts; uuids = s.uuids; cursors = s.cursors; scanouts = s.scanouts; share = s.share } in
+    let state : State = record { setup = s.setup; entries = s.entries; memory = s.pages; resources = s.resources.resources; backings = s.backings; blobs = s.blobs; contexts = s.contexts; uuids = s.uuids; cursors = s.cursors; scanouts = s.scanouts; share = s.share } in
     rw (← c.self.view_is, c.change_cursor.ensures)
     (pointed-done state c.args.scanout change (changed change c.args.scanout s.cursors) c.snap.new.self c.in_ok-code.field-0 refl step c.in_default.not-Err)

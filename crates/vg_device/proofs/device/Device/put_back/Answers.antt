@@ -9,15 +9,15 @@ pub invariant_of-self-then-has_as_many : goal.invariant_of-self-then-has_as_many
 invariant_of-self-then-has_as_many c =
     let was = c.self.invariant in
     let s = c.self.inside in
-    let many : has_as_many (length c.args.pixels.items) (resource_at c.args.resource s.resources) ≡ true = search rules in
-    let keeping = keeping-brought c.args.resource c.args.pixels.items s.resources c.restore.new.self (resource_at c.args.resource s.resources) refl c.restore.ensures many in
+    let many : has_as_many (length c.args.pixels.items) (resource_at c.args.resource s.resources.resources) ≡ true = search rules in
+    let keeping = keeping-brought c.args.resource c.args.pixels.items s.resources.resources c.restore.new.self.resources (resource_at c.args.resource s.resources.resources) refl c.restore.ensures.same many in
     record {
       setup = was.setup;
       pages = was.pages;
       backings = was.backings;
       blobs = was.blobs;
       screens = was.screens;
-      showing = all-showing s.blobs s.resources c.restore.new.self s.scanouts.screens keeping was.showing;
+      showing = all-showing s.blobs s.resources.resources c.restore.new.self.resources s.scanouts.screens keeping was.showing;
       leases = was.leases;
       share = was.share;
       reserved = omega (arith, was.reserved);

@@ -15,9 +15,9 @@ invariant_of-self c =
     let s = c.self.inside in
     let (blob, found, size) = size-found c.args.resource s.blobs c.in-Some.size (search rules) in
     let binding = blob_binding c.args.resource c.args.rect.now c.args.layout.now c.in-Some-format_in.format in
-    let shows = subst (λ one. ShowsEither binding one (resource_at c.args.resource s.resources)) (sym found)
+    let shows = subst (λ one. ShowsEither binding one (resource_at c.args.resource s.resources.resources)) (sym found)
     (shows-blob c.args.resource c.args.rect.now c.args.layout.now c.in-Some-format_in.format blob (search rules)) in
-    let now = showing-bind s.blobs s.resources c.args.scanout binding s.scanouts c.bind.new.self c.bind.result _ c.bind.ensures shows (record { count_is = was.screens; showing = was.showing }) in
+    let now = showing-bind s.blobs s.resources.resources c.args.scanout binding s.scanouts c.bind.new.self c.bind.result _ c.bind.ensures shows (record { count_is = was.screens; showing = was.showing }) in
     record {
       setup = was.setup;
       pages = was.pages;
@@ -40,4 +40,4 @@ returns c =
     let there : nat_le (length s.setup.displays) c.args.scanout ≡ false = grind (arith, nat_tests) in
     let some : (c.args.resource == 0) ≡ false = grind (arith, nat_tests) in
     rw (← c.self.view_is)
-    (step-show-blob (record { setup = s.setup; entries = s.entries; memory = s.pages; resources = s.resources; backings = s.backings; blobs = s.blobs; contexts = s.contexts; uuids = s.uuids; cursors = s.cursors; scanouts = s.scanouts; share = s.share }) c.args.rect.now c.args.scanout c.args.resource c.args.layout.now blob c.in-Some-format_in.format c.bind.new.self c.bind.result there some found (search rules) (search rules) c.bind.ensures)
+    (step-show-blob (record { setup = s.setup; entries = s.entries; memory = s.pages; resources = s.resources.resources; backings = s.backings; blobs = s.blobs; contexts = s.contexts; uuids = s.uuids; cursors = s.cursors; scanouts = s.scanouts; share = s.share }) c.args.rect.now c.args.scanout c.args.resource c.args.layout.now blob c.in-Some-format_in.format c.bind.new.self c.bind.result there some found (search rules) (search rules) c.bind.ensures)

@@ -9,14 +9,14 @@ pub invariant_of-self-2 : goal.invariant_of-self-2
 invariant_of-self-2 c =
     let was = c.self.invariant in
     let s = c.self.inside in
-    let keeping = keeping-receive s.pages c.args.resource c.args.rect.now c.args.offset s.backings s.resources c.receive.new.resources c.in-Some.done c.in-Some.ensures.done in
+    let keeping = keeping-receive s.pages c.args.resource c.args.rect.now c.args.offset s.backings s.resources.resources c.receive.new.resources.resources c.in-Some.done c.in-Some.ensures.done in
     record {
       setup = was.setup;
       pages = was.pages;
       backings = was.backings;
       blobs = was.blobs;
       screens = was.screens;
-      showing = all-showing s.blobs s.resources c.receive.new.resources s.scanouts.screens keeping was.showing;
+      showing = all-showing s.blobs s.resources.resources c.receive.new.resources.resources s.scanouts.screens keeping was.showing;
       leases = was.leases;
       share = was.share;
       reserved = was.reserved;
@@ -32,4 +32,4 @@ returns-clause-step c =
     rw (c.nodata.ensures, ← c.self.view_is, apart)
     (if-nodata c.in-Some.done _
     (lifted-receive (λ resources. record { setup = s.setup; entries = s.entries; memory = s.pages; resources = resources; backings = s.backings; blobs = s.blobs; contexts = s.contexts; uuids = s.uuids; cursors = s.cursors; scanouts = s.scanouts; share = s.share })
-    s.pages c.args.resource c.args.rect.now c.args.offset s.backings s.resources c.receive.new.resources c.in-Some.done c.in-Some.ensures.done))
+    s.pages c.args.resource c.args.rect.now c.args.offset s.backings s.resources.resources c.receive.new.resources.resources c.in-Some.done c.in-Some.ensures.done))

@@ -8,9 +8,9 @@ pub invariant_of-self : goal.invariant_of-self
 invariant_of-self c =
     let was = c.self.invariant in
     let s = c.self.inside in
-    let now = showing-without s.blobs s.resources c.args.resource _ s.scanouts (record { count_is = was.screens; showing = was.showing }) in
+    let now = showing-without s.blobs s.resources.resources c.args.resource _ s.scanouts (record { count_is = was.screens; showing = was.showing }) in
     let blob_gone = blob-taken c.args.resource s.blobs c.remove.new.self c.remove.result c.remove.ensures.done in
-    let gone = resource-taken c.args.resource s.resources c.remove-2.new.self c.remove-2.result c.remove-2.ensures in
+    let gone = resource-taken c.args.resource s.resources.resources c.remove-2.new.self.resources c.remove-2.result c.remove-2.ensures.done in
     record {
       setup = was.setup;
       pages = was.pages;
@@ -30,7 +30,7 @@ pub returns : goal.returns
 returns c =
     let s = c.self.inside in
     let blob_gone = blob-taken c.args.resource s.blobs c.remove.new.self c.remove.result c.remove.ensures.done in
-    let gone = resource-taken c.args.resource s.resources c.remove-2.new.self c.remove-2.result c.remove-2.ensures in
-    let state : State = record { setup = s.setup; entries = s.entries; memory = s.pages; resources = s.resources; backings = s.backings; blobs = s.blobs; contexts = s.contexts; uuids = s.uuids; cursors = s.cursors; scanouts = s.scanouts; share = s.share } in
+    let gone = resource-taken c.args.resource s.resources.resources c.remove-2.new.self.resources c.remove-2.result c.remove-2.ensures.done in
+    let state : State = record { setup = s.setup; entries = s.entries; memory = s.pages; resources = s.resources.resources; backings = s.backings; blobs = s.blobs; contexts = s.contexts; uuids = s.uuids; cursors = s.cursors; scanouts = s.scanouts; share = s.share } in
     let there : has_resource state c.args.resource ≡ true = search rules in
     rw (← c.self.view_is, c.remove-3.ensures.after, c.forget.ensures, c.forget-2.ensures, c.unbind_resource.ensures, blob_gone, gone, there) refl
