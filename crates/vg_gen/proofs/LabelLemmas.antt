@@ -2,6 +2,7 @@
 use Rattle.std.proofs.Common.{◌≡◌, ℕ, zero, suc, ◌+◌, ◌<◌, ◌≤◌, ◌==◌, ◌&&◌, Bool, true, false, nat_lt, if◌then◌else◌, List, [], ◌∷◌, ◌++◌, map, codes, bytes_eq, decimal, replicate, Option, Some, None, arith, refl, sym, ap, ◌∙◌, subst, append-nil, inl, inr}
 use Rattle.std.proofs.lemmas.Bool.{and_parts, eqb-true, lt-ltb, cases_lt}
 use Rattle.std.specs.List.{list_all, join_with_byte}
+use Rattle.vg_laws.proofs.Below.{below, below_at}
 use Rattle.vg_script_words.specs.Words.{is_name}
 use Rattle.vg_call_lines.specs.declared.names.LabelKind.{LabelKind}
 use Rattle.vg_call_lines.specs.declared.names.LabelKind.TheVariants as labels
@@ -10,7 +11,7 @@ use Rattle.vg_call_lines.specs.Tables.{is_label, label_number}
 use Rattle.vg_script.specs.Labels.{label_among, label_of, with_found, labels_of, label_from, label_in}
 use Rattle.vg_gen.specs.Generated.{Words, opening, joining, picture, pictures, cursor, move, moves, closing, client_lines, all_lines, display, memory, generated_lines}
 use Rattle.vg_gen.proofs.LineLemmas.{is_line, is_word, line_text, words_back}
-use Rattle.vg_gen.proofs.WordLemmas.{below, below_at, digits, decimal_is}
+use Rattle.vg_gen.proofs.WordLemmas.{digits, decimal_is}
 use Rattle.vg_gen.proofs.CycleLemmas.{given_before}
 
 abbrev pub Known : Type 0
