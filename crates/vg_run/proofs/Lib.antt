@@ -1,4 +1,5 @@
 pub mod EndLemmas
+pub mod SaidLemmas
 pub mod TextLemmas
 pub mod WordLemmas
 pub mod SumLemmas

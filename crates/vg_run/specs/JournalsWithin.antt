@@ -2,14 +2,19 @@
 use Rattle.std.specs.Prelude.{◌≡◌, ◌<◌, ℕ, length, List, Option, IfSome}
 use Rattle.vg_io.specs.Streams.{Rose, Takes, TakesSome}
 use Rattle.vg_journal_lines.specs.Refusals.{IsRefusedAt}
+use Rattle.vg_checking.specs.Checking.{IsFound}
 use Rattle.vg_checking.specs.declared.checking.Checked.{Checked}
 use Rattle.vg_checking.specs.declared.checking.Checked.TheVariants as checkeds
+use Rattle.vg_tracing.specs.Origins.{AreOrigins}
 use Rattle.vg_tracing.specs.declared.found.Found.{Found}
 use Rattle.vg_tracing.specs.declared.found.Found.TheVariants as found
+use Rattle.vg_run.specs.declared.journals.Question.{Question}
+use Rattle.vg_run.specs.declared.journals.Question.TheVariants.{Check, Origins}
 use Rattle.vg_run.specs.declared.top.Status.{Status}
 use Rattle.vg_run.specs.declared.top.Status.TheVariants.{Done, Usage, ReadFault, WriteFault, TooLong, NoMemory}
 use Rattle.vg_run.specs.declared.top.Status.TheVariants as statuses
-use Rattle.vg_run.specs.Checks.{IsCheckable}
+use Rattle.vg_run.specs.Checks.{Checks, ChecksPartly, IsCheckable, checked_text}
+use Rattle.vg_run.specs.Origins.{Tells, TellsPartly, found_text}
 use Rattle.vg_limits.specs.Limits.{version_1}
 
 -- Why nothing was found of what a source had.
@@ -32,6 +37,20 @@ status_of (checkeds.Wrong entry) = statuses.Wrong entry
 abbrev pub status_of_origins : Found → Status
 status_of_origins (found.Drawn frames) = Done
 status_of_origins (found.Wrong entry) = statuses.Wrong entry
+
+-- What a command says of a journal: the text that it writes, and how it ends where all of that is written.
+abbrev pub Says : Question → List ℕ → Status → List ℕ → Type 0
+Says Check bytes end text = (checked : Checked) × IsFound bytes checked × (end ≡ status_of checked) × (text ≡ checked_text checked)
+Says Origins bytes end text = (origins : Found) × AreOrigins bytes origins × (end ≡ status_of_origins origins) × (text ≡ found_text origins)
+
+-- What the sink took where all is done, and where a write failed.
+abbrev pub Answers : Question → Option (List ℕ) → Option (List ℕ) → Option (List ℕ) → Option (List ℕ) → Type 0
+Answers Check = Checks
+Answers Origins = Tells
+
+abbrev pub AnswersPartly : Question → Option (List ℕ) → Option (List ℕ) → Option (List ℕ) → Option (List ℕ) → Type 0
+AnswersPartly Check = ChecksPartly
+AnswersPartly Origins = TellsPartly
 
 -- It ends with what was found.
 abbrev pub EndsFound : Status → Type 0

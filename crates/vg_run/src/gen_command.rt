@@ -1,8 +1,8 @@
 //! The command `gen`: a workload is made and run, and it is said what came of it.
 
-ghost use Rattle.std.specs.Prelude.{◌≡◌, ◌≤◌, ◌<◌, ◌⊎◌, ◌^◌, ◌*◌, ◌+◌, ◌++◌, ℕ, length, count_by, string_bytes, IfOk, OnOk};
+ghost use Rattle.std.specs.Prelude.{◌≡◌, ◌≤◌, ◌<◌, ◌+◌, ◌++◌, count_by, string_bytes, IfOk, OnOk};
 ghost use Rattle.vg_io.specs.Streams.{Rose};
-ghost use Rattle.vg_legal.specs.Legal.{IsLegalJournal, is_on_control, is_on_cursor};
+ghost use Rattle.vg_legal.specs.Legal.{is_on_control, is_on_cursor};
 ghost use Rattle.vg_run.specs.Generates.{Sums, SumsPartly, frame_bytes, is_act, summary_line, summary_text};
 ghost use Rattle.vg_run.specs.Status.{EndsGen, IsFaultless};
 ghost use Rattle.vg_run.specs.SummingWithin.{IsJournalOf, IsSummaryOf, Summed};

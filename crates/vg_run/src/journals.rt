@@ -1,18 +1,107 @@
-//! What the commands that read a journal have in common.
+//! The commands that read a journal, and write what they say of it.
 
-ghost use Rattle.std.specs.Prelude.{◌≡◌, ◌≤◌, ◌+◌, Err, IfErr, IfOk, IfSome, OnOk};
-ghost use Rattle.vg_io.specs.Streams.{GivesUpTo, IsAtEnd};
-ghost use Rattle.vg_run.specs.Checks.{IsCheckable};
-ghost use Rattle.vg_run.specs.JournalsWithin.{EndsFound, Told, Unchecked};
+ghost use Rattle.std.specs.Prelude.{◌≡◌, ◌≤◌, ◌+◌, ◌<◌, ℕ, length, Err, IfErr, IfOk, IfSome, OnOk};
+ghost use Rattle.vg_io.specs.Streams.{GivesUpTo, IsAtEnd, Rose};
+ghost use Rattle.vg_journal_lines.specs.Refusals.{IsRefusedAt};
+ghost use Rattle.vg_run.specs.Checks.{ChecksWrong, IsCheckable, wrong_text};
+ghost use Rattle.vg_run.specs.JournalsWithin.{Answers, AnswersPartly, EndsFound, Says, Told, Unchecked};
+ghost use Rattle.vg_run.specs.Status.{EndsCheck, IsFaultless};
 ghost use Rattle.vg_limits.specs.Limits.{version_1};
 
+use crate::check_command::say_check;
+use crate::origins_command::say_origins;
 use crate::top::Status;
-use std::alloc::Global;
+use std::alloc::{AllocError, Global};
 use vg_io::{ReadError, Sink, Source, read_all, write_all};
 use vg_limits::MOST_JOURNAL;
 
+/// What is asked of a journal.
+#[derive(Clone, Copy)]
+pub(crate) enum Question {
+    /// Whether it is that of a legal history.
+    Check,
+    /// Whose bytes its frames have.
+    Origins,
+}
+
+/// What is said of a journal.
+#[derive(Drop)]
+pub(crate) struct Said {
+    pub(crate) text: Vec<u8>,
+    /// How the call ends where all of it is written.
+    pub(crate) end: Status,
+}
+
+/// Reads a journal, and writes what it is asked.
+#[tactic(auto, using(crate::proofs::SaidLemmas::told_done, crate::proofs::SaidLemmas::told_wrong, crate::proofs::SaidLemmas::told_partly))]
+pub(crate) fn answer_from<S: Source, K: Sink>(
+    alloc: Global,
+    asked: Question,
+    source: &mut S,
+    sink: &mut K,
+) -> Status
+    ensures done { result ≡ Status.Done
+        → Answers asked (S.left source.old) (S.left source.new) (K.held sink.old) (K.held sink.new) }
+    ensures wrong { (entry : ℕ) → result ≡ Status.Wrong entry
+        → ChecksWrong entry (S.left source.old) (S.left source.new) (K.held sink.old) (K.held sink.new) }
+    ensures ends { EndsCheck result }
+    ensures journal { (line : ℕ) → result ≡ Status.Journal line
+        → IfSome (S.left source.old) (λ bytes. IsCheckable bytes × IsRefusedAt bytes line) × (sink.new ≡ sink.old) }
+    ensures read_fault { result ≡ Status.ReadFault
+        → Rose (S.faults source.old) (S.faults source.new) × (sink.new ≡ sink.old) }
+    ensures read_early { result ≡ Status.ReadFault → GivesUpTo (S.left source.old) (S.left source.new) version_1.journal }
+    ensures too_long { result ≡ Status.TooLong
+        → IfSome (S.left source.old) (λ bytes. version_1.journal < length bytes) × (sink.new ≡ sink.old) }
+    ensures write_fault { result ≡ Status.WriteFault → Rose (K.faults sink.old) (K.faults sink.new)
+        × AnswersPartly asked (S.left source.old) (S.left source.new) (K.held sink.old) (K.held sink.new) }
+    ensures no_memory { result ≡ Status.NoMemory → sink.new ≡ sink.old }
+    ensures faultless { IsFaultless result
+        → (S.faults source.new ≡ S.faults source.old) × (K.faults sink.new ≡ K.faults sink.old) }
+    ensures read_before { result ≡ Status.WriteFault → S.faults source.new ≡ S.faults source.old }
+    ensures taken { GivesUpTo (S.left source.old) (S.left source.new) (version_1.journal + 1) }
+    ensures read_count { S.faults source.old ≤ S.faults source.new }
+    ensures write_count { K.faults sink.old ≤ K.faults sink.new }
+{
+    match said_from(alloc, asked, source) {
+        Ok(said) => write_said(sink, &said),
+        Err(status) => status,
+    }
+}
+
+/// What is said of the journal that a source gives, or how the call ends without it.
+fn said_from<S: Source>(alloc: Global, asked: Question, source: &mut S) -> Result<Said, Status>
+    ensures end { IfOk result (λ said. IsAtEnd (S.left source.new)) }
+    ensures says { IfOk result (λ said. IfSome (S.left source.old) (λ bytes. IsCheckable bytes × Says asked bytes said.end said.text.items)) }
+    ensures ends { IfOk result (λ said. EndsFound said.end) }
+    ensures err { IfErr result (λ status. Unchecked status (S.left source.old) (S.faults source.old) (S.faults source.new)) }
+    ensures same { OnOk result (S.faults source.new ≡ S.faults source.old) }
+    ensures taken { GivesUpTo (S.left source.old) (S.left source.new) (version_1.journal + 1) }
+    ensures early { result ≡ Err Status.ReadFault → GivesUpTo (S.left source.old) (S.left source.new) version_1.journal }
+    ensures count { S.faults source.old ≤ S.faults source.new }
+{
+    let bytes = journal_bytes(alloc, source)?;
+    match say(alloc, asked, bytes.as_slice()) {
+        Ok(Ok(said)) => Ok(said),
+        Ok(Err(line)) => Err(Status::Journal { line }),
+        Err(_) => Err(Status::NoMemory),
+    }
+}
+
+/// What is said of the journal that these bytes are, or the line at which they are none.
+fn say(alloc: Global, asked: Question, bytes: &[u8]) -> Result<Result<Said, u32>, AllocError>
+    requires { IsCheckable bytes.now }
+    ensures says { IfOk result (λ read. IfOk read (λ said. Says asked bytes.now said.end said.text.items)) }
+    ensures ends { IfOk result (λ read. IfOk read (λ said. EndsFound said.end)) }
+    ensures refused { IfOk result (λ read. IfErr read (IsRefusedAt bytes.now)) }
+{
+    match asked {
+        Question::Check => say_check(alloc, bytes),
+        Question::Origins => say_origins(alloc, bytes),
+    }
+}
+
 /// All bytes that a source gives, or how the call ends without them.
-pub(crate) fn journal_bytes<S: Source>(alloc: Global, source: &mut S) -> Result<Vec<u8>, Status>
+fn journal_bytes<S: Source>(alloc: Global, source: &mut S) -> Result<Vec<u8>, Status>
     ensures end { OnOk result (IsAtEnd (S.left source.new)) }
     ensures all { IfOk result (λ bytes. IfSome (S.left source.old) (λ given. given ≡ bytes.items)) }
     ensures within { IfOk result (λ bytes. IsCheckable bytes.items) }
@@ -30,14 +119,23 @@ pub(crate) fn journal_bytes<S: Source>(alloc: Global, source: &mut S) -> Result<
     }
 }
 
-/// Writes what was found, of which this is said: how the call ends where all is written.
-pub(crate) fn write_found<K: Sink>(sink: &mut K, text: &[u8], found: Status) -> Status
-    requires { EndsFound found }
-    ensures told { Told result found text.now (K.held sink.old) (K.held sink.new) (K.faults sink.old) (K.faults sink.new) }
+/// Writes what is said.
+fn write_said<K: Sink>(sink: &mut K, said: &Said) -> Status
+    requires { EndsFound said.now.end }
+    ensures told { Told result said.now.end said.now.text.items (K.held sink.old) (K.held sink.new) (K.faults sink.old) (K.faults sink.new) }
     ensures count { K.faults sink.old ≤ K.faults sink.new }
 {
-    match write_all(sink, text) {
-        Ok(()) => found,
+    match write_all(sink, said.text.as_slice()) {
+        Ok(()) => said.end,
         Err(_) => Status::WriteFault,
     }
+}
+
+/// The line that says which entry is wrong first.
+#[tactic(auto, unfolding(crate::specs::Checks::wrong_text))]
+pub(crate) fn wrong_line(alloc: Global, entry: u64) -> Result<Vec<u8>, AllocError>
+    ensures { IfOk result (λ text. text.items ≡ wrong_text entry) }
+{
+    let line = format!(in alloc; "wrong {entry}\n")?;
+    Ok(line.into_bytes())
 }

@@ -11,9 +11,8 @@ ghost use Rattle.vg_run.specs.Origins.{Tells, TellsPartly};
 ghost use Rattle.vg_run.specs.Status.{EndsGen, IsFaultless};
 ghost use Rattle.vg_limits.specs.Limits.{version_1};
 
-use crate::check_command::check_from;
 use crate::gen_command::gen_from;
-use crate::origins_command::origins_from;
+use crate::journals::{Question, answer_from};
 use crate::run_command::run_from;
 use crate::words::{Command, command_of};
 use std::alloc::Global;
@@ -130,8 +129,8 @@ pub fn vgpu<R: Threads + Wait + Sync, S: Source, K: Sink, G: Gate>(
 {
     match command_of(words) {
         Some(Command::Run { workers }) => run_from(rt, alloc, workers, source, sink, gate),
-        Some(Command::Check) => check_from(alloc, source, sink),
-        Some(Command::Origins) => origins_from(alloc, source, sink),
+        Some(Command::Check) => answer_from(alloc, Question::Check, source, sink),
+        Some(Command::Origins) => answer_from(alloc, Question::Origins, source, sink),
         Some(Command::Gen { number, clients }) => gen_from(rt, alloc, number, clients, sink, gate),
         None => Status::Usage,
     }

@@ -14,23 +14,23 @@ returns-in-Some-Run-clause-script g c = λ line kind is.
 pub returns-in-Some-Check-clause-wrong : goal.returns-in-Some-Check-clause-wrong
 returns-in-Some-Check-clause-wrong g c = λ entry is.
     let asked : IsCheck (map string_bytes c.args.words.now) = search rules in
-    (inl asked, c.check_from.ensures.wrong entry is)
+    (inl asked, c.answer_from.ensures.wrong entry is)
 
 pub returns-in-Some-Check-clause-journal : goal.returns-in-Some-Check-clause-journal
 returns-in-Some-Check-clause-journal g c = λ line is.
     let asked : IsCheck (map string_bytes c.args.words.now) = search rules in
-    let told = c.check_from.ensures.journal line is in
+    let told = c.answer_from.ensures.journal line is in
     (inl asked, told.0, told.1)
 
 pub returns-in-Some-Origins-clause-wrong : goal.returns-in-Some-Origins-clause-wrong
 returns-in-Some-Origins-clause-wrong g c = λ entry is.
     let asked : IsOrigins (map string_bytes c.args.words.now) = search rules in
-    (inr asked, c.origins_from.ensures.wrong entry is)
+    (inr asked, c.answer_from-in-Some-Origins.ensures.wrong entry is)
 
 pub returns-in-Some-Origins-clause-journal : goal.returns-in-Some-Origins-clause-journal
 returns-in-Some-Origins-clause-journal g c = λ line is.
     let asked : IsOrigins (map string_bytes c.args.words.now) = search rules in
-    let told = c.origins_from.ensures.journal line is in
+    let told = c.answer_from-in-Some-Origins.ensures.journal line is in
     (inr asked, told.0, told.1)
 
 pub returns-in-Some-Gen-clause-done_gen : goal.returns-in-Some-Gen-clause-done_gen

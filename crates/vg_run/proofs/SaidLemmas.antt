@@ -1,0 +1,79 @@
+-- What the sink took, by what is said of a journal and how the writing of that ended.
+use Rattle.std.proofs.Common.{◌≡◌, ◌∙◌, ℕ, List, Option, Some, None, length, refl, subst}
+use Rattle.std.specs.Prelude.{IfSome}
+use Rattle.vg_io.specs.Streams.{IsAtEnd, Rose, Takes, TakesSome}
+use Rattle.vg_checking.specs.declared.checking.Checked.TheVariants as checkeds
+use Rattle.vg_tracing.specs.declared.found.Found.TheVariants as found
+use Rattle.vg_run.specs.declared.journals.Question.{Question}
+use Rattle.vg_run.specs.declared.journals.Question.TheVariants.{Check, Origins}
+use Rattle.vg_run.specs.declared.top.Status.{Status}
+use Rattle.vg_run.specs.declared.top.Status.TheVariants.{Done, WriteFault}
+use Rattle.vg_run.specs.declared.top.Status.TheVariants as statuses
+use Rattle.vg_run.specs.Checks.{ChecksWrong, IsCheckable, WritesFound, WritesLegal, WritesWrong, checked_text, legal_text, wrong_text}
+use Rattle.vg_run.specs.Origins.{WritesOrigins, WritesSomeOrigins, found_text}
+use Rattle.vg_run.specs.JournalsWithin.{Answers, AnswersPartly, Says, Told}
+
+-- whether a call is done, and which entry it ends with as wrong
+abbrev done-with : Status → Type 0
+done-with Done = Unit {0}
+done-with status = ⊥
+
+abbrev wrong-with : ℕ → Status → Type 0
+wrong-with entry (statuses.Wrong other) = other ≡ entry
+wrong-with entry status = ⊥
+
+checked-done : (bytes text : List ℕ) (held held' : Option (List ℕ)) → IsCheckable bytes → Says Check bytes Done text → Takes held held' text → WritesLegal held held' bytes
+checked-done bytes text held held' fits (checkeds.Legal entries frames, (journal, is, legal, count, frame_count), same, written) takes = (
+  journal,
+  fits,
+  is,
+  legal,
+  subst (λ n. Takes held held' (legal_text (length journal.entries) n)) frame_count
+      (subst (λ n. Takes held held' (legal_text n frames)) count (subst (Takes held held') written takes)),
+)
+checked-done bytes text held held' fits (checkeds.Wrong entry, found, same, written) takes = absurd (subst done-with same tt)
+
+origins-done : (bytes text : List ℕ) (held held' : Option (List ℕ)) → IsCheckable bytes → Says Origins bytes Done text → Takes held held' text → WritesOrigins held held' bytes
+origins-done bytes text held held' fits (found.Drawn frames, (journal, is, legal, are), same, written) takes =
+    (journal, fits, is, legal, (frames.items, are, subst (Takes held held') written takes))
+origins-done bytes text held held' fits (found.Wrong entry, found, same, written) takes = absurd (subst done-with same tt)
+
+says-wrong : (asked : Question) (entry : ℕ) (bytes text : List ℕ) (held held' : Option (List ℕ)) → IsCheckable bytes → Says asked bytes (statuses.Wrong entry) text
+    → Takes held held' text → WritesWrong entry held held' bytes
+says-wrong Check entry bytes text held held' fits (checkeds.Wrong other, (journal, is, wrong), same, written) takes =
+    let this : other ≡ entry = subst (wrong-with entry) same refl in
+    subst (λ n. WritesWrong n held held' bytes) this (journal, fits, is, wrong, subst (Takes held held') written takes)
+says-wrong Check entry bytes text held held' fits (checkeds.Legal entries frames, found, same, written) takes = absurd (subst (wrong-with entry) same refl)
+says-wrong Origins entry bytes text held held' fits (found.Wrong other, (journal, is, wrong), same, written) takes =
+    let this : other ≡ entry = subst (wrong-with entry) same refl in
+    subst (λ n. WritesWrong n held held' bytes) this (journal, fits, is, wrong, subst (Takes held held') written takes)
+says-wrong Origins entry bytes text held held' fits (found.Drawn frames, found, same, written) takes = absurd (subst (wrong-with entry) same refl)
+
+pub told_done : (asked : Question) (left left' : Option (List ℕ)) (result end : Status) (text : List ℕ) (held held' : Option (List ℕ)) (faults faults' : ℕ) → IsAtEnd left'
+    → IfSome left (λ bytes. IsCheckable bytes × Says asked bytes end text) → Told result end text held held' faults faults' → result ≡ Done → Answers asked left left' held held'
+told_done Check None left' result end text held held' faults faults' at says told is = (at, says)
+told_done Origins None left' result end text held held' faults faults' at says told is = (at, says)
+told_done Check (Some bytes) left' result end text held held' faults faults' at (fits, says) told is =
+    let all = subst (λ r. Told r end text held held' faults faults') is told in
+    (at, checked-done bytes text held held' fits (subst (λ e. Says Check bytes e text) all.0 says) all.1)
+told_done Origins (Some bytes) left' result end text held held' faults faults' at (fits, says) told is =
+    let all = subst (λ r. Told r end text held held' faults faults') is told in
+    (at, origins-done bytes text held held' fits (subst (λ e. Says Origins bytes e text) all.0 says) all.1)
+
+pub told_wrong : (asked : Question) (entry : ℕ) (left left' : Option (List ℕ)) (result end : Status) (text : List ℕ) (held held' : Option (List ℕ)) (faults faults' : ℕ) → IsAtEnd left'
+    → IfSome left (λ bytes. IsCheckable bytes × Says asked bytes end text) → Told result end text held held' faults faults' → result ≡ statuses.Wrong entry → ChecksWrong entry left left' held held'
+told_wrong asked entry None left' result end text held held' faults faults' at says told is = (at, says)
+told_wrong asked entry (Some bytes) left' result end text held held' faults faults' at (fits, says) told is =
+    let all = subst (λ r. Told r end text held held' faults faults') is told in
+    (at, says-wrong asked entry bytes text held held' fits (subst (λ e. Says asked bytes e text) all.0 says) all.1)
+
+pub told_partly : (asked : Question) (left left' : Option (List ℕ)) (result end : Status) (text : List ℕ) (held held' : Option (List ℕ)) (faults faults' : ℕ) → IsAtEnd left'
+    → IfSome left (λ bytes. IsCheckable bytes × Says asked bytes end text) → Told result end text held held' faults faults' → result ≡ WriteFault → AnswersPartly asked left left' held held'
+told_partly Check None left' result end text held held' faults faults' at says told is = (at, says)
+told_partly Origins None left' result end text held held' faults faults' at says told is = (at, says)
+told_partly Check (Some bytes) left' result end text held held' faults faults' at (fits, (checked, found, same, written)) told is =
+    let all = subst (λ r. Told r end text held held' faults faults') is told in
+    (at, (checked, fits, found, subst (TakesSome held held') written all.1))
+told_partly Origins (Some bytes) left' result end text held held' faults faults' at (fits, (origins, are, same, written)) told is =
+    let all = subst (λ r. Told r end text held held' faults faults') is told in
+    (at, (origins, fits, are, subst (TakesSome held held') written all.1))
