@@ -1,7 +1,7 @@
 -- What the sink took, by what is said of a journal and how the writing of that ended.
-use Rattle.std.proofs.Common.{◌≡◌, ◌∙◌, ℕ, List, Option, Some, None, length, refl, subst}
+use Rattle.std.proofs.Common.{◌≡◌, ℕ, List, Option, Some, None, length, refl, subst}
 use Rattle.std.specs.Prelude.{IfSome}
-use Rattle.vg_io.specs.Streams.{IsAtEnd, Rose, Takes, TakesSome}
+use Rattle.vg_io.specs.Streams.{IsAtEnd, Takes, TakesSome}
 use Rattle.vg_checking.specs.declared.checking.Checked.TheVariants as checkeds
 use Rattle.vg_tracing.specs.declared.found.Found.TheVariants as found
 use Rattle.vg_run.specs.declared.journals.Question.{Question}
@@ -9,8 +9,8 @@ use Rattle.vg_run.specs.declared.journals.Question.TheVariants.{Check, Origins}
 use Rattle.vg_run.specs.declared.top.Status.{Status}
 use Rattle.vg_run.specs.declared.top.Status.TheVariants.{Done, WriteFault}
 use Rattle.vg_run.specs.declared.top.Status.TheVariants as statuses
-use Rattle.vg_run.specs.Checks.{ChecksWrong, IsCheckable, WritesFound, WritesLegal, WritesWrong, checked_text, legal_text, wrong_text}
-use Rattle.vg_run.specs.Origins.{WritesOrigins, WritesSomeOrigins, found_text}
+use Rattle.vg_run.specs.Checks.{ChecksWrong, IsCheckable, WritesLegal, WritesWrong, legal_text}
+use Rattle.vg_run.specs.Origins.{WritesOrigins}
 use Rattle.vg_run.specs.JournalsWithin.{Answers, AnswersPartly, Says, Told}
 
 -- whether a call is done, and which entry it ends with as wrong
