@@ -1,6 +1,6 @@
 //! The mode of each display, and the event bit.
 
-ghost use Rattle.std.specs.Prelude.{◌≡◌, ◌≤◌, length, IfOk};
+ghost use Rattle.std.specs.Prelude.{◌≡◌, ◌≤◌, length, map, take, IfOk, Some};
 ghost use Rattle.std.specs.List.{All};
 ghost use Rattle.vg_wire.specs.Modes.{trimmed};
 ghost use Rattle.vg_plugs.specs.Plugs.{FitsDisplay, IsSize, cleared, is_size, mode_at, plugged, unplugged, with_displays, with_mode};
@@ -39,16 +39,32 @@ pub fn is_size(width: u32, height: u32) -> bool
     1 <= width && width <= MOST_WIDTH && 1 <= height && height <= MOST_HEIGHT
 }
 
+/// A mode for each size.
+fn enabled(alloc: Global, displays: &[(u32, u32)]) -> Result<Vec<Option<(u32, u32)>>, AllocError>
+    ensures { IfOk result (λ modes. modes.items ≡ map Some displays.now) }
+{
+    displays.iter().map(|size| Some(*size)).collect(alloc)
+}
+
+/// How many of these modes are left where those that are none are taken from the end.
+fn trimmed_count(modes: &[Option<(u32, u32)>]) -> usize
+    ensures { trimmed modes.now ≡ take result modes.now }
+    ensures { result ≤ length modes.now }
+{
+    let mut left = modes.len();
+    while left > 0 && modes[left - 1].is_none() {
+        left -= 1;
+    }
+    left
+}
+
 impl Plugs {
     /// Displays of these sizes in pixels, with the event bit clear.
     pub fn new(alloc: Global, displays: &[(u32, u32)]) -> Result<Plugs, AllocError>
         requires { All IsSize displays.now }
         ensures { IfOk result (λ plugs. plugs ≡ with_displays displays.now) }
     {
-        let mut modes = Vec::with_capacity(alloc, displays.len())?;
-        for display in displays {
-            modes.push(Some(*display))?;
-        }
+        let modes = enabled(alloc, displays)?;
         Ok(Plugs {
             modes,
             changed: false,
@@ -117,15 +133,8 @@ impl Plugs {
         requires { length self.now.modes ≤ 16 }
         ensures { IfOk result (λ modes. modes ≡ trimmed self.now.modes) }
     {
-        let mut modes = Vec::with_capacity(alloc, self.modes.len())?;
-        let mut enabled = 0;
-        for (scanout, mode) in self.modes.iter().enumerate() {
-            if mode.is_some() {
-                enabled = scanout + 1;
-            }
-            modes.push(*mode)?;
-        }
-        modes.truncate(enabled);
+        let modes = self.modes.as_slice();
+        let modes = modes[..trimmed_count(modes)].to_vec(alloc)?;
         Ok(Modes::from_vec(modes))
     }
 }
