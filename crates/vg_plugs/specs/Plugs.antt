@@ -1,5 +1,5 @@
 -- The modes of displays that are plugged and unplugged.
-use Rattle.std.specs.Prelude.{◌≡◌, ◌&&◌, ℕ, Bool, true, false, nat_le, nat_lt, if◌then◌else◌, List, map, length, get_or, set, Option, Some, None}
+use Rattle.std.specs.Prelude.{◌≡◌, ◌&&◌, ℕ, Bool, true, false, nat_le, nat_lt, if◌then◌else◌, List, map, length, get_or, set, Some, None}
 use Rattle.vg_limits.specs.Limits.{version_2}
 use Rattle.vg_wire.specs.Modes.{Mode}
 

@@ -11,6 +11,7 @@ use vg_wire::Modes;
 
 /// The most pixels in a row of a display, and the most rows.
 const MOST_WIDTH: u32 = 1920;
+
 const MOST_HEIGHT: u32 = 1080;
 
 /// The mode of each display, its width and height in pixels, or none where nothing is plugged; and the event bit, which says that
@@ -48,8 +49,8 @@ fn enabled(alloc: Global, displays: &[(u32, u32)]) -> Result<Vec<Option<(u32, u3
 
 /// How many of these modes are left where those that are none are taken from the end.
 fn trimmed_count(modes: &[Option<(u32, u32)>]) -> usize
-    ensures { trimmed modes.now ≡ take result modes.now }
-    ensures { result ≤ length modes.now }
+    ensures trimmed { trimmed modes.now ≡ take result modes.now }
+    ensures within { result ≤ length modes.now }
 {
     let mut left = modes.len();
     while left > 0 && modes[left - 1].is_none() {
