@@ -10,7 +10,7 @@ use Rattle.vg_wire.specs.declared.request.Malformed.{Malformed}
 use Rattle.vg_wire.specs.declared.request.Queue.{Queue}
 use Rattle.vg_wire_ext.specs.Request.{request_of}
 use Rattle.vg_client_holds.specs.declared.act.Act.{Act}
-use Rattle.vg_client_holds.specs.declared.act.Act.TheVariants.{Enter, Reserve, Store, Load, Export, Import, Release, Free, Take, Drop, Await, Denied, Leave}
+use Rattle.vg_client_holds.specs.declared.act.Act.TheVariants.{Enter, Reserve, Store, Load, Export, Import, Release, Free, Take, Drop, Await, Denied, Mode, Unplug, Sync, Events, Ack, Leave}
 use Rattle.vg_client_holds.specs.declared.act.ActReply.{ActReply}
 use Rattle.vg_client_holds.specs.declared.act.ActReply.TheVariants as replies
 use Rattle.vg_client_holds.specs.declared.act.What.{What}
@@ -88,6 +88,7 @@ grows h (Reserve width height format bytes) (replies.Exported token) e = more_it
 grows h (Reserve width height format bytes) (replies.Imported key geometry pages) e = more_itself h
 grows h (Reserve width height format bytes) (replies.Bytes bs) e = more_itself h
 grows h (Reserve width height format bytes) replies.Kept e = more_itself h
+grows h (Reserve width height format bytes) (replies.Events set) e = more_itself h
 grows h (Reserve width height format bytes) replies.Last e = more_itself h
 grows h (Reserve width height format bytes) (replies.Refused refusal) e = more_itself h
 grows h (Store key offset bytes times) reply e = more_itself h
@@ -99,6 +100,7 @@ grows h (Import token) (replies.Reserved key pages) e = more_itself h
 grows h (Import token) (replies.Exported given) e = more_itself h
 grows h (Import token) (replies.Bytes bs) e = more_itself h
 grows h (Import token) replies.Kept e = more_itself h
+grows h (Import token) (replies.Events set) e = more_itself h
 grows h (Import token) replies.Last e = more_itself h
 grows h (Import token) (replies.Refused refusal) e = more_itself h
 grows h (Release key) reply e = absurd (clash (sym e))
@@ -109,11 +111,17 @@ grows h (Take scanout) (replies.Exported token) e = more_itself h
 grows h (Take scanout) (replies.Imported key geometry pages) e = more_itself h
 grows h (Take scanout) (replies.Bytes bs) e = more_itself h
 grows h (Take scanout) replies.Kept e = more_itself h
+grows h (Take scanout) (replies.Events set) e = more_itself h
 grows h (Take scanout) replies.Last e = more_itself h
 grows h (Take scanout) (replies.Refused refusal) e = more_itself h
 grows h (Drop scanout) reply e = absurd (clash (sym e))
 grows h (Await lane ordinal) reply e = more_itself h
 grows h (Denied what) reply e = more_itself h
+grows h (Mode scanout width height) reply e = more_itself h
+grows h (Unplug scanout) reply e = more_itself h
+grows h (Sync call) reply e = more_itself h
+grows h Events reply e = more_itself h
+grows h Ack reply e = more_itself h
 grows h Leave reply e = absurd (clash (sym e))
 
 pub still_allowed : (h : Holds) (act : Act) (reply : ActReply) (queue : Queue) (bytes : List ℕ) → gives_up act ≡ false → Allowed h queue bytes → Allowed (update h act reply) queue bytes

@@ -25,6 +25,7 @@ use Rattle.vg_share.specs.Lists.{is_number, without_first}
 abbrev pub first_holds : Setup → ℕ → Holds
 first_holds setup client = record {
   client = client;
+  host = setup.host && client == setup.clients + 1;
   displays = length setup.displays;
   pages = setup.pages;
   buffers = [];

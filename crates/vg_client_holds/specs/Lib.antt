@@ -1,3 +1,4 @@
 pub mod Setup
 pub mod Holds
+pub mod Host
 pub mod ForeignWithin

@@ -76,6 +76,24 @@ pub enum Act {
     Denied {
         what: What,
     },
+    /// The host plugs a display of this size in pixels, or resizes it.
+    Mode {
+        scanout: u32,
+        width: u32,
+        height: u32,
+    },
+    /// The host unplugs a display.
+    Unplug {
+        scanout: u32,
+    },
+    /// The client has waited for the host's call of this number, which plugged or unplugged a display.
+    Sync {
+        call: u64,
+    },
+    /// Asks for the event bit of the configuration space (VIRTIO 1.2, 5.7.4, VIRTIO_GPU_EVENT_DISPLAY).
+    Events,
+    /// Clears it.
+    Ack,
     /// The client has left.
     Leave,
 }
@@ -105,6 +123,10 @@ pub enum ActReply {
     },
     /// Others hold the buffer still.
     Kept,
+    /// Whether the event bit is set.
+    Events {
+        set: bool,
+    },
     /// No one holds the buffer any more, and the client takes it down.
     Last,
     Refused {

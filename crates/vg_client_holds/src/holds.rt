@@ -21,6 +21,8 @@ use vg_wire_ext::{Command, read_request};
 pub struct Holds {
     /// The client's number.
     pub client: u32,
+    /// Whether it is the host, which plugs and unplugs displays.
+    pub host: bool,
     /// How many displays there are.
     pub displays: u32,
     /// How many guest pages there are.
@@ -41,6 +43,7 @@ impl Holds {
     {
         Holds {
             client,
+            host: setup.host && client == setup.clients + 1,
             displays: setup.displays.len() as u32,
             pages: setup.pages,
             buffers: Buffers::new(alloc),

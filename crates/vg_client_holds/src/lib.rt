@@ -6,10 +6,12 @@ mod buffers;
 mod foreign;
 mod growing;
 mod holds;
+mod host;
 mod setup;
 
 pub use act::{Act, ActReply, What};
 pub use buffers::Buffers;
 pub use growing::holds_only_grow;
 pub use holds::{Holds, denied, denied_command};
+pub use host::is_part;
 pub use setup::{Setup, accepted_features_are_faultless};
