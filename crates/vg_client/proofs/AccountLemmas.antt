@@ -1,5 +1,5 @@
 -- What a client's acts and commands change of what its token says.
-use Rattle.std.proofs.Common.{◌≡◌, ◌≢◌, inl, inr, ⊎_elim, ◌+◌, ◌<◌, ◌≤◌, ◌==◌, ◌∙◌, sym, ap, refl, subst, arith, eq-eqb, ne_eqb, true≢false, ℕ, Bool, true, false, nat_lt, cond, ◌&&◌, List, [], ◌∷◌, ◌++◌, length, map, append_assoc, append-nil, length-append, Some, is_none, Result, Ok, Err}
+use Rattle.std.proofs.Common.{◌≡◌, ◌≢◌, inl, inr, ⊎_elim, ◌+◌, ◌<◌, ◌≤◌, ◌==◌, ◌∙◌, sym, ap, refl, subst, arith, eq-eqb, ne_eqb, true≢false, ℕ, Bool, true, false, nat_lt, cond, not, ◌&&◌, List, [], ◌∷◌, ◌++◌, length, map, append_assoc, append-nil, length-append, Some, is_none, Result, Ok, Err}
 use Rattle.std.specs.Prelude.{OnErr}
 use Rattle.std.specs.List.{AllByRecursion, list_all, range_with_len}
 use Rattle.std.proofs.lemmas.Bool.Decides.{nat_tests}
@@ -8,6 +8,7 @@ use mathlib.Core.Option.{some}
 use lib.ListN.{get_elem?}
 use Rattle.vg_laws.proofs.Bools.{and-both}
 use Rattle.vg_client_holds.specs.declared.setup.Setup.{Setup}
+use Rattle.vg_client_holds.specs.Holds.{denied_of}
 use Rattle.vg_client_holds.specs.declared.act.Act as the_act
 use Rattle.vg_client_holds.specs.declared.act.Act.TheVariants as acts
 use Rattle.vg_client_holds.specs.declared.act.ActReply.{ActReply}
@@ -147,6 +148,7 @@ wait-added token token' fence n awaited active current all step apart =
       first = none;
       present = now.present;
       denied = tt;
+      part = tt;
       idle = λ gives. absurd (true≢false (sym gives));
       known = awaited.known;
     }) all step apart awaited.acted in
@@ -207,8 +209,11 @@ all-below (order ∷ orders) (t ∷ tickets) ticket are all o (inl is) same =
 all-below (order ∷ orders) (t ∷ tickets) ticket are all o (inr has) same = all-below orders tickets ticket are.1 (and-both (is_below ticket t) (list_all (is_below ticket) tickets) all).1 o has same
 
 -- what was submitted the client may ask
-pub allows-asked : (token mid : Token) (requests : ℕ → Request) (ticket : Ticket) → Submitted token requests ticket mid → display.allows token.account.holds (requests ticket.fence.ordinal) ≡ true
-allows-asked token mid requests ticket is = ap is_none is.allowed
+pub allows-asked : (token mid : Token) (requests : ℕ → Request) (ticket : Ticket) → Submitted token requests ticket mid → token.account.holds.host ≡ false
+    → display.allows token.account.holds (requests ticket.fence.ordinal) ≡ true
+allows-asked token mid requests ticket is guest = 
+    let request = requests ticket.fence.ordinal in
+    ap (λ (host : Bool). not host && is_none (denied_of token.account.holds request.queue request.bytes)) guest ∙ ap is_none is.allowed
 
 -- a command that was begun
 pub begun-added : (token mid : Token) (requests : ℕ → Request) (ticket : Ticket) (begun : List Ticket) → IsActive token → AreOut token.account.out begun → list_all (is_below ticket) begun ≡ true → Submitted token requests ticket mid → IsCurrent display mid
@@ -370,7 +375,7 @@ new-account setup token is =
 pub new-may-enter : (setup : Setup) (token : Token) → IsNew setup token → MayAct token acts.Enter
 new-may-enter setup token is =
     let Present : List Entry → Type 0 = λ xs. AllByRecursion (λ e. is_leave e ≡ false) xs in
-    record { account_is = new-account setup token is; first = λ _. refl; present = subst Present (sym is.mine) tt; denied = tt; idle = λ _. is.idle; known = tt }
+    record { account_is = new-account setup token is; first = λ _. refl; present = subst Present (sym is.mine) tt; denied = tt; part = tt; idle = λ _. is.idle; known = tt }
 
 -- what was begun comes back, in its order: so far these orders have, and these tickets are left
 pub record IsFinishing (token : Token) (left : List Ticket) (run : Bool) (token' : Token) : Type 0 where

@@ -24,3 +24,18 @@ update-displays holds act reply = refl
 pub updated-displays : (holds : Holds) (entry : Entry) → (updated holds entry).displays ≡ holds.displays
 updated-displays holds (entries.Act client call act reply) = update-displays holds act reply
 updated-displays holds (entries.Command client call request reply) = refl
+
+-- nor who the client is
+update-host : (holds : Holds) (act : Act) (reply : ActReply) → (update holds act reply).host ≡ holds.host
+update-host holds (Reserve width height format bytes) (act_replies.Reserved key pages) = refl
+update-host holds (Import token) (act_replies.Imported key geometry pages) = refl
+update-host holds (Release key) act_replies.Kept = refl
+update-host holds (Release key) act_replies.Last = refl
+update-host holds (Free key) act_replies.Ok = refl
+update-host holds (Take scanout) act_replies.Ok = refl
+update-host holds (Drop scanout) act_replies.Ok = refl
+update-host holds act reply = refl
+
+pub updated-host : (holds : Holds) (entry : Entry) → (updated holds entry).host ≡ holds.host
+updated-host holds (entries.Act client call act reply) = update-host holds act reply
+updated-host holds (entries.Command client call request reply) = refl

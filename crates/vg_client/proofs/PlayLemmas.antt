@@ -1,5 +1,5 @@
 -- What the tasks of a call give, one entry after another.
-use Rattle.std.proofs.Common.{◌≡◌, ◌⊎◌, ◌+◌, ◌<◌, ◌≤◌, ◌∙◌, sym, ap, refl, subst, arith, inl, inr, ⊎_elim, ℕ, Bool, true, false, cond, not, ◌||◌, suc, List, [], ◌∷◌, ◌++◌, length, map, filter, slice_set, take, drop, append_assoc, append-nil, length-append, Option, Some, None, Result, Ok, Err}
+use Rattle.std.proofs.Common.{◌≡◌, ◌⊎◌, ◌+◌, ◌<◌, ◌≤◌, ◌∙◌, sym, ap, refl, subst, arith, inl, inr, ⊎_elim, true≢false, ℕ, Bool, true, false, cond, not, ◌||◌, suc, List, [], ◌∷◌, ◌++◌, length, map, filter, slice_set, take, drop, append_assoc, append-nil, length-append, Option, Some, None, Result, Ok, Err}
 use Rattle.std.specs.Prelude.{IfErr, IfOk, OnOk}
 use Rattle.std.specs.List.{AllByRecursion, position, range_with_len, remove}
 use mathlib.Core.List.{IsPrefix}
@@ -16,7 +16,8 @@ use Rattle.vg_client_holds.specs.declared.act.What.TheVariants.{Name}
 use Rattle.vg_machine.specs.Entries.{Entry}
 use Rattle.vg_client_holds.specs.declared.holds.Holds.{Holds}
 use Rattle.vg_client_holds.specs.Holds.{Deniable, gives_up}
-use Rattle.vg_machine.specs.Order.{call_of, is_leave, updated}
+use Rattle.vg_client_holds.specs.Host.{IsPart}
+use Rattle.vg_machine.specs.Order.{MayBeDenied, call_of, is_leave, updated}
 use Rattle.vg_calls.specs.declared.call.Call.{Call}
 use Rattle.vg_client.specs.declared.caller.Caller.{Caller}
 use Rattle.vg_client.specs.declared.given.Added.{Added}
@@ -45,8 +46,8 @@ use Rattle.vg_tasks.specs.Keeps.{KeepsByChange, KeepsByDeed, KeepsHolds}
 use Rattle.vg_client.specs.Outcomes.{HasPlayed, IsNumbered, last_given}
 use Rattle.vg_tasks.specs.Table.{page_entry}
 use Rattle.vg_driver.specs.Tickets.{Order, Token}
-use Rattle.vg_client.specs.Accounts.{AreOut, IsAccount, IsActive, IsNextOf, IsAdded, IsAddedAct, IsPresent, IsKnown, IsUnadded, MayAct, MayBeDenied, leaves, mine_of}
-use Rattle.vg_client.proofs.HoldsLemmas.{updated-displays}
+use Rattle.vg_client.specs.Accounts.{AreOut, IsAccount, IsActive, IsNextOf, IsAdded, IsAddedAct, IsPresent, IsKnown, IsUnadded, MayAct, leaves, mine_of}
+use Rattle.vg_client.proofs.HoldsLemmas.{updated-displays, updated-host}
 use Rattle.vg_client.proofs.OutcomeLemmas.{played-more}
 use Rattle.vg_client.proofs.OwnLemmas.{all-map, all-more, numbers-more}
 use Rattle.vg_tasks.proofs.TaskLemmas.{fit-append, weights-append}
@@ -217,6 +218,7 @@ small-more used used' known known' task entry small next learns =
     let contexts = contexts-little task.change (given_of entry) known.contexts small.current_contexts in
     subst P (sym learns) (record {
       few_displays = let same = updated-displays known.holds entry in omega (arith, same, small.few_displays);
+      guest = updated-host known.holds entry ∙ small.guest;
       current = names.0;
       made = omega (arith, names.1, small.made, next);
       current_contexts = contexts.0;
@@ -551,6 +553,7 @@ denied-told client client' what gathered gathered' gave ready has (reply, done, 
     let used = done.used in
     let small : IsSmall client'.token.account.used (known client) = record {
       few_displays = ready.small.few_displays;
+      guest = ready.small.guest;
       current = ready.small.current;
       made = omega (arith, ready.small.made, used);
       current_contexts = ready.small.current_contexts;
@@ -644,12 +647,13 @@ end-unleft client client' tasks mine token are plays added un =
     (mine, (known client', [], subst P are plays), un.mine ∙ added.own, prefix_trans client.token.seen client'.token.seen token.seen added.more un.more)
 
 -- an act of a task may be the next
-pub may-deed : (token : Token) (act : the_act.Act) → IsActive token → IsFitDeed (deeds.Act act) → (token.account.out ≡ []) ⊎ KeepsByDeed (deeds.Act act) → MayAct token act
-may-deed token act active fit idle = record {
+pub may-deed : (token : Token) (act : the_act.Act) → IsActive token → token.account.holds.host ≡ false → IsFitDeed (deeds.Act act) → (token.account.out ≡ []) ⊎ KeepsByDeed (deeds.Act act) → MayAct token act
+may-deed token act active guest fit idle = record {
   account_is = active.account_is;
   first = λ none. absurd (omega (arith, active.begun, none));
   present = active.present;
   denied = deniable act fit;
+  part = of_guest act fit;
   idle = λ gives. ⊎_elim (λ none. none) (λ (keeps : gives_up act ≡ false). absurd (cc (sym keeps ∙ gives))) idle;
   known = knows act fit;
 }
@@ -659,9 +663,35 @@ may-deed token act active fit idle = record {
     deniable (acts.Denied what) fit = absurd fit
     deniable act fit = tt
 
+    of_guest : (act : the_act.Act) → IsFitDeed (deeds.Act act) → IsPart token.account.holds act
+    of_guest acts.Enter fit = tt
+    of_guest (acts.Await lane ordinal) fit = tt
+    of_guest (acts.Denied Name) fit = tt
+    of_guest (acts.Mode scanout width height) fit = absurd fit
+    of_guest (acts.Unplug scanout) fit = absurd fit
+    of_guest acts.Leave fit = tt
+    of_guest act fit = guest
+
     knows : (act : the_act.Act) → IsFitDeed (deeds.Act act) → IsKnown token.seen act
     knows (acts.Await lane ordinal) fit = absurd fit
+    knows (acts.Sync call) fit = absurd fit
     knows act fit = tt
+
+-- and so may the telling of a denial
+pub may-deny : (token : Token) (what : What) → IsActive token → token.account.holds.host ≡ false → Deniable token.account.holds what → MayAct token (acts.Denied what)
+may-deny token what active guest may = record {
+  account_is = active.account_is;
+  first = λ none. absurd (omega (arith, active.begun, none));
+  present = active.present;
+  denied = may;
+  part = of_guest what;
+  idle = λ gives. absurd (true≢false (sym gives));
+  known = tt;
+}
+  where
+    of_guest : (what : What) → IsPart token.account.holds (acts.Denied what)
+    of_guest Name = tt
+    of_guest what = guest
 
 -- what a task does gives up a hold with nothing out alone
 pub make-idle : {B : Type 0} (client0 client : Caller B) (left left1 : List Task) (task : Task) → left ≡ task ∷ left1 → client.token.account.out ≡ client0.token.account.out

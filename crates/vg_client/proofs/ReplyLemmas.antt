@@ -15,7 +15,7 @@ use Rattle.vg_client.specs.declared.given.Given.{Given}
 use Rattle.vg_client.specs.declared.given.Given.TheVariants as givens
 use Rattle.vg_client.specs.Callers.{HasFewPages, IsFewPages}
 use Rattle.vg_tasks.specs.Fits.{HasFewBytes}
-use Rattle.vg_limits.specs.Limits.{version_1}
+use Rattle.vg_limits.specs.Limits.{version_2}
 
 few-replied : (refusal : Option ShareRefusal) (state next : State) (reply : ActReply) → HasFewPages reply → HasFewPages (replied_by refusal state next reply).1
 few-replied None state next reply few = few
@@ -25,7 +25,7 @@ few-released : (b : Bool) → HasFewPages (cond b act_replies.Kept act_replies.L
 few-released true = tt
 few-released false = tt
 
-few-taken : (bytes : ℕ) (xs : List ℕ) → bytes ≤ version_1.bytes → length (take (pages_of bytes) xs) ≤ 300
+few-taken : (bytes : ℕ) (xs : List ℕ) → bytes ≤ version_2.bytes → length (take (pages_of bytes) xs) ≤ 2025
 few-taken bytes xs small = let is = length-take (pages_of bytes) xs in omega (arith, is, small)
 
 few-effect : (state : State) (client : ℕ) (act : Act) → HasFewBytes act → HasFewPages (effect_of state client act).1

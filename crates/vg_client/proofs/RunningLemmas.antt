@@ -1,10 +1,11 @@
 -- What a client's token says stays so while commands of it are out.
-use Rattle.std.proofs.Common.{◌≡◌, ◌≢◌, ◌⊎◌, inl, inr, ⊎_elim, ◌+◌, ◌-◌, ◌<◌, ◌≤◌, ◌==◌, ◌∙◌, sym, ap, refl, subst, arith, eq-eqb, ℕ, zero, suc, Bool, true, false, cond, List, [], ◌∷◌, ◌++◌, map, filter, append_assoc, append-nil, Option, Some, None, is_none}
+use Rattle.std.proofs.Common.{◌≡◌, ◌≢◌, ◌⊎◌, inl, inr, ⊎_elim, ◌+◌, ◌-◌, ◌<◌, ◌≤◌, ◌==◌, ◌∙◌, sym, ap, refl, subst, arith, eq-eqb, ℕ, zero, suc, Bool, true, false, cond, not, ◌&&◌, List, [], ◌∷◌, ◌++◌, map, filter, append_assoc, append-nil, Option, Some, None, is_none}
 use Rattle.std.specs.List.{range_with_len}
 use Rattle.std.proofs.lemmas.Bool.Decides.{nat_tests}
 use mathlib.Core.List.{IsPrefix}
 use mathlib.Core.Logic.{dite}
 use native.Mathlib.Decide.{dec_lt}
+use Rattle.vg_laws.proofs.Bools.{and-both}
 use Rattle.vg_history.specs.Entries.{EachOnce, IsSameCall}
 use Rattle.vg_history.specs.History as history
 use Rattle.vg_history.specs.History.{AllowedBy, HasFence, Ordered, holds_after, ordinals}
@@ -22,15 +23,15 @@ use Rattle.vg_client_holds.specs.declared.act.ActReply.{ActReply}
 use Rattle.vg_client_holds.specs.declared.act.What.{What}
 use Rattle.vg_client_holds.specs.declared.holds.Holds.{Holds}
 use Rattle.vg_client_holds.specs.declared.setup.Setup.{Setup}
-use Rattle.vg_client_holds.specs.Holds.{denied_of, first_holds, update}
+use Rattle.vg_client_holds.specs.Holds.{Allowed, denied_of, first_holds, update}
 use Rattle.vg_machine.specs.Entries.{Entry}
 use Rattle.vg_device.specs.declared.request.Reply.{Reply}
 use Rattle.vg_device.specs.declared.request.Request.{Request}
 use Rattle.vg_machine.specs.Lane.{lane_of}
-use Rattle.vg_machine.specs.Order.{FenceOrder, IsAllowed, IsFirst, call_of, client_of, holds_of, is_leave, is_of_lane, of_client}
+use Rattle.vg_machine.specs.Order.{FenceOrder, IsAllowed, IsFirst, SyncOrder, call_of, client_of, holds_of, is_leave, is_of_lane, of_client}
 use Rattle.vg_machine.specs.Replay.{display}
 use Rattle.vg_driver.specs.Tickets.{Account, Order, Token}
-use Rattle.vg_client.specs.Accounts.{IsKnown, IsPresent, IsStanding, MayAct, MayBeDenied, mine_of}
+use Rattle.vg_client.specs.Accounts.{IsKnown, IsPresent, IsStanding, MayAct, mine_of}
 use Rattle.vg_client.specs.Own.{OwnStand, StandsOwn}
 use Rattle.vg_client.proofs.OwnLemmas.{all-has, all-of, filter-in, own-append, own-in, own-numbers, own-of, range-split, upto-range}
 
@@ -63,9 +64,19 @@ allowed-at : (client : ℕ) (holds : Holds) (xs ys : List Entry) (e : Entry) →
 allowed-at client holds [] ys e all = all.0
 allowed-at client holds (x ∷ xs) ys e all = allowed-at client (history.updated display client holds x) xs ys e all.1
 
+not-is : (b : Bool) → not b ≡ true → b ≡ false
+not-is true is = absurd (cc is)
+not-is false is = refl
+
 none-is : (o : Option What) → is_none o ≡ true → o ≡ None
 none-is None is = refl
 none-is (Some what) is = absurd (cc is)
+
+-- what the machine allows the client may ask
+asked-allowed : (holds : Holds) (request : Request) → display.allows holds request ≡ true → Allowed holds request.queue request.bytes × (holds.host ≡ false)
+asked-allowed holds request allows =
+    let both = and-both (not holds.host) (is_none (denied_of holds request.queue request.bytes)) allows in
+    (none-is (denied_of holds request.queue request.bytes) both.1, not-is holds.host both.0)
 
 -- commands don't change what a client holds
 abbrev IsCommand : Entry → Type 0
@@ -172,7 +183,8 @@ stands-command setup token before ys o reply is present out longer whole =
       };
       give_up = tt;
       fence = tt;
-      allowed = none-is (denied_of (holds_of setup o.client before) o.request.queue o.request.bytes) (subst (λ (c : ℕ). display.allows (holds_of setup c before) o.request ≡ true) (sym owner) allow);
+      sync = tt;
+      allowed = asked-allowed (holds_of setup o.client before) o.request (subst (λ (c : ℕ). display.allows (holds_of setup c before) o.request ≡ true) (sym owner) allow);
     }
 
 stands-order : (setup : Setup) (token : Token) (before ys : List Entry) (e : Entry) (o : Order) → IsStanding setup token → IsPresent token → Has token.account.out o → IsEntryOf o e → IsLonger token before → IsWhole setup token.account.number (before ++ (e ∷ ys)) → StandsOwn setup before e
@@ -266,11 +278,6 @@ first-act client call used act reply number first none =
     let one : call ≡ 1 = omega arith in
     subst P (sym (first none)) one
 
--- what may be denied is allowed to stand
-may-allowed : (holds : Holds) (client call : ℕ) (act : the_act.Act) (reply : ActReply) → MayBeDenied holds act → IsAllowed holds (Act client call act reply)
-may-allowed holds client call (acts.Denied what) reply may = may
-may-allowed holds client call act reply may = tt
-
 -- each number that the client has drawn is an entry's that it has seen
 abbrev pub AllSeen : Token → Type 0
 AllSeen token = (i : ℕ) → 0 < i → i ≤ token.account.used → HasCall token.seen token.account.number i
@@ -284,6 +291,11 @@ fence-more lane ordinal seen log more fence = λ j above below.
 fence-order : (client call : ℕ) (act : the_act.Act) (reply : ActReply) (seen log : List Entry) → IsPrefix seen log → IsKnown seen act → FenceOrder log (Act client call act reply)
 fence-order client call (acts.Await lane ordinal) reply seen log more known = fence-more lane ordinal seen log more known
 fence-order client call act reply seen log more known = tt
+
+-- and so does what the host did
+sync-order : (client call : ℕ) (act : the_act.Act) (reply : ActReply) (seen log : List Entry) → IsPrefix seen log → IsKnown seen act → SyncOrder log (Act client call act reply)
+sync-order client call (acts.Sync n) reply seen log more known = (known.0, has_prefix seen log known.0 more known.1, known.2)
+sync-order client call act reply seen log more known = tt
 
 own-command : (token : Token) (e : Entry) → Owned token e → (Has (mine_of token) e → ⊥) → IsCommand e
 own-command token e (inl mine) none = absurd (none mine)
@@ -321,7 +333,8 @@ stands-act setup token rest act reply is may all longer once =
           own-numbers n used log once (λ f h at. within f (longer.owned f h at))
           (λ i low high. let c = all (may.idle gives) i low high in (c.0, has_left token.seen rest c.0 c.1, c.2, c.3)) ∙ ap (range_with_len 1) last;
       fence = fence-order n call act reply token.seen log (rest, refl) may.known;
-      allowed = subst Holds_allow (sym held) (may-allowed token.account.holds n call act reply may.denied);
+      sync = sync-order n call act reply token.seen log (rest, refl) may.known;
+      allowed = subst Holds_allow (sym held) (may.denied, may.part);
     }
 
 pub standing-act : (setup : Setup) (token token' : Token) (act : the_act.Act) (number : ℕ) (reply : ActReply) → IsStanding setup token → MayAct token act → (token.account.out ≡ [] → AllSeen token) → IsCurrent display token' → Acted display token act token' number reply → IsStanding setup token'

@@ -8,7 +8,7 @@ use Rattle.vg_book.specs.Places.{HasCall, IsCurrent, IsPlaced, begun_of}
 use Rattle.vg_book.specs.Views.{IsEntryOf}
 use Rattle.vg_client_holds.specs.declared.setup.Setup.{Setup}
 use Rattle.vg_client_holds.specs.declared.act.Act as the_act
-use Rattle.vg_client_holds.specs.declared.act.Act.TheVariants.{Enter, Await, Leave, Denied}
+use Rattle.vg_client_holds.specs.declared.act.Act.TheVariants.{Enter, Await, Leave, Sync}
 use Rattle.vg_client_holds.specs.declared.act.ActReply.{ActReply}
 use Rattle.vg_machine.specs.Entries.{Entry}
 use Rattle.vg_device.specs.declared.request.Request.{Request}
@@ -16,11 +16,12 @@ use Rattle.vg_device.specs.declared.request.Reply.{Reply}
 use Rattle.vg_history.specs.declared.entry.Entry.TheVariants.{Act, Command}
 use Rattle.vg_client_holds.specs.declared.holds.Holds.{Holds}
 use Rattle.vg_device.specs.ActStep.{act_step}
-use Rattle.vg_client_holds.specs.Holds.{Deniable, first_holds, gives_up}
+use Rattle.vg_client_holds.specs.Holds.{first_holds, gives_up}
+use Rattle.vg_client_holds.specs.Host.{IsPart}
 use Rattle.vg_machine.specs.Lane.{lane_of}
 use Rattle.vg_machine.specs.Replay.{display}
 use Rattle.vg_device.specs.State.{State, start}
-use Rattle.vg_machine.specs.Order.{call_of, client_of, is_leave, updated}
+use Rattle.vg_machine.specs.Order.{HasPlug, MayBeDenied, call_of, client_of, is_leave, updated}
 use Rattle.vg_driver.specs.declared.ticket.Answer.{Answer}
 use Rattle.vg_driver.specs.declared.ticket.Ticket.{Ticket}
 use Rattle.vg_driver.specs.Tickets.{Finished, IsOf, Order, Spent, Submitted, Token}
@@ -75,23 +76,20 @@ pub record IsActive (token : Token) : Type 0 where
   pub begun : 1 ≤ token.account.used
   pub present : IsPresent token
 
--- What is denied may be denied.
-abbrev pub MayBeDenied : Holds → the_act.Act → Type 0
-MayBeDenied holds (Denied what) = Deniable holds what
-MayBeDenied holds act = Unit {0}
-
--- A fence of which the act tells is known: all commands of its lane up to it have been seen.
+-- A fence of which the act tells is known: all commands of its lane up to it have been seen. So is the host's call of which it tells.
 abbrev pub IsKnown : List Entry → the_act.Act → Type 0
 IsKnown seen (Await lane ordinal) = HasFence display lane ordinal seen
+IsKnown seen (Sync call) = HasPlug call seen
 IsKnown seen act = Unit {0}
 
 -- The act may be the client's next: the first is enter, and none follows when it has left. One that gives up a hold comes with nothing
--- out, and one that tells of a fence when that is known.
+-- out, and one that tells of a fence or of the host when that is known.
 pub record MayAct (token : Token) (act : the_act.Act) : Type 0 where
   pub account_is : IsAccount token
   pub first : token.account.used ≡ 0 → act ≡ Enter
   pub present : IsPresent token
   pub denied : MayBeDenied token.account.holds act
+  pub part : IsPart token.account.holds act
   pub idle : gives_up act ≡ true → token.account.out ≡ []
   pub known : IsKnown token.seen act
 

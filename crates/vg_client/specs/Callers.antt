@@ -44,10 +44,11 @@ pub record ClientState (B : Type 0) : Type 0 where
 abbrev pub known : {B : Type 0} → Caller B → Known
 known client = record { holds = client.token.account.holds; names = client.names; contexts = client.contexts; shows = client.shows.items }
 
--- No more names are current than were made, of buffers and of contexts, no more were made than numbers drawn, and there are few
--- scanouts.
+-- No more names are current than were made, of buffers and of contexts, no more were made than numbers drawn, there are few
+-- scanouts, and the client isn't the host.
 pub record IsSmall (used : ℕ) (known : Known) : Type 0 where
   pub few_displays : known.holds.displays ≤ 16
+  pub guest : known.holds.host ≡ false
   pub current : length known.names.current ≤ known.names.made
   pub made : known.names.made ≤ used
   pub current_contexts : length known.contexts.current ≤ known.contexts.made
@@ -97,9 +98,9 @@ pub record HasDone {B : Type 0} (client : Caller B) (entry : Entry) (done : Adde
   pub placed : IsPlaced client'.token.seen client.token.account.number (begun_of client.token.account) (client.token.account.used + 1)
   pub apart : HasCall client.token.seen client.token.account.number (client.token.account.used + 1) → ⊥
 
--- The pages of a reply are few enough to be told in one request: those of the largest buffer are 300.
+-- The pages of a reply are few enough to be told in one request: those of the largest buffer are 2,025.
 abbrev pub HasFewPages : ActReply → Type 0
-HasFewPages (Reserved key pages) = length pages ≤ 300
+HasFewPages (Reserved key pages) = length pages ≤ 2025
 HasFewPages reply = Unit {0}
 
 abbrev pub IsFewPages : Given → Type 0

@@ -50,7 +50,7 @@ pub(crate) fn enter<B: Naming, R: Wait>(
     book: &Book<Display, B>,
     token: Token<B>,
 ) -> Result<Caller<B>, Token<B>>
-    requires { (setup : Setups) × IsNew setup token × (length setup.displays ≤ 16) }
+    requires { (setup : Setups) × IsNew setup token × (length setup.displays ≤ 16) × (setup.host ≡ false) }
     ensures entered { MatchResult result (λ client. HasEntered token client) (λ left. IsUnadded token left) }
     ensures out { IfOk result HasTickets }
 {

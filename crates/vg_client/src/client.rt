@@ -49,7 +49,7 @@ impl<B: Naming> Client<B> {
         book: &Book<Display, B>,
         token: ClientToken<Display, B>,
     ) -> Result<Client<B>, (ClientToken<Display, B>, AllocError)>
-        requires { (setup : Setups) × IsNew setup token × (length setup.displays ≤ 16) }
+        requires { (setup : Setups) × IsNew setup token × (length setup.displays ≤ 16) × (setup.host ≡ false) }
         ensures { MatchResult result (λ client. HasEntered token client.caller × (client.stopped ≡ false)) (λ left. IsUnadded token left.0) }
     {
         match enter(rt, alloc, book, token) {

@@ -83,6 +83,7 @@ fn make<B: Naming, N: Rings, R: Wait>(
     deed: Deed,
 ) -> Result<Added, AllocError>
     requires active { IsActive client.old.token }
+    requires guest { client.old.token.account.holds.host ≡ false }
     requires out { AreOut client.old.token.account.out client.old.begun.items }
     requires fit { IsFitDeed deed }
     requires idle { (client.old.token.account.out ≡ []) ⊎ KeepsByDeed deed }
@@ -154,6 +155,7 @@ fn make_ask<B: Naming, N: Rings, R: Wait>(
     ask: &Ask,
 ) -> Result<Added, AllocError>
     requires active { IsActive client.old.token }
+    requires guest { client.old.token.account.holds.host ≡ false }
     requires out { AreOut client.old.token.account.out client.old.begun.items }
     requires ask { IsAsk ask.now }
     ensures done { IfOk result (λ added. (entry : Entries)
@@ -178,6 +180,7 @@ fn submit<B: Naming, N: Rings, R: Wait>(
     ask: &Ask,
 ) -> Result<Added, AllocError>
     requires active { IsActive client.old.token }
+    requires guest { client.old.token.account.holds.host ≡ false }
     requires out { AreOut client.old.token.account.out client.old.begun.items }
     requires ask { IsAsk ask.now }
     requires allowed { denied_for client.old.token.account.holds ask.now ≡ None }

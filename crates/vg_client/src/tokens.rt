@@ -1,6 +1,6 @@
 //! What a client does by its token: an act, a wait for a fence, and commands that go to the device and come back.
 
-ghost use Rattle.std.specs.Prelude.{◌≡◌, ℕ, ◌+◌, [], None, IfOk, OnErr, OnOk};
+ghost use Rattle.std.specs.Prelude.{◌≡◌, ℕ, ◌+◌, [], false, None, IfOk, OnErr, OnOk};
 ghost use Rattle.vg_history.specs.declared.entry.Entry.TheVariants as entries;
 ghost use Rattle.vg_client_holds.specs.declared.act.Act.TheVariants as acts;
 ghost use Rattle.vg_client_holds.specs.declared.act.ActReply.TheVariants as act_replies;
@@ -73,6 +73,7 @@ pub(crate) fn begin<B: Naming, N: Rings, R: Wait>(
     requires out { AreOut token.old.account.out begun.now.items }
     requires ask { IsAsk ask.now }
     requires allowed { denied_for token.old.account.holds ask.now ≡ None }
+    requires guest { token.old.account.holds.host ≡ false }
     ensures begun { IfOk result (λ ticket. IsBegun token.old (request_for ask.now) ticket token.new) }
     ensures err { OnErr result (token.new ≡ token.old) }
 {
@@ -98,6 +99,7 @@ pub(crate) fn ask<B: Naming, N: Rings, R: Wait>(
     requires out { AreOut token.old.account.out begun.now.items }
     requires ask { IsAsk ask.now }
     requires allowed { denied_for token.old.account.holds ask.now ≡ None }
+    requires guest { token.old.account.holds.host ≡ false }
     ensures added { IfOk result (λ answer. (ordinal : ℕ)
         × IsAdded token.old answer.entry (entries.Command token.old.account.number (token.old.account.used + 1) (request_for ask.now ordinal) answer.reply) token.new) }
     ensures err { OnErr result (IsUnadded token.old token.new) }

@@ -169,9 +169,9 @@ made_ordinal : (ask : Ask) (ordinal : ℕ) → (request_for ask ordinal).ordinal
 made_ordinal (asks.Command way command) ordinal = refl
 made_ordinal (asks.Raw queue room shape bytes) ordinal = refl
 
-pub next_for : (ask : Ask) (holds : Holds) (lists : DriverLists) (ordinal : ℕ) (request : Request) (count : ℕ) → IsMadeFor ask ordinal request → denied_for holds ask ≡ None → queue_for ask ≡ lists.queue
+pub next_for : (ask : Ask) (holds : Holds) (lists : DriverLists) (ordinal : ℕ) (request : Request) (count : ℕ) → IsMadeFor ask ordinal request → denied_for holds ask ≡ None → holds.host ≡ false → queue_for ask ≡ lists.queue
     → ordinal ≡ lane_count (lane_for ask) lists.published + 1 → IsNeededFor ask count → HasRoom lists count → length lists.published < 2 ^ 63 - 1 → IsNext holds lists request
-next_for ask holds lists ordinal request count made allowed queue next needed room last = record {
+next_for ask holds lists ordinal request count made allowed guest queue next needed room last = record {
   queue_is = ap (λ q. q.queue) made.is ∙ (made_queue ask ordinal ∙ queue);
   lane = made.lane;
   lane_is = made.lane_is;
@@ -182,6 +182,7 @@ next_for ask holds lists ordinal request count made allowed queue next needed ro
   needed = (count, made.needed count needed, room);
   last = last;
   allowed = made.denied holds ∙ allowed;
+  guest = guest;
 }
 
 -- the lane that it goes by is one that there is

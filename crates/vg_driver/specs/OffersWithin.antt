@@ -1,5 +1,5 @@
 -- A request that is published next, and what came back of one.
-use Rattle.std.specs.Prelude.{◌≡◌, ℕ, ◌+◌, ◌-◌, ◌^◌, ◌<◌, ◌≤◌, length, Option, Some, None}
+use Rattle.std.specs.Prelude.{◌≡◌, ℕ, ◌+◌, ◌-◌, ◌^◌, ◌<◌, ◌≤◌, false, length, Option, Some, None}
 use Rattle.vg_chain.specs.Space.{most_request, most_room}
 use Rattle.vg_chain.specs.Made.{IsCount, IsNeeded}
 use Rattle.vg_cargo.specs.Cargo.{IsLane, ParcelData}
@@ -24,6 +24,7 @@ pub record IsNext (holds : Holds) (lists : DriverLists) (request : Request) : Ty
   pub needed : (count : ℕ) × IsNeeded request.shape (length request.bytes) request.room count × HasRoom lists count
   pub last : length lists.published < 2 ^ 63 - 1
   pub allowed : Allowed holds request.queue request.bytes
+  pub guest : holds.host ≡ false
 
 -- The parcel of a request, for this head.
 pub record IsParcelOf (request : Request) (head : ℕ) (parcel : ParcelData) : Type 0 where

@@ -1,6 +1,6 @@
 //! Both queues of a device, as its clients share them.
 
-ghost use Rattle.std.specs.Prelude.{◌≡◌, ℕ, true, None, IfOk, IfSome, MatchResult};
+ghost use Rattle.std.specs.Prelude.{◌≡◌, ℕ, true, false, None, IfOk, IfSome, MatchResult};
 ghost use Rattle.vg_book.specs.Tokens.{Watched};
 ghost use Rattle.vg_wire.specs.declared.request.Queue.TheVariants as queues;
 ghost use Rattle.vg_ring.specs.Making.{IsNewDriver};
@@ -48,6 +48,7 @@ fn submit_on<R: Wait, B: vg_book::Naming, Q: vg_ring::Naming + OfQueue>(
     requires queue { Q.queue ≡ queue_for ask.now }
     requires ask { IsAsk ask.now }
     requires allowed { denied_for token.old.account.holds ask.now ≡ None }
+    requires guest { token.old.account.holds.host ≡ false }
     ensures { MatchResult result (λ ticket. Submitted token.old (request_for ask.now) ticket token.new) (λ _. token.new ≡ token.old) }
 {
     let backoff = Backoff::new();
@@ -247,6 +248,7 @@ impl<B: vg_book::Naming, N: Rings> Driver<B, N> {
     ) -> Result<Ticket, AllocError>
         requires ask { IsAsk ask.now }
         requires allowed { denied_for token.old.account.holds ask.now ≡ None }
+        requires guest { token.old.account.holds.host ≡ false }
         ensures { MatchResult result (λ ticket. Submitted token.old (request_for ask.now) ticket token.new) (λ _. token.new ≡ token.old) }
     {
         match ask.queue() {

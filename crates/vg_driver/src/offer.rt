@@ -1,6 +1,6 @@
 //! Publishing a request of a client.
 
-ghost use Rattle.std.specs.Prelude.{◌≡◌, ◌-◌, ◌^◌, ◌<◌, ◌≤◌, None, length, IfOk, MatchResult};
+ghost use Rattle.std.specs.Prelude.{◌≡◌, ◌-◌, ◌^◌, ◌<◌, ◌≤◌, false, None, length, IfOk, MatchResult};
 ghost use Rattle.vg_chain.specs.Space.{most_request, most_room};
 ghost use Rattle.vg_chain.specs.Made.{IsCount};
 ghost use Rattle.vg_cargo.specs.Cargo.{IsLane};
@@ -70,6 +70,7 @@ pub(crate) fn offer<B: vg_book::Naming, Q: vg_ring::Naming + OfQueue>(
     requires queue { Q.queue ≡ queue_for ask.now }
     requires ask { IsAsk ask.now }
     requires allowed { denied_for token.old.account.holds ask.now ≡ None }
+    requires guest { token.old.account.holds.host ≡ false }
     ensures { MatchResult result (λ ticket. MayOffer token.old (request_for ask.now) ticket token.new) (λ _. token.new ≡ token.old) }
 {
     half.reap_all(book);

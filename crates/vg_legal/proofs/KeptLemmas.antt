@@ -106,7 +106,7 @@ all-stand setup count H before (entry ∷ more) ordered is own owned =
     let moved : before ++ (entry ∷ more) ≡ (before ++ entry ∷ []) ++ more = simp append_assoc in
     let rest = all-stand setup count H (before ++ entry ∷ []) more ordered (is ∙ moved) (λ client low high. (own client low high).1) owned.1 in
     record {
-      order = (record { lane = lane-order H before more entry is ordered here.lane; call = here.call; give_up = here.give_up; fence = here.fence }, rest.order);
+      order = (record { lane = lane-order H before more entry is ordered here.lane; call = here.call; give_up = here.give_up; fence = here.fence; sync = here.sync }, rest.order);
       allowed = (here.allowed, rest.allowed);
     }
 

@@ -79,6 +79,7 @@ act-named (act_replies.Exported token) client call es named = named
 act-named (act_replies.Imported key geometry pages) client call es named = named
 act-named act_replies.Kept client call es named = named
 act-named act_replies.Last client call es named = named
+act-named (act_replies.Events set) client call es named = named
 act-named (act_replies.Refused refusal) client call es named = named
 
 named-call : (H es : List Entry) (x : Entry) → Ordered display H → Has H x → IsPrefix es H → NamesBy display (gift_in x) (client_of x) (call_of x) es → HasCall es (client_of x) (call_of x)

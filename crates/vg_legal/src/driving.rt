@@ -87,8 +87,9 @@ fn with_rings<B: Naming + Send + Sync, G: Gate, R: Threads + Wait + Sync>(
     ensures journal { IfOk result (IsLegalJournal script) }
     ensures completed { IfOk result (λ journal. (control cursor : DeviceLists) × HaveCompleted journal.entries control cursor) }
 {
-    let control = Ring::make::<Carried<Display, B>>(alloc, Queue::Control, 64)?;
-    let cursor = Ring::make::<Carried<Display, B>>(alloc, Queue::Cursor, 16)?;
+    let (control_size, cursor_size) = setup.queues;
+    let control = Ring::make::<Carried<Display, B>>(alloc, Queue::Control, control_size)?;
+    let cursor = Ring::make::<Carried<Display, B>>(alloc, Queue::Cursor, cursor_size)?;
     let device = Device {
         opened,
         control,

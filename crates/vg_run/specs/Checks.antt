@@ -9,7 +9,7 @@ use Rattle.vg_checking.specs.declared.checking.Checked.TheVariants as checkeds
 use Rattle.vg_checking.specs.Checking.{IsFound}
 use Rattle.vg_run.specs.Headline.{IsRun}
 use Rattle.vg_run.specs.Generates.{IsGenOfSome}
-use Rattle.vg_limits.specs.Limits.{version_1}
+use Rattle.vg_limits.specs.Limits.{version_2}
 
 -- The words after the program's name are `check`.
 abbrev pub IsCheck : List (List ℕ) → Type 0
@@ -29,7 +29,7 @@ IsCommand words = IsRun words ⊎ IsCheck words ⊎ IsGenOfSome words ⊎ IsOrig
 
 -- No more bytes than a journal may have that is read.
 abbrev pub IsCheckable : List ℕ → Type 0
-IsCheckable bytes = length bytes ≤ version_1.journal
+IsCheckable bytes = length bytes ≤ version_2.journal
 
 -- The line `legal E entries F frames`.
 unfoldable pub legal_text : (entries frames : ℕ) → List ℕ

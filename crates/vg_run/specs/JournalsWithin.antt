@@ -15,13 +15,13 @@ use Rattle.vg_run.specs.declared.top.Status.TheVariants.{Done, Usage, ReadFault,
 use Rattle.vg_run.specs.declared.top.Status.TheVariants as statuses
 use Rattle.vg_run.specs.Checks.{Checks, ChecksPartly, IsCheckable, checked_text}
 use Rattle.vg_run.specs.Origins.{Tells, TellsPartly, found_text}
-use Rattle.vg_limits.specs.Limits.{version_1}
+use Rattle.vg_limits.specs.Limits.{version_2}
 
 -- Why nothing was found of what a source had.
 abbrev pub Unchecked : Status → Option (List ℕ) → ℕ → ℕ → Type 0
 Unchecked (statuses.Journal line) left faults faults' = IfSome left (λ bytes. IsCheckable bytes × IsRefusedAt bytes line) × (faults' ≡ faults)
 Unchecked ReadFault left faults faults' = Rose faults faults'
-Unchecked TooLong left faults faults' = IfSome left (λ bytes. version_1.journal < length bytes) × (faults' ≡ faults)
+Unchecked TooLong left faults faults' = IfSome left (λ bytes. version_2.journal < length bytes) × (faults' ≡ faults)
 Unchecked NoMemory left faults faults' = faults' ≡ faults
 Unchecked (statuses.Script line kind) left faults faults' = ⊥
 Unchecked (statuses.Wrong entry) left faults faults' = ⊥

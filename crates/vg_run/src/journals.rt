@@ -6,14 +6,14 @@ ghost use Rattle.vg_journal_lines.specs.Refusals.{IsRefusedAt};
 ghost use Rattle.vg_run.specs.Checks.{ChecksWrong, IsCheckable, wrong_text};
 ghost use Rattle.vg_run.specs.JournalsWithin.{Answers, AnswersPartly, EndsFound, Says, Told, Unchecked};
 ghost use Rattle.vg_run.specs.Status.{EndsCheck, IsFaultless};
-ghost use Rattle.vg_limits.specs.Limits.{version_1};
+ghost use Rattle.vg_limits.specs.Limits.{version_2};
 
 use crate::check_command::say_check;
 use crate::origins_command::say_origins;
 use crate::top::Status;
 use std::alloc::{AllocError, Global};
 use vg_io::{ReadError, Sink, Source, read_all, write_all};
-use vg_limits::MOST_JOURNAL;
+use vg_limits::version_2::MOST_JOURNAL;
 
 /// What is asked of a journal.
 #[derive(Clone, Copy)]
@@ -49,16 +49,16 @@ pub(crate) fn answer_from<S: Source, K: Sink>(
         → IfSome (S.left source.old) (λ bytes. IsCheckable bytes × IsRefusedAt bytes line) × (sink.new ≡ sink.old) }
     ensures read_fault { result ≡ Status.ReadFault
         → Rose (S.faults source.old) (S.faults source.new) × (sink.new ≡ sink.old) }
-    ensures read_early { result ≡ Status.ReadFault → GivesUpTo (S.left source.old) (S.left source.new) version_1.journal }
+    ensures read_early { result ≡ Status.ReadFault → GivesUpTo (S.left source.old) (S.left source.new) version_2.journal }
     ensures too_long { result ≡ Status.TooLong
-        → IfSome (S.left source.old) (λ bytes. version_1.journal < length bytes) × (sink.new ≡ sink.old) }
+        → IfSome (S.left source.old) (λ bytes. version_2.journal < length bytes) × (sink.new ≡ sink.old) }
     ensures write_fault { result ≡ Status.WriteFault → Rose (K.faults sink.old) (K.faults sink.new)
         × AnswersPartly asked (S.left source.old) (S.left source.new) (K.held sink.old) (K.held sink.new) }
     ensures no_memory { result ≡ Status.NoMemory → sink.new ≡ sink.old }
     ensures faultless { IsFaultless result
         → (S.faults source.new ≡ S.faults source.old) × (K.faults sink.new ≡ K.faults sink.old) }
     ensures read_before { result ≡ Status.WriteFault → S.faults source.new ≡ S.faults source.old }
-    ensures taken { GivesUpTo (S.left source.old) (S.left source.new) (version_1.journal + 1) }
+    ensures taken { GivesUpTo (S.left source.old) (S.left source.new) (version_2.journal + 1) }
     ensures read_count { S.faults source.old ≤ S.faults source.new }
     ensures write_count { K.faults sink.old ≤ K.faults sink.new }
 {
@@ -75,8 +75,8 @@ fn said_from<S: Source>(alloc: Global, asked: Question, source: &mut S) -> Resul
     ensures ends { IfOk result (λ said. EndsFound said.end) }
     ensures err { IfErr result (λ status. Unchecked status (S.left source.old) (S.faults source.old) (S.faults source.new)) }
     ensures same { OnOk result (S.faults source.new ≡ S.faults source.old) }
-    ensures taken { GivesUpTo (S.left source.old) (S.left source.new) (version_1.journal + 1) }
-    ensures early { result ≡ Err Status.ReadFault → GivesUpTo (S.left source.old) (S.left source.new) version_1.journal }
+    ensures taken { GivesUpTo (S.left source.old) (S.left source.new) (version_2.journal + 1) }
+    ensures early { result ≡ Err Status.ReadFault → GivesUpTo (S.left source.old) (S.left source.new) version_2.journal }
     ensures count { S.faults source.old ≤ S.faults source.new }
 {
     let bytes = journal_bytes(alloc, source)?;
@@ -107,8 +107,8 @@ fn journal_bytes<S: Source>(alloc: Global, source: &mut S) -> Result<Vec<u8>, St
     ensures within { IfOk result (λ bytes. IsCheckable bytes.items) }
     ensures err { IfErr result (λ status. Unchecked status (S.left source.old) (S.faults source.old) (S.faults source.new)) }
     ensures same { OnOk result (S.faults source.new ≡ S.faults source.old) }
-    ensures taken { GivesUpTo (S.left source.old) (S.left source.new) (version_1.journal + 1) }
-    ensures early { result ≡ Err Status.ReadFault → GivesUpTo (S.left source.old) (S.left source.new) version_1.journal }
+    ensures taken { GivesUpTo (S.left source.old) (S.left source.new) (version_2.journal + 1) }
+    ensures early { result ≡ Err Status.ReadFault → GivesUpTo (S.left source.old) (S.left source.new) version_2.journal }
     ensures count { S.faults source.old ≤ S.faults source.new }
 {
     match read_all(alloc, source, MOST_JOURNAL) {

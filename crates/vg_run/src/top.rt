@@ -9,7 +9,7 @@ ghost use Rattle.vg_run.specs.Checks.{Checks, ChecksPartly, ChecksWrong, IsCheck
 ghost use Rattle.vg_run.specs.Generates.{IsGen, IsGenOfSome, Sums, SumsPartly};
 ghost use Rattle.vg_run.specs.Origins.{Tells, TellsPartly};
 ghost use Rattle.vg_run.specs.Status.{EndsGen, IsFaultless};
-ghost use Rattle.vg_limits.specs.Limits.{version_1};
+ghost use Rattle.vg_limits.specs.Limits.{version_2};
 
 use crate::gen_command::gen_from;
 use crate::journals::{Question, answer_from};
@@ -94,11 +94,11 @@ pub fn vgpu<R: Threads + Wait + Sync, S: Source, K: Sink, G: Gate>(
     ensures read_early { IsRun (map string_bytes words.now) → result ≡ Status.ReadFault
         → GivesUpTo (S.left source.old) (S.left source.new) 16777216 }
     ensures read_early_journal { ReadsJournal (map string_bytes words.now) → result ≡ Status.ReadFault
-        → GivesUpTo (S.left source.old) (S.left source.new) version_1.journal }
+        → GivesUpTo (S.left source.old) (S.left source.new) version_2.journal }
     ensures too_long { IsRun (map string_bytes words.now) → result ≡ Status.TooLong
         → IfSome (S.left source.old) (λ bytes. 16777216 < length bytes) × (sink.new ≡ sink.old) }
     ensures too_long_journal { ReadsJournal (map string_bytes words.now) → result ≡ Status.TooLong
-        → IfSome (S.left source.old) (λ bytes. version_1.journal < length bytes) × (sink.new ≡ sink.old) }
+        → IfSome (S.left source.old) (λ bytes. version_2.journal < length bytes) × (sink.new ≡ sink.old) }
     ensures write_fault { IsRun (map string_bytes words.now) → result ≡ Status.WriteFault → Rose (K.faults sink.old) (K.faults sink.new)
         × RunsPartly (S.left source.old) (S.left source.new) (K.held sink.old) (K.held sink.new) }
     ensures write_fault_check { IsCheck (map string_bytes words.now) → result ≡ Status.WriteFault → Rose (K.faults sink.old) (K.faults sink.new)
@@ -122,7 +122,7 @@ pub fn vgpu<R: Threads + Wait + Sync, S: Source, K: Sink, G: Gate>(
     ensures read_before { result ≡ Status.WriteFault → S.faults source.new ≡ S.faults source.old }
 
     ensures taken { IsRun (map string_bytes words.now) → GivesUpTo (S.left source.old) (S.left source.new) 16777217 }
-    ensures taken_journal { ReadsJournal (map string_bytes words.now) → GivesUpTo (S.left source.old) (S.left source.new) (version_1.journal + 1) }
+    ensures taken_journal { ReadsJournal (map string_bytes words.now) → GivesUpTo (S.left source.old) (S.left source.new) (version_2.journal + 1) }
     ensures taken_gen { IsGenOfSome (map string_bytes words.now) → source.new ≡ source.old }
     ensures read_count { S.faults source.old ≤ S.faults source.new }
     ensures write_count { K.faults sink.old ≤ K.faults sink.new }

@@ -107,6 +107,7 @@ lines-in s number limits low high =
         gives_one = gives-label s number i d limits within _ refl;
         waits_one = limits.known (number - 1) [] at i d within;
       },
+      refl,
     )
 
 module _ {X : Type 0} (token : X → Token) (lines : X → List Line) (labels : X → List ℕ) where

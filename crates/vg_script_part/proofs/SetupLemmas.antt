@@ -1,13 +1,14 @@
 -- A script within its limits gives a setup.
-use Rattle.std.proofs.Common.{refl, arith, ℕ, List, [], ◌∷◌}
+use Rattle.std.proofs.Common.{refl, inr, ℕ, List, [], ◌∷◌}
 use Rattle.std.specs.List.{AllByRecursion, list_any}
 use Rattle.std.proofs.lemmas.List.Elements.{recursion_from_All}
+use Rattle.vg_limits.specs.Limits.{version_2}
 use Rattle.vg_client_holds.specs.Setup.{AreDisplays, IsSetup}
 use Rattle.vg_script.specs.declared.types.Script.{Script}
 use Rattle.vg_script.specs.Limits.{DisplayInLimits, ScriptInLimits}
 use Rattle.vg_script_part.specs.Setup.{is_blob, is_context, is_edid, is_uuid, setup_of}
 
-by-recursion : (displays : List (ℕ × ℕ)) → AllByRecursion DisplayInLimits displays → AreDisplays displays
+by-recursion : (displays : List (ℕ × ℕ)) → AllByRecursion DisplayInLimits displays → AreDisplays version_2 displays
 by-recursion [] all = tt
 by-recursion ((width, height) ∷ more) all = ((all.0.0.0, all.0.0.1, all.0.1.0, all.0.1.1), by-recursion more all.1)
 
@@ -25,5 +26,7 @@ displays-in script limits = record {
     context = list_any is_context script.without;
     left = refl;
   };
-  clients = omega (arith, limits.clients);
+  clients = limits.clients;
+  queues = inr refl;
+  host = λ other. refl;
 }

@@ -50,6 +50,7 @@ pub record IsLineCall (displays count : ℕ) (call : Call) : Type 0 where
 -- A client has at most so many lines, each within its limits.
 abbrev pub AreInLimits : Setup → ℕ → List Line → Type 0
 AreInLimits setup count lines = (length setup.displays ≤ 16) × (length lines ≤ 100000) × All (λ line. IsLineCall (length setup.displays) count line.call) lines
+    × (setup.host ≡ false)
 
 -- The client of this token, which is new in a display of this setup, may perform these lines.
 abbrev pub MayPerform : Setup → ℕ → List Line → Token → Type 0

@@ -34,4 +34,6 @@ setup_of script = record {
   pages = script.pages;
   accepted = accepted_of script.without;
   clients = length script.clients;
+  queues = (256, 64);
+  host = false;
 }

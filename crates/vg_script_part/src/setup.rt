@@ -21,6 +21,8 @@ pub fn setup_of(alloc: Global, script: &Script) -> Result<Setup, AllocError>
         pages: script.pages,
         accepted: accepted_of(script.without.as_slice()),
         clients: script.clients.len() as u32,
+        queues: (256, 64),
+        host: false,
     })
 }
 

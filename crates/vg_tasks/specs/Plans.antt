@@ -14,7 +14,7 @@ use Rattle.vg_tasks.specs.declared.task.Change.{Change}
 use Rattle.vg_tasks.specs.declared.task.Change.TheVariants.{NewBuffer, NewBlob, EndOfName}
 use Rattle.vg_tasks.specs.declared.task.Task.{Task}
 use Rattle.vg_tasks.specs.Fits.{IsFit}
-use Rattle.vg_limits.specs.Limits.{version_1}
+use Rattle.vg_limits.specs.Limits.{version_2}
 
 -- How many entries a task can give, with those that follow from it.
 abbrev pub weight_of : Change → ℕ
@@ -34,8 +34,8 @@ IsBodyFit body = Unit {0}
 
 -- A call whose numbers are within its limits, with so many displays.
 abbrev pub IsCallFit : ℕ → Call → Type 0
-IsCallFit displays (calls.Buffer width height format) = (width ≤ version_1.width) × (height ≤ version_1.height)
-IsCallFit displays (calls.Blob size) = size ≤ version_1.bytes
+IsCallFit displays (calls.Buffer width height format) = (width ≤ version_2.width) × (height ≤ version_2.height)
+IsCallFit displays (calls.Blob size) = size ≤ version_2.bytes
 IsCallFit displays (calls.Drop scanout) = scanout < displays
 IsCallFit displays (calls.Submit context ring) = ring < 64
 IsCallFit displays (calls.Begin label timeline body) = IfSome timeline (λ t. t.1 < 64) × IsBodyFit body

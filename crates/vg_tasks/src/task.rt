@@ -4,7 +4,7 @@ ghost use Rattle.std.specs.Prelude.{◌≡◌, ◌≤◌, ◌<◌, ◌^◌, ◌+
 ghost use Rattle.vg_client_holds.specs.declared.act.Act.TheVariants as acts;
 ghost use Rattle.vg_tasks.specs.Table as table;
 ghost use Rattle.vg_tasks.specs.Table.{no_rect, page_entry};
-ghost use Rattle.vg_limits.specs.Limits.{version_1};
+ghost use Rattle.vg_limits.specs.Limits.{version_2};
 
 use std::alloc::{AllocError, Global};
 use vg_calls::ContextRef;
@@ -157,8 +157,8 @@ pub(crate) fn raw_task(queue: Queue, room: u32, shape: Shape, bytes: Seq<u8>) ->
 
 /// Takes guest pages for a buffer of pixels of four bytes.
 pub(crate) fn reserve_task(width: u32, height: u32, format: u32) -> Task
-    requires width { width ≤ version_1.width }
-    requires height { height ≤ version_1.height }
+    requires width { width ≤ version_2.width }
+    requires height { height ≤ version_2.height }
     ensures { result ≡ table.reserve_task width height format }
 {
     Task {

@@ -16,5 +16,5 @@ returns-in-Wait-clause-done g c = map_ok c.make_wait.result (λ added. wait-made
 
 pub make_act-requires-clause-may : goal.make_act-requires-clause-may
 make_act-requires-clause-may g c =
-    may-deed c.args.client.now.token c.in-Act.act c.requires.active (subst IsFitDeed c.in-Act.is c.requires.fit)
+    may-deed c.args.client.now.token c.in-Act.act c.requires.active c.requires.guest (subst IsFitDeed c.in-Act.is c.requires.fit)
     (subst (λ (d : Deed). (c.args.client.now.token.account.out ≡ []) ⊎ KeepsByDeed d) c.in-Act.is c.requires.idle)

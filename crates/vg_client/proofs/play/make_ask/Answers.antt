@@ -1,7 +1,10 @@
-use Rattle.std.proofs.Common.{◌≡◌, ◌∙◌, Some, None, ap, sym}
+use Rattle.std.proofs.Common.{◌≡◌, ◌∙◌, Option, Some, None, ap, subst, sym}
+use Rattle.std.specs.Prelude.{IfSome}
 use Rattle.vg_client_holds.specs.declared.holds.Holds.{Holds}
+use Rattle.vg_client_holds.specs.declared.act.What.{What}
+use Rattle.vg_client_holds.specs.Holds.{Deniable}
 use Rattle.vg_driver.specs.Asks.{denied_for, request_for}
-use Rattle.vg_client.proofs.PlayLemmas.{asked-done, denied-done, map_ok}
+use Rattle.vg_client.proofs.PlayLemmas.{asked-done, denied-done, map_ok, may-deny}
 use Rattle.vg_client.proofs.play.make_ask.Goals as goal
 
 pub returns-in-Some-clause-done : goal.returns-in-Some-clause-done
@@ -17,3 +20,10 @@ returns-in-None-clause-done g c =
     let ask = c.args.ask.now in
     let is : denied_for client.token.account.holds ask ≡ None = ap (λ (h : Holds). denied_for h ask) (sym c.holds.ensures) ∙ sym c.in_ok-what.ensures.first ∙ c.in-None.is in
     map_ok c.submit.result (λ added. asked-done client c.submit.new.client (denied_for client.token.account.holds ask) (request_for ask) is added) c.submit.ensures.done
+
+pub make_act-requires-clause-may : goal.make_act-requires-clause-may
+make_act-requires-clause-may g c =
+    let token = c.args.client.now.token in
+    let told : IfSome (Some c.in-Some.what) (Deniable token.account.holds) =
+    subst (λ (o : Option What). IfSome o (Deniable token.account.holds)) c.in-Some.is (subst (λ (h : Holds). IfSome _ (Deniable h)) c.holds.ensures c.in_ok-what.ensures.deniable) in
+    may-deny token c.in-Some.what c.requires.active c.requires.guest told

@@ -13,5 +13,5 @@ returns-clause-begun g c =
     let law = c.calls_stand_behind.ensures in
     let current = c.requires.active.account_is.standing.current in
     begun-added token mid requests ticket c.args.begun.now.items c.requires.active c.requires.out c.see_last.ensures is
-    (law.drawn token mid (requests ticket.fence.ordinal) is.pass current is.drawn (allows-asked token mid requests ticket is))
+    (law.drawn token mid (requests ticket.fence.ordinal) is.pass current is.drawn (allows-asked token mid requests ticket is c.requires.guest))
     (λ more. law.placed token mid.seen current more) (law.apart token (token.account.used + 1) current (omega arith))

@@ -9,7 +9,7 @@ send-requires-clause-next g c =
     let lists = c.reap_all.new.self in
     let next = c.next_ordinal-ordinal.ensures ∙ ap (λ l. lane_count l lists.published + 1) c.lane.ensures.lane in
     let ready = c.if-not-is_ready.ensures (refl {A = Bool}) in
-    next_for c.args.ask.now c.args.token.now.account.holds lists c.next_ordinal-ordinal.result c.in_ok-request.request c.needed.result c.in_ok-request.ensures c.requires.allowed
+    next_for c.args.ask.now c.args.token.now.account.holds lists c.next_ordinal-ordinal.result c.in_ok-request.request c.needed.result c.in_ok-request.ensures c.requires.allowed c.requires.guest
     (sym c.requires.queue ∙ sym c.is_of_queue.ensures) next c.needed.ensures ready.0 ready.1
 
 pub returns : goal.returns

@@ -2,7 +2,7 @@ use Rattle.vg_script_part.proofs.LineLemmas.{following-first, of-one-setup}
 use Rattle.vg_script_part.proofs.performing.perform.Goals as goal
 
 pub enter-requires : goal.enter-requires
-enter-requires g c = (c.requires.0, c.requires.1.0, c.requires.1.1.0)
+enter-requires g c = (c.requires.0, c.requires.1.0, c.requires.1.1.0, c.requires.1.1.3)
 
 pub follow-requires : goal.follow-requires
 follow-requires g c = (c.requires.0, c.requires.1.1, following-first c.requires.0 c.args.lines.items c.args.token c.in-Ok.client c.requires.1.0 c.in-Ok.ensures.0 c.in-Ok.ensures.1)
