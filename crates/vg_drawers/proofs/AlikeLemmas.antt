@@ -39,13 +39,14 @@ use Rattle.vg_formats.specs.Pixels.{is_empty, is_inside}
 use Rattle.vg_scanout.specs.declared.scanout.Binding.{Binding}
 use Rattle.vg_scanout.specs.declared.scanout.Frame.{Frame}
 use Rattle.vg_scanout.specs.Scanout.{Screen, ScanoutState, after_flush, binding_at, binding_of_screen, bound, bytes_of_screen, frame_bytes, frame_of, fresh_screen, is_past_limit, is_too_large, new_frames, screen_at, screen_of, snapped, unbound, unbound_screen}
+use Rattle.vg_plugs.specs.Plugs.{PlugState, cleared, plugged, unplugged}
 use Rattle.vg_share.specs.declared.share.Geometry.{Geometry}
 use Rattle.vg_share.specs.declared.share.ShareRefusal.{ShareRefusal}
 use Rattle.vg_share.specs.Cells.{repeated}
 use Rattle.vg_share.proofs.CellLemmas.{length-stored}
 use Rattle.vg_share.specs.Share.{ShareState, drop_refusal, ended, entered, export_refusal, exported, free_refusal, freed, import_refusal, imported, is_leased, leased, new_pages, pages_at, place_refusal, release_refusal, released, reserve_refusal, take_refusal, token_key, unleased, with_buffer}
 use Rattle.vg_client_holds.specs.declared.act.Act.{Act}
-use Rattle.vg_client_holds.specs.declared.act.Act.TheVariants.{Enter, Reserve, Store, Load, Export, Import, Release, Free, Take, Drop, Await, Denied, Leave}
+use Rattle.vg_client_holds.specs.declared.act.Act.TheVariants.{Enter, Reserve, Store, Load, Export, Import, Release, Free, Take, Drop, Await, Denied, Mode, Unplug, Sync, Events, Ack, Leave}
 use Rattle.vg_client_holds.specs.declared.act.ActReply.{ActReply}
 use Rattle.vg_device.specs.ActStep.{drop_step, effect_of, free_step, release_step, replied_by, reserve_step, shown_at, shows_key, store_step}
 use Rattle.vg_device.specs.Answered.{answered_with}
@@ -429,7 +430,7 @@ command : (s z : State) (context : ℕ) (c : Command) → Alike s z → Alike (c
 command s z context (TwoD c) e = two_d s z c e
 command s z context (CapsetInfo index) e = e
 command s z context (Capset id version) e = e
-command s z context (Edid n) e = answered _ _ s z _ _ _ _ (ap (λ (t : State). refusal_of (edid_refusals t.setup n)) e) e e
+command s z context (Edid n) e = answered _ _ s z _ _ _ _ (ap (λ (t : State). refusal_of (edid_refusals t.plugs n)) e) e e
 command s z context (AssignUuid id) e = answered _ _ s z _ _ _ _ (λ i. refusal_of (assign_refusals (there s z id e i))) e (λ i. record (e i) { uuids = assigned id (e i).uuids })
 command s z context (CreateBlob id mem flags blob_id size entries) e =
     answered _ _ s z _ _ _ _ (create-blob-refusals s z id mem flags size entries e) e (blobs-of s z (with_blob id size entries) e)
@@ -474,6 +475,9 @@ answer s z queue bytes e = subst (λ r. Alike (refused_or_ran (refusal_of (reque
 
 share-of : (s z : State) (change : ShareState → ShareState) → Alike s z → Alike (record s { share = change s.share }) (record z { share = change z.share })
 share-of s z change e = λ i. record (e i) { share = change (e i).share }
+
+plugs-of : (s z : State) (change : PlugState → PlugState) → Alike s z → Alike (record s { plugs = change s.plugs }) (record z { plugs = change z.plugs })
+plugs-of s z change e = λ i. record (e i) { plugs = change (e i).plugs }
 
 reserve : (s z : State) (client : ℕ) (geometry : Geometry) → Alike s z → Alike (reserve_step s client geometry).0 (reserve_step z client geometry).0
 reserve s z client geometry e =
@@ -522,6 +526,11 @@ act s z client (Take n) e = replied _ _ s z _ _ _ _ (ap (λ (t : State). take_re
 act s z client (Drop n) e = drop-scanout s z client n e
 act s z client (Await lane ordinal) e = e
 act s z client (Denied what) e = e
+act s z client (Mode scanout width height) e = plugs-of s z (plugged scanout width height) e
+act s z client (Unplug scanout) e = plugs-of s z (unplugged scanout) e
+act s z client (Sync number) e = e
+act s z client Events e = e
+act s z client Ack e = plugs-of s z (cleared) e
 act s z client Leave e = share-of s z (λ share. ended client (entered client share)) e
 
 pub counted-alike : (s z : State) → Alike s z → Alike (counted s) (counted z)

@@ -15,7 +15,7 @@ use Rattle.vg_wire_ext.specs.declared.command.Command.TheVariants.{TwoD, CapsetI
 use Rattle.vg_chain.specs.declared.shape.Shape.{Shape}
 use Rattle.vg_chain.specs.declared.shape.Shape.TheVariants.{Plain, Pieces, Indirect, Mixed, Bad}
 use Rattle.vg_client_holds.specs.declared.act.Act as acts
-use Rattle.vg_client_holds.specs.declared.act.Act.TheVariants.{Enter, Reserve, Store, Load, Export, Import, Release, Free, Take, Drop, Await, Denied, Leave}
+use Rattle.vg_client_holds.specs.declared.act.Act.TheVariants.{Enter, Reserve, Store, Load, Export, Import, Release, Free, Take, Drop, Await, Denied, Mode, Unplug, Sync, Events, Ack, Leave}
 use Rattle.vg_client_holds.specs.declared.setup.Setup.{Setup}
 use Rattle.vg_history.specs.declared.entry.Entry.TheVariants as entries
 use Rattle.vg_device.specs.declared.request.Request.{Request}
@@ -81,6 +81,11 @@ acted-same z client (Take n) p = refl
 acted-same z client (Drop n) p = refl
 acted-same z client (Await lane ordinal) p = refl
 acted-same z client (Denied what) p = refl
+acted-same z client (Mode scanout width height) p = refl
+acted-same z client (Unplug scanout) p = refl
+acted-same z client (Sync number) p = refl
+acted-same z client Events p = refl
+acted-same z client Ack p = refl
 acted-same z client Leave p = refl
 
 two_d-same : (z : State) (c : Command2d) (p : Painting ℕ ℕ) → commanded_2d numbers z c p ≡ commanded_2d drawers z c p

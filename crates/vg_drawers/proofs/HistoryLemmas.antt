@@ -4,7 +4,7 @@ use Rattle.std.proofs.lemmas.List.{length-replicate}
 use Rattle.vg_chain.specs.declared.shape.Shape.{Shape}
 use Rattle.vg_chain.specs.declared.shape.Shape.TheVariants.{Plain, Pieces, Indirect, Mixed, Bad}
 use Rattle.vg_client_holds.specs.declared.act.Act.{Act}
-use Rattle.vg_client_holds.specs.declared.act.Act.TheVariants.{Enter, Reserve, Store, Load, Export, Import, Release, Free, Take, Drop, Await, Denied, Leave}
+use Rattle.vg_client_holds.specs.declared.act.Act.TheVariants.{Enter, Reserve, Store, Load, Export, Import, Release, Free, Take, Drop, Await, Denied, Mode, Unplug, Sync, Events, Ack, Leave}
 use Rattle.vg_client_holds.specs.declared.setup.Setup.{Setup}
 use Rattle.vg_history.specs.declared.entry.Entry.TheVariants as entries
 use Rattle.vg_device.specs.declared.request.Request.{Request}
@@ -29,6 +29,11 @@ acted s z client (Take n) e = act s z client (Take n) e
 acted s z client (Drop n) e = act s z client (Drop n) e
 acted s z client (Await lane ordinal) e = act s z client (Await lane ordinal) e
 acted s z client (Denied what) e = act s z client (Denied what) e
+acted s z client (Mode scanout width height) e = act s z client (Mode scanout width height) e
+acted s z client (Unplug scanout) e = act s z client (Unplug scanout) e
+acted s z client (Sync number) e = act s z client (Sync number) e
+acted s z client Events e = act s z client Events e
+acted s z client Ack e = act s z client Ack e
 acted s z client Leave e = act s z client Leave e
 
 requested : (shape : Shape) (s z : State) (request : Request) → Alike s z → Alike (shaped_step shape s request).0 (shaped_step shape z request).0

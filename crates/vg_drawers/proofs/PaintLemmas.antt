@@ -23,7 +23,7 @@ use Rattle.vg_wire_ext.specs.declared.command.Command.TheVariants.{TwoD, CapsetI
 use Rattle.vg_chain.specs.declared.shape.Shape.{Shape}
 use Rattle.vg_chain.specs.declared.shape.Shape.TheVariants.{Plain, Pieces, Indirect, Mixed, Bad}
 use Rattle.vg_client_holds.specs.declared.act.Act as acts
-use Rattle.vg_client_holds.specs.declared.act.Act.TheVariants.{Enter, Reserve, Store, Load, Export, Import, Release, Free, Take, Drop, Await, Denied, Leave}
+use Rattle.vg_client_holds.specs.declared.act.Act.TheVariants.{Enter, Reserve, Store, Load, Export, Import, Release, Free, Take, Drop, Await, Denied, Mode, Unplug, Sync, Events, Ack, Leave}
 use Rattle.vg_history.specs.declared.entry.Entry.TheVariants as entries
 use Rattle.vg_device.specs.declared.request.Request.{Request}
 use Rattle.vg_device.specs.State.{State}
@@ -73,6 +73,11 @@ module _ {X Z : Type 0} (ink : Ink X Z) where
   acted-alike s z client (Drop n) p e = refl
   acted-alike s z client (Await lane ordinal) p e = refl
   acted-alike s z client (Denied what) p e = refl
+  acted-alike s z client (Mode scanout width height) p e = refl
+  acted-alike s z client (Unplug scanout) p e = refl
+  acted-alike s z client (Sync number) p e = refl
+  acted-alike s z client Events p e = refl
+  acted-alike s z client Ack p e = refl
   acted-alike s z client Leave p e = refl
 
   flush-alike : (s z : State) (rect : Rect) (id : ℕ) (p : Painting X Z) → Alike s z → flushed ink s rect id p ≡ flushed ink z rect id p

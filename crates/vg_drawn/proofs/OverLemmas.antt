@@ -46,7 +46,7 @@ use Rattle.vg_drawn.specs.Words.{union_below, word_of, words}
 -- ---- numbers and words
 
 abbrev IsFew : ℕ → ℕ → Type 0
-IsFew entry client = (1 ≤ client) × (client ≤ 16)
+IsFew entry client = (1 ≤ client) × (client ≤ 33)
 
 abbrev IsOfByte : ℕ → ℕ → Type 0
 IsOfByte byte word = word_of byte ≡ word
@@ -55,10 +55,10 @@ few-by : (n : ℕ) (H : List Entry) → All IsOfFew H → AreBy IsFew n H
 few-by n [] all = tt
 few-by n (entry ∷ more) all = (all 0 entry (omega arith), few-by (n + 1) more (λ k d within. all (suc k) d (omega (arith, within))))
 
-word-of-few : (client : ℕ) → 1 ≤ client → client ≤ 16 → word_of client ≡ 2 ^ (client - 1)
+word-of-few : (client : ℕ) → 1 ≤ client → client ≤ 33 → word_of client ≡ 2 ^ (client - 1)
 word-of-few client one few =
     let low : nat_le 1 client ≡ true = grind (arith, nat_tests, one) in
-    let high : nat_le client 16 ≡ true = grind (arith, nat_tests, few) in
+    let high : nat_le client 33 ≡ true = grind (arith, nat_tests, few) in
     λ i. cond (low i && high i) (2 ^ (client - 1)) 0
 
 words-like : AreLike IsFew IsOfByte (λ byte word. Unit {0}) drawers words

@@ -17,9 +17,9 @@ abbrev pub FramesHave : List Frame → List ℕ → (ℕ → ℕ → ℕ) → Ty
 FramesHave frames sets at =
     (length sets ≡ length frames) × ((n : ℕ) (frame : Frame) → slice_get frames n ≡ Some frame → slice_index sets n ≡ union_below (at n) (length frame.pixels))
 
--- The entry is of one of 16 clients.
+-- The entry is of one of 33 clients.
 abbrev pub IsOfFew : Entry → Type 0
-IsOfFew entry = (1 ≤ client_of entry) × (client_of entry ≤ 16)
+IsOfFew entry = (1 ≤ client_of entry) × (client_of entry ≤ 33)
 
 -- The display has gone through these entries, with clients' numbers in the place of the bytes that they store, and the frames have
 -- these clients.

@@ -1,4 +1,5 @@
--- The clients whose bytes a byte comes from, as one word of 16 bits: that of number c - 1 is client c's.
+-- The clients whose bytes a byte comes from, as one word of 64 bits: that of number c - 1 is client c's, of 32 clients and
+-- the host.
 use Rattle.std.specs.Prelude.{ℕ, suc, zero, ◌-◌, ◌^◌, ◌==◌, ◌&&◌, Bool, nat_le, if◌then◌else◌, List, bit_or}
 use Rattle.std.specs.List.{filter, range_with_len}
 use Rattle.std.specs.Int.{bit_at}
@@ -17,9 +18,9 @@ words = record {
   solid = 0;
 }
 
--- The set of the client whose number a byte is, from 1 to 16. Another byte is no one's.
+-- The set of the client whose number a byte is, from 1 to 33. Another byte is no one's.
 abbrev pub word_of : ℕ → ℕ
-word_of byte = if nat_le 1 byte && nat_le byte 16 then 2 ^ (byte - 1) else 0
+word_of byte = if nat_le 1 byte && nat_le byte 33 then 2 ^ (byte - 1) else 0
 
 -- The client is in the set of this word.
 abbrev pub has_client : ℕ → ℕ → Bool
@@ -30,6 +31,6 @@ abbrev pub union_below : (ℕ → ℕ) → ℕ → ℕ
 union_below at zero = 0
 union_below at (suc n) = bit_or (union_below at n) (at n)
 
--- The clients of the set of a word, of 1 to 16, rising.
+-- The clients of the set of a word, of 1 to 33, rising.
 abbrev pub clients_in : ℕ → List ℕ
-clients_in word = filter (has_client word) (range_with_len 1 16)
+clients_in word = filter (has_client word) (range_with_len 1 33)

@@ -4,11 +4,11 @@ ghost use Rattle.std.specs.Prelude.{◌≡◌, length, slice_index};
 ghost use Rattle.vg_drawn.specs.Frames.{GoesOn};
 ghost use Rattle.vg_drawn.specs.Words.{word_of};
 
-/// The set of the client whose number a byte is, from 1 to 16. Another byte is no one's.
-pub(crate) fn word_of(byte: u8) -> u16
+/// The set of the client whose number a byte is, from 1 to 33. Another byte is no one's.
+pub(crate) fn word_of(byte: u8) -> u64
     ensures { result ≡ word_of byte }
 {
-    if 1 <= byte && byte <= 16 {
+    if 1 <= byte && byte <= 33 {
         1 << (byte - 1)
     } else {
         0
@@ -16,7 +16,7 @@ pub(crate) fn word_of(byte: u8) -> u16
 }
 
 /// Those so far, and those of these bytes.
-pub(crate) fn union(all: u16, bytes: &[u8]) -> u16
+pub(crate) fn union(all: u64, bytes: &[u8]) -> u64
     ensures { GoesOn all (length bytes.now) (λ c. word_of (slice_index bytes.now c)) result }
 {
     let mut sum = all;

@@ -23,7 +23,7 @@ pub struct Drawn {
     /// Of nobody: acts change it.
     holds: Holds,
     /// Of each frame the set of its clients.
-    frames: Vec<u16>,
+    frames: Vec<u64>,
 }
 
 impl Drawn {
@@ -53,14 +53,14 @@ impl Drawn {
     }
 
     /// Of each frame so far, the set of the clients whose bytes it has.
-    pub fn frames(&self) -> &[u16]
+    pub fn frames(&self) -> &[u64]
         ensures { result.now ≡ self.now.frames.items }
     {
         self.frames.as_slice()
     }
 
     /// The same, where the display is given up.
-    pub fn into_frames(self) -> Vec<u16>
+    pub fn into_frames(self) -> Vec<u64>
         ensures { result.items ≡ self.frames.items }
     {
         self.frames
@@ -89,7 +89,7 @@ fn step(
 
 /// As many bytes, each of which is the client's number.
 fn numbers(alloc: Global, client: u32, count: usize) -> Result<Seq<u8>, AllocError>
-    requires { client ≤ 16 }
+    requires { client ≤ 33 }
     ensures { IfOk result (λ bytes. bytes ≡ replicate count client) }
 {
     let bytes = vec![in alloc; client as u8; count]?;
@@ -105,7 +105,7 @@ fn act_again(
     act: &Act,
 ) -> Result<(), AllocError>
     requires entries { display.old.entries < 2 ^ 31 - 1 }
-    requires client { client ≤ 16 }
+    requires client { client ≤ 33 }
     ensures { OnOk result (display.new ≡ (act_step display.old client (act_by_client client act.now)).0) }
 {
     match act {

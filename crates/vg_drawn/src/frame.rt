@@ -11,7 +11,7 @@ use vg_cursor::Look;
 
 /// The clients of a frame of a screen of this size in pixels, with a cursor over it that looks so, as a set. Each byte of screen and
 /// image is the number of the client who stored it.
-pub(crate) fn frame_clients(look: &Look<'_>, width: u32, height: u32, screen: &[u8]) -> u16
+pub(crate) fn frame_clients(look: &Look<'_>, width: u32, height: u32, screen: &[u8]) -> u64
     requires whole { length screen.now ≡ 4 * width * height }
     ensures { result ≡ union_below (frame_word (cursor_like look.now) width screen.now) (length screen.now) }
 {
@@ -21,7 +21,7 @@ pub(crate) fn frame_clients(look: &Look<'_>, width: u32, height: u32, screen: &[
     with_image(look, width, height, screen)
 }
 
-fn with_image(look: &Look<'_>, width: u32, height: u32, screen: &[u8]) -> u16
+fn with_image(look: &Look<'_>, width: u32, height: u32, screen: &[u8]) -> u64
     requires whole { length screen.now ≡ 4 * width * height }
     requires shown { look.now.visible ≡ true }
     ensures { result ≡ union_below (frame_word (cursor_like look.now) width screen.now) (length screen.now) }
@@ -37,7 +37,7 @@ fn with_image(look: &Look<'_>, width: u32, height: u32, screen: &[u8]) -> u16
 }
 
 /// Those so far, and those of a row of the screen.
-fn row(all: u16, look: &Look<'_>, y: u32, bytes: &[u8]) -> u16
+fn row(all: u64, look: &Look<'_>, y: u32, bytes: &[u8]) -> u64
     ensures { GoesOn all (length bytes.now) (row_word (cursor_like look.now) y (λ c. word_of (slice_index bytes.now c))) result }
 {
     match on_image(y as usize, look.hot_y, look.y) {
@@ -47,7 +47,7 @@ fn row(all: u16, look: &Look<'_>, y: u32, bytes: &[u8]) -> u16
 }
 
 /// Those so far, and those of a row of the screen over which row j of the image lies.
-fn covered(all: u16, look: &Look<'_>, j: usize, bytes: &[u8]) -> u16
+fn covered(all: u64, look: &Look<'_>, j: usize, bytes: &[u8]) -> u64
     requires { j < 64 }
     ensures { GoesOn all (length bytes.now) (row_by (Some j) (cursor_like look.now) (λ c. word_of (slice_index bytes.now c))) result }
 {
@@ -67,7 +67,7 @@ fn column_over(look: &Look<'_>, c: usize) -> Option<usize>
 }
 
 /// The word of byte c of a pixel, with the image's over it where this is its column.
-fn over(column: Option<usize>, j: usize, c: usize, screen: u16, image: &[u8]) -> u16
+fn over(column: Option<usize>, j: usize, c: usize, screen: u64, image: &[u8]) -> u64
     requires j { j < 64 }
     requires c { c < 4 }
     requires column { IfSome column (λ i. i < 64) }
@@ -83,7 +83,7 @@ fn over(column: Option<usize>, j: usize, c: usize, screen: u16, image: &[u8]) ->
     screen | (word_at(image, pixel + c) | word_at(image, pixel + 3))
 }
 
-fn word_at(image: &[u8], place: usize) -> u16
+fn word_at(image: &[u8], place: usize) -> u64
     ensures { result ≡ word_of (slice_index image.now place) }
 {
     match image.get(place) {

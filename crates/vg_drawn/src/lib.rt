@@ -1,5 +1,5 @@
 //! From whose bytes each frame of a history comes: the display goes through it again, with clients' numbers in the place of the bytes
-//! that they store, and each frame has the clients of its screen and of the cursor over it, as a word of 16 bits.
+//! that they store, and each frame has the clients of its screen and of the cursor over it, as a word of 64 bits.
 #![tactic(auto)]
 
 mod bytes;

@@ -12,7 +12,7 @@ use vg_scanout::Frame;
 pub(crate) fn add_sets(
     alloc: Global,
     display: &Device,
-    sets: &mut Vec<u16>,
+    sets: &mut Vec<u64>,
 ) -> Result<(), AllocError>
     requires cursors { length display.now.scanouts.screens ≤ length display.now.cursors }
     requires frames { length sets.old.items ≤ length display.now.scanouts.frames }
@@ -27,7 +27,7 @@ pub(crate) fn add_sets(
 }
 
 /// The clients of a frame that is made of the display's screen and cursor as they are now.
-fn set_of(alloc: Global, display: &Device, frame: &Frame) -> Result<u16, AllocError>
+fn set_of(alloc: Global, display: &Device, frame: &Frame) -> Result<u64, AllocError>
     requires cursors { length display.now.scanouts.screens ≤ length display.now.cursors }
     requires made { IsOfNow display.now frame.now }
     ensures { IfOk result (λ set. set ≡ set_of display.now frame.now) }

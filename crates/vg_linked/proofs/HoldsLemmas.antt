@@ -1,9 +1,10 @@
 -- A client's holds have its number, and the setup's displays and pages.
 use Rattle.std.proofs.Common.{◌==◌, ℕ, Bool, true, false, cond, List, [], ◌∷◌, refl}
 use Rattle.vg_client_holds.specs.declared.act.Act.{Act}
-use Rattle.vg_client_holds.specs.declared.act.Act.TheVariants.{Enter, Reserve, Store, Load, Export, Import, Release, Free, Take, Drop, Await, Denied, Leave}
+use Rattle.vg_client_holds.specs.declared.act.Act.TheVariants.{Enter, Reserve, Store, Load, Export, Import, Release, Free, Take, Drop, Await, Denied, Mode, Unplug, Sync, Events, Ack, Leave}
 use Rattle.vg_client_holds.specs.declared.act.ActReply.{ActReply}
 use Rattle.vg_client_holds.specs.declared.act.ActReply.TheVariants.{Ok, Reserved, Bytes, Exported, Imported, Kept, Last, Refused}
+use Rattle.vg_client_holds.specs.declared.act.ActReply.TheVariants as replies
 use Rattle.vg_client_holds.specs.declared.holds.Holds.{Holds}
 use Rattle.vg_client_holds.specs.declared.setup.Setup.{Setup}
 use Rattle.vg_client_holds.specs.Holds.{first_holds, update}
@@ -21,6 +22,11 @@ of-updated setup client holds (Load key offset n) reply was = was
 of-updated setup client holds (Export key) reply was = was
 of-updated setup client holds (Await lane ordinal) reply was = was
 of-updated setup client holds (Denied what) reply was = was
+of-updated setup client holds (Mode scanout width height) reply was = was
+of-updated setup client holds (Unplug scanout) reply was = was
+of-updated setup client holds (Sync number) reply was = was
+of-updated setup client holds Events reply was = was
+of-updated setup client holds Ack reply was = was
 of-updated setup client holds Leave reply was = was
 of-updated setup client holds (Reserve width height format bytes) Ok was = was
 of-updated setup client holds (Reserve width height format bytes) (Reserved k pages) was = was
@@ -29,6 +35,7 @@ of-updated setup client holds (Reserve width height format bytes) (Exported numb
 of-updated setup client holds (Reserve width height format bytes) (Imported k geometry pages) was = was
 of-updated setup client holds (Reserve width height format bytes) Kept was = was
 of-updated setup client holds (Reserve width height format bytes) Last was = was
+of-updated setup client holds (Reserve width height format bytes) (replies.Events set) was = was
 of-updated setup client holds (Reserve width height format bytes) (Refused refusal) was = was
 of-updated setup client holds (Import token) Ok was = was
 of-updated setup client holds (Import token) (Reserved k pages) was = was
@@ -37,6 +44,7 @@ of-updated setup client holds (Import token) (Exported number) was = was
 of-updated setup client holds (Import token) (Imported k geometry pages) was = was
 of-updated setup client holds (Import token) Kept was = was
 of-updated setup client holds (Import token) Last was = was
+of-updated setup client holds (Import token) (replies.Events set) was = was
 of-updated setup client holds (Import token) (Refused refusal) was = was
 of-updated setup client holds (Release key) Ok was = was
 of-updated setup client holds (Release key) (Reserved k pages) was = was
@@ -45,6 +53,7 @@ of-updated setup client holds (Release key) (Exported number) was = was
 of-updated setup client holds (Release key) (Imported k geometry pages) was = was
 of-updated setup client holds (Release key) Kept was = was
 of-updated setup client holds (Release key) Last was = was
+of-updated setup client holds (Release key) (replies.Events set) was = was
 of-updated setup client holds (Release key) (Refused refusal) was = was
 of-updated setup client holds (Free key) Ok was = was
 of-updated setup client holds (Free key) (Reserved k pages) was = was
@@ -53,6 +62,7 @@ of-updated setup client holds (Free key) (Exported number) was = was
 of-updated setup client holds (Free key) (Imported k geometry pages) was = was
 of-updated setup client holds (Free key) Kept was = was
 of-updated setup client holds (Free key) Last was = was
+of-updated setup client holds (Free key) (replies.Events set) was = was
 of-updated setup client holds (Free key) (Refused refusal) was = was
 of-updated setup client holds (Take scanout) Ok was = was
 of-updated setup client holds (Take scanout) (Reserved k pages) was = was
@@ -61,6 +71,7 @@ of-updated setup client holds (Take scanout) (Exported number) was = was
 of-updated setup client holds (Take scanout) (Imported k geometry pages) was = was
 of-updated setup client holds (Take scanout) Kept was = was
 of-updated setup client holds (Take scanout) Last was = was
+of-updated setup client holds (Take scanout) (replies.Events set) was = was
 of-updated setup client holds (Take scanout) (Refused refusal) was = was
 of-updated setup client holds (Drop scanout) Ok was = was
 of-updated setup client holds (Drop scanout) (Reserved k pages) was = was
@@ -69,6 +80,7 @@ of-updated setup client holds (Drop scanout) (Exported number) was = was
 of-updated setup client holds (Drop scanout) (Imported k geometry pages) was = was
 of-updated setup client holds (Drop scanout) Kept was = was
 of-updated setup client holds (Drop scanout) Last was = was
+of-updated setup client holds (Drop scanout) (replies.Events set) was = was
 of-updated setup client holds (Drop scanout) (Refused refusal) was = was
 
 of-either : (setup : Setup) (client : ℕ) (b : Bool) (holds new : Holds) → AreOf setup client holds → AreOf setup client new → AreOf setup client (cond b new holds)

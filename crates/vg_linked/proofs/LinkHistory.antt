@@ -8,7 +8,7 @@ use Rattle.vg_share.specs.declared.share.Geometry.{Geometry}
 use Rattle.vg_share.specs.declared.share.ShareRefusal.{ShareRefusal}
 use Rattle.vg_share.specs.Share.{ShareState, drop_refusal, export_refusal, free_refusal, has_holder, import_refusal, is_lease_of, new_pages, pages_at, place_refusal, release_refusal, released, reserve_refusal, some_hold, some_holder, take_refusal, without_hold}
 use Rattle.vg_client_holds.specs.declared.act.Act.{Act}
-use Rattle.vg_client_holds.specs.declared.act.Act.TheVariants.{Enter, Reserve, Store, Load, Export, Import, Release, Free, Take, Drop, Await, Denied, Leave}
+use Rattle.vg_client_holds.specs.declared.act.Act.TheVariants.{Enter, Reserve, Store, Load, Export, Import, Release, Free, Take, Drop, Await, Denied, Mode, Unplug, Sync, Events, Ack, Leave}
 use Rattle.vg_client_holds.specs.declared.act.ActReply.{ActReply}
 use Rattle.vg_client_holds.specs.declared.act.ActReply.TheVariants as act_replies
 use Rattle.vg_client_holds.specs.declared.holds.Holds.{Holds}
@@ -46,6 +46,7 @@ moves_stand = record {
     free = λ s client key none was. stands-freed key s.share was;
     take = λ s client scanout none was. stands-else s.share s.share.exports _ s.share.clients was;
     drop = λ s client scanout none was. stands-else s.share s.share.exports _ s.share.clients was;
+    plug = λ s plugs was. was;
     leave = λ s client was. stands-else s.share s.share.exports s.share.leases _ was;
   };
 }
@@ -102,6 +103,11 @@ linked-own client holds s (Drop scanout) stand linked =
     (λ none. linked-unleased client scanout (is_in_use s scanout) holds s.share (may-drop client scanout (is_in_use s scanout) s.share none) linked)
 linked-own client holds s (Await lane ordinal) stand linked = linked
 linked-own client holds s (Denied what) stand linked = linked
+linked-own client holds s (Mode scanout width height) stand linked = linked
+linked-own client holds s (Unplug scanout) stand linked = linked
+linked-own client holds s (Sync number) stand linked = linked
+linked-own client holds s Events stand linked = linked
+linked-own client holds s Ack stand linked = linked
 linked-own client holds s Leave stand linked = linked-else client holds s.share s.share.exports _ linked
 
 -- ---- an act of another client
@@ -136,6 +142,11 @@ linked-other client other holds s (Drop scanout) apart stand linked =
     (λ none. other-unleased client other scanout (is_in_use s scanout) holds s.share apart (may-drop other scanout (is_in_use s scanout) s.share none) linked)
 linked-other client other holds s (Await lane ordinal) apart stand linked = linked
 linked-other client other holds s (Denied what) apart stand linked = linked
+linked-other client other holds s (Mode scanout width height) apart stand linked = linked
+linked-other client other holds s (Unplug scanout) apart stand linked = linked
+linked-other client other holds s (Sync number) apart stand linked = linked
+linked-other client other holds s Events apart stand linked = linked
+linked-other client other holds s Ack apart stand linked = linked
 linked-other client other holds s Leave apart stand linked = linked-else client holds s.share s.share.exports _ linked
 
 -- ---- an entry, and a history

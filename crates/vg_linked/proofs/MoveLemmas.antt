@@ -29,12 +29,13 @@ use Rattle.vg_context.specs.Contexts as contexts
 use Rattle.vg_context.specs.Contexts.{Context}
 use Rattle.vg_scanout.specs.Scanout.{bound, unbound}
 use Rattle.vg_refusals.specs.Refusals.{refusal_of}
+use Rattle.vg_plugs.specs.Plugs.{PlugState, cleared, plugged, unplugged}
 use Rattle.vg_share.specs.declared.share.Geometry.{Geometry}
 use Rattle.vg_share.specs.declared.share.ShareRefusal.{ShareRefusal}
 use Rattle.vg_share.specs.Cells.{repeated, stored}
 use Rattle.vg_share.specs.Share.{ShareState, drop_refusal, ended, entered, export_refusal, exported, free_refusal, freed, given_back, import_refusal, imported, leased, new_pages, pages_at, place_refusal, release_refusal, released, reserve_refusal, take_refusal, token_key, unleased, with_buffer}
 use Rattle.vg_client_holds.specs.declared.act.Act.{Act}
-use Rattle.vg_client_holds.specs.declared.act.Act.TheVariants.{Enter, Reserve, Store, Load, Export, Import, Release, Free, Take, Drop, Await, Denied, Leave}
+use Rattle.vg_client_holds.specs.declared.act.Act.TheVariants.{Enter, Reserve, Store, Load, Export, Import, Release, Free, Take, Drop, Await, Denied, Mode, Unplug, Sync, Events, Ack, Leave}
 use Rattle.vg_client_holds.specs.declared.act.ActReply.{ActReply}
 use Rattle.vg_history.specs.declared.entry.Entry.TheVariants as entries
 use Rattle.vg_device.specs.ActStep.{effect_of, is_in_use, replied_by, shown_at}
@@ -145,7 +146,7 @@ module _ (P Q : State → Type 0) (Makes : ℕ → Type 0) (Gives : ℕ → List
   command-kept s context (CapsetInfo index) made was = moves.stay s was
   command-kept s context (Capset id version) made was = moves.stay s was
   command-kept s context (Edid scanout) made was =
-      answered (refusal_of (edid_refusals s.setup scanout)) s s (responses.Edid (block_of scanout (slice_get s.setup.displays scanout))) was (λ none. moves.stay s was)
+      answered (refusal_of (edid_refusals s.plugs scanout)) s s _ was (λ none. moves.stay s was)
   command-kept s context (AssignUuid id) made was =
       answered (refusal_of (assign_refusals (has_resource s id))) s _ (responses.Uuid (uuid_bytes (number_for id s.uuids))) was (λ none. moves.assign s id was)
   command-kept s context (CreateBlob id mem flags blob_id size ranges) made was =
@@ -206,6 +207,7 @@ pub record ActMoves (P Q : State → Type 0) : Type 0 where
       → Q (record s { memory = given_back (pages_at key s.share) s.memory; share = freed key s.share })
   pub take : (s : State) (client scanout : ℕ) → take_refusal scanout s.share ≡ None → P s → Q (record s { share = leased client scanout s.share })
   pub drop : (s : State) (client scanout : ℕ) → drop_refusal client scanout (is_in_use s scanout) s.share ≡ None → P s → Q (record s { share = unleased scanout s.share })
+  pub plug : (s : State) (plugs : PlugState) → P s → Q (record s { plugs = plugs })
   pub leave : (s : State) (client : ℕ) → P s → Q (record s { share = ended client (entered client s.share) })
 
 module _ (P Q : State → Type 0) (moves : ActMoves P Q) where
@@ -228,6 +230,11 @@ module _ (P Q : State → Type 0) (moves : ActMoves P Q) where
   effect-kept s client (Drop scanout) was = replied (drop_refusal client scanout (is_in_use s scanout) s.share) s _ _ was (λ none. moves.drop s client scanout none was)
   effect-kept s client (Await lane ordinal) was = moves.stay s was
   effect-kept s client (Denied what) was = moves.stay s was
+  effect-kept s client (Mode scanout width height) was = moves.plug s (plugged scanout width height s.plugs) was
+  effect-kept s client (Unplug scanout) was = moves.plug s (unplugged scanout s.plugs) was
+  effect-kept s client (Sync number) was = moves.stay s was
+  effect-kept s client Events was = moves.stay s was
+  effect-kept s client Ack was = moves.plug s (cleared s.plugs) was
   effect-kept s client Leave was = moves.leave s client was
 
 -- whatever is made
@@ -301,17 +308,18 @@ commands_leave P = record {
   point = λ s scanout change was. was;
 }
 
--- acts change memory and the shares alone
-pub acts_leave : (P : State → Type 0) → ((s : State) (memory : Memory) (share : ShareState) → P s → P (record s { memory = memory; share = share })) → ActMoves P P
+-- acts change memory, the shares and what is plugged alone
+pub acts_leave : (P : State → Type 0) → ((s : State) (memory : Memory) (share : ShareState) (plugs : PlugState) → P s → P (record s { memory = memory; share = share; plugs = plugs })) → ActMoves P P
 acts_leave P still = record {
   stay = λ s was. was;
-  reserve = λ s client geometry none was. still s _ _ was;
-  store = λ s client key offset bytes times none was. still s _ s.share was;
-  export = λ s key was. still s s.memory _ was;
-  import = λ s client token none was. still s s.memory _ was;
-  release = λ s client key none was. still s s.memory _ was;
-  free = λ s client key none was. still s _ _ was;
-  take = λ s client scanout none was. still s s.memory _ was;
-  drop = λ s client scanout none was. still s s.memory _ was;
-  leave = λ s client was. still s s.memory _ was;
+  reserve = λ s client geometry none was. still s _ _ s.plugs was;
+  store = λ s client key offset bytes times none was. still s _ s.share s.plugs was;
+  export = λ s key was. still s s.memory _ s.plugs was;
+  import = λ s client token none was. still s s.memory _ s.plugs was;
+  release = λ s client key none was. still s s.memory _ s.plugs was;
+  free = λ s client key none was. still s _ _ s.plugs was;
+  take = λ s client scanout none was. still s s.memory _ s.plugs was;
+  drop = λ s client scanout none was. still s s.memory _ s.plugs was;
+  plug = λ s plugs was. still s s.memory s.share plugs was;
+  leave = λ s client was. still s s.memory _ s.plugs was;
 }

@@ -53,7 +53,7 @@ many_moves setup = record {
       cursors_are = length-set s.cursors scanout (change (cursor_of s.cursors scanout)) ∙ was.cursors_are;
     };
   };
-  acts = acts_leave (ManyOf setup) (λ s memory share was. was);
+  acts = acts_leave (ManyOf setup) (λ s memory share plugs was. was);
 }
 
 pub as-many : (setup : Setup) (H : List Entry) → ManyOf setup (replay setup H)
@@ -120,6 +120,7 @@ within_moves = record {
     free = λ s client key none was. still s was;
     take = λ s client scanout none was. still s was;
     drop = λ s client scanout none was. still s was;
+    plug = λ s plugs was. still s was;
     leave = λ s client was. still s was;
   };
 }

@@ -153,7 +153,7 @@ module _ (scanout key : ℕ) where
   command-backs s context (TwoD command) = two_d-backs s command
   command-backs s context (CapsetInfo index) = itself ⊥ s
   command-backs s context (Capset id version) = itself ⊥ s
-  command-backs s context (Edid at) = answered ⊥ (refusal_of (edid_refusals s.setup at)) s s (responses.Edid (block_of at (slice_get s.setup.displays at))) (itself ⊥ s)
+  command-backs s context (Edid at) = answered ⊥ (refusal_of (edid_refusals s.plugs at)) s s _ (itself ⊥ s)
   command-backs s context (AssignUuid id) = answered ⊥ (refusal_of (assign_refusals (has_resource s id))) s _ (responses.Uuid (uuid_bytes (number_for id s.uuids))) (record { back = λ is. inl is })
   command-backs s context (CreateBlob id mem flags blob_id size ranges) = answered ⊥ (refusal_of (create_blob_refusals s id mem flags size ranges)) s _ responses.Nodata (record { back = λ is. inl is })
   command-backs s context (SetScanoutBlob rect at id width height format stride offset) =

@@ -8,7 +8,7 @@ use Rattle.vg_wire.specs.Header.{header_of}
 use Rattle.vg_wire_ext.specs.Commands.{command_of}
 use Rattle.vg_wire_ext.specs.declared.command.Command.{Command}
 use Rattle.vg_client_holds.specs.declared.act.Act.{Act}
-use Rattle.vg_client_holds.specs.declared.act.Act.TheVariants.{Enter, Reserve, Store, Load, Export, Import, Release, Free, Take, Drop, Await, Denied, Leave}
+use Rattle.vg_client_holds.specs.declared.act.Act.TheVariants.{Enter, Reserve, Store, Load, Export, Import, Release, Free, Take, Drop, Await, Denied, Mode, Unplug, Sync, Events, Ack, Leave}
 use Rattle.vg_client_holds.specs.declared.act.ActReply.{ActReply}
 use Rattle.vg_history.specs.declared.entry.Entry.TheVariants as entries
 use Rattle.vg_device.specs.declared.request.Request.{Request}
@@ -105,6 +105,11 @@ effect-same state client (Take scanout) = search (rules, replied-same)
 effect-same state client (Drop scanout) = search (rules, replied-same)
 effect-same state client (Await lane ordinal) = itself state
 effect-same state client (Denied what) = itself state
+effect-same state client (Mode scanout width height) = record { scanouts = refl; cursors = refl }
+effect-same state client (Unplug scanout) = record { scanouts = refl; cursors = refl }
+effect-same state client (Sync number) = itself state
+effect-same state client Events = itself state
+effect-same state client Ack = record { scanouts = refl; cursors = refl }
 effect-same state client Leave = record { scanouts = refl; cursors = refl }
 
 record SameWritten (p q : Painting Tag (List Tag)) : Type 0 where

@@ -22,7 +22,7 @@ use Rattle.vg_share.specs.Cells.{loaded, pages_of, place_in_buffer, repeated, st
 use Rattle.vg_share.specs.Share.{HaveNoPageInCommon, ShareState, SharesPages, buffer_at, drop_refusal, export_refusal, exported, free_refusal, freed, geometry_at, given_back, has_holder, import_refusal, is_given, refused_by, imported, imported_entries, imported_buffer, leased, new_buffer, new_pages, pages_at, pages_in, place_refusal, release_refusal, released, released_entries, released_buffer, reserve_refusal, take_refusal, token_key, unleased, with_buffer}
 use Rattle.vg_share.proofs.ShareLemmas.{shares-exports, shares-freed, shares-fresh, shares-imported, shares-released, shares-reserved}
 use Rattle.vg_client_holds.specs.declared.act.Act.{Act}
-use Rattle.vg_client_holds.specs.declared.act.Act.TheVariants.{Enter, Reserve, Store, Load, Export, Import, Release, Free, Take, Drop, Await, Denied, Leave}
+use Rattle.vg_client_holds.specs.declared.act.Act.TheVariants.{Enter, Reserve, Store, Load, Export, Import, Release, Free, Take, Drop, Await, Denied, Mode, Unplug, Sync, Events, Ack, Leave}
 use Rattle.vg_client_holds.specs.declared.act.ActReply.{ActReply}
 use Rattle.vg_client_holds.specs.declared.act.ActReply.TheVariants as act_replies
 use Rattle.vg_client_holds.specs.declared.setup.Setup.{Setup}
@@ -150,6 +150,11 @@ effect-fits state client (Drop scanout) were =
     (λ none. leases-fit state.memory state.share (unleased scanout state.share).leases were)
 effect-fits state client (Await lane ordinal) were = were
 effect-fits state client (Denied what) were = were
+effect-fits state client (Mode scanout width height) were = were
+effect-fits state client (Unplug scanout) were = were
+effect-fits state client (Sync number) were = were
+effect-fits state client Events were = were
+effect-fits state client Ack were = were
 effect-fits state client Leave were = record { shares = shares-left state.memory client state.share were.shares; once = were.once }
 
 pub entry-fits : (state : State) (entry : Entry) → Fits state.memory state.share → Fits (after state entry).memory (after state entry).share

@@ -6,7 +6,7 @@ use Rattle.vg_share.specs.declared.share.ShareRefusal.{ShareRefusal}
 use Rattle.vg_share.specs.declared.share.ShareRefusal.TheVariants.{InUse, NotHeld}
 use Rattle.vg_share.specs.Share.{ShareState, drop_refusal, export_refusal, free_refusal, import_refusal, is_lease_of, is_leased, leased, place_refusal, refused_lease, release_refusal, reserve_refusal, take_refusal, unleased}
 use Rattle.vg_client_holds.specs.declared.act.Act.{Act}
-use Rattle.vg_client_holds.specs.declared.act.Act.TheVariants.{Enter, Reserve, Store, Load, Export, Import, Release, Free, Take, Drop, Await, Denied, Leave}
+use Rattle.vg_client_holds.specs.declared.act.Act.TheVariants.{Enter, Reserve, Store, Load, Export, Import, Release, Free, Take, Drop, Await, Denied, Mode, Unplug, Sync, Events, Ack, Leave}
 use Rattle.vg_client_holds.specs.declared.act.ActReply.{ActReply}
 use Rattle.vg_client_holds.specs.declared.act.ActReply.TheVariants as act_replies
 use Rattle.vg_history.specs.declared.entry.Entry.TheVariants as entries
@@ -79,6 +79,11 @@ effect-kept state actor (Take taken) client scanout used had = take-kept (take_r
 effect-kept state actor (Drop dropped) client scanout used had = drop-kept (drop_refusal actor dropped (is_in_use state dropped) state.share) state client actor scanout dropped refl used had
 effect-kept state actor (Await lane ordinal) client scanout used had = had
 effect-kept state actor (Denied what) client scanout used had = had
+effect-kept state actor (Mode plugged width height) client scanout used had = had
+effect-kept state actor (Unplug unplugged) client scanout used had = had
+effect-kept state actor (Sync number) client scanout used had = had
+effect-kept state actor Events client scanout used had = had
+effect-kept state actor Ack client scanout used had = had
 effect-kept state actor Leave client scanout used had = had
 
 pub lease-kept : (state : State) (entry : Entry) (client scanout : ℕ) → is_in_use state scanout ≡ true → is_leased client scanout state.share ≡ true → is_leased client scanout (after state entry).share ≡ true

@@ -14,7 +14,7 @@ use Rattle.vg_share.specs.declared.share.ShareRefusal.TheVariants.{NotHeld, OutO
 use Rattle.vg_share.specs.Cells.{place_in_buffer, repeated, stored}
 use Rattle.vg_share.specs.Share.{ShareState, buffer_at, drop_refusal, export_refusal, exported, free_refusal, freed, geometry_at, given_back, has_holder, import_refusal, imported, imported_buffer, imported_entries, is_holder, leased, new_buffer, new_pages, pages_at, pages_in, place_refusal, refused_by, release_refusal, released, released_buffer, released_entries, reserve_refusal, take_refusal, token_key, unleased, with_buffer}
 use Rattle.vg_client_holds.specs.declared.act.Act.{Act}
-use Rattle.vg_client_holds.specs.declared.act.Act.TheVariants.{Enter, Reserve, Store, Load, Export, Import, Release, Free, Take, Drop, Await, Denied, Leave}
+use Rattle.vg_client_holds.specs.declared.act.Act.TheVariants.{Enter, Reserve, Store, Load, Export, Import, Release, Free, Take, Drop, Await, Denied, Mode, Unplug, Sync, Events, Ack, Leave}
 use Rattle.vg_client_holds.specs.declared.act.ActReply.{ActReply}
 use Rattle.vg_client_holds.specs.declared.act.ActReply.TheVariants as act_replies
 use Rattle.vg_client_holds.specs.declared.setup.Setup.{Setup}
@@ -204,6 +204,11 @@ act-came state client call (Drop scanout) reply p key place fits has =
     (replied-pages (drop_refusal client scanout (is_in_use (counted state) scanout) state.share) (counted state) (record (counted state) { share = unleased scanout state.share }) act_replies.Ok key (place / 4096) (λ now. now) has)
 act-came state client call (Await lane ordinal) reply p key place fits has = as-before state _ key (place / 4096) (p.memory place) (p.memory place) refl has
 act-came state client call (Denied what) reply p key place fits has = as-before state _ key (place / 4096) (p.memory place) (p.memory place) refl has
+act-came state client call (Mode scanout width height) reply p key place fits has = as-before state _ key (place / 4096) (p.memory place) (p.memory place) refl has
+act-came state client call (Unplug scanout) reply p key place fits has = as-before state _ key (place / 4096) (p.memory place) (p.memory place) refl has
+act-came state client call (Sync number) reply p key place fits has = as-before state _ key (place / 4096) (p.memory place) (p.memory place) refl has
+act-came state client call Events reply p key place fits has = as-before state _ key (place / 4096) (p.memory place) (p.memory place) refl has
+act-came state client call Ack reply p key place fits has = as-before state _ key (place / 4096) (p.memory place) (p.memory place) refl has
 act-came state client call Leave reply p key place fits has = as-before state _ key (place / 4096) (p.memory place) (p.memory place) refl has
 
 entry-came : (state : State) (entry : Entry) (p : Painting Tag (List Tag)) (key place : ℕ) → Fits state.memory state.share → is_among (pages_at key (after state entry).share) (place / 4096) ≡ true

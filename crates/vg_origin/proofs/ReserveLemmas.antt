@@ -11,7 +11,7 @@ use Rattle.vg_share.specs.declared.share.ShareRefusal.{ShareRefusal}
 use Rattle.vg_share.specs.Cells.{repeated, stored}
 use Rattle.vg_share.specs.Share.{ShareState, buffer_at, drop_refusal, export_refusal, exported, free_refusal, freed, geometry_at, given_back, has_holder, import_refusal, imported, leased, new_buffer, new_pages, pages_at, pages_in, place_refusal, release_refusal, released, reserve_refusal, take_refusal, token_key, unleased, with_buffer}
 use Rattle.vg_client_holds.specs.declared.act.Act.{Act}
-use Rattle.vg_client_holds.specs.declared.act.Act.TheVariants.{Enter, Reserve, Store, Load, Export, Import, Release, Free, Take, Drop, Await, Denied, Leave}
+use Rattle.vg_client_holds.specs.declared.act.Act.TheVariants.{Enter, Reserve, Store, Load, Export, Import, Release, Free, Take, Drop, Await, Denied, Mode, Unplug, Sync, Events, Ack, Leave}
 use Rattle.vg_client_holds.specs.declared.act.ActReply.{ActReply}
 use Rattle.vg_client_holds.specs.declared.act.ActReply.TheVariants as act_replies
 use Rattle.vg_client_holds.specs.declared.setup.Setup.{Setup}
@@ -93,6 +93,11 @@ act-had state client call (Drop scanout) reply key page once has =
     inl (replied-pages (drop_refusal client scanout (is_in_use (counted state) scanout) state.share) (counted state) (record (counted state) { share = unleased scanout state.share }) act_replies.Ok key page (λ now. now) has)
 act-had state client call (Await lane ordinal) reply key page once has = inl has
 act-had state client call (Denied what) reply key page once has = inl has
+act-had state client call (Mode scanout width height) reply key page once has = inl has
+act-had state client call (Unplug scanout) reply key page once has = inl has
+act-had state client call (Sync number) reply key page once has = inl has
+act-had state client call Events reply key page once has = inl has
+act-had state client call Ack reply key page once has = inl has
 act-had state client call Leave reply key page once has = inl has
 
 entry-had : (state : State) (entry : Entry) (key page : ℕ) → Once state.share.buffers → is_among (pages_at key (after state entry).share) page ≡ true → Had state entry key page

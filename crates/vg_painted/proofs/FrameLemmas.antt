@@ -15,7 +15,7 @@ use Rattle.vg_formats.specs.declared.format.Format.{Format}
 use Rattle.vg_formats.specs.declared.rect.Rect.{Rect}
 use Rattle.vg_formats.specs.Formats.{format_of}
 use Rattle.vg_client_holds.specs.declared.act.Act.{Act}
-use Rattle.vg_client_holds.specs.declared.act.Act.TheVariants.{Enter, Reserve, Store, Load, Export, Import, Release, Free, Take, Drop, Await, Denied, Leave}
+use Rattle.vg_client_holds.specs.declared.act.Act.TheVariants.{Enter, Reserve, Store, Load, Export, Import, Release, Free, Take, Drop, Await, Denied, Mode, Unplug, Sync, Events, Ack, Leave}
 use Rattle.vg_client_holds.specs.declared.act.ActReply.{ActReply}
 use Rattle.vg_history.specs.declared.entry.Entry.TheVariants as entries
 use Rattle.vg_cursor.specs.declared.cursor.Cursor.{Cursor}
@@ -219,6 +219,11 @@ effect-makes state client (Take scanout) = replied-makes (take_refusal scanout s
 effect-makes state client (Drop scanout) = replied-makes (drop_refusal client scanout (is_in_use state scanout) state.share) state _ _ (record { frames = refl })
 effect-makes state client (Await lane ordinal) = stay state
 effect-makes state client (Denied what) = stay state
+effect-makes state client (Mode scanout width height) = same state.entries state (effect_of state client (Mode scanout width height)).0 (record { frames = refl })
+effect-makes state client (Unplug scanout) = same state.entries state (effect_of state client (Unplug scanout)).0 (record { frames = refl })
+effect-makes state client (Sync number) = stay state
+effect-makes state client Events = stay state
+effect-makes state client Ack = same state.entries state (effect_of state client Ack).0 (record { frames = refl })
 effect-makes state client Leave = same state.entries state (effect_of state client Leave).0 (record { frames = refl })
 
 pub entry-makes : (state : State) (entry : Entry) → Makes (state.entries + 1) state (after state entry)

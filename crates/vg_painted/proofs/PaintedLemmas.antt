@@ -27,7 +27,7 @@ use Rattle.vg_wire_ext.specs.declared.command.Command.TheVariants.{TwoD, SetScan
 use Rattle.vg_chain.specs.declared.shape.Shape.{Shape}
 use Rattle.vg_chain.specs.declared.shape.Shape.TheVariants.{Plain, Pieces, Indirect, Mixed, Bad}
 use Rattle.vg_client_holds.specs.declared.act.Act.{Act}
-use Rattle.vg_client_holds.specs.declared.act.Act.TheVariants.{Enter, Reserve, Store, Load, Export, Import, Release, Free, Take, Drop, Await, Denied, Leave}
+use Rattle.vg_client_holds.specs.declared.act.Act.TheVariants.{Enter, Reserve, Store, Load, Export, Import, Release, Free, Take, Drop, Await, Denied, Mode, Unplug, Sync, Events, Ack, Leave}
 use Rattle.vg_client_holds.specs.declared.act.ActReply.{ActReply}
 use Rattle.vg_client_holds.specs.declared.act.ActReply.TheVariants as act_replies
 use Rattle.vg_client_holds.specs.declared.setup.Setup.{Setup}
@@ -123,6 +123,14 @@ effect-stands state client (Drop scanout) p was =
     (record { memory = was.memory; pixels = was.pixels; once = was.once; screens = was.screens; images = was.images; backings = was.backings; blobs = was.blobs })
 effect-stands state client (Await lane ordinal) p was = was
 effect-stands state client (Denied what) p was = was
+effect-stands state client (Mode scanout width height) p was = 
+    record { memory = was.memory; pixels = was.pixels; once = was.once; screens = was.screens; images = was.images; backings = was.backings; blobs = was.blobs }
+effect-stands state client (Unplug scanout) p was = 
+    record { memory = was.memory; pixels = was.pixels; once = was.once; screens = was.screens; images = was.images; backings = was.backings; blobs = was.blobs }
+effect-stands state client (Sync number) p was = was
+effect-stands state client Events p was = was
+effect-stands state client Ack p was = 
+    record { memory = was.memory; pixels = was.pixels; once = was.once; screens = was.screens; images = was.images; backings = was.backings; blobs = was.blobs }
 effect-stands state client Leave p was =
     record { memory = was.memory; pixels = was.pixels; once = was.once; screens = was.screens; images = was.images; backings = was.backings; blobs = was.blobs }
 

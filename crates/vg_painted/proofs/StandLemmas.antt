@@ -363,7 +363,7 @@ command-stands state context (TwoD command) p was = two_d-stands state command p
 command-stands state context (CapsetInfo index) p was = was
 command-stands state context (Capset id version) p was = was
 command-stands state context (Edid scanout) p was =
-    answered-still (refusal_of (edid_refusals state.setup scanout)) state state (responses.Edid (block_of scanout (slice_get state.setup.displays scanout))) p was (λ none. was)
+    answered-still (refusal_of (edid_refusals state.plugs scanout)) state state _ p was (λ none. was)
 command-stands state context (AssignUuid id) p was =
     answered-still (refusal_of (assign_refusals (has_resource state id))) state (record state { uuids = assigned id state.uuids }) (responses.Uuid (uuid_bytes (number_for id state.uuids))) p was
     (λ none. record { memory = was.memory; pixels = was.pixels; once = was.once; screens = was.screens; images = was.images; backings = was.backings; blobs = was.blobs })

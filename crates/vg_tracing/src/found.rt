@@ -16,7 +16,7 @@ use vg_judge::{Outline, Verdict, judge};
 pub enum Found {
     /// It is that of a legal history. For each frame there is the set of the clients who stored the bytes that it shows: bit c - 1
     /// stands for client c.
-    Drawn { frames: Vec<u16> },
+    Drawn { frames: Vec<u64> },
     /// This entry, counted from 1, is the first that isn't right, or with 0 something behind the entries, as `check` has it.
     Wrong { entry: u64 },
 }

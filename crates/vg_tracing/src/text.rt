@@ -10,7 +10,7 @@ use vg_drawn::clients_of;
 
 /// A line `frame I clients L` for each frame, with its number from 1 and the numbers of its clients, rising, with commas between them,
 /// or `-` where it has none, and the line `origins F frames`. A frame is given as the set of its clients: bit c - 1 stands for client c.
-pub fn origins_text(alloc: Global, frames: &[u16]) -> Result<Vec<u8>, AllocError>
+pub fn origins_text(alloc: Global, frames: &[u64]) -> Result<Vec<u8>, AllocError>
     ensures { IfOk result (λ text. text.items ≡ origins_text frames.now) }
 {
     let mut text = Vec::new(alloc);
@@ -21,7 +21,7 @@ pub fn origins_text(alloc: Global, frames: &[u16]) -> Result<Vec<u8>, AllocError
     Ok(text)
 }
 
-fn put_frames(alloc: Global, out: &mut Vec<u8>, frames: &[u16]) -> Result<(), AllocError>
+fn put_frames(alloc: Global, out: &mut Vec<u8>, frames: &[u64]) -> Result<(), AllocError>
     ensures { OnOk result (out.new.items ≡ out.old.items ++ numbered frame_line 1 frames.now) }
 {
     for (at, set) in frames.iter().enumerate() {
@@ -32,7 +32,7 @@ fn put_frames(alloc: Global, out: &mut Vec<u8>, frames: &[u16]) -> Result<(), Al
 
 /// The line of the frame with this number.
 #[tactic(auto, unfolding(crate::specs::Text::frame_line))]
-fn put_frame(alloc: Global, out: &mut Vec<u8>, number: u64, set: u16) -> Result<(), AllocError>
+fn put_frame(alloc: Global, out: &mut Vec<u8>, number: u64, set: u64) -> Result<(), AllocError>
     ensures { OnOk result (out.new.items ≡ out.old.items ++ frame_line number set) }
 {
     put(out, b"frame ")?;

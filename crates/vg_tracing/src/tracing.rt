@@ -13,7 +13,7 @@ use vg_drawn::{Drawn, a_frames_clients_are_of_its_tags};
 use vg_judge::{Entries, Outline};
 
 /// For each frame of a legal journal the set of the clients who stored the bytes that it shows.
-pub(crate) fn traced(alloc: Global, bytes: &[u8], outline: &Outline) -> Result<Vec<u16>, AllocError>
+pub(crate) fn traced(alloc: Global, bytes: &[u8], outline: &Outline) -> Result<Vec<u64>, AllocError>
     requires journal { (journal : Journal) × JournalInRange journal × IsOutline bytes.now journal outline.now }
     requires few { outline.now.entries ≤ 2 ^ 31 - 1 }
     ensures { IfOk result (λ sets. (journal : Journal) → JournalInRange journal → IsOutline bytes.now journal outline.now → IsLegal journal
