@@ -430,6 +430,7 @@ fn twice(reply: ActReply) -> (ActReply, ActReply)
             (ActReply::Exported { token }, ActReply::Exported { token })
         }
         ActReply::Kept => (ActReply::Kept, ActReply::Kept),
+        ActReply::Events { set } => (ActReply::Events { set }, ActReply::Events { set }),
         ActReply::Last => (ActReply::Last, ActReply::Last),
         ActReply::Refused { refusal } => refused_twice(refusal),
         ActReply::Reserved { .. } | ActReply::Bytes { .. } | ActReply::Imported { .. } => {

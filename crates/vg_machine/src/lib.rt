@@ -5,6 +5,7 @@
 mod display;
 mod job;
 mod lane;
+mod laws;
 mod loans;
 mod machine;
 mod spelled;
@@ -12,6 +13,7 @@ mod spelled;
 pub use display::Display;
 pub use job::Job;
 pub use lane::lane_of;
+pub use laws::{plugs_stay, syncs_stand_behind_the_host};
 pub use machine::{Entry, History};
 pub use vg_client_holds::{
     Act, ActReply, Buffers, Holds, Setup, What, denied, denied_command, holds_only_grow,
