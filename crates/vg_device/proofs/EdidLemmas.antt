@@ -1,5 +1,5 @@
 -- The display of a scanout as it is plugged, and its block.
-use Rattle.std.proofs.Common.{◌≡◌, ◌≤◌, ℕ, List, [], ◌∷◌, map, length, Some, None, true, false, cond, Bool, sym, ap, refl, ◌∙◌, arith}
+use Rattle.std.proofs.Common.{◌≡◌, ◌==◌, ◌≤◌, ℕ, List, [], ◌∷◌, map, length, Some, None, true, false, cond, Bool, sym, ap, refl, ◌∙◌, arith}
 use Rattle.std.specs.List.{All}
 use Rattle.std.proofs.lemmas.List.{length-map}
 use Rattle.std.proofs.lemmas.List.Elements.{All-cons, All-nil}
@@ -35,7 +35,7 @@ pub sizes-are : (queues : ℕ × ℕ) (displays : List (ℕ × ℕ)) → AreDisp
 sizes-are queues displays are = let within = within-2 queues in sizes-by (of_queues queues) displays within.0 within.1 are
 
 pub as-many : (displays : List (ℕ × ℕ)) → length (with_displays displays).modes ≡ length displays
-as-many displays = length-map Some displays
+as-many displays = length-map _ _
 
 -- a display keeps what it keeps where as many displays are plugged otherwise
 pub consistent-plugs : (state : State) (plugs : PlugState) → length plugs.modes ≡ length state.plugs.modes → IsConsistent state → IsConsistent (record state { plugs = plugs })

@@ -8,12 +8,12 @@ use Rattle.vg_device.proofs.device.Device.edid.Goals as goal
 
 pub edid-requires-clause-width : goal.edid-requires-clause-width
 edid-requires-clause-width c =
-    let is = sizes-of (c.in-Some.field-0, c.in-Some.field-1) (subst FitsDisplay c.in-Some.is c.mode.ensures.fits) in
+    let is = sizes-of (c.in-Some.width, c.in-Some.height) (subst FitsDisplay c.in-Some.is c.mode.ensures.fits) in
     (is.0, omega (arith, is.1))
 
 pub edid-requires-clause-height : goal.edid-requires-clause-height
 edid-requires-clause-height c =
-    let is = sizes-of (c.in-Some.field-0, c.in-Some.field-1) (subst FitsDisplay c.in-Some.is c.mode.ensures.fits) in
+    let is = sizes-of (c.in-Some.width, c.in-Some.height) (subst FitsDisplay c.in-Some.is c.mode.ensures.fits) in
     (is.2, omega (arith, is.3))
 
 pub edid-requires-clause-scanout : goal.edid-requires-clause-scanout

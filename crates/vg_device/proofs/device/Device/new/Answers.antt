@@ -22,8 +22,8 @@ invariant_of-result c =
       exports = rw c.in_ok-new-4.ensures.none (omega arith);
       given = rw c.new-10.ensures (omega arith);
       cursors = rw (c.in_ok-new-2.ensures, same, ← count) (length-replicate c.len-count.result unset);
-      plugs = rw (c.in_ok-new-5.ensures, same) (as-many c.args.setup.now.displays);
+      plugs = rw (c.in_ok-new-5.ensures, c.as_slice.ensures, same) (as-many c.args.setup.now.displays);
     }
 
-pub new-5-requires : goal.new-5-requires
-new-5-requires c = rw c.as_slice.ensures (sizes-are c.args.setup.now.queues c.args.setup.now.displays c.requires.displays)
+pub new-requires-5 : goal.new-requires-5
+new-requires-5 c = rw c.as_slice.ensures (sizes-are c.args.setup.now.queues c.args.setup.now.displays c.requires.displays)
