@@ -162,11 +162,11 @@ effect-grows state client (Take scanout) = replied-grows (take_refusal scanout s
 effect-grows state client (Drop scanout) = replied-grows (drop_refusal client scanout (is_in_use state scanout) state.share) state _ _ (record { frames = refl })
 effect-grows state client (Await lane ordinal) = stay state
 effect-grows state client (Denied what) = stay state
-effect-grows state client (Mode scanout width height) = ?
-effect-grows state client (Unplug scanout) = ?
+effect-grows state client (Mode scanout width height) = record { front = prefix_self state.scanouts.frames }
+effect-grows state client (Unplug scanout) = record { front = prefix_self state.scanouts.frames }
 effect-grows state client (Sync number) = stay state
 effect-grows state client Events = stay state
-effect-grows state client Ack = ?
+effect-grows state client Ack = record { front = prefix_self state.scanouts.frames }
 effect-grows state client Leave = record { front = prefix_self state.scanouts.frames }
 
 after-grows : (state : State) (entry : Entry) → Grows state (after state entry)
