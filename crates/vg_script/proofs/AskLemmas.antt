@@ -1,5 +1,5 @@
 -- What a line asks for, by its words, is what its call asks for.
-use Rattle.std.proofs.Common.{◌≡◌, ℕ, ◌+◌, ◌/◌, ◌*◌, ◌≤◌, Bool, true, false, List, [], ◌∷◌, Option, Some, None, if◌then◌else◌, codes, bytes_eq, arith, refl, sym, subst, lit≤, mul-le-mul}
+use Rattle.std.proofs.Common.{◌≡◌, ℕ, ◌+◌, ◌/◌, ◌*◌, ◌≤◌, Bool, true, false, List, [], ◌∷◌, Option, Some, None, if◌then◌else◌, codes, bytes_eq, arith, refl, sym, ◌∙◌, subst, lit≤, mul-le-mul}
 use Rattle.std.specs.Prelude.{◌&&◌, nat_le, option_map}
 use Rattle.std.specs.Bool.{⊤}
 use Rattle.std.proofs.lemmas.Bool.Decides.{nat_tests}
@@ -15,7 +15,7 @@ use Rattle.vg_call_lines.specs.Tables.{NameTable}
 use Rattle.vg_call_lines.specs.Rows.{Row, info_row, edid_row, buffer_row, blob_row, store_row, load_row, send_row, flush_row, take_row, drop_row, hide_row, show_row, showblob_row, flip_row, cursor_row, move_row, uuid_row, close_row, raw_row, context_row, endcontext_row, attach_row, detach_row, submit_row, export_row, import_row, begun_row, begin_row, await_row, request_row, queue_of, shape_of, bad_shape_of, row_of, row_of_buffers, row_of_scanouts, row_of_others, row_of_contexts, row_of_shared, row_of_begun}
 use Rattle.vg_call_lines.specs.Bodies.{Part, info_body, send_body, flush_body, submit_body, begun_parts}
 use Rattle.vg_script.specs.Asked.{pages_of, pages_asked}
-use Rattle.vg_script.specs.AskedWithin.{buffer_asks, blob_asks, words_ask}
+use Rattle.vg_script.specs.AskedWithin.{buffer_asks, blob_asks, buffer_args_ask, blob_args_ask, words_ask}
 
 -- A row without a fault of its own numbers asks for so many pages.
 abbrev pub RowAsks : ℕ → Option Row → Type 0
@@ -32,8 +32,8 @@ either_none true x y p q = p
 either_none false x y p q = q
 
 other_none : (b : Bool) (x y : Option Row) → b ≡ false → AsksNone y → AsksNone (if b then x else y)
-other_none true x y no q = absurd (cc no)
-other_none false x y no q = q
+other_none true x y other q = absurd (cc other)
+other_none false x y other q = q
 
 none_asked : (row : Option Row) (asked : ℕ) → asked ≡ 0 → AsksNone row → RowAsks asked row
 none_asked None asked is none = tt
@@ -41,18 +41,13 @@ none_asked (Some row) asked is none = λ numbers limits. is ∙ sym none
 
 -- Words of other lines ask for none.
 words_ask_none : (word : List ℕ) (args : List (List ℕ)) → bytes_eq word (codes "buffer") ≡ false → bytes_eq word (codes "blob") ≡ false → words_ask word args ≡ 0
-words_ask_none word [] buffer blob = refl
-words_ask_none word (a ∷ []) buffer blob = refl
-words_ask_none word (a ∷ b ∷ []) buffer blob = rw blob refl
-words_ask_none word (a ∷ b ∷ c ∷ []) buffer blob = refl
-words_ask_none word (a ∷ b ∷ c ∷ d ∷ []) buffer blob = rw buffer refl
-words_ask_none word (a ∷ b ∷ c ∷ d ∷ e ∷ more) buffer blob = refl
+words_ask_none word args buffer blob = rw (buffer, blob) refl
 
 asked_if : (b : Bool) (n : ℕ) → b ≡ true → (if b then n else 0) ≡ n
 asked_if b n is = rw is refl
 
 buffer_asked : (n : ℕ) (table : NameTable) (args : List (List ℕ)) → RowAsks (words_ask (codes "buffer") args) (row_of (codes "buffer") n table args)
-unfolding row_of row_of_buffers buffer_row
+unfolding row_of row_of_buffers buffer_row buffer_asks
 buffer_asked n table [] = tt
 buffer_asked n table (a ∷ []) = tt
 buffer_asked n table (a ∷ b ∷ []) = tt
@@ -61,7 +56,7 @@ buffer_asked n table (name ∷ width ∷ height ∷ format ∷ []) = λ numbers 
 buffer_asked n table (a ∷ b ∷ c ∷ d ∷ e ∷ more) = tt
 
 blob_asked : (n : ℕ) (table : NameTable) (args : List (List ℕ)) → RowAsks (words_ask (codes "blob") args) (row_of (codes "blob") n table args)
-unfolding row_of row_of_buffers blob_row
+unfolding row_of row_of_buffers blob_row blob_asks
 blob_asked n table [] = tt
 blob_asked n table (a ∷ []) = tt
 blob_asked n table (name ∷ size ∷ []) = λ numbers limits. asked_if _ (pages_of (value size)) (grind arith)
@@ -107,7 +102,7 @@ others_none word n table args buffer blob =
     (either_none (bytes_eq word (codes "move")) (three_args (move_row n table) args) _ (three_args_give AsksNone tt (move_row n table) (λ a b c. refl) args)
     (either_none (bytes_eq word (codes "uuid")) (one_arg (uuid_row table) args) _ (one_arg_gives AsksNone tt (uuid_row table) (λ a. refl) args)
     (either_none (bytes_eq word (codes "close")) (one_arg (close_row table) args) _ (one_arg_gives AsksNone tt (close_row table) (λ a. refl) args)
-    (either_none (bytes_eq word (codes "raw")) (four_args (raw_row table) args) _ (four_args_give AsksNone tt (raw_row table) (λ a b c d. request_none table (queue_of a) (shape_of b) c d) args)
+    (either_none (bytes_eq word (codes "raw")) (four_args (raw_row table) args) _ (four_args_give AsksNone tt (raw_row table) (λ a b c d. request_none table (queue_of a) (shape_of c) b d) args)
     (either_none (bytes_eq word (codes "context")) (one_arg (context_row table) args) _ (one_arg_gives AsksNone tt (context_row table) (λ a. refl) args)
     (either_none (bytes_eq word (codes "endcontext")) (one_arg (endcontext_row table) args) _ (one_arg_gives AsksNone tt (endcontext_row table) (λ a. refl) args)
     (either_none (bytes_eq word (codes "attach")) (two_args (attach_row table) args) _ (two_args_give AsksNone tt (attach_row table) (λ a b. refl) args)
@@ -132,6 +127,7 @@ few_if true n few = few refl
 few_if false n few = lit≤ tt
 
 buffer_few : (width height : List ℕ) → buffer_asks width height ≤ 2025
+unfolding buffer_asks
 buffer_few width height = few_if _ (pages_of (4 * value width * value height)) (λ is.
     let wide : value width ≤ 1920 = grind (arith, nat_tests) in
     let high : value height ≤ 1080 = grind (arith, nat_tests) in
@@ -140,12 +136,28 @@ buffer_few width height = few_if _ (pages_of (4 * value width * value height)) (
     omega (arith, all))
 
 blob_few : (size : List ℕ) → blob_asks size ≤ 2025
+unfolding blob_asks
 blob_few size = few_if _ (pages_of (value size)) (λ is. let few : value size ≤ 8294400 = grind (arith, nat_tests) in omega (arith, few))
 
+buffer_args_few : (args : List (List ℕ)) → buffer_args_ask args ≤ 2025
+buffer_args_few [] = lit≤ tt
+buffer_args_few (a ∷ []) = lit≤ tt
+buffer_args_few (a ∷ b ∷ []) = lit≤ tt
+buffer_args_few (a ∷ b ∷ c ∷ []) = lit≤ tt
+buffer_args_few (name ∷ width ∷ height ∷ format ∷ []) = buffer_few width height
+buffer_args_few (a ∷ b ∷ c ∷ d ∷ e ∷ more) = lit≤ tt
+
+blob_args_few : (args : List (List ℕ)) → blob_args_ask args ≤ 2025
+blob_args_few [] = lit≤ tt
+blob_args_few (a ∷ []) = lit≤ tt
+blob_args_few (name ∷ size ∷ []) = blob_few size
+blob_args_few (a ∷ b ∷ c ∷ more) = lit≤ tt
+
+either_few : (b : Bool) (m n : ℕ) → m ≤ 2025 → n ≤ 2025 → (if b then m else n) ≤ 2025
+either_few true m n one other = one
+either_few false m n one other = other
+
 pub words_few : (word : List ℕ) (args : List (List ℕ)) → words_ask word args ≤ 2025
-words_few word [] = lit≤ tt
-words_few word (a ∷ []) = lit≤ tt
-words_few word (a ∷ size ∷ []) = few_if (bytes_eq word (codes "blob")) (blob_asks size) (λ is. blob_few size)
-words_few word (a ∷ b ∷ c ∷ []) = lit≤ tt
-words_few word (a ∷ width ∷ height ∷ d ∷ []) = few_if (bytes_eq word (codes "buffer")) (buffer_asks width height) (λ is. buffer_few width height)
-words_few word (a ∷ b ∷ c ∷ d ∷ e ∷ more) = lit≤ tt
+words_few word args =
+    either_few (bytes_eq word (codes "buffer")) (buffer_args_ask args) _ (buffer_args_few args)
+    (either_few (bytes_eq word (codes "blob")) (blob_args_ask args) 0 (blob_args_few args) (lit≤ tt))

@@ -13,13 +13,22 @@ const PAGE_BYTES: u32 = 4_096;
 pub(crate) fn words_ask(word: &[u8], args: &[&[u8]]) -> u32
     ensures { result ≡ words_ask word.now (map (λ arg. arg.now) args.now) }
 {
-    match args {
-        &[_, size] if is(word, b"blob") => blob_asks(size),
-        &[_, width, height, _] if is(word, b"buffer") => buffer_asks(width, height),
-        _ => 0,
+    if is(word, b"buffer") {
+        return match args {
+            &[_, width, height, _] => buffer_asks(width, height),
+            _ => 0,
+        };
     }
+    if is(word, b"blob") {
+        return match args {
+            &[_, size] => blob_asks(size),
+            _ => 0,
+        };
+    }
+    0
 }
 
+#[tactic(auto, unfolding(crate::specs::AskedWithin::buffer_asks))]
 fn buffer_asks(width: &[u8], height: &[u8]) -> u32
     ensures { result ≡ buffer_asks width.now height.now }
 {
@@ -32,6 +41,7 @@ fn buffer_asks(width: &[u8], height: &[u8]) -> u32
     }
 }
 
+#[tactic(auto, unfolding(crate::specs::AskedWithin::blob_asks))]
 fn blob_asks(size: &[u8]) -> u32
     ensures { result ≡ blob_asks size.now }
 {
