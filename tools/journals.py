@@ -11,11 +11,15 @@ from toolbox import listed
 
 LAST_32 = 2**32 - 1
 LAST_63 = 2**63 - 1
-MOST_JOURNAL = 1_073_741_824
+MOST_JOURNAL = 2_147_483_648
 MOST_REQUEST = 49_152
 MOST_RESPONSE = 8_192
 MOST_SCREEN = 33_554_432
 MOST_FRAMES = 268_435_456
+
+# What a display and the clients are at the most, by the version that the first line says.
+Limits = collections.namedtuple("Limits", "width height clients")
+LIMITS = {1: Limits(640, 480, 16), 2: Limits(1920, 1080, 32)}
 
 FEATURES = [b"edid", b"uuid", b"blob", b"context"]
 FAULTS = [b"index", b"loop", b"nested", b"nextindirect", b"tablelength", b"order", b"range"]
@@ -39,6 +43,11 @@ denied resource N
 denied scanout N
 denied context N
 denied page N
+mode N N N
+unplug N
+sync COUNT
+events
+ack
 leave
 """
 REPLIES = """
@@ -56,16 +65,18 @@ held N
 range N
 inuse N
 live
+events 0
+events 1
 """
 
 # Longer numbers are past every range, and so never become an int, which would take more than linear time.
 NUMBER = re.compile(rb"0|[1-9][0-9]{0,18}")
 
 
-# What a journal says. Each of `displays` is a width and a height; `without` are features. The words of an entry and of its
-# reply are bytes: those of an act without the word `act`, or LANE ORDINAL ROOM SHAPE HEX of a request (`is_act` tells).
+# What a journal says. Each of `displays` is a width and a height; `without` are features; `host` tells whether there is a host, which
+# is a client behind the last. The words of an entry and of its reply are bytes: those of an act without the word `act`, or LANE ORDINAL ROOM SHAPE HEX of a request (`is_act` tells).
 # The lines are numbers of lines, from 1: `line` of a frame is that of its text, and `start` the place of its first byte.
-Journal = collections.namedtuple("Journal", "displays pages without clients entries control cursor frames rings_line frames_line")
+Journal = collections.namedtuple("Journal", "version displays pages without clients host entries control cursor frames rings_line frames_line")
 Entry = collections.namedtuple("Entry", "number client call is_act words reply")
 Frame = collections.namedtuple("Frame", "number scanout width height entry start line")
 
@@ -199,17 +210,31 @@ def numbers(words, form, *ranges):
     return [int(word) for word in words[1:]]
 
 
+TITLE = "`vgpu-journal 1` or `vgpu-journal 2`"
+
+
+def read_title(lines):
+    """Reads the first line, which says the version."""
+    words = lines.words(TITLE)
+    need(len(words) == 2 and words[0] == b"vgpu-journal" and words[1] in (b"1", b"2"), TITLE)
+    return int(words[1])
+
+
 def read_head(lines):
-    """Reads up to the first line of the history. Gives the displays, the pages, the features left out, the clients."""
-    need(lines.words("`vgpu-journal 1`") == [b"vgpu-journal", b"1"], "`vgpu-journal 1`")
-    displays = [numbers(lines.words("`display 0 W H`"), "display S W H", (0, 0), (1, 640), (1, 480))[1:]]
+    """Reads up to the line of the clients. Gives the version, the displays, the pages, the features left out, the clients."""
+    version = read_title(lines)
+    limits = LIMITS[version]
+    sizes = (1, limits.width), (1, limits.height)
+    displays = [numbers(lines.words("`display 0 W H`"), "display S W H", (0, 0), *sizes)[1:]]
     more = "`display S W H` or `memory P`"
     words = lines.words(more)
     while len(displays) < 16 and words[0] == b"display":
-        displays.append(numbers(words, "display S W H", (len(displays), len(displays)), (1, 640), (1, 480))[1:])
+        displays.append(numbers(words, "display S W H", (len(displays), len(displays)), *sizes)[1:])
         words = lines.words(more)
     need(words[0] == b"memory" or len(displays) == 16, more)
     (pages,) = numbers(words, "memory P", (1, 16_384))
+    if version == 2:
+        need(lines.words("`queues 256 64`") == [b"queues", b"256", b"64"], "`queues 256 64`")
     more = "`clients C`, or `without F` with F edid, uuid, blob or context, in this order"
     words = lines.words(more)
     without = []
@@ -218,15 +243,15 @@ def read_head(lines):
             without.append(feature)
             words = lines.words(more)
     need(words[0] == b"clients", more)
-    (clients,) = numbers(words, "clients C", (0, 16))
-    return displays, pages, without, clients
+    (clients,) = numbers(words, "clients C", (0, limits.clients))
+    return version, displays, pages, without, clients
 
 
 ENTRY = "entry {0}, which is `{0} C K act .. = ..` or `{0} C K cmd .. = ..`, or `rings A B`"
 
 
 def read_entry(words, number, clients):
-    """Reads a line of the history: who, and an act or a request with its reply."""
+    """Reads a line of the history: who of so many clients, the host among them, and an act or a request with its reply."""
     need(b"=" in words, ENTRY, number)
     sign = words.index(b"=")
     asked, reply = words[:sign], words[sign + 1 :]
@@ -277,16 +302,19 @@ def read_frames(lines):
 
 def read(lines):
     """Reads a journal from its first byte to its last."""
-    displays, pages, without, clients = read_head(lines)
+    version, displays, pages, without, clients = read_head(lines)
     entries = []
     words = lines.words(ENTRY.format(1))
+    host = version == 2 and words == [b"host"]
+    if host:
+        words = lines.words(ENTRY.format(1))
     while words[0] != b"rings":
-        entries.append(read_entry(words, len(entries) + 1, clients))
+        entries.append(read_entry(words, len(entries) + 1, clients + host))
         words = lines.words("an entry, or `rings A B`")
     control, cursor = numbers(words, "rings A B", (0, LAST_63), (0, LAST_63))
     rings_line = lines.number
     frames = read_frames(lines)
-    return Journal(displays, pages, without, clients, entries, control, cursor, frames, rings_line, rings_line + 1)
+    return Journal(version, displays, pages, without, clients, host, entries, control, cursor, frames, rings_line, rings_line + 1)
 
 
 def why(lines, broken):

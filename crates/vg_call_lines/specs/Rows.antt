@@ -24,7 +24,7 @@ use Rattle.vg_script_words.specs.Words.{is_number, value, is_within, is_hex, hex
 use Rattle.vg_call_lines.specs.Args.{no_args, one_arg, two_args, three_args, four_args, five_args, six_args, eleven_args}
 use Rattle.vg_call_lines.specs.Tables.{NameTable, with_name, with_context, without_name, with_label, is_kind, ref_to, context_ref_to, is_label, label_number, is_next}
 use Rattle.vg_call_lines.specs.Bodies.{Part, is_any, are_numbers, are_any, rect_of, info_body, send_body, flush_body, submit_body, begun_parts}
-use Rattle.vg_limits.specs.Limits.{version_1}
+use Rattle.vg_limits.specs.Limits.{version_2}
 
 pub record Row : Type 0 where
   -- each number and HEX is well spelled
@@ -44,7 +44,7 @@ is_format word = is_some (format_of (value word))
 
 -- A count of bytes and how many times they are stored: each within its limits, and their product too.
 abbrev pub are_times : ℕ → List ℕ → Bool
-are_times count times = is_in_range 1 4096 count && is_within 1 version_1.times times && nat_le (count * value times) version_1.bytes
+are_times count times = is_in_range 1 4096 count && is_within 1 version_2.times times && nat_le (count * value times) version_2.bytes
 
 -- The number of a display.
 abbrev pub is_scanout : ℕ → List ℕ → Bool
@@ -82,7 +82,7 @@ edid_row table scanout = Some (record {
 unfoldable pub buffer_row : NameTable → (name width height format : List ℕ) → Option Row
 buffer_row table name width height format = Some (record {
   numbers = is_number width && is_number height && is_number format;
-  limits = is_within 1 version_1.width width && is_within 1 version_1.height height && is_format format;
+  limits = is_within 1 version_2.width width && is_within 1 version_2.height height && is_format format;
   names = is_name name && is_none (table.names name);
   call = Buffer (value width) (value height) (value format);
   after = with_name name table;
@@ -92,7 +92,7 @@ buffer_row table name width height format = Some (record {
 unfoldable pub blob_row : NameTable → (name size : List ℕ) → Option Row
 blob_row table name size = Some (record {
   numbers = is_number size;
-  limits = is_within 1 version_1.bytes size;
+  limits = is_within 1 version_2.bytes size;
   names = is_name name && is_none (table.names name);
   call = Blob (value size);
   after = with_name name table;
@@ -102,7 +102,7 @@ blob_row table name size = Some (record {
 unfoldable pub store_row : NameTable → (name offset hex times : List ℕ) → Option Row
 store_row table name offset hex times = Some (record {
   numbers = is_number offset && is_hex hex && is_number times;
-  limits = is_within 0 (version_1.bytes - 1) offset && are_times (length hex / 2) times;
+  limits = is_within 0 (version_2.bytes - 1) offset && are_times (length hex / 2) times;
   names = is_kind kinds.Buffer (table.names name);
   call = Store (ref_to table name) (value offset) (hex_bytes hex) (value times);
   after = table;
@@ -112,7 +112,7 @@ store_row table name offset hex times = Some (record {
 unfoldable pub load_row : NameTable → (name offset size : List ℕ) → Option Row
 load_row table name offset size = Some (record {
   numbers = is_number offset && is_number size;
-  limits = is_within 0 (version_1.bytes - 1) offset && is_within 1 1024 size;
+  limits = is_within 0 (version_2.bytes - 1) offset && is_within 1 1024 size;
   names = is_kind kinds.Buffer (table.names name);
   call = Load (ref_to table name) (value offset) (value size);
   after = table;

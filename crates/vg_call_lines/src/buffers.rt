@@ -12,7 +12,7 @@ use crate::rows::known;
 use std::alloc::Global;
 use vg_calls::Call;
 use vg_formats::Format;
-use vg_limits::{MOST_BYTES, MOST_TIMES};
+use vg_limits::version_2::{MOST_BYTES, MOST_TIMES};
 use vg_script_words::{
     Kind, Stop, both_spelled, hex_bytes, is_name, is_number, limited, size, spelled, value,
 };

@@ -19,7 +19,7 @@ use Rattle.vg_gen.proofs.CycleLemmas.{AreQuiet}
 
 -- A line by what it reads.
 pub goes_by : {displays : ℕ} {before : List (List Line)} {marks : List Mark} {table : NameTable} {most : ℕ} {seen : Seen} {word : List ℕ} {args : Words} {mark : Mark} {after : NameTable}
-    → Stands displays before marks table most seen → most < 100000 → IsOfClient word → Reads displays table word args mark after
+    → Stands displays before marks table most seen → most < 7000 → IsOfClient word → Reads displays table word args mark after
     → Goes displays before (marks ++ mark ∷ []) after (most + 1) seen ((word ∷ args) ∷ [])
 goes_by {displays} {before} {marks} {table} {most} {seen} {word} {args} {mark} {after} s few own reads =
     subst (λ m. Goes displays before (marks ++ m ∷ []) after (most + 1) seen ((word ∷ args) ∷ [])) reads.marked
@@ -84,7 +84,7 @@ own : IsOfClient (codes "buffer")
 own = (refl, refl, refl, refl, refl)
 
 pub opens : (displays : ℕ) (before : List (List Line)) (most : ℕ) (seen : Seen) (known : List ℕ → Option Label) (given : ℕ) (scanout x f ring : List ℕ) (r : ℕ)
-    → Stands displays before [] (fresh known given) most seen → most < 90000 → HasScanout displays scanout → CanOpen known given x f → IsSaid ring r
+    → Stands displays before [] (fresh known given) most seen → most < 6900 → HasScanout displays scanout → CanOpen known given x f → IsSaid ring r
     → Goes displays before (opening_marks given) (opened known given) (most + 6) seen (opening_lines scanout x f ring)
 opens displays before most seen known given scanout x f ring r s few has can is =
     let a = goes_by s (omega (arith, few)) own (rows.buffer displays (fresh known given) (codes "A") (codes "48") refl refl refl refl) in
@@ -119,7 +119,7 @@ joining_marks given x f =
     ∷ (None, Some x) ∷ (None, Some f) ∷ silent ∷ (Some (given + 1 + 1 + 1), None) ∷ []
 
 pub joins : (displays : ℕ) (before : List (List Line)) (most : ℕ) (seen : Seen) (known : List ℕ → Option Label) (given : ℕ) (x f g : List ℕ)
-    → Stands displays before (opening_marks given) (opened known given) most seen → most < 90000 → CanJoin known given x f g
+    → Stands displays before (opening_marks given) (opened known given) most seen → most < 6900 → CanJoin known given x f g
     → Goes displays before (joining_marks given (label_number (known x)) (label_number (known f))) (joined known given) (most + 4) seen (joining_lines x f g)
 joins displays before most seen known given x f g s few can =
     let a = goes_by s (omega (arith, few)) (refl, refl, refl, refl, refl) (rows.import displays (opened known given) x can.x_name can.x_known refl) in
@@ -151,7 +151,7 @@ no_lines displays before front table most seen s =
     }
 
 pub quiet_line : {displays : ℕ} {before : List (List Line)} {front : List Mark} {table after : NameTable} {most : ℕ} {seen : Seen} {lines : List Words} {count : ℕ} {word : List ℕ} {args : Words}
-    → Quietly displays before front table most seen lines count → most < 100000 → IsOfClient word → Reads displays table word args silent after
+    → Quietly displays before front table most seen lines count → most < 7000 → IsOfClient word → Reads displays table word args silent after
     → Quietly displays before front after (most + 1) seen (lines ++ (word ∷ args) ∷ []) (count + 1)
 quiet_line {displays} {before} {front} {table} {after} {most} {seen} {lines} {count} {word} {args} q few own reads =
     let one = goes_by q.going.stands few own reads in
@@ -187,7 +187,7 @@ two_more : (lines : List Words) (a b : Words) → (lines ++ a ∷ []) ++ b ∷ [
 two_more lines a b = append_assoc lines (a ∷ []) (b ∷ [])
 
 shows_one : {displays : ℕ} {before : List (List Line)} {front : List Mark} {table : NameTable} {most : ℕ} {seen : Seen} {lines : List Words} {count : ℕ} (number client n : ℕ)
-    → HasScanout displays (decimal (client - 1)) → HasBuffers table → Quietly displays before front table most seen lines count → most < 90000
+    → HasScanout displays (decimal (client - 1)) → HasBuffers table → Quietly displays before front table most seen lines count → most < 6900
     → Quietly displays before front table (most + 2) seen (lines ++ picture number client n) (count + 2)
 unfolding picture
 shows_one {displays} {before} {front} {table} {most} {seen} {lines} {count} number client n has buffers q few =
@@ -197,7 +197,7 @@ shows_one {displays} {before} {front} {table} {most} {seen} {lines} {count} numb
     as_lines b (two_more lines _ _) (omega arith) (omega arith)
 
 pub shows : {displays : ℕ} {before : List (List Line)} {front : List Mark} {table : NameTable} {most : ℕ} {seen : Seen} {lines : List Words} {count : ℕ} (number client n : ℕ)
-    → HasScanout displays (decimal (client - 1)) → HasBuffers table → Quietly displays before front table most seen lines count → most + 2 * n < 90000
+    → HasScanout displays (decimal (client - 1)) → HasBuffers table → Quietly displays before front table most seen lines count → most + 2 * n < 6900
     → Quietly displays before front table (most + 2 * n) seen (lines ++ pictures number client n) (count + 2 * n)
 shows {lines = lines} number client zero has buffers q few = as_lines q (sym (append-nil lines)) (omega arith) (omega arith)
 shows {most = most} {lines = lines} {count = count} number client (suc n) has buffers q few =
@@ -208,7 +208,7 @@ four_more : (lines : List Words) (a b c d : Words) → (((lines ++ a ∷ []) ++ 
 four_more lines a b c d = simp append_assoc
 
 pub sets_cursor : {displays : ℕ} {before : List (List Line)} {front : List Mark} {table : NameTable} {most : ℕ} {seen : Seen} {lines : List Words} {count : ℕ} (number client : ℕ)
-    → HasScanout displays (decimal (client - 1)) → HasBuffers table → Quietly displays before front table most seen lines count → most < 90000
+    → HasScanout displays (decimal (client - 1)) → HasBuffers table → Quietly displays before front table most seen lines count → most < 6900
     → Quietly displays before front (with_name (codes "C") table) (most + 4) seen (lines ++ cursor number client) (count + 4)
 unfolding cursor
 sets_cursor {displays} {before} {front} {table} {most} {seen} {lines} {count} number client has buffers q few =
@@ -223,7 +223,7 @@ small : (n : ℕ) → n % 64 < 64
 small n = omega arith
 
 moves_once : {displays : ℕ} {before : List (List Line)} {front : List Mark} {table : NameTable} {most : ℕ} {seen : Seen} {lines : List Words} {count : ℕ} (number client n : ℕ)
-    → HasScanout displays (decimal (client - 1)) → Quietly displays before front table most seen lines count → most < 90000
+    → HasScanout displays (decimal (client - 1)) → Quietly displays before front table most seen lines count → most < 6900
     → Quietly displays before front table (most + 1) seen (lines ++ move number client n) (count + 1)
 unfolding move
 moves_once {displays} {before} {front} {table} number client n has q few =
@@ -232,7 +232,7 @@ moves_once {displays} {before} {front} {table} number client n has q few =
     quiet_line q (omega (arith, few)) (refl, refl, refl, refl, refl) (rows.move displays table (decimal (client - 1)) (decimal x) (decimal y) x y has.number has.there (said x (small _)) (said y (small _)))
 
 pub moves_cursor : {displays : ℕ} {before : List (List Line)} {front : List Mark} {table : NameTable} {most : ℕ} {seen : Seen} {lines : List Words} {count : ℕ} (number client n : ℕ)
-    → HasScanout displays (decimal (client - 1)) → Quietly displays before front table most seen lines count → most + n < 90000
+    → HasScanout displays (decimal (client - 1)) → Quietly displays before front table most seen lines count → most + n < 6900
     → Quietly displays before front table (most + n) seen (lines ++ moves number client n) (count + n)
 moves_cursor {lines = lines} number client zero has q few = as_lines q (sym (append-nil lines)) (omega arith) (omega arith)
 moves_cursor {lines = lines} number client (suc n) has q few =

@@ -29,7 +29,7 @@ by_row : (displays : ℕ) (table : NameTable) (word : List ℕ) (args : Words) (
 by_row displays table word args row mark is numbers limits names marked =
     record { call = row.call; judged = ap judged_row is ∙ rw (numbers, limits, names) refl; marked = marked }
 
-pub buffer : (displays : ℕ) (table : NameTable) (name height : List ℕ) → is_name name ≡ true → is_none (table.names name) ≡ true → is_number height ≡ true → is_within 1 480 height ≡ true
+pub buffer : (displays : ℕ) (table : NameTable) (name height : List ℕ) → is_name name ≡ true → is_none (table.names name) ≡ true → is_number height ≡ true → is_within 1 1080 height ≡ true
     → Reads displays table (codes "buffer") (name ∷ codes "64" ∷ height ∷ codes "1" ∷ []) silent (with_name name table)
 unfolding row_of row_of_buffers buffer_row
 buffer displays table name height named free number within = by_row _ _ _ _ _ _ refl (rw number refl) (rw within refl) (rw (named, free) refl) refl

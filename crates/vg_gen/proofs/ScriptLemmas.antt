@@ -180,6 +180,7 @@ record Between (displays : ℕ) (known : List ℕ → Option Label) (n : ℕ) (s
   known_is : seen.table.labels ≡ known
   given_is : seen.table.given ≡ given_before n
   few : sum_by length seen.clients ≤ 70 * n
+  asks : seen.asked ≤ 2025 * (70 * n)
 
 record Passes (displays : ℕ) (known : List ℕ → Option Label) (n : ℕ) (seen : Seen) (lines : List Words) : Type 0 where
   next : Seen
@@ -201,9 +202,10 @@ begins displays known n seen b few some =
     let displays_are = b.displays_are in
     let count = b.count in
     let lines_few = b.few in
+    let asked = b.asks in
     let sum = no_more seen.clients in
     let there : (length seen.displays == 0) ≡ false = ne_eqb _ 0 (λ none. omega (arith, none, some, displays_are)) in
-    let room : nat_lt (length seen.clients) 16 ≡ true = lt-ltb _ 16 (omega (arith, count, few)) in
+    let room : nat_lt (length seen.clients) 32 ≡ true = lt-ltb _ 32 (omega (arith, count, few)) in
     let is : step seen (codes "client" ∷ []) ≡ Ok next = rw (there, room) refl in
     record {
       next = next;
@@ -215,6 +217,7 @@ begins displays known n seen b few some =
         marks_are = refl;
         table_is = λ i. fresh (b.known_is i) (b.given_is i);
         few = omega (arith, sum, lines_few);
+        asks = asked;
       };
     }
 
@@ -234,7 +237,7 @@ record Ends (displays : ℕ) (before : List (List Line)) (known : List ℕ → O
 
 -- The lines behind the first ones, but for the last.
 rest_goes : {displays : ℕ} {before : List (List Line)} {marks : List Mark} {table : NameTable} {most : ℕ} {seen : Seen} (number n : ℕ)
-    → Stands displays before marks table most seen → most < 80000 → HasScanout displays (decimal (suc n - 1)) → HasBuffers table
+    → Stands displays before marks table most seen → most < 6800 → HasScanout displays (decimal (suc n - 1)) → HasBuffers table
     → Quietly displays before marks (with_name (codes "C") table) (most + 54) seen ([] ++ pictures number (suc n) 20 ++ cursor number (suc n) ++ moves number (suc n) 10) 54
 rest_goes {displays} {before} {marks} {table} {most} {seen} number n s few has buffers =
     let a = shows number (suc n) 20 has buffers (no_lines displays before marks table most seen s) (omega (arith, few)) in
@@ -244,7 +247,7 @@ rest_goes {displays} {before} {marks} {table} {most} {seen} number n s few has b
 
 -- With the last one.
 closes : {displays : ℕ} {before : List (List Line)} {known : List ℕ → Option Label} {most : ℕ} {seen : Seen} {lines : List Words} {table : NameTable} (n clients : ℕ) (b : Bool)
-    → Quietly displays before (front n) table most seen lines 54 → most < 90000 → table.labels ≡ known → table.given ≡ given_before (suc n)
+    → Quietly displays before (front n) table most seen lines 54 → most < 6900 → table.labels ≡ known → table.given ≡ given_before (suc n)
     → n < 16 → (b ≡ true → AreLabelled known (suc n)) → Ends displays before known n (most + 1) seen (lines ++ (if b then closing (suc n) else []))
 unfolding closing
 closes {displays} {before} {known} {most} {seen} {lines} {table} n clients false q few known_is given_is small labelled =
@@ -269,6 +272,7 @@ closes {displays} {before} {known} {most} {seen} {lines} {table} n clients false
           marks_are = going.stands.marks_are ∙ ap (λ ms. front n ++ ms) (sym (append-nil q.middle));
           table_is = going.stands.table_is;
           few = (let fewer = going.stands.few in omega (arith, fewer));
+          asks = (let fewer = going.stands.asks in omega (arith, fewer));
         };
       };
     }
@@ -396,6 +400,7 @@ between_after {displays} {known} {n} {most} {seen} {lines} b e few =
     let size = length-append seen.clients (s.lines ∷ []) in
     let count = b.count in
     let lines_few = s.few in
+    let asked = s.asks in
     let length_is : length e.going.next.clients ≡ length (seen.clients ++ s.lines ∷ []) = ap (λ (cs : List (List Line)). length cs) s.clients_are in
     record {
       next = e.going.next;
@@ -408,6 +413,7 @@ between_after {displays} {known} {n} {most} {seen} {lines} b e few =
         known_is = ap (λ t. t.labels) s.table_is ∙ e.known_is;
         given_is = ap (λ t. t.given) s.table_is ∙ e.given_is;
         few = omega (arith, few, lines_few);
+        asks = omega (arith, few, asked);
       };
     }
 
@@ -446,6 +452,7 @@ record Shows (known : List ℕ → Option Label) (displays : ℕ) (seen : Seen) 
   without_are : seen.without ≡ []
   clients_are : seen.clients ≡ []
   table_is : seen.table ≡ fresh known 0
+  asks_none : seen.asked ≡ 0
 
 record Displays (known : List ℕ → Option Label) (displays : ℕ) (seen : Seen) (lines : List Words) : Type 0 where
   next : Seen
@@ -463,7 +470,7 @@ one_display known n seen s few =
     record {
       next = next;
       runs = (next, is, refl);
-      shows_so = record { displays_are = omega (arith, size, count); pages_are = s.pages_are; without_are = s.without_are; clients_are = s.clients_are; table_is = s.table_is };
+      shows_so = record { displays_are = omega (arith, size, count); pages_are = s.pages_are; without_are = s.without_are; clients_are = s.clients_are; table_is = s.table_is; asks_none = s.asks_none };
     }
 
 all_displays : (known : List ℕ → Option Label) (n m : ℕ) (seen : Seen) → Shows known n seen → n + m ≤ 16 → Displays known (n + m) seen (replicate m display)
@@ -494,6 +501,7 @@ its_memory known n seen s some =
         known_is = ap (λ t. t.labels) s.table_is;
         given_is = ap (λ t. t.given) s.table_is;
         few = (let none : sum_by length seen.clients ≡ 0 = ap (λ (cs : List (List Line)). sum_by length cs) s.clients_are in omega (arith, none));
+        asks = (let none = s.asks_none in omega (arith, none));
       };
     }
 
@@ -502,7 +510,7 @@ whole_pass : (number clients : ℕ) (known : List ℕ → Option Label) → 1 �
     → Passes clients known clients (nothing_seen known) (generated_lines number clients)
 unfolding generated_lines
 whole_pass number clients known some few labelled =
-    let start : Shows known 0 (nothing_seen known) = record { displays_are = refl; pages_are = refl; without_are = refl; clients_are = refl; table_is = refl } in
+    let start : Shows known 0 (nothing_seen known) = record { displays_are = refl; pages_are = refl; without_are = refl; clients_are = refl; table_is = refl; asks_none = refl } in
     let shown = all_displays known 0 clients (nothing_seen known) start (omega (arith, few)) in
     let all = subst (λ k. Shows known k shown.next) (omega arith) shown.shows_so in
     let mem = its_memory known clients shown.next all some in

@@ -1,5 +1,5 @@
 -- Lines that are read one after another, and what they leave.
-use Rattle.std.proofs.Common.{◌≡◌, ℕ, ◌+◌, ◌<◌, ◌≤◌, ◌==◌, true, false, List, [], ◌∷◌, ◌++◌, length, map, codes, bytes_eq, slice_index, Option, Result, Ok, arith, refl, sym, ap, ◌∙◌, subst, length-append}
+use Rattle.std.proofs.Common.{◌≡◌, ℕ, ◌+◌, ◌*◌, ◌<◌, ◌≤◌, ◌==◌, true, false, List, [], ◌∷◌, ◌++◌, length, map, codes, bytes_eq, slice_index, Option, Result, Ok, arith, refl, sym, ap, ◌∙◌, subst, length-append}
 use Rattle.std.specs.Prelude.{sum_by}
 use Rattle.std.proofs.lemmas.Bool.{and_parts, ne_eqb}
 use Rattle.std.specs.List.{list_all, join_with_byte}
@@ -12,6 +12,8 @@ use Rattle.vg_script.specs.Seen.{Seen, add_line}
 use Rattle.vg_script.specs.Waits.{gives, waits}
 use Rattle.vg_script.specs.Grammar.{one_more, form_of, worded_form, called_form, line_form, settled_form, after_line, scan}
 use Rattle.vg_script.proofs.ClientLists.{lines-add_line}
+use Rattle.vg_script.specs.AskedWithin.{words_ask}
+use Rattle.vg_script.proofs.AskLemmas.{words_few}
 use Rattle.vg_script.proofs.CallForms.{goes_ok}
 use Rattle.vg_script.proofs.Forms.{with_call}
 use Rattle.vg_script.proofs.Scans.{scan-ok}
@@ -56,6 +58,8 @@ pub record Stands (displays : ℕ) (before : List (List Line)) (marks : List Mar
   pub marks_are : map mark_of lines ≡ marks
   pub table_is : seen.table ≡ table
   pub few : sum_by length seen.clients ≤ most
+  -- each line asks for at most 2,025 pages
+  pub asks : seen.asked ≤ 2025 * most
 
 -- A line that leads from there to there.
 pub record Goes (displays : ℕ) (before : List (List Line)) (marks : List Mark) (table : NameTable) (most : ℕ) (seen : Seen) (lines : List Words) : Type 0 where
@@ -87,17 +91,19 @@ form_is seen word args (a, b, c, d, e) = rw (a, b, c, d, e) refl
 
 -- A client's line.
 pub goes : (displays : ℕ) (before : List (List Line)) (marks : List Mark) (table : NameTable) (most : ℕ) (seen : Seen) (word : List ℕ) (args : Words) (call : Call) (after : NameTable)
-    → Stands displays before marks table most seen → most < 100000 → IsOfClient word → judged_row (row_of word displays table args) ≡ Ok (call, after)
+    → Stands displays before marks table most seen → most < 7000 → IsOfClient word → judged_row (row_of word displays table args) ≡ Ok (call, after)
     → Goes displays before (marks ++ (gives call, waits call) ∷ []) after (most + 1) seen ((word ∷ args) ∷ [])
 goes displays before marks table most seen word args call after s few of_client judged =
     let line : Line = record { number = seen.lines + 1; call = call } in
-    let next : Seen = with_call (one_more seen) call after in
+    let next : Seen = with_call (one_more seen) call (words_ask word args) after in
     let some : (length seen.clients == 0) ≡ false = ap (λ cs. length cs == 0) s.clients_are ∙ some_clients before s.lines in
     let most_now = s.few in
+    let asked = s.asks in
+    let page_few = words_few word args in
     let row : judged_row (row_of word (length seen.displays) seen.table args) ≡ Ok (call, after) =
     ap (λ d. judged_row (row_of word d seen.table args)) s.displays_are ∙ ap (λ t. judged_row (row_of word displays t args)) s.table_is ∙ judged in
     let is : step seen (word ∷ args) ≡ Ok next =
-    ap settled_form (form_is (one_more seen) word args of_client) ∙ goes_ok (one_more seen) word args after call some (omega (arith, few, most_now)) row in
+    ap settled_form (form_is (one_more seen) word args of_client) ∙ goes_ok (one_more seen) word args after call some (omega (arith, few, most_now)) (omega (arith, few, asked, page_few)) row in
     let size = lines-add_line seen.clients line in
     record {
       next = next;
@@ -109,6 +115,7 @@ goes displays before marks table most seen word args call after s few of_client 
         marks_are = marks_more s.lines line ∙ ap (λ ms. ms ++ mark_of line ∷ []) s.marks_are;
         table_is = refl;
         few = omega (arith, size, most_now);
+        asks = omega (arith, asked, page_few);
       };
     }
 

@@ -1,4 +1,5 @@
 pub mod Lines
+pub mod AskLemmas
 pub mod Forms
 pub mod ClientLists
 pub mod CallForms

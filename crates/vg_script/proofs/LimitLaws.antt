@@ -37,8 +37,9 @@ use Rattle.vg_laws.proofs.Lists.{same_bytes}
 use Rattle.vg_script.specs.Waits.{waits, given_in_all}
 use Rattle.vg_script.proofs.LabelLaws.{all_labelled}
 use Rattle.vg_script.proofs.FaultLaws.{good_script}
-use Rattle.vg_script.proofs.ClientLists.{length-add_line, lines-add_line}
-use Rattle.vg_limits.specs.Limits.{version_1}
+use Rattle.vg_script.specs.Asked.{pages_asked, asked_by_all}
+use Rattle.vg_script.proofs.ClientLists.{length-add_line, lines-add_line, asked-begun, asked-add_line}
+use Rattle.vg_limits.specs.Limits.{version_2}
 
 -- ---- the rows
 -- How many contexts a client's lines have made behind a call.
@@ -362,11 +363,13 @@ record Within (seen : Seen) : Type 0 where
   sizes : All DisplayInLimits seen.displays
   pages : IfSome seen.pages (IsBetween 1 16384)
   features : (feature : Feature) → count_by (λ other. is_same other feature) seen.without ≤ 1
-  clients : length seen.clients ≤ version_1.clients
+  clients : length seen.clients ≤ version_2.clients
   lines : sum_by length seen.clients ≤ 100000
   calls : All (ClientInLimits (length seen.displays)) seen.clients
   contexts : All FewContexts seen.clients
   made : seen.table.contexts ≡ last_contexts seen.clients
+  asked : seen.asked ≤ 15000000
+  asks : seen.asked ≡ asked_by_all seen.clients
 
 abbrev FormFits : Option Form → Type 0
 FormFits None = ⊤
@@ -396,13 +399,15 @@ display_fits seen w a b = λ place limits.
       calls = no_calls _ seen.clients none;
       contexts = w.contexts;
       made = w.made;
+      asked = w.asked;
+      asks = w.asks;
     }
 
 memory_fits : (seen : Seen) → Within seen → (a : List ℕ) → FormFits (memory_form seen a)
 unfolding memory_form
 memory_fits seen w a = λ place limits.
     let size : IsBetween 1 16384 (value a) = grind (arith, nat_tests) in
-    record { few = w.few; sizes = w.sizes; pages = size; features = w.features; clients = w.clients; lines = w.lines; calls = w.calls; contexts = w.contexts; made = w.made }
+    record { few = w.few; sizes = w.sizes; pages = size; features = w.features; clients = w.clients; lines = w.lines; calls = w.calls; contexts = w.contexts; made = w.made; asked = w.asked; asks = w.asks }
 
 -- A feature that isn't among the others stands once behind them.
 same_feature : (a b : Feature) → is_same a b ≡ true → a ≡ b
@@ -449,17 +454,17 @@ unfolding feature_form
 feature_fits seen w None = tt
 feature_fits seen w (Some new) = λ place limits.
     let none : list_any (λ other. is_same other new) seen.without ≡ false = grind arith in
-    record { few = w.few; sizes = w.sizes; pages = w.pages; features = λ feature. once_more feature new seen.without (is_same new feature) refl (w.features feature) none; clients = w.clients; lines = w.lines; calls = w.calls; contexts = w.contexts; made = w.made }
+    record { few = w.few; sizes = w.sizes; pages = w.pages; features = λ feature. once_more feature new seen.without (is_same new feature) refl (w.features feature) none; clients = w.clients; lines = w.lines; calls = w.calls; contexts = w.contexts; made = w.made; asked = w.asked; asks = w.asks }
 
 without_fits : (seen : Seen) → Within seen → (a : List ℕ) → FormFits (without_form seen a)
 unfolding without_form
 without_fits seen w a = feature_fits seen w (feature_of a)
 
 -- One client more, or one line more.
-begun_within : (n : ℕ) (clients : List (List Line)) → nat_lt (length clients) version_1.clients ≡ true → sum_by length clients ≤ 100000 → All (ClientInLimits n) clients
-    → (length (clients ++ [] ∷ []) ≤ version_1.clients) × (sum_by length (clients ++ [] ∷ []) ≤ 100000) × All (ClientInLimits n) (clients ++ [] ∷ [])
+begun_within : (n : ℕ) (clients : List (List Line)) → nat_lt (length clients) version_2.clients ≡ true → sum_by length clients ≤ 100000 → All (ClientInLimits n) clients
+    → (length (clients ++ [] ∷ []) ≤ version_2.clients) × (sum_by length (clients ++ [] ∷ []) ≤ 100000) × All (ClientInLimits n) (clients ++ [] ∷ [])
 begun_within n clients few lines calls =
-    let less : length clients < version_1.clients = grind (arith, nat_tests) in
+    let less : length clients < version_2.clients = grind (arith, nat_tests) in
     (omega (arith, less, length-append clients ([] ∷ [])), omega (arith, lines, sum_by-append length clients ([] ∷ [])), All-push (ClientInLimits n) clients [] calls (All-nil (λ line. CallInLimits n line.call)))
 
 All-add_line : (n : ℕ) (clients : List (List Line)) (line : Line) → CallInLimits n line.call → All (ClientInLimits n) clients → All (ClientInLimits n) (add_line clients line)
@@ -469,8 +474,8 @@ All-add_line n (client ∷ []) line fits calls =
 All-add_line n (client ∷ next ∷ more) line fits calls =
     All-cons (ClientInLimits n) client _ (All-head (ClientInLimits n) client (next ∷ more) calls) (All-add_line n (next ∷ more) line fits (All-tail (ClientInLimits n) client (next ∷ more) calls))
 
-added_within : (n : ℕ) (clients : List (List Line)) (line : Line) → length clients ≤ version_1.clients → nat_lt (sum_by length clients) 100000 ≡ true → All (ClientInLimits n) clients → CallInLimits n line.call
-    → (length (add_line clients line) ≤ version_1.clients) × (sum_by length (add_line clients line) ≤ 100000) × All (ClientInLimits n) (add_line clients line)
+added_within : (n : ℕ) (clients : List (List Line)) (line : Line) → length clients ≤ version_2.clients → nat_lt (sum_by length clients) 100000 ≡ true → All (ClientInLimits n) clients → CallInLimits n line.call
+    → (length (add_line clients line) ≤ version_2.clients) × (sum_by length (add_line clients line) ≤ 100000) × All (ClientInLimits n) (add_line clients line)
 added_within n clients line few room calls fits =
     let left : sum_by length clients < 100000 = grind (arith, nat_tests) in
     (omega (arith, few, length-add_line clients line), omega (arith, left, lines-add_line clients line), All-add_line n clients line fits calls)
@@ -522,6 +527,8 @@ client_fits seen w = λ place limits.
       calls = b.2;
       contexts = All-push FewContexts seen.clients [] w.contexts (lit≤ tt);
       made = sym (contexts_begun seen.clients);
+      asked = w.asked;
+      asks = w.asks ∙ sym (asked-begun seen.clients);
     }
 
 row_form_fits : (seen : Seen) → Within seen → (row : Option Row) → RowFits (length seen.displays) seen.table row → FormFits (option_map (row_form seen) row)
@@ -530,6 +537,7 @@ row_form_fits seen w None fits = tt
 row_form_fits seen w (Some row) fits = λ place limits.
     let room : nat_lt (sum_by length seen.clients) 100000 ≡ true = grind arith in
     let own : row.limits ≡ true = grind arith in
+    let pages : seen.asked + pages_asked row.call ≤ 15000000 = grind (arith, nat_tests) in
     let line : Line = record { number = seen.lines; call = row.call } in
     let f = fits own in
     let b = added_within (length seen.displays) seen.clients line w.clients room w.calls f.0 in
@@ -546,6 +554,8 @@ row_form_fits seen w (Some row) fits = λ place limits.
       calls = b.2;
       contexts = all_few seen.clients line w.contexts (subst (λ (n : ℕ). n ≤ 255) made few);
       made = made;
+      asked = pages;
+      asks = ap (λ (n : ℕ). n + pages_asked row.call) w.asks ∙ sym (asked-add_line seen.clients line begun);
     }
 
 called_fits : (seen : Seen) → Within seen → (word : List ℕ) (args : List (List ℕ)) → FormFits (called_form seen word args)
@@ -571,7 +581,7 @@ form_given seen None place limits fits = absurd (cc)
 form_given seen (Some form) place limits fits = fits (grind arith) (grind arith)
 
 one_within : (seen : Seen) → Within seen → Within (one_more seen)
-one_within seen w = record { few = w.few; sizes = w.sizes; pages = w.pages; features = w.features; clients = w.clients; lines = w.lines; calls = w.calls; contexts = w.contexts; made = w.made }
+one_within seen w = record { few = w.few; sizes = w.sizes; pages = w.pages; features = w.features; clients = w.clients; lines = w.lines; calls = w.calls; contexts = w.contexts; made = w.made; asked = w.asked; asks = w.asks }
 
 line_within : (seen : Seen) (line : List ℕ) → Within seen → ((kind : Kind) → has_fault kind seen line ≡ false) → Within (given seen line)
 unfolding line_form
@@ -582,7 +592,7 @@ lines_within seen [] w none = w
 lines_within seen (line ∷ more) w none = lines_within (given seen line) more (line_within seen line w none.0) none.1
 
 nothing_within : (labels : List ℕ → Option Label) → Within (nothing_seen labels)
-nothing_within labels = record { few = lit≤ tt; sizes = All-nil DisplayInLimits; pages = tt; features = λ feature. lit≤ tt; clients = lit≤ tt; lines = lit≤ tt; calls = All-nil (ClientInLimits 0); contexts = All-nil FewContexts; made = refl }
+nothing_within labels = record { few = lit≤ tt; sizes = All-nil DisplayInLimits; pages = tt; features = λ feature. lit≤ tt; clients = lit≤ tt; lines = lit≤ tt; calls = All-nil (ClientInLimits 0); contexts = All-nil FewContexts; made = refl; asked = lit≤ tt; asks = refl }
 
 pages_within : (pages : Option ℕ) → IfSome pages (IsBetween 1 16384) → IsBetween 1 16384 (unwrap_or pages 4096)
 pages_within None w = (lit≤ tt, lit≤ tt)
@@ -597,6 +607,7 @@ made_within seen w some labels known = record {
   features = w.features;
   clients = w.clients;
   lines = w.lines;
+  asked = subst (λ (n : ℕ). n ≤ 15000000) w.asks w.asked;
   calls = w.calls;
   contexts = w.contexts;
   labels = labels;

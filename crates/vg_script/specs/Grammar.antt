@@ -1,5 +1,5 @@
 -- A script's grammar: what has to hold of each line, what it gives, and which fault a text has first.
-use Rattle.std.specs.Prelude.{◌≡◌, ◌⊎◌, ℕ, ◌+◌, ◌==◌, ◌&&◌, not, nat_lt, Bool, true, List, [], ◌∷◌, ◌++◌, length, sum_by, Option, Some, None, is_none, option_map, unwrap_or, Result, Ok, Err, if◌then◌else◌, codes, bytes_eq, slice_index}
+use Rattle.std.specs.Prelude.{◌≡◌, ◌⊎◌, ℕ, ◌+◌, ◌==◌, ◌&&◌, not, nat_lt, nat_le, Bool, true, List, [], ◌∷◌, ◌++◌, length, sum_by, Option, Some, None, is_none, option_map, unwrap_or, Result, Ok, Err, if◌then◌else◌, codes, bytes_eq, slice_index}
 use Rattle.vg_script_words.specs.declared.kind.Kind.{Kind}
 use Rattle.vg_script_words.specs.declared.kind.Kind.TheVariants.{Text, Word, Number, Limit, Name}
 use Rattle.std.specs.List.{list_any}
@@ -16,7 +16,8 @@ use Rattle.vg_call_lines.specs.Tables.{without_names}
 use Rattle.vg_call_lines.specs.Rows.{Row, row_of}
 use Rattle.vg_script_words.specs.Kinds.{kind_code}
 use Rattle.vg_script.specs.Features.{feature_of, is_same}
-use Rattle.vg_limits.specs.Limits.{version_1}
+use Rattle.vg_script.specs.Asked.{pages_asked}
+use Rattle.vg_limits.specs.Limits.{version_2}
 
 pub record Form : Type 0 where
   -- the line may stand where it stands
@@ -35,7 +36,7 @@ unfoldable pub display_form : Seen → (width height : List ℕ) → Option Form
 display_form seen width height = Some (record {
   place = is_none seen.pages && length seen.without == 0 && length seen.clients == 0;
   numbers = is_number width && is_number height;
-  limits = nat_lt (length seen.displays) 16 && is_within 1 version_1.width width && is_within 1 version_1.height height;
+  limits = nat_lt (length seen.displays) 16 && is_within 1 version_2.width width && is_within 1 version_2.height height;
   names = true;
   gives = record seen { displays = seen.displays ++ (value width, value height) ∷ [] };
 })
@@ -69,21 +70,22 @@ unfoldable pub client_form : Seen → Option Form
 client_form seen = Some (record {
   place = not (length seen.displays == 0);
   numbers = true;
-  limits = nat_lt (length seen.clients) version_1.clients;
+  limits = nat_lt (length seen.clients) version_2.clients;
   names = true;
   gives = record seen { clients = seen.clients ++ [] ∷ []; table = without_names seen.table };
 })
 
--- A line of a client. All clients together have at most 100,000 of them.
+-- A line of a client. All clients together have at most 100,000 of them, which ask for at most 15,000,000 guest pages.
 unfoldable pub row_form : Seen → Row → Form
 row_form seen row = record {
   place = not (length seen.clients == 0);
   numbers = row.numbers;
-  limits = nat_lt (sum_by length seen.clients) 100000 && row.limits;
+  limits = nat_lt (sum_by length seen.clients) 100000 && nat_le (seen.asked + pages_asked row.call) 15000000 && row.limits;
   names = row.names;
   gives = record seen {
     clients = add_line seen.clients (record { number = seen.lines; call = row.call });
     table = row.after;
+    asked = seen.asked + pages_asked row.call;
   };
 }
 

@@ -6,6 +6,8 @@ pub mod LabelsWithin
 pub mod Waits
 pub mod SearchWithin
 pub mod WalkWithin
+pub mod Asked
+pub mod AskedWithin
 pub mod Grammar
 pub mod ReadingWithin
 pub mod Faults

@@ -15,8 +15,9 @@ use Rattle.vg_script.specs.declared.types.Feature.{Feature}
 use Rattle.vg_script.specs.declared.types.Line.{Line}
 use Rattle.vg_script.specs.declared.types.Script.{Script}
 use Rattle.vg_script.specs.Features.{is_same}
+use Rattle.vg_script.specs.Asked.{asked_by_all}
 use Rattle.vg_calls.specs.declared.call.Call.TheVariants.{Info, Edid, Buffer, Blob, Store, Load, Send, Flush, Take, Drop, Hide, Show, ShowBlob, Flip, Cursor, Move, Context, EndContext, Attach, Detach, Submit, Uuid, Export, Import, Begin, Await, Close, Raw}
-use Rattle.vg_limits.specs.Limits.{version_1}
+use Rattle.vg_limits.specs.Limits.{version_2}
 
 abbrev pub IsBetween : ℕ → ℕ → ℕ → Type 0
 IsBetween low high n = (low ≤ n) × (n ≤ high)
@@ -46,11 +47,11 @@ BodyInLimits timeline (bodies.Submit context ring) = timeline ≡ Some (context,
 abbrev pub CallInLimits : ℕ → Call → Type 0
 CallInLimits displays Info = ⊤
 CallInLimits displays (Edid scanout) = IsBetween 0 4294967295 scanout
-CallInLimits displays (Buffer width height format) = IsBetween 1 version_1.width width × IsBetween 1 version_1.height height × IsFormatCode format
-CallInLimits displays (Blob size) = IsBetween 1 version_1.bytes size
+CallInLimits displays (Buffer width height format) = IsBetween 1 version_2.width width × IsBetween 1 version_2.height height × IsFormatCode format
+CallInLimits displays (Blob size) = IsBetween 1 version_2.bytes size
 CallInLimits displays (Store name offset bytes times) =
-    (offset < version_1.bytes) × IsBetween 1 4096 (length bytes) × IsBetween 1 version_1.times times × (length bytes * times ≤ version_1.bytes)
-CallInLimits displays (Load name offset size) = (offset < version_1.bytes) × IsBetween 1 1024 size
+    (offset < version_2.bytes) × IsBetween 1 4096 (length bytes) × IsBetween 1 version_2.times times × (length bytes * times ≤ version_2.bytes)
+CallInLimits displays (Load name offset size) = (offset < version_2.bytes) × IsBetween 1 1024 size
 CallInLimits displays (Send name rect) = ⊤
 CallInLimits displays (Flush name rect) = ⊤
 CallInLimits displays (Take scanout) = scanout < displays
@@ -89,15 +90,17 @@ abbrev pub contexts_in : List Line → ℕ
 contexts_in lines = count_by (λ line. makes_context line.call) lines
 
 abbrev pub DisplayInLimits : ℕ × ℕ → Type 0
-DisplayInLimits size = IsBetween 1 version_1.width size.0 × IsBetween 1 version_1.height size.1
+DisplayInLimits size = IsBetween 1 version_2.width size.0 × IsBetween 1 version_2.height size.1
 
 pub record ScriptInLimits (script : Script) : Type 0 where
   pub count : IsBetween 1 16 (length script.displays)
   pub sizes : All DisplayInLimits script.displays
   pub pages : IsBetween 1 16384 script.pages
   pub features : (feature : Feature) → count_by (λ other. is_same other feature) script.without ≤ 1
-  pub clients : length script.clients ≤ version_1.clients
+  pub clients : length script.clients ≤ version_2.clients
   pub lines : sum_by length script.clients ≤ 100000
+  -- how many guest pages all `buffer` and `blob` lines ask for
+  pub asked : asked_by_all script.clients ≤ 15000000
   pub calls : All (ClientInLimits (length script.displays)) script.clients
   pub contexts : All (λ lines. contexts_in lines ≤ 255) script.clients
   -- the labels that lines give are 1, 2, 3, in the order of the text, and each that a line waits for is one of them

@@ -18,6 +18,8 @@ pub record Seen : Type 0 where
   pub clients : List (List Line)
   -- the names that are defined in the last client
   pub table : NameTable
+  -- how many guest pages the lines of all clients ask for
+  pub asked : ℕ
 
 -- The clients with one more line of the last.
 abbrev pub add_line : List (List Line) → Line → List (List Line)
@@ -27,4 +29,4 @@ add_line (client ∷ next ∷ more) line = client ∷ add_line (next ∷ more) l
 
 -- Before the first line of a text with these labels.
 abbrev pub nothing_seen : (List ℕ → Option Label) → Seen
-nothing_seen labels = record { lines = 0; displays = []; pages = None; without = []; clients = []; table = no_names labels }
+nothing_seen labels = record { lines = 0; displays = []; pages = None; without = []; clients = []; table = no_names labels; asked = 0 }

@@ -1,6 +1,7 @@
 //! The text of a script, and the script that it says or its first fault.
 #![tactic(auto)]
 
+mod asked;
 mod calls;
 mod features;
 mod labels;

@@ -1,8 +1,9 @@
 //! A text's lines, read one after the other.
 
 ghost use Rattle.std.specs.Prelude.{◌≡◌, ◌≤◌, length, sum_by};
-ghost use Rattle.vg_limits.specs.Limits.{version_1};
+ghost use Rattle.vg_limits.specs.Limits.{version_2};
 
+use crate::asked::words_ask;
 use crate::calls::{add_line, past_limit};
 use crate::features::{feature_of, is_among};
 use crate::types::{Feature, Line, Script, ScriptFault};
@@ -10,7 +11,7 @@ use crate::waits::cycle;
 use std::alloc::{AllocError, Global};
 use std::collections::BTreeMap;
 use vg_call_lines::{Label, Names, call_of};
-use vg_limits::MOST_CLIENTS;
+use vg_limits::version_2::{MOST_ASKED, MOST_CLIENTS};
 use vg_list::Seq;
 use vg_script_words::{Kind, Stop, both_spelled, is, is_text, limited, put_words, size, spelled};
 
@@ -29,11 +30,14 @@ pub(crate) struct Reader<'a> {
     count: usize,
     /// The names of the last client.
     names: Names<'a>,
+    /// How many guest pages the lines ask for.
+    asked: u64,
     ghost few: { length displays.items ≤ 16 },
     ghost counted: { count ≡ sum_by length clients.items },
     ghost named: { names.count ≤ lines },
-    ghost clients_few: { length clients.items ≤ version_1.clients },
+    ghost clients_few: { length clients.items ≤ version_2.clients },
     ghost lines_few: { count ≤ 100000 },
+    ghost asked_few: { asked ≤ 15000000 },
 }
 
 impl<'a> Reader<'a> {
@@ -56,6 +60,7 @@ impl<'a> Reader<'a> {
             clients: Vec::new(alloc),
             count: 0,
             names: Names::new(alloc, labels),
+            asked: 0,
         }
     }
 
@@ -220,8 +225,9 @@ impl<'a> Reader<'a> {
             return Err(Stop::Fault(Kind::Word));
         }
         let displays = self.displays.len();
+        let asked = self.asked + u64::from(words_ask(word, args));
         let read = call_of(alloc, &mut self.names, displays, word, args);
-        if self.count >= MOST_LINES {
+        if self.count >= MOST_LINES || asked > u64::from(MOST_ASKED) {
             return Err(past_limit(read));
         }
         match read {
@@ -229,6 +235,7 @@ impl<'a> Reader<'a> {
                 let number = self.lines;
                 add_line(&mut self.clients, Line { number, call })?;
                 self.count += 1;
+                self.asked = asked;
                 Ok(())
             }
             Err(stop) => Err(stop),
@@ -256,6 +263,7 @@ impl<'a> Reader<'a> {
             clients,
             count: _,
             names,
+            asked: _,
         } = self;
         if displays.is_empty() {
             return Err(ScriptFault {

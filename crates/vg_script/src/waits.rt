@@ -4,7 +4,7 @@ ghost use Rattle.std.specs.Prelude.{◌≡◌, ◌<◌, ◌≤◌, ◌+◌, ◌-
 ghost use Rattle.vg_script.specs.Waits.{gives, waits, waits_at};
 ghost use Rattle.vg_script.specs.SearchWithin.{place_if, places_in, places_from, place_of, reach_to, behind_from, find_in, fresh, cycle_line};
 ghost use Rattle.vg_script.specs.WalkWithin.{search_of, target_in};
-ghost use Rattle.vg_limits.specs.Limits.{version_1};
+ghost use Rattle.vg_limits.specs.Limits.{version_2};
 
 use crate::types::Line;
 use std::alloc::{AllocError, Global};
@@ -18,7 +18,7 @@ pub(crate) fn cycle(
     clients: &[Seq<Line>],
     total: usize,
 ) -> Result<Option<u32>, AllocError>
-    requires few { length clients.now ≤ version_1.clients }
+    requires few { length clients.now ≤ version_2.clients }
     requires total { total ≡ sum_by length clients.now }
     requires lines { sum_by length clients.now ≤ 100000 }
     ensures { IfOk result (λ line. line ≡ cycle_line clients.now) }
@@ -47,7 +47,7 @@ fn number_of(clients: &[Seq<Line>], client: usize, place: usize) -> Option<u32>
 
 /// The places of the lines that give labels, in their order.
 fn places(alloc: Global, clients: &[Seq<Line>]) -> Result<Vec<(u32, u32)>, AllocError>
-    requires few { length clients.now ≤ version_1.clients }
+    requires few { length clients.now ≤ version_2.clients }
     requires lines { sum_by length clients.now ≤ 100000 }
     ensures { IfOk result (λ places. places.items ≡ places_from 0 clients.now) }
 {

@@ -7,12 +7,12 @@ ghost use Rattle.std.specs.Prelude.{◌≡◌, ◌==◌, [], ◌∷◌, ◌+◌,
 ghost use Rattle.vg_list.specs.Front.{HasFront};
 ghost use Rattle.vg_script_words.specs.Code.{Passes, Yields, Decodes};
 ghost use Rattle.vg_script_words.specs.Words.{is_text, words_of, is_number, value, is_within, is_signed, signed_value, is_position, is_hex, is_hex_digit, hex_bytes, is_hex_or_none, bytes_or_none, is_name};
-ghost use Rattle.vg_limits.specs.Limits.{version_1};
+ghost use Rattle.vg_limits.specs.Limits.{version_2};
 
 use crate::kind::{Kind, Stop};
 use memchr::memchr;
 use std::alloc::{AllocError, Global};
-use vg_limits::{MOST_HEIGHT, MOST_WIDTH};
+use vg_limits::version_2::{MOST_HEIGHT, MOST_WIDTH};
 use vg_list::Seq;
 
 /// Whether a line has only bytes from 32 to 126, and at most 16,384 of them.
@@ -278,7 +278,7 @@ pub fn both_spelled(a: &[u8], b: &[u8]) -> Result<(), Kind>
 pub fn size(width: &[u8], height: &[u8]) -> Result<(u32, u32), Kind>
     requires width { is_number width.now ≡ true }
     requires height { is_number height.now ≡ true }
-    ensures { Yields (is_within 1 version_1.width width.now && is_within 1 version_1.height height.now)
+    ensures { Yields (is_within 1 version_2.width width.now && is_within 1 version_2.height height.now)
         (value width.now, value height.now) Kind.Limit result }
 {
     Ok((
