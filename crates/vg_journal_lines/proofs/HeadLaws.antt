@@ -47,7 +47,7 @@ are_queues Two = inr refl
 
 pub host_back_told : (version : Version) (host : Bool) → (version ≡ One → host ≡ false) → queues_of version ≡ (64, 16) → host ≡ false
 host_back_told One host none first = none refl
-host_back_told Two host none first = absurd cc
+host_back_told Two host none first = let no : 256 ≡ 64 = ap (λ (q : ℕ × ℕ). q.0) first in absurd (omega (arith, no))
 
 limits_by : (b : Bool) → (if b then version_1 else version_2) ≡ limits_of (if b then One else Two)
 limits_by true = refl

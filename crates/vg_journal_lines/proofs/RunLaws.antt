@@ -50,16 +50,16 @@ tail_pieces journal =
     numbered_pieces entry_pieces 1 journal.entries ++ count_pieces journal.control journal.cursor (length journal.frames)
     ++ numbered_pieces frame_pieces 1 journal.frames ++ joined end_words ∷ []
 
-parts_flat : (clients : List ℕ) (title displays pages without host entries counts frames last : List (List ℕ))
-    → (title ++ displays ++ pages ++ without ++ clients ∷ host) ++ entries ++ counts ++ frames ++ last
-    ≡ (title ++ displays ++ pages ++ without ++ clients ∷ []) ++ (host ++ (entries ++ counts ++ frames ++ last))
+parts_flat : (clients title displays pages without host entries counts frames last : List (List ℕ))
+    → (title ++ displays ++ pages ++ without ++ (clients ++ host)) ++ entries ++ counts ++ frames ++ last
+    ≡ (title ++ displays ++ pages ++ without ++ clients) ++ (host ++ (entries ++ counts ++ frames ++ last))
 parts_flat clients title displays pages without host entries counts frames last = simp append_assoc
 
 parts_of : (journal : Journal) → pieces_of journal ≡ front_pieces journal.setup ++ (host_pieces journal.setup.host ++ tail_pieces journal)
 parts_of journal =
     let setup = journal.setup in
     let version = version_of setup.queues in
-    parts_flat (joined (clients_words setup.clients)) (joined (title_words version) ∷ []) (numbered_pieces display_pieces 0 setup.displays) (joined (memory_words setup.pages) ∷ queues_pieces version) (without_pieces setup.accepted) (host_pieces setup.host)
+    parts_flat (joined (clients_words setup.clients) ∷ []) (joined (title_words version) ∷ []) (numbered_pieces display_pieces 0 setup.displays) (joined (memory_words setup.pages) ∷ queues_pieces version) (without_pieces setup.accepted) (host_pieces setup.host)
     (numbered_pieces entry_pieces 1 journal.entries) (count_pieces journal.control journal.cursor (length journal.frames)) (numbered_pieces frame_pieces 1 journal.frames) (joined end_words ∷ [])
 
 -- The state behind the features.
