@@ -5,16 +5,16 @@ use Rattle.std.proofs.lemmas.List.Sums.{AllPass-from_list_all}
 use Rattle.std.specs.List.{All, list_all, join_with_byte}
 use Rattle.vg_laws.proofs.Options.{some_is}
 use Rattle.vg_client_holds.specs.declared.act.Act.{Act}
-use Rattle.vg_client_holds.specs.declared.act.Act.TheVariants.{Enter, Reserve, Store, Load, Export, Import, Release, Free, Take, Drop, Await, Denied, Leave}
+use Rattle.vg_client_holds.specs.declared.act.Act.TheVariants.{Enter, Reserve, Store, Load, Export, Import, Release, Free, Take, Drop, Await, Denied, Mode, Unplug, Sync, Events, Ack, Leave}
 use Rattle.vg_client_holds.specs.declared.act.What.{What}
 use Rattle.vg_client_holds.specs.declared.act.What.TheVariants as whats
-use Rattle.vg_journal_words.specs.Text.{act_text, await_text, load_text, reserve_text, store_text, what_text}
+use Rattle.vg_journal_words.specs.Text.{act_text, await_text, load_text, mode_text, reserve_text, store_text, what_text}
 use Rattle.vg_line_words.specs.Words.{bytes_of, is_plain, number_of, parts_at}
 use Rattle.vg_line_words.proofs.HexLaws.{bytes_back, bytes_only, bytes_range, plain_bytes}
 use Rattle.vg_line_words.proofs.NumberLaws.{number_back, number_only, number_range, plain_decimal}
 use Rattle.vg_act_lines.specs.Words.{act_words, what_words}
 use Rattle.vg_act_lines.specs.Ranges.{ActInRange, IsShort, WhatInRange}
-use Rattle.vg_act_lines.specs.Read.{act_by, act_of, alone, await, await_of, both, buffer_act, four, load, load_of, numbered_act, numbered_what, one_number, reserve, reserve_of, short, store, store_of, two, what_of}
+use Rattle.vg_act_lines.specs.Read.{act_by, act_of, alone, await, await_of, both, buffer_act, four, load, load_of, mode, mode_of, numbered_act, numbered_what, one_number, plug_act, reserve, reserve_of, short, store, store_of, sync_of, two, what_of}
 use Rattle.vg_act_lines.proofs.PartLaws.{both_parts, last_plain, line_parts, map_parts, named, named_alone, named_number, no_more, one_only, plain_short, short_back, short_only, then_parts, two_back, two_only}
 
 -- The text is the words.
@@ -26,7 +26,7 @@ text_what (whats.Context n) = refl
 text_what (whats.Page n) = refl
 
 pub text_act : (act : Act) → act_text act ≡ join_with_byte 32 (act_words act)
-unfolding reserve_text store_text load_text await_text
+unfolding reserve_text store_text load_text await_text mode_text
 text_act Enter = refl
 text_act (Reserve width height format bytes) = simp append_assoc
 text_act (Store key offset bytes times) = simp append_assoc
@@ -39,6 +39,11 @@ text_act (Take scanout) = refl
 text_act (Drop scanout) = refl
 text_act (Await lane ordinal) = simp append_assoc
 text_act (Denied what) = text_what what
+text_act (Mode scanout width height) = simp append_assoc
+text_act (Unplug scanout) = refl
+text_act (Sync call) = refl
+text_act Events = refl
+text_act Ack = refl
 text_act Leave = refl
 
 -- The words are plain.
@@ -64,6 +69,11 @@ are_plain (Take scanout) r = last_plain _ (plain_short scanout r)
 are_plain (Drop scanout) r = last_plain _ (plain_short scanout r)
 are_plain (Await lane ordinal) r = and_from _ _ (plain_decimal lane (omega (arith, r.0))) (last_plain _ (plain_decimal ordinal (omega (arith, r.1))))
 are_plain (Denied what) r = plain_what what r
+are_plain (Mode scanout width height) r = and_from _ _ (plain_short scanout r.0) (and_from _ _ (plain_short width r.1) (last_plain _ (plain_short height r.2)))
+are_plain (Unplug scanout) r = last_plain _ (plain_short scanout r)
+are_plain (Sync call) r = last_plain _ (plain_decimal call (omega (arith, r)))
+are_plain Events r = refl
+are_plain Ack r = refl
 are_plain Leave r = refl
 
 pub plain_act : (act : Act) → ActInRange act → All (λ w. is_plain w ≡ true) (act_words act)
@@ -79,7 +89,7 @@ what_said (whats.Context n) r = ap (option_and_then (numbered_what (codes "conte
 what_said (whats.Page n) r = ap (option_and_then (numbered_what (codes "page"))) (short_back n r)
 
 pub act_said : (act : Act) → ActInRange act → act_of (act_words act) ≡ Some act
-unfolding act_by buffer_act reserve_of store_of load_of await_of
+unfolding act_by plug_act buffer_act reserve_of store_of load_of await_of mode_of sync_of
 act_said Enter r = refl
 act_said (Reserve width height format bytes) r = λ i. option_map reserve (both (two_back width height r.0 r.1 i) (two_back format bytes r.2 r.3 i))
 act_said (Store key offset bytes times) r = λ i. option_map store (both (both (two_back key offset r.0 r.1 i) (short_back times r.3 i)) (bytes_back bytes r.2 i))
@@ -92,6 +102,11 @@ act_said (Take scanout) r = ap (option_and_then (numbered_act (codes "take"))) (
 act_said (Drop scanout) r = ap (option_and_then (numbered_act (codes "drop"))) (short_back scanout r)
 act_said (Await lane ordinal) r = λ i. option_map await (both (number_back (2 ^ 32) lane r.0 (omega arith) i) (number_back (2 ^ 63) ordinal r.1 (omega arith) i))
 act_said (Denied what) r = ap (option_map Denied) (what_said what r)
+act_said (Mode scanout width height) r = λ i. option_map mode (both (two_back scanout width r.0 r.1 i) (short_back height r.2 i))
+act_said (Unplug scanout) r = ap (option_and_then (numbered_act (codes "unplug"))) (short_back scanout r)
+act_said (Sync call) r = ap (option_map Sync) (number_back (2 ^ 63) call r (omega arith))
+act_said Events r = refl
+act_said Ack r = refl
 act_said Leave r = refl
 
 pub act_parts : (act : Act) → ActInRange act → parts_at 32 (join_with_byte 32 (act_words act)) ≡ act_words act
@@ -141,29 +156,31 @@ what_only (word ∷ n ∷ []) what is =
     subst (λ v. IsWhat (word ∷ v ∷ []) what) (sym read.0) (numbered_what_only word m.0 what read.1 m.2)
 what_only (word ∷ n ∷ more ∷ words) what is = no_more what is
 
-act_numbered_by : (a b c d e f : Bool) (word : List ℕ) (n : ℕ) (act : Act) → IsShort n
+act_numbered_by : (a b c d e f g : Bool) (word : List ℕ) (n : ℕ) (act : Act) → IsShort n
     → bytes_eq word (codes "export") ≡ a
     → bytes_eq word (codes "import") ≡ b
     → bytes_eq word (codes "release") ≡ c
     → bytes_eq word (codes "free") ≡ d
     → bytes_eq word (codes "take") ≡ e
     → bytes_eq word (codes "drop") ≡ f
-    → (if a then Some (Export n) else if b then Some (Import n) else if c then Some (Release n) else if d then Some (Free n) else if e then Some (Take n) else if f then Some (Drop n) else None) ≡ Some act
+    → bytes_eq word (codes "unplug") ≡ g
+    → (if a then Some (Export n) else if b then Some (Import n) else if c then Some (Release n) else if d then Some (Free n) else if e then Some (Take n) else if f then Some (Drop n) else if g then Some (Unplug n) else None) ≡ Some act
     → IsAct (word ∷ decimal n ∷ []) act
-act_numbered_by true b c d e f word n act r u v w x y z is = named_number IsAct word (codes "export") n (Export n) act u is (refl, r)
-act_numbered_by false true c d e f word n act r u v w x y z is = named_number IsAct word (codes "import") n (Import n) act v is (refl, r)
-act_numbered_by false false true d e f word n act r u v w x y z is = named_number IsAct word (codes "release") n (Release n) act w is (refl, r)
-act_numbered_by false false false true e f word n act r u v w x y z is = named_number IsAct word (codes "free") n (Free n) act x is (refl, r)
-act_numbered_by false false false false true f word n act r u v w x y z is = named_number IsAct word (codes "take") n (Take n) act y is (refl, r)
-act_numbered_by false false false false false true word n act r u v w x y z is = named_number IsAct word (codes "drop") n (Drop n) act z is (refl, r)
-act_numbered_by false false false false false false word n act r u v w x y z is = no_more act is
+act_numbered_by true b c d e f g word n act r u v w x y z o is = named_number IsAct word (codes "export") n (Export n) act u is (refl, r)
+act_numbered_by false true c d e f g word n act r u v w x y z o is = named_number IsAct word (codes "import") n (Import n) act v is (refl, r)
+act_numbered_by false false true d e f g word n act r u v w x y z o is = named_number IsAct word (codes "release") n (Release n) act w is (refl, r)
+act_numbered_by false false false true e f g word n act r u v w x y z o is = named_number IsAct word (codes "free") n (Free n) act x is (refl, r)
+act_numbered_by false false false false true f g word n act r u v w x y z o is = named_number IsAct word (codes "take") n (Take n) act y is (refl, r)
+act_numbered_by false false false false false true g word n act r u v w x y z o is = named_number IsAct word (codes "drop") n (Drop n) act z is (refl, r)
+act_numbered_by false false false false false false true word n act r u v w x y z o is = named_number IsAct word (codes "unplug") n (Unplug n) act o is (refl, r)
+act_numbered_by false false false false false false false word n act r u v w x y z o is = no_more act is
 
 numbered_act_only : (word : List ℕ) (args : List (List ℕ)) (act : Act) → option_and_then (numbered_act word) (one_number args) ≡ Some act → IsAct (word ∷ args) act
 numbered_act_only word args act is =
     let m = then_parts (numbered_act word) (one_number args) act is in
     let read = one_only args m.0 m.1 in
     subst (λ v. IsAct (word ∷ v) act) (sym read.0)
-    (act_numbered_by (bytes_eq word (codes "export")) (bytes_eq word (codes "import")) (bytes_eq word (codes "release")) (bytes_eq word (codes "free")) (bytes_eq word (codes "take")) (bytes_eq word (codes "drop")) word m.0 act read.1 refl refl refl refl refl refl m.2)
+    (act_numbered_by (bytes_eq word (codes "export")) (bytes_eq word (codes "import")) (bytes_eq word (codes "release")) (bytes_eq word (codes "free")) (bytes_eq word (codes "take")) (bytes_eq word (codes "drop")) (bytes_eq word (codes "unplug")) word m.0 act read.1 refl refl refl refl refl refl refl m.2)
 
 reserve_only : (args : List (List ℕ)) (act : Act) → reserve_of args ≡ Some act → IsAct (codes "reserve" ∷ args) act
 unfolding reserve_of
@@ -228,18 +245,54 @@ buffer_only : (word : List ℕ) (args : List (List ℕ)) (act : Act) → buffer_
 unfolding buffer_act
 buffer_only word args act is = buffer_by (bytes_eq word (codes "reserve")) (bytes_eq word (codes "store")) (bytes_eq word (codes "load")) word args act refl refl refl is
 
+mode_only : (args : List (List ℕ)) (act : Act) → mode_of args ≡ Some act → IsAct (codes "mode" ∷ args) act
+unfolding mode_of
+mode_only (a ∷ b ∷ c ∷ []) act is =
+    let m = map_parts mode (both (two a b) (short c)) act is in
+    let parts = both_parts (two a b) (short c) m.0 m.1 in
+    let first = two_only a b m.0.0 parts.0 in
+    let high = short_only c m.0.1 parts.1 in
+    subst (IsAct (codes "mode" ∷ a ∷ b ∷ c ∷ [])) m.2 (λ i. codes "mode" ∷ first.0 i ∷ first.1 i ∷ high.0 i ∷ [], (first.2, first.3, high.1))
+mode_only args act is = no_more act is
+
+sync_only : (args : List (List ℕ)) (act : Act) → sync_of args ≡ Some act → IsAct (codes "sync" ∷ args) act
+unfolding sync_of
+sync_only [] act is = no_more act is
+sync_only (a ∷ []) act is =
+    let m = map_parts Sync (number_of (2 ^ 63) a) act is in
+    let call = number_only (2 ^ 63) m.0 a (omega arith) m.1 in
+    subst (IsAct (codes "sync" ∷ a ∷ [])) m.2 (λ i. codes "sync" ∷ call i ∷ [], number_range (2 ^ 63) m.0 a m.1)
+sync_only (a ∷ b ∷ args) act is = no_more act is
+
+plug_by : (a b c d : Bool) (word : List ℕ) (args : List (List ℕ)) (act : Act)
+    → bytes_eq word (codes "mode") ≡ a
+    → bytes_eq word (codes "sync") ≡ b
+    → bytes_eq word (codes "events") ≡ c
+    → bytes_eq word (codes "ack") ≡ d
+    → (if a then mode_of args else if b then sync_of args else if c then alone Events args else if d then alone Ack args else buffer_act word args) ≡ Some act
+    → IsAct (word ∷ args) act
+plug_by true b c d word args act u v w x is = named IsAct word (codes "mode") args act u (mode_only args act is)
+plug_by false true c d word args act u v w x is = named IsAct word (codes "sync") args act v (sync_only args act is)
+plug_by false false true d word args act u v w x is = named_alone IsAct word (codes "events") args Events act w is (refl, tt)
+plug_by false false false true word args act u v w x is = named_alone IsAct word (codes "ack") args Ack act x is (refl, tt)
+plug_by false false false false word args act u v w x is = buffer_only word args act is
+
+plug_only : (word : List ℕ) (args : List (List ℕ)) (act : Act) → plug_act word args ≡ Some act → IsAct (word ∷ args) act
+unfolding plug_act
+plug_only word args act is = plug_by (bytes_eq word (codes "mode")) (bytes_eq word (codes "sync")) (bytes_eq word (codes "events")) (bytes_eq word (codes "ack")) word args act refl refl refl refl is
+
 named_by : (a b c d : Bool) (word : List ℕ) (args : List (List ℕ)) (act : Act)
     → bytes_eq word (codes "enter") ≡ a
     → bytes_eq word (codes "leave") ≡ b
     → bytes_eq word (codes "denied") ≡ c
     → bytes_eq word (codes "await") ≡ d
-    → (if a then alone Enter args else if b then alone Leave args else if c then option_map Denied (what_of args) else if d then await_of args else buffer_act word args) ≡ Some act
+    → (if a then alone Enter args else if b then alone Leave args else if c then option_map Denied (what_of args) else if d then await_of args else plug_act word args) ≡ Some act
     → IsAct (word ∷ args) act
 named_by true b c d word args act u v w x is = named_alone IsAct word (codes "enter") args Enter act u is (refl, tt)
 named_by false true c d word args act u v w x is = named_alone IsAct word (codes "leave") args Leave act v is (refl, tt)
 named_by false false true d word args act u v w x is = named IsAct word (codes "denied") args act w (denied_only args act is)
 named_by false false false true word args act u v w x is = named IsAct word (codes "await") args act x (await_only args act is)
-named_by false false false false word args act u v w x is = buffer_only word args act is
+named_by false false false false word args act u v w x is = plug_only word args act is
 
 pub act_only : (act : Act) (words : List (List ℕ)) → act_of words ≡ Some act → (words ≡ act_words act) × ActInRange act
 unfolding act_by

@@ -10,13 +10,13 @@ use Rattle.vg_client_holds.specs.declared.act.ActReply.TheVariants as replies
 use Rattle.vg_share.specs.declared.share.Geometry.{Geometry}
 use Rattle.vg_share.specs.declared.share.ShareRefusal.{ShareRefusal}
 use Rattle.vg_share.specs.declared.share.ShareRefusal.TheVariants.{GuestFull, UnknownKey, NotHeld, ScanoutHeld, OutOfRange, InUse, ResourceLive}
-use Rattle.vg_journal_words.specs.Text.{act_reply_text, imported_text, pages_text, refusal_text, reserved_text, size_text}
+use Rattle.vg_journal_words.specs.Text.{act_reply_text, bit_text, imported_text, pages_text, refusal_text, reserved_text, size_text}
 use Rattle.vg_line_words.specs.Words.{AreBelow, bytes_of, is_plain, numbers_of, numbers_text, parts_at}
 use Rattle.vg_line_words.proofs.HexLaws.{bytes_back, bytes_only, bytes_range, plain_bytes}
 use Rattle.vg_line_words.proofs.ListLaws.{below_weaker, numbers_back, numbers_only, numbers_range, plain_numbers}
 use Rattle.vg_act_lines.specs.Words.{refusal_words, reply_words}
 use Rattle.vg_act_lines.specs.Ranges.{GeometryInRange, IsShort, RefusalInRange, ReplyInRange}
-use Rattle.vg_act_lines.specs.Read.{alone, both, four, geometry, given_by, imported, imported_of, keyed_of, loaded_of, numbered_refusal, one_number, refusal_by, reply_by, reply_of, reserved, reserved_of, short, two}
+use Rattle.vg_act_lines.specs.Read.{alone, both, events_of, four, geometry, given_by, imported, imported_of, keyed_of, loaded_of, numbered_refusal, one_number, refusal_by, reply_by, reply_of, reserved, reserved_of, short, two}
 use Rattle.vg_act_lines.proofs.PartLaws.{both_parts, last_plain, line_parts, map_parts, named, named_alone, named_number, no_more, one_only, pages_numbers, plain_short, short_back, short_only, then_parts, two_back, two_only}
 
 -- The text is the words.
@@ -49,6 +49,7 @@ text_reply (replies.Imported key size pages) =
     ∙ imported_flat (decimal key) (decimal size.width) (decimal size.height) (decimal size.format) (decimal size.bytes) (numbers_text pages)
 text_reply replies.Kept = refl
 text_reply replies.Last = refl
+text_reply (replies.Events set) = refl
 text_reply (replies.Refused refusal) = text_refusal refusal
 
 -- The words are plain.
@@ -65,6 +66,11 @@ plain_refusal ResourceLive r = refl
 plain_pages : (pages : List ℕ) → AreBelow (2 ^ 32) pages → is_plain (numbers_text pages) ≡ true
 plain_pages pages r = plain_numbers pages (below_weaker (2 ^ 32) (2 ^ 64) pages (omega arith) r)
 
+plain_bit : (set : Bool) → is_plain (bit_text set) ≡ true
+unfolding is_plain
+plain_bit true = refl
+plain_bit false = refl
+
 are_plain : (reply : ActReply) → ReplyInRange reply → list_all is_plain (reply_words reply) ≡ true
 unfolding is_plain
 are_plain replies.Ok r = refl
@@ -75,6 +81,7 @@ are_plain (replies.Imported key size pages) r =
     and_from _ _ (plain_short key r.0) (and_from _ _ (plain_short size.width r.1.0) (and_from _ _ (plain_short size.height r.1.1) (and_from _ _ (plain_short size.format r.1.2) (and_from _ _ (plain_short size.bytes r.1.3) (last_plain _ (plain_pages pages r.2))))))
 are_plain replies.Kept r = refl
 are_plain replies.Last r = refl
+are_plain (replies.Events set) r = last_plain _ (plain_bit set)
 are_plain (replies.Refused refusal) r = plain_refusal refusal r
 
 pub plain_reply : (reply : ActReply) → ReplyInRange reply → All (λ w. is_plain w ≡ true) (reply_words reply)
@@ -94,6 +101,11 @@ refusal_said ResourceLive r = refl
 pages_back : (pages : List ℕ) → AreBelow (2 ^ 32) pages → numbers_of (2 ^ 32) (numbers_text pages) ≡ Some pages
 pages_back pages r = numbers_back (2 ^ 32) pages r (omega arith)
 
+events_said : (set : Bool) → events_of (bit_text set ∷ []) ≡ Some (replies.Events set)
+unfolding events_of
+events_said true = refl
+events_said false = refl
+
 pub reply_said : (reply : ActReply) → ReplyInRange reply → reply_of (reply_words reply) ≡ Some reply
 unfolding reply_by given_by keyed_of reserved_of imported_of loaded_of
 reply_said replies.Ok r = refl
@@ -104,6 +116,7 @@ reply_said (replies.Imported key size pages) r =
     λ i. option_map imported (both (both (short_back key r.0 i) (option_map geometry (both (two_back size.width size.height r.1.0 r.1.1 i) (two_back size.format size.bytes r.1.2 r.1.3 i)))) (pages_back pages r.2 i))
 reply_said replies.Kept r = refl
 reply_said replies.Last r = refl
+reply_said (replies.Events set) r = events_said set
 reply_said (replies.Refused refusal) r = refusal_said refusal r
 
 pub reply_parts : (reply : ActReply) → ReplyInRange reply → parts_at 32 (join_with_byte 32 (reply_words reply)) ≡ reply_words reply
@@ -226,20 +239,39 @@ keyed_only (key ∷ word ∷ width ∷ height ∷ format ∷ bytes ∷ more ∷ 
     imported_by (bytes_eq word (codes "size") && bytes_eq more (codes "pages")) key word width height format bytes more pages reply refl is
 keyed_only args reply is = no_more reply is
 
-given_named_by : (a b c : Bool) (word : List ℕ) (args : List (List ℕ)) (reply : ActReply)
+events_by : (a b : Bool) (bit : List ℕ) (reply : ActReply)
+    → bytes_eq bit (codes "0") ≡ a
+    → bytes_eq bit (codes "1") ≡ b
+    → (if a then Some (replies.Events false) else if b then Some (replies.Events true) else None) ≡ Some reply
+    → IsReply (codes "events" ∷ bit ∷ []) reply
+events_by true b bit reply u v is =
+    subst (λ w. IsReply (codes "events" ∷ w ∷ []) reply) (sym (same_bytes bit (codes "0") u)) (subst (IsReply (codes "events" ∷ codes "0" ∷ [])) (some_is (replies.Events false) reply is) (refl, tt))
+events_by false true bit reply u v is =
+    subst (λ w. IsReply (codes "events" ∷ w ∷ []) reply) (sym (same_bytes bit (codes "1") v)) (subst (IsReply (codes "events" ∷ codes "1" ∷ [])) (some_is (replies.Events true) reply is) (refl, tt))
+events_by false false bit reply u v is = no_more reply is
+
+events_only : (args : List (List ℕ)) (reply : ActReply) → events_of args ≡ Some reply → IsReply (codes "events" ∷ args) reply
+unfolding events_of
+events_only [] reply is = no_more reply is
+events_only (bit ∷ []) reply is = events_by (bytes_eq bit (codes "0")) (bytes_eq bit (codes "1")) bit reply refl refl is
+events_only (bit ∷ more ∷ args) reply is = no_more reply is
+
+given_named_by : (a b c d : Bool) (word : List ℕ) (args : List (List ℕ)) (reply : ActReply)
     → bytes_eq word (codes "key") ≡ a
     → bytes_eq word (codes "bytes") ≡ b
     → bytes_eq word (codes "token") ≡ c
-    → (if a then keyed_of args else if b then loaded_of args else if c then option_map replies.Exported (one_number args) else option_map replies.Refused (refusal_by word args)) ≡ Some reply
+    → bytes_eq word (codes "events") ≡ d
+    → (if a then keyed_of args else if b then loaded_of args else if c then option_map replies.Exported (one_number args) else if d then events_of args else option_map replies.Refused (refusal_by word args)) ≡ Some reply
     → IsReply (word ∷ args) reply
-given_named_by true b c word args reply u v w is = named IsReply word (codes "key") args reply u (keyed_only args reply is)
-given_named_by false true c word args reply u v w is = named IsReply word (codes "bytes") args reply v (loaded_only args reply is)
-given_named_by false false true word args reply u v w is = named IsReply word (codes "token") args reply w (exported_only args reply is)
-given_named_by false false false word args reply u v w is = refused_only word args reply is
+given_named_by true b c d word args reply u v w x is = named IsReply word (codes "key") args reply u (keyed_only args reply is)
+given_named_by false true c d word args reply u v w x is = named IsReply word (codes "bytes") args reply v (loaded_only args reply is)
+given_named_by false false true d word args reply u v w x is = named IsReply word (codes "token") args reply w (exported_only args reply is)
+given_named_by false false false true word args reply u v w x is = named IsReply word (codes "events") args reply x (events_only args reply is)
+given_named_by false false false false word args reply u v w x is = refused_only word args reply is
 
 given_only : (word : List ℕ) (args : List (List ℕ)) (reply : ActReply) → given_by word args ≡ Some reply → IsReply (word ∷ args) reply
 unfolding given_by
-given_only word args reply is = given_named_by (bytes_eq word (codes "key")) (bytes_eq word (codes "bytes")) (bytes_eq word (codes "token")) word args reply refl refl refl is
+given_only word args reply is = given_named_by (bytes_eq word (codes "key")) (bytes_eq word (codes "bytes")) (bytes_eq word (codes "token")) (bytes_eq word (codes "events")) word args reply refl refl refl refl is
 
 named_by : (a b c : Bool) (word : List ℕ) (args : List (List ℕ)) (reply : ActReply)
     → bytes_eq word (codes "ok") ≡ a

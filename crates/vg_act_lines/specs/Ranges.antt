@@ -2,7 +2,7 @@
 use Rattle.std.specs.Prelude.{ℕ, ◌<◌, ◌^◌}
 use Rattle.std.specs.Bool.{⊤}
 use Rattle.vg_client_holds.specs.declared.act.Act.{Act}
-use Rattle.vg_client_holds.specs.declared.act.Act.TheVariants.{Enter, Reserve, Store, Load, Export, Import, Release, Free, Take, Drop, Await, Denied, Leave}
+use Rattle.vg_client_holds.specs.declared.act.Act.TheVariants.{Enter, Reserve, Store, Load, Export, Import, Release, Free, Take, Drop, Await, Denied, Mode, Unplug, Sync, Events, Ack, Leave}
 use Rattle.vg_client_holds.specs.declared.act.What.{What}
 use Rattle.vg_client_holds.specs.declared.act.What.TheVariants as whats
 use Rattle.vg_client_holds.specs.declared.act.ActReply.{ActReply}
@@ -36,6 +36,11 @@ ActInRange (Drop scanout) = IsShort scanout
 -- any lane: what isn't one has no command
 ActInRange (Await lane ordinal) = IsShort lane × (ordinal < 2 ^ 63)
 ActInRange (Denied what) = WhatInRange what
+ActInRange (Mode scanout width height) = IsShort scanout × IsShort width × IsShort height
+ActInRange (Unplug scanout) = IsShort scanout
+ActInRange (Sync call) = call < 2 ^ 63
+ActInRange Events = ⊤
+ActInRange Ack = ⊤
 ActInRange Leave = ⊤
 
 abbrev pub RefusalInRange : ShareRefusal → Type 0
@@ -58,4 +63,5 @@ ReplyInRange (replies.Exported token) = IsShort token
 ReplyInRange (replies.Imported key geometry pages) = IsShort key × GeometryInRange geometry × AreBelow (2 ^ 32) pages
 ReplyInRange replies.Kept = ⊤
 ReplyInRange replies.Last = ⊤
+ReplyInRange (replies.Events set) = ⊤
 ReplyInRange (replies.Refused refusal) = RefusalInRange refusal

@@ -1,7 +1,7 @@
 -- Which act, or which reply, some words are; or none, where they are no such words.
-use Rattle.std.specs.Prelude.{ℕ, ◌^◌, ◌&&◌, if◌then◌else◌, List, [], ◌∷◌, Option, Some, None, option_map, option_and_then, bytes_eq, codes}
+use Rattle.std.specs.Prelude.{ℕ, ◌^◌, ◌&&◌, true, false, if◌then◌else◌, List, [], ◌∷◌, Option, Some, None, option_map, option_and_then, bytes_eq, codes}
 use Rattle.vg_client_holds.specs.declared.act.Act.{Act}
-use Rattle.vg_client_holds.specs.declared.act.Act.TheVariants.{Enter, Reserve, Store, Load, Export, Import, Release, Free, Take, Drop, Await, Denied, Leave}
+use Rattle.vg_client_holds.specs.declared.act.Act.TheVariants.{Enter, Reserve, Store, Load, Export, Import, Release, Free, Take, Drop, Await, Denied, Mode, Unplug, Sync, Events, Ack, Leave}
 use Rattle.vg_client_holds.specs.declared.act.What.{What}
 use Rattle.vg_client_holds.specs.declared.act.What.TheVariants as whats
 use Rattle.vg_client_holds.specs.declared.act.ActReply.{ActReply}
@@ -60,6 +60,7 @@ numbered_act word n =
     else if bytes_eq word (codes "free") then Some (Free n)
     else if bytes_eq word (codes "take") then Some (Take n)
     else if bytes_eq word (codes "drop") then Some (Drop n)
+    else if bytes_eq word (codes "unplug") then Some (Unplug n)
     else None
 
 -- `reserve W H F B`
@@ -94,6 +95,19 @@ unfoldable pub await_of : List (List ℕ) → Option Act
 await_of (lane ∷ ordinal ∷ []) = option_map await (both (short lane) (number_of (2 ^ 63) ordinal))
 await_of words = None
 
+-- `mode S W H`
+abbrev pub mode : (ℕ × ℕ) × ℕ → Act
+mode n = Mode n.0.0 n.0.1 n.1
+
+unfoldable pub mode_of : List (List ℕ) → Option Act
+mode_of (scanout ∷ width ∷ height ∷ []) = option_map mode (both (two scanout width) (short height))
+mode_of words = None
+
+-- `sync K`
+unfoldable pub sync_of : List (List ℕ) → Option Act
+sync_of (call ∷ []) = option_map Sync (number_of (2 ^ 63) call)
+sync_of words = None
+
 -- An act by its first word.
 unfoldable pub buffer_act : List ℕ → List (List ℕ) → Option Act
 buffer_act word args =
@@ -102,13 +116,21 @@ buffer_act word args =
     else if bytes_eq word (codes "load") then load_of args
     else option_and_then (numbered_act word) (one_number args)
 
+unfoldable pub plug_act : List ℕ → List (List ℕ) → Option Act
+plug_act word args =
+    if bytes_eq word (codes "mode") then mode_of args
+    else if bytes_eq word (codes "sync") then sync_of args
+    else if bytes_eq word (codes "events") then alone Events args
+    else if bytes_eq word (codes "ack") then alone Ack args
+    else buffer_act word args
+
 unfoldable pub act_by : List ℕ → List (List ℕ) → Option Act
 act_by word args =
     if bytes_eq word (codes "enter") then alone Enter args
     else if bytes_eq word (codes "leave") then alone Leave args
     else if bytes_eq word (codes "denied") then option_map Denied (what_of args)
     else if bytes_eq word (codes "await") then await_of args
-    else buffer_act word args
+    else plug_act word args
 
 abbrev pub act_of : List (List ℕ) → Option Act
 act_of [] = None
@@ -134,6 +156,14 @@ refusal_by word args =
 unfoldable pub loaded_of : List (List ℕ) → Option ActReply
 loaded_of (hex ∷ []) = option_map replies.Bytes (bytes_of hex)
 loaded_of words = None
+
+-- `events E`
+unfoldable pub events_of : List (List ℕ) → Option ActReply
+events_of (bit ∷ []) =
+    if bytes_eq bit (codes "0") then Some (replies.Events false)
+    else if bytes_eq bit (codes "1") then Some (replies.Events true)
+    else None
+events_of words = None
 
 -- `key K pages P,P,..`
 abbrev pub reserved : ℕ × List ℕ → ActReply
@@ -167,6 +197,7 @@ given_by word args =
     if bytes_eq word (codes "key") then keyed_of args
     else if bytes_eq word (codes "bytes") then loaded_of args
     else if bytes_eq word (codes "token") then option_map replies.Exported (one_number args)
+    else if bytes_eq word (codes "events") then events_of args
     else option_map replies.Refused (refusal_by word args)
 
 unfoldable pub reply_by : List ℕ → List (List ℕ) → Option ActReply

@@ -1,13 +1,14 @@
 -- The words of an act and of its reply, which its text has in a row with a blank between two.
 use Rattle.std.specs.Prelude.{ℕ, List, [], ◌∷◌, codes, decimal}
 use Rattle.vg_client_holds.specs.declared.act.Act.{Act}
-use Rattle.vg_client_holds.specs.declared.act.Act.TheVariants.{Enter, Reserve, Store, Load, Export, Import, Release, Free, Take, Drop, Await, Denied, Leave}
+use Rattle.vg_client_holds.specs.declared.act.Act.TheVariants.{Enter, Reserve, Store, Load, Export, Import, Release, Free, Take, Drop, Await, Denied, Mode, Unplug, Sync, Events, Ack, Leave}
 use Rattle.vg_client_holds.specs.declared.act.What.{What}
 use Rattle.vg_client_holds.specs.declared.act.What.TheVariants as whats
 use Rattle.vg_client_holds.specs.declared.act.ActReply.{ActReply}
 use Rattle.vg_client_holds.specs.declared.act.ActReply.TheVariants as replies
 use Rattle.vg_share.specs.declared.share.ShareRefusal.{ShareRefusal}
 use Rattle.vg_share.specs.declared.share.ShareRefusal.TheVariants.{GuestFull, UnknownKey, NotHeld, ScanoutHeld, OutOfRange, InUse, ResourceLive}
+use Rattle.vg_journal_words.specs.Text.{bit_text}
 use Rattle.vg_text.specs.Text.{hex_text}
 use Rattle.vg_line_words.specs.Words.{numbers_text}
 
@@ -31,6 +32,11 @@ act_words (Take scanout) = codes "take" ∷ decimal scanout ∷ []
 act_words (Drop scanout) = codes "drop" ∷ decimal scanout ∷ []
 act_words (Await lane ordinal) = codes "await" ∷ decimal lane ∷ decimal ordinal ∷ []
 act_words (Denied what) = codes "denied" ∷ what_words what
+act_words (Mode scanout width height) = codes "mode" ∷ decimal scanout ∷ decimal width ∷ decimal height ∷ []
+act_words (Unplug scanout) = codes "unplug" ∷ decimal scanout ∷ []
+act_words (Sync call) = codes "sync" ∷ decimal call ∷ []
+act_words Events = codes "events" ∷ []
+act_words Ack = codes "ack" ∷ []
 act_words Leave = codes "leave" ∷ []
 
 abbrev pub refusal_words : ShareRefusal → List (List ℕ)
@@ -51,4 +57,5 @@ reply_words (replies.Imported key geometry pages) =
     codes "key" ∷ decimal key ∷ codes "size" ∷ decimal geometry.width ∷ decimal geometry.height ∷ decimal geometry.format ∷ decimal geometry.bytes ∷ codes "pages" ∷ numbers_text pages ∷ []
 reply_words replies.Kept = codes "kept" ∷ []
 reply_words replies.Last = codes "last" ∷ []
+reply_words (replies.Events set) = codes "events" ∷ bit_text set ∷ []
 reply_words (replies.Refused refusal) = refusal_words refusal

@@ -2,7 +2,7 @@
 
 ghost use Rattle.std.specs.Prelude.{◌≡◌, ◌^◌, map, option_map, option_and_then, if◌then◌else◌, bytes_eq, codes, IfOk};
 ghost use Rattle.vg_line_words.specs.Words.{bytes_of, number_of};
-ghost use Rattle.vg_act_lines.specs.Read.{act_by, act_of, alone, await, await_of, both, buffer_act, four, load, load_of, numbered_act, numbered_what, one_number, reserve, reserve_of, short, store, store_of, two, what_of};
+ghost use Rattle.vg_act_lines.specs.Read.{act_by, act_of, alone, await, await_of, both, buffer_act, four, load, load_of, mode, mode_of, numbered_act, numbered_what, one_number, plug_act, reserve, reserve_of, short, store, store_of, sync_of, two, what_of};
 
 use crate::numbers::{four, one_number, two};
 use std::alloc::{AllocError, Global};
@@ -37,7 +37,7 @@ fn act_by(alloc: Global, word: &[u8], args: &[&[u8]]) -> Result<Option<Act>, All
     if is(word, b"await") {
         return Ok(await_of(args));
     }
-    buffer_act(alloc, word, args)
+    plug_act(alloc, word, args)
 }
 
 fn alone(args: &[&[u8]], act: Act) -> Option<Act>
@@ -54,6 +54,67 @@ fn denied(args: &[&[u8]]) -> Option<Act>
 {
     let what = what_of(args)?;
     Some(Act::Denied { what })
+}
+
+/// An act on what is plugged, or another one, by its first word.
+#[tactic(auto, unfolding(crate::specs::Read::plug_act))]
+fn plug_act(alloc: Global, word: &[u8], args: &[&[u8]]) -> Result<Option<Act>, AllocError>
+    ensures { IfOk result (λ act. act ≡ plug_act word.now (map (λ arg. arg.now) args.now)) }
+{
+    if is(word, b"mode") {
+        return Ok(mode_of(args));
+    }
+    if is(word, b"sync") {
+        return Ok(sync_of(args));
+    }
+    if is(word, b"events") {
+        return Ok(alone(args, Act::Events));
+    }
+    if is(word, b"ack") {
+        return Ok(alone(args, Act::Ack));
+    }
+    buffer_act(alloc, word, args)
+}
+
+/// `mode S W H`
+#[tactic(auto, unfolding(crate::specs::Read::mode_of))]
+fn mode_of(args: &[&[u8]]) -> Option<Act>
+    ensures { result ≡ mode_of (map (λ arg. arg.now) args.now) }
+{
+    match args {
+        &[scanout, width, height] => mode(scanout, width, height),
+        _ => None,
+    }
+}
+
+fn mode(scanout: &[u8], width: &[u8], height: &[u8]) -> Option<Act>
+    ensures { result ≡ option_map mode (both (two scanout.now width.now) (short height.now)) }
+{
+    let (scanout, width) = two(scanout, width)?;
+    let height = number32(height)?;
+    Some(Act::Mode {
+        scanout,
+        width,
+        height,
+    })
+}
+
+/// `sync K`
+#[tactic(auto, unfolding(crate::specs::Read::sync_of))]
+fn sync_of(args: &[&[u8]]) -> Option<Act>
+    ensures { result ≡ sync_of (map (λ arg. arg.now) args.now) }
+{
+    match args {
+        &[call] => sync(call),
+        _ => None,
+    }
+}
+
+fn sync(call: &[u8]) -> Option<Act>
+    ensures { result ≡ option_map Act.Sync (number_of (2 ^ 63) call.now) }
+{
+    let call = number(call, 1 << 63)?;
+    Some(Act::Sync { call })
 }
 
 /// An act on a buffer or a scanout, by its first word.
@@ -96,6 +157,8 @@ fn numbered_act(word: &[u8], n: u32) -> Option<Act>
         Some(Act::Take { scanout: n })
     } else if is(word, b"drop") {
         Some(Act::Drop { scanout: n })
+    } else if is(word, b"unplug") {
+        Some(Act::Unplug { scanout: n })
     } else {
         None
     }

@@ -1,8 +1,8 @@
 //! Replies to acts.
 
-ghost use Rattle.std.specs.Prelude.{◌≡◌, ◌^◌, map, option_map, option_and_then, IfOk};
+ghost use Rattle.std.specs.Prelude.{◌≡◌, ◌^◌, true, false, map, option_map, option_and_then, if◌then◌else◌, bytes_eq, codes, Some, None, IfOk};
 ghost use Rattle.vg_line_words.specs.Words.{bytes_of, numbers_of};
-ghost use Rattle.vg_act_lines.specs.Read.{alone, both, four, geometry, given_by, imported, imported_of, keyed_of, loaded_of, numbered_refusal, one_number, refusal_by, reply_by, reply_of, reserved, reserved_of, short};
+ghost use Rattle.vg_act_lines.specs.Read.{alone, both, events_of, four, geometry, given_by, imported, imported_of, keyed_of, loaded_of, numbered_refusal, one_number, refusal_by, reply_by, reply_of, reserved, reserved_of, short};
 
 use crate::numbers::{four, one_number};
 use std::alloc::{AllocError, Global};
@@ -61,6 +61,9 @@ fn given_by(alloc: Global, word: &[u8], args: &[&[u8]]) -> Result<Option<ActRepl
     if is(word, b"token") {
         return Ok(exported_of(args));
     }
+    if is(word, b"events") {
+        return Ok(events_of(args));
+    }
     Ok(refused_by(word, args))
 }
 
@@ -69,6 +72,29 @@ fn exported_of(args: &[&[u8]]) -> Option<ActReply>
 {
     let token = one_number(args)?;
     Some(ActReply::Exported { token })
+}
+
+/// `events E`
+#[tactic(auto, unfolding(crate::specs::Read::events_of))]
+fn events_of(args: &[&[u8]]) -> Option<ActReply>
+    ensures { result ≡ events_of (map (λ arg. arg.now) args.now) }
+{
+    match args {
+        &[bit] => events(bit),
+        _ => None,
+    }
+}
+
+fn events(bit: &[u8]) -> Option<ActReply>
+    ensures { result ≡ (if bytes_eq bit.now (codes "0") then Some (ActReply.Events false) else if bytes_eq bit.now (codes "1") then Some (ActReply.Events true) else None) }
+{
+    if is(bit, b"0") {
+        Some(ActReply::Events { set: false })
+    } else if is(bit, b"1") {
+        Some(ActReply::Events { set: true })
+    } else {
+        None
+    }
 }
 
 fn refused_by(word: &[u8], args: &[&[u8]]) -> Option<ActReply>

@@ -13,13 +13,13 @@ use Rattle.vg_client_holds.specs.declared.setup.Setup.{Setup}
 use Rattle.vg_history.specs.declared.entry.Entry.TheVariants as entries
 use Rattle.vg_device.specs.ActStep.{act_step}
 use Rattle.vg_machine.specs.Entries.{Entry}
-use Rattle.vg_machine.specs.Order.{AreInOrder, CallOrder, FenceOrder, GiveUp, IsAllowed, IsFirst, call_of, is_of_lane, of_client}
+use Rattle.vg_machine.specs.Order.{AreInOrder, CallOrder, FenceOrder, GiveUp, IsAllowed, IsFirst, SyncOrder, call_of, is_of_lane, of_client}
 use Rattle.vg_machine.specs.Replay.{replay}
 use Rattle.vg_device.specs.State.{State}
 use Rattle.vg_check.specs.declared.seen.Seen.{Seen}
 use Rattle.vg_check.specs.Checked.{HasSeen}
 use Rattle.vg_check.specs.Right.{IsRightly}
-use Rattle.vg_check.specs.TestsWithin.{MayBeDenied, MayGiveUp, PassesAct, is_first, is_known, is_next_act}
+use Rattle.vg_check.specs.TestsWithin.{MayGiveUp, PassesAct, is_first, is_known, is_next_act}
 use Rattle.vg_check.proofs.EntryLemmas.{all-map, leaves-none, map-all, map-by_call, none-leaves}
 use Rattle.vg_check.proofs.FenceLemmas.{fence-there, there-fence}
 use Rattle.vg_check.proofs.SeenLemmas.{NumberLaws, has-none, none-has}
@@ -83,16 +83,6 @@ is-fence H lanes client call (acts.Await lane ordinal) reply order counts is =
     test-most ordinal (get_or lanes lane 0) (subst (λ (n : ℕ). ordinal ≤ n) (sym (counts lane)) (there-fence lane ordinal H order is))
 is-fence H lanes client call act reply order counts is = refl
 
--- ---- what is denied
-
-denied-is : (holds : Holds) (client call : ℕ) (act : Act) (reply : ActReply) → MayBeDenied holds act → IsAllowed holds (entries.Act client call act reply)
-denied-is holds client call (acts.Denied what) reply is = is
-denied-is holds client call act reply is = tt
-
-is-denied : (holds : Holds) (client call : ℕ) (act : Act) (reply : ActReply) → IsAllowed holds (entries.Act client call act reply) → MayBeDenied holds act
-is-denied holds client call (acts.Denied what) reply is = is
-is-denied holds client call act reply is = tt
-
 -- ---- all of it
 
 module _ (laws : NumberLaws) (setup : Setup) (H : List Entry) (seen : Seen) (client call : ℕ) (act : Act) (reply : ActReply) (is : HasSeen setup client H seen) where
@@ -131,26 +121,30 @@ module _ (laws : NumberLaws) (setup : Setup) (H : List Entry) (seen : Seen) (cli
   up-give is' gives = (laws.all seen.numbers taken (call - 1) is.numbers).1 (sym (map-by_call (of_client client H)) ∙ is' gives)
 
   pub passes-right : (state : State) (lanes : List ℕ) → state ≡ replay setup H → AreInOrder [] H → ((lane : ℕ) → get_or lanes lane 0 ≡ count_by (is_of_lane lane) H)
-      → PassesAct state lanes seen client call act reply → IsRightly setup H entry
-  passes-right state lanes at order counts passes = record {
+      → SyncOrder H entry → PassesAct state lanes seen client call act reply → IsRightly setup H entry
+  passes-right state lanes at order counts sync passes = record {
     order = record {
       lane = tt;
       call = next-order passes.may.next;
       give_up = give-up passes.may.give_up;
       fence = fence-is H lanes client call act reply order counts passes.may.known;
+      sync = sync;
     };
-    allowed = subst (λ h. IsAllowed h entry) is.holds (denied-is seen.holds client call act reply passes.may.denied);
+    allowed = subst (λ h. IsAllowed h entry) is.holds (passes.may.denied, passes.may.part);
     reply = passes.replied ∙ ap (λ (s : State). (act_step s client act).1) at;
   }
 
   pub right-passes : (state : State) (lanes : List ℕ) → state ≡ replay setup H → AreInOrder [] H → ((lane : ℕ) → get_or lanes lane 0 ≡ count_by (is_of_lane lane) H)
       → IsRightly setup H entry → PassesAct state lanes seen client call act reply
-  right-passes state lanes at order counts right = record {
+  right-passes state lanes at order counts right =
+    let allowed = subst (λ h. IsAllowed h entry) (sym is.holds) right.allowed in
+    record {
     may = record {
       next = order-next right.order.call;
       give_up = up-give right.order.give_up;
       known = is-fence H lanes client call act reply order counts right.order.fence;
-      denied = is-denied seen.holds client call act reply (subst (λ h. IsAllowed h entry) (sym is.holds) right.allowed);
+      denied = allowed.0;
+      part = allowed.1;
     };
     replied = right.reply ∙ ap (λ (s : State). (act_step s client act).1) (sym at);
   }

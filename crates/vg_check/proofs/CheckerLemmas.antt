@@ -2,7 +2,9 @@
 use Rattle.std.proofs.Common.{◌≡◌, ◌≢◌, ◌≤◌, ◌<◌, ◌+◌, ◌-◌, ◌^◌, ℕ, Bool, true, false, cond, not, List, [], ◌∷◌, ◌++◌, inl, inr, length, get_or, set, replicate, refl, ap, sym, subst, ◌∙◌, arith, length-append, length-set}
 use Rattle.std.specs.Prelude.{Some, Result, Ok, Err, IfOk}
 use Rattle.std.specs.declared.alloc.AllocError.{AllocError}
-use Rattle.std.specs.List.{count_by, slice_get}
+use Rattle.std.specs.BTreeMap.{is_at}
+use Rattle.std.specs.Ordering.{nat_cmp}
+use Rattle.std.specs.List.{count_by, list_any, slice_get}
 use Rattle.std.proofs.lemmas.List.{get_or-set_other, get_or-set_same}
 use Rattle.std.proofs.lemmas.List.Sums.{count_by-le-length}
 use mathlib.Core.Logic.{dite}
@@ -12,6 +14,7 @@ use Rattle.vg_call_numbers.specs.Taken.{IsUsedBy}
 use Rattle.vg_client_holds.specs.declared.act.Act.{Act}
 use Rattle.vg_client_holds.specs.declared.act.ActReply.{ActReply}
 use Rattle.vg_client_holds.specs.declared.setup.Setup.{Setup}
+use Rattle.vg_client_holds.specs.Setup.{parties}
 use Rattle.vg_history.specs.declared.entry.Entry.TheVariants as entries
 use Rattle.vg_history.specs.Lines.{is_on_first, is_on_second}
 use Rattle.vg_history.proofs.HistoryLemmas.{count_replay}
@@ -36,6 +39,7 @@ use Rattle.vg_check.proofs.ActLemmas.{above-unused, below-test}
 use Rattle.vg_check.proofs.CommandLemmas as asking
 use Rattle.vg_check.proofs.CommandLemmas.{lane-low}
 use Rattle.vg_check.proofs.EntryLemmas.{counted-more, counted-no, counted-yes, order-more}
+use Rattle.vg_check.proofs.PlugLemmas.{is-met, kept-act, kept-command, met-is}
 use Rattle.vg_check.proofs.PlaceLemmas.{get-none, get-pushed, get-set, get-some}
 use Rattle.vg_check.proofs.SeenLemmas.{NumberLaws, seen-act, seen-command, seen-none, seen-other}
 
@@ -59,14 +63,19 @@ making-more setup all place seen is new = record {
 }
 
 pub checked-none : (setup : Setup) (checker : Checker) → IsUsedBy (record { top = 0; gaps = [] }) [] → checker.display ≡ start setup → checker.control ≡ 0 → checker.cursor ≡ 0
-    → checker.lanes.items ≡ replicate 66 0 → length checker.clients.items ≡ setup.clients → AreNew setup checker.clients.items → HasChecked setup [] checker
-checked-none setup checker none display control cursor lanes clients new = record {
+    → checker.lanes.items ≡ replicate 66 0 → checker.plugs.keys ≡ [] → length checker.clients.items ≡ parties setup.clients setup.host → AreNew setup checker.clients.items
+    → HasChecked setup [] checker
+checked-none setup checker none display control cursor lanes plugs clients new = record {
   display = display;
   control = control;
   cursor = cursor;
   lanes = ap (λ (ns : List ℕ). length ns) lanes;
   counts = λ lane. ap (λ (ns : List ℕ). get_or ns lane 0) lanes ∙ zeros-at 66 lane;
   order = tt;
+  plugs = λ n. (
+    (λ has. let none : list_any (is_at (nat_cmp n)) [] ≡ true = ap (λ ks. list_any (is_at (nat_cmp n)) ks) (sym plugs) ∙ has in absurd cc),
+    (λ has. absurd has.1),
+  );
   clients = clients;
   seen = λ place seen at. seen-none setup (place + 1) seen none (new place seen at);
 }
@@ -96,7 +105,8 @@ pub act-goes : NumberLaws → (setup : Setup) (H : List Entry) (old : Checker) (
 act-goes laws setup H old client call act reply new some is kept =
     let entry : Entry = entries.Act client call act reply in
     let seen : HasSeen setup client H kept.seen = its setup H old client kept.seen is some kept.was in
-    let right = acting.passes-right laws setup H kept.seen client call act reply seen old.display old.lanes.items is.display is.order is.counts kept.done.passes in
+    let right = acting.passes-right laws setup H kept.seen client call act reply seen old.display old.lanes.items is.display is.order is.counts
+    (met-is old.plugs H client call act reply is.plugs kept.met) kept.done.passes in
     let above : kept.seen.numbers.top < call = acting.is-above kept.seen call act kept.done.passes.may.next in
     let counted : 1 ≤ call = omega (arith, above) in
     let after : HasSeen setup client (H ++ entry ∷ []) kept.after =
@@ -109,6 +119,7 @@ act-goes laws setup H old client call act reply new some is kept =
         cursor = kept.cursor ∙ is.cursor ∙ sym (counted-no (is_on_second machine.display) H entry refl);
         lanes = ap (λ (ns : List ℕ). length ns) kept.lanes ∙ is.lanes;
         counts = λ lane. ap (λ (ns : List ℕ). get_or ns lane 0) kept.lanes ∙ is.counts lane ∙ sym (counted-no (is_of_lane lane) H entry refl);
+        plugs = kept-act old.plugs new.plugs H client call act reply kept.plugs is.plugs;
         order = order-more [] H entry is.order right.order;
         clients = ap (λ (all : List Seen). length all) kept.clients ∙ length-set old.clients.items (client - 1) kept.after ∙ is.clients;
         seen = seen-all setup H entry old new kept.after is some kept.clients after;
@@ -119,10 +130,10 @@ pub some-client : (client count clients : ℕ) → 1 ≤ client → client ≤ c
 some-client client count clients some most is = omega (arith, some, most, is)
 
 pub act-fails : NumberLaws → (setup : Setup) (H : List Entry) (old : Checker) (client call : ℕ) (act : Act) (reply : ActReply) → 1 ≤ client → HasChecked setup H old
-    → client ≤ setup.clients → FailsAct old client call act reply → IsRightly setup H (entries.Act client call act reply) → ⊥
+    → client ≤ parties setup.clients setup.host → FailsAct old client call act reply → IsRightly setup H (entries.Act client call act reply) → ⊥
 act-fails laws setup H old client call act reply some is most fails right =
-    let at = get-some old.clients.items (client - 1) (some-client client setup.clients (length old.clients.items) some most is.clients) in
-    fails at.0 at.1 (acting.right-passes laws setup H at.0 client call act reply (its setup H old client at.0 is some at.1) old.display old.lanes.items is.display is.order is.counts right)
+    let at = get-some old.clients.items (client - 1) (some-client client (parties setup.clients setup.host) (length old.clients.items) some most is.clients) in
+    fails at.0 at.1 (is-met old.plugs H client call act reply is.plugs right.order.sync) (acting.right-passes laws setup H at.0 client call act reply (its setup H old client at.0 is some at.1) old.display old.lanes.items is.display is.order is.counts right)
 
 -- ---- a command
 
@@ -184,6 +195,7 @@ command-goes laws setup H old client call request reply new some low is kept =
             ∙ get_or-set_other old.lanes.items request.lane n request.ordinal 0 (λ e. off (sym e))
             ∙ is.counts n
             ∙ sym (counted-no (is_of_lane n) H entry (asking.is-off request n off)));
+        plugs = kept-command old.plugs new.plugs H entry (λ n is. is) kept.plugs is.plugs;
         order = order-more [] H entry is.order right.order;
         clients = ap (λ (all : List Seen). length all) kept.clients ∙ length-set old.clients.items (client - 1) kept.after ∙ is.clients;
         seen = seen-all setup H entry old new kept.after is some kept.clients after;
@@ -191,9 +203,9 @@ command-goes laws setup H old client call request reply new some low is kept =
     }
 
 pub command-fails : NumberLaws → (setup : Setup) (H : List Entry) (old : Checker) (client call : ℕ) (request : Request) (reply : Reply) → 1 ≤ client → HasChecked setup H old
-    → client ≤ setup.clients → FailsCommand old client call request reply → IsRightly setup H (entries.Command client call request reply) → ⊥
+    → client ≤ parties setup.clients setup.host → FailsCommand old client call request reply → IsRightly setup H (entries.Command client call request reply) → ⊥
 command-fails laws setup H old client call request reply some is most fails right =
-    let at = get-some old.clients.items (client - 1) (some-client client setup.clients (length old.clients.items) some most is.clients) in
+    let at = get-some old.clients.items (client - 1) (some-client client (parties setup.clients setup.host) (length old.clients.items) some most is.clients) in
     fails at.0 at.1 (asking.right-passes laws setup H at.0 client call request reply (its setup H old client at.0 is some at.1) old.display old.lanes.items is.display is.counts right)
 
 -- ---- what the answer tells

@@ -134,20 +134,22 @@ module _ (laws : NumberLaws) (setup : Setup) (H : List Entry) (seen : Seen) (cli
       call = next-order (parts-of passes.may.next);
       give_up = tt;
       fence = tt;
+      sync = tt;
     };
-    allowed = subst (λ h. IsAllowed h entry) is.holds (none-denied (denied_of seen.holds request.queue request.bytes) passes.may.allowed);
+    allowed = subst (λ h. IsAllowed h entry) is.holds (none-denied (denied_of seen.holds request.queue request.bytes) passes.may.allowed, passes.may.guest);
     reply = passes.replied ∙ ap (λ (s : State). (request_step s request).1) at;
   }
 
   pub right-passes : (state : State) (lanes : List ℕ) → state ≡ replay setup H → ((lane : ℕ) → get_or lanes lane 0 ≡ count_by (is_of_lane lane) H)
       → IsRightly setup H entry → PassesCommand state lanes seen call request reply
   right-passes state lanes at counts right =
-      let allowed : denied_of seen.holds request.queue request.bytes ≡ None = subst (λ h. IsAllowed h entry) (sym is.holds) right.allowed in
+      let allowed : (denied_of seen.holds request.queue request.bytes ≡ None) × (seen.holds.host ≡ false) = subst (λ h. IsAllowed h entry) (sym is.holds) right.allowed in
       record {
         may = record {
           next = order-next right.order.call;
           lane = is-lane lanes counts right.order.lane;
-          allowed = ap (λ (d : Option What). is_none d) allowed;
+          allowed = ap (λ (d : Option What). is_none d) allowed.0;
+          guest = allowed.1;
         };
         replied = right.reply ∙ ap (λ (s : State). (request_step s request).1) (sym at);
       }

@@ -17,7 +17,7 @@ use Rattle.vg_formats.specs.declared.format.Format.{Format}
 use Rattle.vg_formats.specs.declared.rect.Rect.{Rect}
 use Rattle.vg_formats.specs.Formats.{format_of}
 use Rattle.vg_client_holds.specs.declared.act.Act.{Act}
-use Rattle.vg_client_holds.specs.declared.act.Act.TheVariants.{Enter, Reserve, Store, Load, Export, Import, Release, Free, Take, Drop, Await, Denied, Leave}
+use Rattle.vg_client_holds.specs.declared.act.Act.TheVariants.{Enter, Reserve, Store, Load, Export, Import, Release, Free, Take, Drop, Await, Denied, Mode, Unplug, Sync, Events, Ack, Leave}
 use Rattle.vg_client_holds.specs.declared.act.ActReply.{ActReply}
 use Rattle.vg_client_holds.specs.declared.setup.Setup.{Setup}
 use Rattle.vg_history.specs.declared.entry.Entry.TheVariants as entries
@@ -162,6 +162,11 @@ effect-grows state client (Take scanout) = replied-grows (take_refusal scanout s
 effect-grows state client (Drop scanout) = replied-grows (drop_refusal client scanout (is_in_use state scanout) state.share) state _ _ (record { frames = refl })
 effect-grows state client (Await lane ordinal) = stay state
 effect-grows state client (Denied what) = stay state
+effect-grows state client (Mode scanout width height) = record { front = prefix_self state.scanouts.frames }
+effect-grows state client (Unplug scanout) = record { front = prefix_self state.scanouts.frames }
+effect-grows state client (Sync number) = stay state
+effect-grows state client Events = stay state
+effect-grows state client Ack = record { front = prefix_self state.scanouts.frames }
 effect-grows state client Leave = record { front = prefix_self state.scanouts.frames }
 
 after-grows : (state : State) (entry : Entry) → Grows state (after state entry)

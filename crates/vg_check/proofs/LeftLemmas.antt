@@ -5,6 +5,7 @@ use Rattle.std.specs.List.{list_all, list_any, slice_get}
 use Rattle.std.proofs.lemmas.Bool.{and_from, and_parts, or_cases, or_left, or_right}
 use Rattle.std.proofs.lemmas.Option.{slice_get_within}
 use Rattle.vg_client_holds.specs.declared.setup.Setup.{Setup}
+use Rattle.vg_client_holds.specs.Setup.{parties}
 use Rattle.vg_machine.specs.Entries.{Entry}
 use Rattle.vg_machine.specs.Order.{is_leave, of_client}
 use Rattle.vg_check.specs.declared.checker.Checker.{Checker}
@@ -41,12 +42,12 @@ left-gone setup client H seen is left = by_test (seen.numbers.top == 0) refl
     by_test true e = or_right seen.left (seen.numbers.top == 0) e
     by_test false e = or_left seen.left (seen.numbers.top == 0) (is.left ∙ left (λ none. not-zero seen.numbers.top e (none-has setup client H seen is none)))
 
-pub all-left : (setup : Setup) (H : List Entry) (checker : Checker) → HasChecked setup H checker → list_all is_gone checker.clients.items ≡ true → HasLeftAll setup.clients H
+pub all-left : (setup : Setup) (H : List Entry) (checker : Checker) → HasChecked setup H checker → list_all is_gone checker.clients.items ≡ true → HasLeftAll (parties setup.clients setup.host) H
 all-left setup H checker is all client some most entered =
-    let at = get-some checker.clients.items (client - 1) (some-client client setup.clients (length checker.clients.items) some most is.clients) in
+    let at = get-some checker.clients.items (client - 1) (some-client client (parties setup.clients setup.host) (length checker.clients.items) some most is.clients) in
     gone-left setup client H at.0 (its setup H checker client at.0 is some at.1) (all-place is_gone checker.clients.items (client - 1) at.0 all at.1) entered
 
-pub left-all : (setup : Setup) (H : List Entry) (checker : Checker) → HasChecked setup H checker → HasLeftAll setup.clients H → list_all is_gone checker.clients.items ≡ true
+pub left-all : (setup : Setup) (H : List Entry) (checker : Checker) → HasChecked setup H checker → HasLeftAll (parties setup.clients setup.host) H → list_all is_gone checker.clients.items ≡ true
 left-all setup H checker is all = place-all is_gone checker.clients.items
     (λ k seen at. let within = slice_get_within checker.clients.items k seen at in
     let clients = is.clients in

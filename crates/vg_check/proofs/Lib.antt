@@ -4,6 +4,7 @@ pub mod FenceLemmas
 pub mod SeenLemmas
 pub mod ActLemmas
 pub mod CommandLemmas
+pub mod PlugLemmas
 pub mod CheckerLemmas
 pub mod FrameLemmas
 pub mod RightLemmas

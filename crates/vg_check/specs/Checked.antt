@@ -1,11 +1,14 @@
 -- What a checker has kept of the entries that it went over.
-use Rattle.std.specs.Prelude.{◌≡◌, ◌≤◌, ◌+◌, ℕ, List, [], ◌∷◌, ◌++◌, length, map, filter, max, count_by, get_or, slice_get, Some}
+use Rattle.std.specs.Prelude.{◌≡◌, ◌≤◌, ◌+◌, ◌↔◌, ℕ, true, List, [], ◌∷◌, ◌++◌, length, map, filter, max, count_by, get_or, slice_get, Some}
 use Rattle.std.specs.List.{list_any}
+use Rattle.std.specs.BTreeSet.{contains}
+use Rattle.std.specs.Ordering.{nat_cmp}
 use Rattle.vg_call_numbers.specs.Taken.{IsUsedBy}
 use Rattle.vg_client_holds.specs.declared.setup.Setup.{Setup}
+use Rattle.vg_client_holds.specs.Setup.{parties}
 use Rattle.vg_history.specs.Lines.{is_on_first, is_on_second}
 use Rattle.vg_machine.specs.Entries.{Entry}
-use Rattle.vg_machine.specs.Order.{AreInOrder, call_of, client_of, holds_of, is_leave, is_of_lane, of_client}
+use Rattle.vg_machine.specs.Order.{AreInOrder, HasPlug, call_of, client_of, holds_of, is_leave, is_of_lane, of_client}
 use Rattle.vg_machine.specs.Replay as machine
 use Rattle.vg_machine.specs.Replay.{replay}
 use Rattle.vg_check.specs.declared.seen.Seen.{Seen}
@@ -37,7 +40,9 @@ pub record HasChecked (setup : Setup) (H : List Entry) (checker : Checker) : Typ
   pub lanes : length checker.lanes.items ≡ 66
   pub counts : (lane : ℕ) → get_or checker.lanes.items lane 0 ≡ count_by (is_of_lane lane) H
   pub order : AreInOrder [] H
-  pub clients : length checker.clients.items ≡ setup.clients
+  -- the numbers at which displays were plugged or unplugged
+  pub plugs : (n : ℕ) → (contains nat_cmp checker.plugs n ≡ true) ↔ HasPlug n H
+  pub clients : length checker.clients.items ≡ parties setup.clients setup.host
   pub seen : (place : ℕ) (seen : Seen) → slice_get checker.clients.items place ≡ Some seen → HasSeen setup (place + 1) H seen
 
 -- An entry was found right, and the checker has kept it too.
@@ -51,7 +56,7 @@ TellsRight old entry new = (setup : Setup) (H : List Entry) → HasChecked setup
 
 -- Whatever entries these were, this one isn't right behind them.
 abbrev pub TellsWrong : Checker → Entry → Type 0
-TellsWrong old entry = (setup : Setup) (H : List Entry) → HasChecked setup H old → client_of entry ≤ setup.clients → IsRightly setup H entry → ⊥
+TellsWrong old entry = (setup : Setup) (H : List Entry) → HasChecked setup H old → client_of entry ≤ parties setup.clients setup.host → IsRightly setup H entry → ⊥
 
 -- How many entries were gone over.
 abbrev pub entries_of : Checker → ℕ

@@ -39,6 +39,6 @@ pub record IsWrongAt (setup : Setup) (frames : List Frame) (entries : List Entry
   pub right : AreRight setup frames [] front
   pub wrong : IsRight setup frames front entry → ⊥
 
--- Each client that has an entry has left.
+-- Each of so many clients that has an entry has left.
 abbrev pub HasLeftAll : ℕ → List Entry → Type 0
 HasLeftAll clients H = (client : ℕ) → 1 ≤ client → client ≤ clients → of_client client H ≢ [] → list_any is_leave (of_client client H) ≡ true

@@ -1,5 +1,5 @@
 -- What is kept of all entries, and one entry more.
-use Rattle.std.specs.Prelude.{◌≡◌, ◌+◌, ◌-◌, ◌^◌, ◌==◌, ◌||◌, ℕ, Bool, List, slice_get, set, min, if◌then◌else◌, Some}
+use Rattle.std.specs.Prelude.{◌≡◌, ◌+◌, ◌-◌, ◌^◌, ◌==◌, ◌||◌, ℕ, Bool, true, List, slice_get, set, min, if◌then◌else◌, Some}
 use Rattle.vg_client_holds.specs.declared.act.Act.{Act}
 use Rattle.vg_client_holds.specs.declared.act.ActReply.{ActReply}
 use Rattle.vg_client_holds.specs.declared.setup.Setup.{Setup}
@@ -8,7 +8,7 @@ use Rattle.vg_device.specs.declared.request.Reply.{Reply}
 use Rattle.vg_wire.specs.Queues.{is_control}
 use Rattle.vg_check.specs.declared.checker.Checker.{Checker}
 use Rattle.vg_check.specs.declared.seen.Seen.{Seen}
-use Rattle.vg_check.specs.TestsWithin.{HasActed, HasAsked, IsNew, PassesAct, PassesCommand}
+use Rattle.vg_check.specs.TestsWithin.{HasActed, HasAsked, IsNew, KeepsPlug, PassesAct, PassesCommand, is_met}
 
 -- This is kept of the client.
 abbrev pub IsSeenOf : Checker → ℕ → Seen → Type 0
@@ -22,12 +22,14 @@ pub record KeepsAct (old : Checker) (client call : ℕ) (act : Act) (reply : Act
   pub done : HasActed old.display old.lanes.items seen client call act reply new.display after
   pub clients : new.clients.items ≡ set old.clients.items (client - 1) after
   pub lanes : new.lanes.items ≡ old.lanes.items
+  pub met : is_met old.plugs act ≡ true
+  pub plugs : KeepsPlug old.plugs call act new.plugs
   pub control : new.control ≡ old.control
   pub cursor : new.cursor ≡ old.cursor
 
 abbrev pub FailsAct : Checker → ℕ → ℕ → Act → ActReply → Type 0
 FailsAct old client call act reply =
-    (seen : Seen) → IsSeenOf old client seen → PassesAct old.display old.lanes.items seen client call act reply → ⊥
+    (seen : Seen) → IsSeenOf old client seen → is_met old.plugs act ≡ true → PassesAct old.display old.lanes.items seen client call act reply → ⊥
 
 -- As many, and one more, as far as a number of 64 bits goes.
 abbrev pub counted_up : ℕ → ℕ
@@ -41,6 +43,7 @@ pub record KeepsCommand (old : Checker) (client call : ℕ) (request : Request) 
   pub done : HasAsked old.display old.lanes.items seen call request reply new.display after
   pub clients : new.clients.items ≡ set old.clients.items (client - 1) after
   pub lanes : new.lanes.items ≡ set old.lanes.items request.lane request.ordinal
+  pub plugs : new.plugs ≡ old.plugs
   pub control : new.control ≡ (if is_control request.queue then counted_up old.control else old.control)
   pub cursor : new.cursor ≡ (if is_control request.queue then old.cursor else counted_up old.cursor)
 

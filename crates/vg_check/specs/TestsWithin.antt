@@ -1,14 +1,18 @@
 -- The tests of an entry, over what is kept of those before it.
 use Rattle.std.specs.Prelude.{◌≡◌, ◌+◌, ◌-◌, ◌==◌, ◌&&◌, ◌||◌, ℕ, Bool, true, false, not, is_none, nat_le, nat_lt, List, [], get_or, replicate, set}
+use Rattle.std.specs.BTreeSet.{BTreeSet, Updates, contains}
+use Rattle.std.specs.Ordering.{nat_cmp}
 use Rattle.vg_call_numbers.specs.Numbers.{AreAllUsed, IsAdded, UsedNumbers, is_used}
 use Rattle.vg_client_holds.specs.declared.act.Act.{Act}
 use Rattle.vg_client_holds.specs.declared.act.Act.TheVariants as acts
 use Rattle.vg_client_holds.specs.declared.act.ActReply.{ActReply}
 use Rattle.vg_client_holds.specs.declared.holds.Holds.{Holds}
 use Rattle.vg_client_holds.specs.declared.setup.Setup.{Setup}
-use Rattle.vg_client_holds.specs.Holds.{Deniable, denied_of, first_holds, gives_up, update}
+use Rattle.vg_client_holds.specs.Holds.{denied_of, first_holds, gives_up, update}
+use Rattle.vg_client_holds.specs.Host.{IsPart}
 use Rattle.vg_device.specs.ActStep.{act_step}
 use Rattle.vg_machine.specs.Lane.{lane_of}
+use Rattle.vg_machine.specs.Order.{MayBeDenied}
 use Rattle.vg_device.specs.RequestStep.{request_step}
 use Rattle.vg_device.specs.State.{State}
 use Rattle.vg_device.specs.declared.request.Request.{Request}
@@ -42,9 +46,16 @@ abbrev pub is_known : List ℕ → Act → Bool
 is_known lanes (acts.Await lane ordinal) = nat_le ordinal (get_or lanes lane 0)
 is_known lanes _ = true
 
-abbrev pub MayBeDenied : Holds → Act → Type 0
-MayBeDenied holds (acts.Denied what) = Deniable holds what
-MayBeDenied holds _ = Unit {0}
+-- A wait for the host is for a number at which a display was plugged or unplugged.
+abbrev pub is_met : BTreeSet ℕ → Act → Bool
+is_met plugs (acts.Sync n) = contains nat_cmp plugs n
+is_met plugs act = true
+
+-- The number of an act with which a display is plugged or unplugged is kept.
+abbrev pub KeepsPlug : BTreeSet ℕ → ℕ → Act → BTreeSet ℕ → Type 0
+KeepsPlug old call (acts.Mode scanout width height) new = Updates nat_cmp old new call true
+KeepsPlug old call (acts.Unplug scanout) new = Updates nat_cmp old new call true
+KeepsPlug old call act new = new ≡ old
 
 -- A command's lane is that of its bytes, and its ordinal the lane's next.
 abbrev pub is_next_on_lane : List ℕ → Request → Bool
@@ -56,6 +67,7 @@ pub record MayAct (lanes : List ℕ) (seen : Seen) (call : ℕ) (act : Act) : Ty
   pub give_up : MayGiveUp seen.numbers call act
   pub known : is_known lanes act ≡ true
   pub denied : MayBeDenied seen.holds act
+  pub part : IsPart seen.holds act
 
 pub record PassesAct (state : State) (lanes : List ℕ) (seen : Seen) (client call : ℕ) (act : Act) (reply : ActReply) : Type 0 where
   pub may : MayAct lanes seen call act
@@ -65,6 +77,7 @@ pub record MayAsk (lanes : List ℕ) (seen : Seen) (call : ℕ) (request : Reque
   pub next : is_next_command seen call request.lane ≡ true
   pub lane : is_next_on_lane lanes request ≡ true
   pub allowed : is_none (denied_of seen.holds request.queue request.bytes) ≡ true
+  pub guest : seen.holds.host ≡ false
 
 pub record PassesCommand (state : State) (lanes : List ℕ) (seen : Seen) (call : ℕ) (request : Request) (reply : Reply) : Type 0 where
   pub may : MayAsk lanes seen call request

@@ -6,18 +6,20 @@ ghost use Rattle.vg_check.specs.Checked.{HasChecked, TellsRight, TellsWrong, ent
 ghost use Rattle.vg_check.specs.Right.{HasLeftAll, frames_after};
 ghost use Rattle.vg_check.specs.StepWithin.{AreNew, FailsAct, FailsCommand, KeepsAct, KeepsCommand, is_gone};
 ghost use Rattle.vg_client_holds.specs.declared.setup.Setup.{Setup};
-ghost use Rattle.vg_client_holds.specs.Setup.{IsSetup};
+ghost use Rattle.vg_client_holds.specs.Setup.{IsSetup, parties};
 ghost use Rattle.vg_history.specs.Lines.{is_on_first, is_on_second};
 ghost use Rattle.vg_machine.specs.Entries.{Entry};
 ghost use Rattle.vg_machine.specs.Order.{call_of, client_of};
 ghost use Rattle.vg_machine.specs.Replay.{display};
 
 use crate::counts::{put_number, zeros};
+use crate::plugs::{is_met, keep_plug};
 use crate::seen::Seen;
 use crate::step::{check_act, check_command};
 use std::alloc::{AllocError, Global};
+use std::collections::BTreeSet;
 use vg_call_numbers::{entries_have_all_numbers, entries_have_no_such_number, entries_use_numbers};
-use vg_machine::{Act, ActReply, Device, Entry, Frame, Reply, Request, Setup};
+use vg_machine::{Act, ActReply, Device, Entry, Frame, Reply, Request, Setup, parties};
 
 /// What is kept of the entries of a journal that were gone over. An entry that isn't right, or want of memory, is the end of it.
 #[derive(Drop)]
@@ -28,7 +30,9 @@ pub struct Checker {
     cursor: u64,
     /// How many commands came on each lane.
     lanes: Vec<u64>,
-    /// By the client's number less one.
+    /// The numbers of the acts with which displays were plugged or unplugged.
+    plugs: BTreeSet<u64>,
+    /// By the client's number less one; the host's is the last.
     clients: Vec<Seen>,
 }
 
@@ -42,6 +46,7 @@ impl Checker {
         Ok(Checker {
             display: Device::new(alloc, setup)?,
             lanes: zeros(alloc)?,
+            plugs: BTreeSet::new(alloc),
             clients: unseen(alloc, setup)?,
             control: 0,
             cursor: 0,
@@ -77,9 +82,9 @@ impl Checker {
         self.cursor
     }
 
-    /// Whether each client that has an entry has left.
+    /// Whether each client that has an entry, and the host, has left.
     pub fn have_left(&self) -> bool
-        ensures { (setup : Setup) (H : List Entry) → HasChecked setup H self.now → IsTrue result ↔ HasLeftAll setup.clients H }
+        ensures { (setup : Setup) (H : List Entry) → HasChecked setup H self.now → IsTrue result ↔ HasLeftAll (parties setup.clients setup.host) H }
     {
         are_gone(self.clients.as_slice())
     }
@@ -129,9 +134,15 @@ impl Checker {
         let Some(seen) = self.clients.get_mut(client as usize - 1) else {
             return Ok(false);
         };
+        if !is_met(&self.plugs, act) {
+            return Ok(false);
+        }
         let display = &mut self.display;
-        let right = check_act(alloc, display, lanes, seen, client, call, act, reply)?;
-        Ok(right)
+        if !check_act(alloc, display, lanes, seen, client, call, act, reply)? {
+            return Ok(false);
+        }
+        keep_plug(&mut self.plugs, call, act)?;
+        Ok(true)
     }
 
     fn next_command(
@@ -175,11 +186,11 @@ fn are_gone(clients: &[Seen]) -> bool
 /// Nothing is kept yet of each client.
 fn unseen(alloc: Global, setup: &Setup) -> Result<Vec<Seen>, AllocError>
     requires { IsSetup setup.now }
-    ensures count { IfOk result (λ all. length all.items ≡ setup.now.clients) }
+    ensures count { IfOk result (λ all. length all.items ≡ parties setup.now.clients setup.now.host) }
     ensures new { IfOk result (λ all. AreNew setup.now all.items) }
 {
     let mut all = Vec::new(alloc);
-    for place in 0..setup.clients {
+    for place in 0..parties(setup.clients, setup.host) {
         all.push(Seen::new(alloc, setup, place + 1)?)?;
     }
     Ok(all)

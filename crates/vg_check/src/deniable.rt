@@ -4,7 +4,7 @@ ghost use Rattle.std.specs.Prelude.{◌≡◌, ◌↔◌, ◌==◌, ◌&&◌, []
 ghost use Rattle.vg_client_holds.specs.declared.act.What.TheVariants.{Context, Scanout};
 ghost use Rattle.std.specs.List.{list_any};
 ghost use Rattle.vg_client_holds.specs.Holds.{Deniable, has_key, is_own_context};
-ghost use Rattle.vg_check.specs.TestsWithin.{MayBeDenied};
+ghost use Rattle.vg_machine.specs.Order.{MayBeDenied};
 
 use std::alloc::{AllocError, Global};
 use std::mem::replace;

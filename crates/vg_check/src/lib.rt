@@ -5,6 +5,7 @@ mod checker;
 mod counts;
 mod deniable;
 mod laws;
+mod plugs;
 mod same;
 mod seen;
 mod step;

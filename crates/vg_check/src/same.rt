@@ -1,7 +1,7 @@
 //! Whether two replies are the same.
 
 ghost use Rattle.std.specs.Prelude.{◌≡◌, ◌↔◌, IsTrue};
-ghost use Rattle.vg_client_holds.specs.declared.act.ActReply.TheVariants.{Bytes, Exported, Imported, Refused, Reserved};
+ghost use Rattle.vg_client_holds.specs.declared.act.ActReply.TheVariants.{Bytes, Events, Exported, Imported, Refused, Reserved};
 
 use vg_chain::ChainFault;
 use vg_list::Seq;
@@ -23,6 +23,7 @@ pub(crate) fn same_act_reply(one: &ActReply, other: &ActReply) -> bool
         } => is_imported(*key, geometry, pages, other),
         ActReply::Kept => matches!(other, ActReply::Kept),
         ActReply::Last => matches!(other, ActReply::Last),
+        ActReply::Events { set } => is_events(*set, other),
         ActReply::Refused { refusal } => is_refused(refusal, other),
     }
 }
@@ -66,6 +67,15 @@ fn is_imported(key: u32, geometry: &Geometry, pages: &Seq<u32>, reply: &ActReply
             geometry: other,
             pages: others,
         } => key == *its && same_geometry(geometry, other) && same_numbers(pages, others),
+        _ => false,
+    }
+}
+
+fn is_events(set: bool, reply: &ActReply) -> bool
+    ensures { IsTrue result ↔ (Events set ≡ reply.now) }
+{
+    match reply {
+        ActReply::Events { set: its } => set == *its,
         _ => false,
     }
 }

@@ -11,7 +11,7 @@ use crate::deniable::is_deniable_act;
 use std::alloc::{AllocError, Global};
 use vg_call_numbers::CallNumbers;
 use vg_history::Machine;
-use vg_machine::{Act, Display, Holds, Request, Setup, denied, lane_of};
+use vg_machine::{Act, Display, Holds, Request, Setup, denied, is_part, lane_of};
 
 /// What is kept of a client's entries.
 #[derive(Drop)]
@@ -60,6 +60,7 @@ impl Seen {
         let denied = is_deniable_act(alloc, &mut self.holds, act)?;
         Ok(
             denied
+                && is_part(&self.holds, act)
                 && self.is_next_act(call, act)
                 && self.may_give_up(call, act)
                 && is_known(lanes, act),
@@ -90,6 +91,9 @@ impl Seen {
     ) -> Result<bool, AllocError>
         ensures { IfOk result (λ right. IsTrue right ↔ MayAsk lanes.now self.now call request.now) }
     {
+        if self.holds.host {
+            return Ok(false);
+        }
         if !self.is_next_command(call, request.lane) || !is_next_on_lane(lanes, request) {
             return Ok(false);
         }

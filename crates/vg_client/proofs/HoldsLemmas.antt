@@ -8,6 +8,7 @@ use Rattle.vg_client_holds.specs.declared.act.ActReply.TheVariants as act_replie
 use Rattle.vg_machine.specs.Entries.{Entry}
 use Rattle.vg_history.specs.declared.entry.Entry.TheVariants as entries
 use Rattle.vg_client_holds.specs.Holds.{update}
+use Rattle.vg_client_holds.proofs.GrowingLemmas.{host-stays}
 use Rattle.vg_machine.specs.Order.{updated}
 
 -- an act doesn't change how many displays there are
@@ -26,16 +27,6 @@ updated-displays holds (entries.Act client call act reply) = update-displays hol
 updated-displays holds (entries.Command client call request reply) = refl
 
 -- nor who the client is
-update-host : (holds : Holds) (act : Act) (reply : ActReply) → (update holds act reply).host ≡ holds.host
-update-host holds (Reserve width height format bytes) (act_replies.Reserved key pages) = refl
-update-host holds (Import token) (act_replies.Imported key geometry pages) = refl
-update-host holds (Release key) act_replies.Kept = refl
-update-host holds (Release key) act_replies.Last = refl
-update-host holds (Free key) act_replies.Ok = refl
-update-host holds (Take scanout) act_replies.Ok = refl
-update-host holds (Drop scanout) act_replies.Ok = refl
-update-host holds act reply = refl
-
 pub updated-host : (holds : Holds) (entry : Entry) → (updated holds entry).host ≡ holds.host
-updated-host holds (entries.Act client call act reply) = update-host holds act reply
+updated-host holds (entries.Act client call act reply) = host-stays holds act reply
 updated-host holds (entries.Command client call request reply) = refl

@@ -3,7 +3,7 @@ use Rattle.std.proofs.Common.{◌≡◌, ℕ, ◌==◌, ◌^◌, Bool, true, fal
 use Rattle.std.specs.Prelude.{◌||◌, ◌&&◌, not, is_none, nat_le, if◌then◌else◌, Option, Result}
 use Rattle.std.proofs.lemmas.List.Folds.{list_any-append}
 use Rattle.std.specs.List.{list_any}
-use Rattle.vg_laws.proofs.Bools.{left-true, clash}
+use Rattle.vg_laws.proofs.Bools.{and-both, left-true, clash}
 use Rattle.vg_wire.specs.declared.header.Header.{Header}
 use Rattle.vg_wire_ext.specs.declared.command.Command.{Command}
 use Rattle.vg_wire.specs.declared.request.Malformed.{Malformed}
@@ -135,7 +135,27 @@ by-none : (denied : Option What) → denied ≡ None → is_none denied ≡ true
 by-none (Some what) e = absurd (cc e)
 by-none None e = refl
 
+-- who the client is stays
+update-host : (h : Holds) (act : Act) (reply : ActReply) → (update h act reply).host ≡ h.host
+update-host h (Reserve width height format bytes) (replies.Reserved key pages) = refl
+update-host h (Import token) (replies.Imported key geometry pages) = refl
+update-host h (Release key) replies.Kept = refl
+update-host h (Release key) replies.Last = refl
+update-host h (Free key) replies.Ok = refl
+update-host h (Take scanout) replies.Ok = refl
+update-host h (Drop scanout) replies.Ok = refl
+update-host h act reply = refl
+
+pub host-stays : (h : Holds) (act : Act) (reply : ActReply) → (update h act reply).host ≡ h.host
+host-stays h act reply = update-host h act reply
+
+both-true : (a b : Bool) → a ≡ true → b ≡ true → (a && b) ≡ true
+both-true true b is also = also
+both-true false b is also = absurd (cc is)
+
 -- the same as a test, which the machine's law has
-pub keeps-allowed : (holds : Holds) (act : Act) (reply : ActReply) (queue : Queue) (bytes : List ℕ) → gives_up act ≡ false → is_none (denied_of holds queue bytes) ≡ true
-    → is_none (denied_of (update holds act reply) queue bytes) ≡ true
-keeps-allowed holds act reply queue bytes stays may = by-none _ (still_allowed holds act reply queue bytes stays (none-by _ may))
+pub keeps-allowed : (holds : Holds) (act : Act) (reply : ActReply) (queue : Queue) (bytes : List ℕ) → gives_up act ≡ false
+    → (not holds.host && is_none (denied_of holds queue bytes)) ≡ true → (not (update holds act reply).host && is_none (denied_of (update holds act reply) queue bytes)) ≡ true
+keeps-allowed holds act reply queue bytes stays may =
+    let was = and-both (not holds.host) (is_none (denied_of holds queue bytes)) may in
+    both-true _ _ (ap not (host-stays holds act reply) ∙ was.0) (by-none _ (still_allowed holds act reply queue bytes stays (none-by _ was.1)))

@@ -2,3 +2,4 @@ pub mod DeniedLemmas
 pub mod ForeignLemmas
 pub mod FeatureLemmas
 pub mod GrowingLemmas
+pub mod SetupLemmas

@@ -14,4 +14,4 @@ pub use buffers::Buffers;
 pub use growing::holds_only_grow;
 pub use holds::{Holds, denied, denied_command};
 pub use host::is_part;
-pub use setup::{Setup, accepted_features_are_faultless};
+pub use setup::{Setup, accepted_features_are_faultless, parties};

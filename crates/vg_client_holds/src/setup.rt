@@ -1,8 +1,8 @@
 //! What is settled before the first client enters.
 
-ghost use Rattle.std.specs.Prelude.{ℕ};
+ghost use Rattle.std.specs.Prelude.{◌≡◌, ◌≤◌, ℕ};
 ghost use Rattle.vg_config.specs.Features.{IsFaultless};
-ghost use Rattle.vg_client_holds.specs.Setup.{AreAccepted};
+ghost use Rattle.vg_client_holds.specs.Setup.{AreAccepted, parties};
 
 use vg_list::Seq;
 
@@ -22,6 +22,14 @@ pub struct Setup {
     pub queues: (u16, u16),
     /// Whether there is a host, a client behind the last one, which plugs and unplugs displays: in version 2 alone.
     pub host: bool,
+}
+
+/// How many clients there are with the host, where there is one: it is the last of them.
+pub fn parties(clients: u32, host: bool) -> u32
+    requires { clients ≤ 32 }
+    ensures { result ≡ parties clients host }
+{
+    if host { clients + 1 } else { clients }
 }
 
 /// A law, and no work: a device accepts the features of each setup, since none of their bits is faulty.

@@ -21,7 +21,7 @@ use Rattle.vg_backing.specs.Backing.{AreHeld}
 use Rattle.vg_blob.specs.declared.blobs.Blob.{Blob}
 use Rattle.vg_blob.specs.Blobs.{IsHeld}
 use Rattle.vg_client_holds.specs.declared.act.Act.{Act}
-use Rattle.vg_client_holds.specs.declared.act.Act.TheVariants.{Enter, Reserve, Store, Load, Export, Import, Release, Free, Take, Drop, Await, Denied, Leave}
+use Rattle.vg_client_holds.specs.declared.act.Act.TheVariants.{Enter, Reserve, Store, Load, Export, Import, Release, Free, Take, Drop, Await, Denied, Mode, Unplug, Sync, Events, Ack, Leave}
 use Rattle.vg_client_holds.specs.declared.act.ActReply.{ActReply}
 use Rattle.vg_client_holds.specs.declared.act.ActReply.TheVariants as act_replies
 use Rattle.vg_device.specs.State.{State, has_resource}
@@ -258,6 +258,11 @@ kept-effect state client (Take scanout) = kept-replied (take_refusal scanout sta
 kept-effect state client (Drop scanout) = kept-replied (drop_refusal client scanout (is_in_use state scanout) state.share) state _ _ tt
 kept-effect state client (Await lane ordinal) = tt
 kept-effect state client (Denied what) = tt
+kept-effect state client (Mode scanout width height) = tt
+kept-effect state client (Unplug scanout) = tt
+kept-effect state client (Sync call) = tt
+kept-effect state client Events = tt
+kept-effect state client Ack = tt
 kept-effect state client Leave = tt
 
 pub refused-kept : {V E : Type 0} (result : Result V E) (reply : V → ActReply) (state new : State) (client : ℕ) (act : Act)

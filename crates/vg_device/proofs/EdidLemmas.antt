@@ -1,32 +1,56 @@
--- The display of a scanout, and its block.
-use Rattle.std.proofs.Common.{◌≡◌, ◌<◌, ℕ, zero, suc, true, false, List, [], ◌∷◌, length, get_or, Some, sym, subst, ap, refl, ◌∙◌, arith}
-use Rattle.std.specs.Prelude.{nat_le, nat_lt, slice_get}
-use Rattle.std.proofs.lemmas.Bool.Decides.{nat_tests}
-use Rattle.std.proofs.lemmas.Option.{slice_get_read}
+-- The display of a scanout as it is plugged, and its block.
+use Rattle.std.proofs.Common.{◌≡◌, ◌==◌, ◌≤◌, ℕ, List, [], ◌∷◌, map, length, Some, None, true, false, cond, Bool, sym, ap, refl, ◌∙◌, arith}
+use Rattle.std.specs.List.{All}
+use Rattle.std.proofs.lemmas.List.{length-map}
+use Rattle.std.proofs.lemmas.List.Elements.{All-cons, All-nil}
 use Rattle.vg_edid.specs.Edid.{edid_bytes}
+use Rattle.vg_wire.specs.Modes.{Mode}
 use Rattle.vg_wire_ext.specs.declared.response.Response.TheVariants as responses
-use Rattle.vg_client_holds.specs.Setup.{AreDisplays, IsDisplay}
-use Rattle.vg_device.specs.State.{State}
+use Rattle.vg_limits.specs.Limits.{Limits, of_queues, version_1, version_2}
+use Rattle.vg_client_holds.specs.Setup.{AreDisplays}
+use Rattle.vg_plugs.specs.Plugs.{IsSize, PlugState, mode_at, with_displays}
+use Rattle.vg_plugs.proofs.PlugLemmas.{size-is}
+use Rattle.vg_device.specs.State.{IsConsistent, State}
 use Rattle.vg_device.specs.Step.{edid_step}
 
-display-at : (displays : List (ℕ × ℕ)) (i : ℕ) (d : ℕ × ℕ) → AreDisplays displays → i < length displays → IsDisplay (get_or displays i d)
-display-at [] i d are within = absurd (omega arith)
-display-at (display ∷ more) zero d are within = are.0
-display-at (display ∷ more) (suc i) d are within = display-at more i d are.1 (omega arith)
+pub edid-given : (state : State) (scanout : ℕ) (size : ℕ × ℕ) (block : List ℕ) → mode_at scanout state.plugs.modes ≡ Some size
+    → block ≡ edid_bytes size.0 size.1 scanout → edid_step state scanout ≡ (state, responses.Edid block)
+edid-given state scanout size block is made = rw is (ap (λ b. (state, responses.Edid b)) (sym made))
 
--- each display has a size
-pub display-read : (displays shown : List (ℕ × ℕ)) (i : ℕ) (d : ℕ × ℕ) → shown ≡ displays → AreDisplays displays → true ≡ nat_lt i (length shown) → d ≡ get_or shown i d → IsDisplay d
-display-read displays shown i d same are there is =
-    let long : length shown ≡ length displays = ap length same in
-    let within : i < length displays = grind (arith, nat_tests, long, there) in
-    subst IsDisplay (sym (is ∙ ap (λ xs. get_or xs i d) same)) (display-at displays i d are within)
+-- displays of either version are such as can be plugged
+within-2 : (queues : ℕ × ℕ) → ((of_queues queues).width ≤ version_2.width) × ((of_queues queues).height ≤ version_2.height)
+within-2 queues = by_test (queues.0 == 64)
+  where
+    by_test : (b : Bool) → ((cond b version_1 version_2).width ≤ version_2.width) × ((cond b version_1 version_2).height ≤ version_2.height)
+    by_test true = (omega arith, omega arith)
+    by_test false = (omega arith, omega arith)
 
-pub edid-given : (state : State) (scanout : ℕ) (shown : List (ℕ × ℕ)) (d : ℕ × ℕ) (block : List ℕ) → shown ≡ state.setup.displays → true ≡ nat_lt scanout (length shown) → d ≡ get_or shown scanout d
-    → block ≡ edid_bytes d.0 d.1 scanout → edid_step state scanout ≡ (state, responses.Edid block)
-edid-given state scanout shown d block same there is made =
-    let displays = state.setup.displays in
-    let long : length shown ≡ length displays = ap length same in
-    let within : scanout < length displays = grind (arith, nat_tests, long, there) in
-    let past : nat_le (length displays) scanout ≡ false = grind (arith, nat_tests, within) in
-    let at : slice_get displays scanout ≡ Some d = slice_get_read displays (length displays) scanout d refl within (is ∙ ap (λ xs. get_or xs scanout d) same) in
-    rw (past, at) (ap (λ b. (state, responses.Edid b)) (sym made))
+sizes-by : (most : Limits) (displays : List (ℕ × ℕ)) → most.width ≤ version_2.width → most.height ≤ version_2.height → AreDisplays most displays → All IsSize displays
+sizes-by most [] wide high are = All-nil IsSize
+sizes-by most ((width, height) ∷ more) wide high are =
+    let is = are.0 in
+    All-cons IsSize (width, height) more (size-is width height is.0 (omega (arith, is.1, wide)) is.2 (omega (arith, is.3, high))) (sizes-by most more wide high are.1)
+
+pub sizes-are : (queues : ℕ × ℕ) (displays : List (ℕ × ℕ)) → AreDisplays (of_queues queues) displays → All IsSize displays
+sizes-are queues displays are = let within = within-2 queues in sizes-by (of_queues queues) displays within.0 within.1 are
+
+pub as-many : (displays : List (ℕ × ℕ)) → length (with_displays displays).modes ≡ length displays
+as-many displays = length-map _ _
+
+-- a display keeps what it keeps where as many displays are plugged otherwise
+pub consistent-plugs : (state : State) (plugs : PlugState) → length plugs.modes ≡ length state.plugs.modes → IsConsistent state → IsConsistent (record state { plugs = plugs })
+consistent-plugs state plugs many was = record {
+  setup = was.setup;
+  pages = was.pages;
+  backings = was.backings;
+  blobs = was.blobs;
+  screens = was.screens;
+  showing = was.showing;
+  leases = was.leases;
+  share = was.share;
+  reserved = was.reserved;
+  exports = was.exports;
+  given = was.given;
+  cursors = was.cursors;
+  plugs = many ∙ was.plugs;
+}

@@ -31,6 +31,7 @@ use Rattle.vg_device.specs.Answered.{answered_by, answered_with}
 use Rattle.vg_device.specs.BlobStep.{create_blob_refusals, set_scanout_blob_refusals, with_scanout_blob, with_shown_blob}
 use Rattle.vg_device.specs.ContextStep.{ctx_attach_refusals}
 use Rattle.vg_device.specs.State.{State, has_resource, is_blob}
+use Rattle.vg_plugs.specs.Plugs.{mode_at}
 use Rattle.vg_device.specs.Step.{attach_2d_refusals, block_of, command_step, create_2d_refusals, cursor_change, cursor_refusals, detach_2d_refusals, edid_refusals, flush_refusals, flushed_by, move_refusals, set_scanout_refusals, surface_of, transfer_2d_step, two_d_step, unref_refusals, unreferenced, with_cursor, with_scanout, with_shown}
 use Rattle.vg_device.specs.Receive.{receive_refusal, with_received}
 
@@ -113,7 +114,7 @@ made state law context (TwoD command) = made-2d state law command
 made state law context (CapsetInfo index) = made-none state _
 made state law context (Capset id version) = made-none state _
 made state law context (Edid scanout) =
-    made-apart (refusal_of (edid_refusals state.setup scanout)) state state (responses.Edid (block_of scanout (slice_get state.setup.displays scanout))) refl
+    made-apart (refusal_of (edid_refusals state.plugs scanout)) state state (responses.Edid (block_of scanout (mode_at scanout state.plugs.modes))) refl
 made state law context (AssignUuid resource) =
     made-apart (refusal_of (assign_refusals (has_resource state resource))) state (record state { uuids = assigned resource state.uuids }) (responses.Uuid (uuid_bytes (number_for resource state.uuids))) refl
 made state law context (CreateBlob resource mem flags blob_id size entries) =

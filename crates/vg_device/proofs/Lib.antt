@@ -1,4 +1,3 @@
-pub mod Enabled
 pub mod MapLemmas
 pub mod ShowingLemmas
 pub mod KeepLemmas

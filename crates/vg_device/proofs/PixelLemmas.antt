@@ -262,6 +262,7 @@ consistent-counted state was = record {
   exports = omega (arith, was.exports);
   given = omega (arith, was.given);
   cursors = was.cursors;
+  plugs = was.plugs;
 }
 
 pub shows-each-pixel : (rect : Rect) (id : ℕ) (state : State) → IsConsistent state → All IsScreen state.scanouts.screens

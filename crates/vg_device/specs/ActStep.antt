@@ -3,9 +3,10 @@ use Rattle.std.specs.Prelude.{◌≡◌, ℕ, ◌+◌, ◌*◌, ◌==◌, ◌&&�
 use Rattle.std.specs.declared.alloc.AllocError.{AllocError}
 use Rattle.std.specs.List.{find, range_with_len}
 use Rattle.vg_client_holds.specs.declared.act.Act.{Act}
-use Rattle.vg_client_holds.specs.declared.act.Act.TheVariants.{Enter, Reserve, Store, Load, Export, Import, Release, Free, Take, Drop, Await, Denied, Leave}
+use Rattle.vg_client_holds.specs.declared.act.Act.TheVariants.{Enter, Reserve, Store, Load, Export, Import, Release, Free, Take, Drop, Await, Denied, Mode, Unplug, Sync, Events, Ack, Leave}
 use Rattle.vg_client_holds.specs.declared.act.ActReply.{ActReply}
 use Rattle.vg_client_holds.specs.declared.act.ActReply.TheVariants as act_replies
+use Rattle.vg_plugs.specs.Plugs.{cleared, plugged, unplugged}
 use Rattle.vg_share.specs.declared.share.Geometry.{Geometry}
 use Rattle.vg_share.specs.declared.share.ShareRefusal.{ShareRefusal}
 use Rattle.vg_scanout.specs.declared.scanout.Binding.{Binding}
@@ -102,6 +103,11 @@ effect_of state client (Take scanout) = take_step state client scanout
 effect_of state client (Drop scanout) = drop_step state client scanout
 effect_of state client (Await lane ordinal) = (state, act_replies.Ok)
 effect_of state client (Denied what) = (state, act_replies.Ok)
+effect_of state client (Mode scanout width height) = (record state { plugs = plugged scanout width height state.plugs }, act_replies.Ok)
+effect_of state client (Unplug scanout) = (record state { plugs = unplugged scanout state.plugs }, act_replies.Ok)
+effect_of state client (Sync call) = (state, act_replies.Ok)
+effect_of state client Events = (state, act_replies.Events state.plugs.changed)
+effect_of state client Ack = (record state { plugs = cleared state.plugs }, act_replies.Ok)
 effect_of state client Leave = (record state { share = ended client (entered client state.share) }, act_replies.Ok)
 
 -- One act of a client: the display after it, and the reply.

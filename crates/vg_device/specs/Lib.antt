@@ -11,3 +11,4 @@ pub mod RequestStep
 pub mod ChangeWithin
 pub mod Pixels
 pub mod ActStep
+pub mod ConfigSpace

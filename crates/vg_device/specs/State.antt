@@ -17,6 +17,7 @@ use Rattle.vg_backing.specs.Backing.{AreHeld}
 use Rattle.vg_resource.specs.Resource.{resource_at}
 use Rattle.vg_scanout.specs.Scanout.{ScanoutState}
 use Rattle.vg_client_holds.specs.Setup.{IsSetup}
+use Rattle.vg_plugs.specs.Plugs.{PlugState, with_displays}
 use Rattle.vg_share.specs.Share.{ShareState, SharesPages}
 
 -- The display: its setup, which no step changes, how many entries there are so far, and the states of its parts.
@@ -32,6 +33,7 @@ pub record State : Type 0 where
   pub cursors : List Cursor
   pub scanouts : ScanoutState
   pub share : ShareState
+  pub plugs : PlugState
 
 -- The display before the first entry.
 abbrev pub start : Setup → State
@@ -47,6 +49,7 @@ start setup = record {
   cursors = replicate (length setup.displays) unset;
   scanouts = record { screens = replicate (length setup.displays) None; frames = [] };
   share = record { buffers = []; reserved = 0; exports = []; leases = replicate (length setup.displays) None; clients = [] };
+  plugs = with_displays setup.displays;
 }
 
 -- The display with one entry more.
@@ -105,3 +108,4 @@ pub record IsConsistent (state : State) : Type 0 where
   pub exports : length state.share.exports ≤ state.entries
   pub given : state.uuids.given ≤ state.entries
   pub cursors : length state.cursors ≡ length state.setup.displays
+  pub plugs : length state.plugs.modes ≡ length state.setup.displays

@@ -8,7 +8,9 @@ use Rattle.vg_wire.specs.declared.header.Header.{Header}
 use Rattle.vg_wire_ext.specs.declared.response.Response.{Response}
 use Rattle.vg_wire_ext.specs.declared.response.Response.TheVariants as responses
 use Rattle.vg_wire.specs.Header.{header_of}
+use Rattle.vg_wire.specs.Modes.{Mode, trimmed}
 use Rattle.vg_edid.specs.Edid.{edid_bytes}
+use Rattle.vg_plugs.specs.Plugs.{PlugState, mode_at}
 use Rattle.vg_wire_ext.specs.Commands.{command_of, is_known}
 use Rattle.vg_wire_ext.specs.Request.{is_queue_of}
 use Rattle.vg_wire_ext.specs.Response.{response_bytes, response_kind}
@@ -193,7 +195,7 @@ detach_step state id =
 -- What a 2D command does and answers (VIRTIO 1.2, 5.7.6.8). Which error is answered, and in which order they are looked for, is
 -- our own; the standard gives the codes.
 abbrev pub two_d_step : State → Command2d → State × Response
-two_d_step state DisplayInfo = (state, responses.DisplayInfo (map Some state.setup.displays))
+two_d_step state DisplayInfo = (state, responses.DisplayInfo (trimmed state.plugs.modes))
 two_d_step state (Create2d resource format width height) = create_step state resource format width height
 two_d_step state (Unref resource) = unref_step state resource
 two_d_step state (SetScanout rect scanout resource) = set_scanout_step state rect scanout resource
@@ -209,19 +211,19 @@ capset_refusals = (true, ERR_INVALID_PARAMETER) ∷ []
 abbrev pub capset_step : State → State × Response
 capset_step state = answered_by (refusal_of capset_refusals) state state
 
--- GET_EDID is refused for a scanout that there isn't.
-abbrev pub edid_refusals : Setup → ℕ → List (Bool × ℕ)
-edid_refusals setup scanout = (nat_le (length setup.displays) scanout, ERR_INVALID_SCANOUT_ID) ∷ []
+-- GET_EDID is refused for a scanout that there isn't, and for one at which nothing is plugged.
+abbrev pub edid_refusals : PlugState → ℕ → List (Bool × ℕ)
+edid_refusals plugs scanout = (is_none (mode_at scanout plugs.modes), ERR_INVALID_SCANOUT_ID) ∷ []
 
--- The block of a scanout's display; none of a scanout that there isn't.
-abbrev pub block_of : ℕ → Option (ℕ × ℕ) → List ℕ
+-- The block of a scanout's display as it is plugged; none where there is no display.
+abbrev pub block_of : ℕ → Mode → List ℕ
 block_of scanout (Some (width, height)) = edid_bytes width height scanout
 block_of scanout None = []
 
 abbrev pub edid_step : State → ℕ → State × Response
 edid_step state scanout =
-    answered_with (refusal_of (edid_refusals state.setup scanout)) state state
-    (responses.Edid (block_of scanout (slice_get state.setup.displays scanout)))
+    answered_with (refusal_of (edid_refusals state.plugs scanout)) state state
+    (responses.Edid (block_of scanout (mode_at scanout state.plugs.modes)))
 
 -- RESOURCE_ASSIGN_UUID is refused as `assign_refusals` (vg_blob) says.
 abbrev pub assign_step : State → ℕ → State × Response

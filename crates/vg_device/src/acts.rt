@@ -7,6 +7,7 @@ ghost use Rattle.vg_client_holds.specs.declared.act.ActReply.TheVariants as act_
 ghost use Rattle.vg_device.specs.ActStep.{HasNoList, drop_step, effect_of, export_step, free_step, import_step, is_accepted, is_shown_on, load_step, release_step, reserve_step, shown_at, store_step, take_step};
 ghost use Rattle.vg_share.specs.Cells.{pages_of};
 ghost use Rattle.vg_client_holds.specs.Holds.{update};
+ghost use Rattle.vg_plugs.specs.Plugs.{plugged, unplugged};
 ghost use Rattle.vg_share.specs.Share.{SharesPages, ended, entered, geometry_at, import_refusal, imported, token_key, with_buffer};
 
 use crate::device::Device;
@@ -34,7 +35,9 @@ impl Device {
         ensures err { OnErr result ((self.new ≡ self.old) × (holds.new ≡ holds.old)) }
     {
         match act {
-            Act::Enter | Act::Await { .. } | Act::Denied { .. } => Ok((ActReply::Ok, ActReply::Ok)),
+            Act::Enter | Act::Await { .. } | Act::Denied { .. } | Act::Sync { .. } => {
+                Ok((ActReply::Ok, ActReply::Ok))
+            }
             Act::Reserve {
                 width,
                 height,
@@ -66,11 +69,45 @@ impl Device {
             Act::Free { key } => Ok(twice(self.free(client, holds, *key))),
             Act::Take { scanout } => Ok(twice(self.take(client, holds, *scanout)?)),
             Act::Drop { scanout } => Ok(twice(self.end_lease(client, holds, *scanout))),
+            Act::Mode {
+                scanout,
+                width,
+                height,
+            } => {
+                self.plug(*scanout, *width, *height);
+                Ok((ActReply::Ok, ActReply::Ok))
+            }
+            Act::Unplug { scanout } => {
+                self.unplug(*scanout);
+                Ok((ActReply::Ok, ActReply::Ok))
+            }
+            Act::Events => {
+                let set = self.plugs.changed();
+                Ok((ActReply::Events { set }, ActReply::Events { set }))
+            }
+            Act::Ack => {
+                self.clear_events();
+                Ok((ActReply::Ok, ActReply::Ok))
+            }
             Act::Leave => {
                 self.leave(client)?;
                 Ok((ActReply::Ok, ActReply::Ok))
             }
         }
+    }
+
+    /// The host plugs a display, or resizes it.
+    fn plug(&mut self, scanout: u32, width: u32, height: u32)
+        ensures { self.new ≡ record self.old { plugs = plugged scanout width height self.old.plugs } }
+    {
+        self.plugs.plug(scanout, width, height);
+    }
+
+    /// The host unplugs a display.
+    fn unplug(&mut self, scanout: u32)
+        ensures { self.new ≡ record self.old { plugs = unplugged scanout self.old.plugs } }
+    {
+        self.plugs.unplug(scanout);
     }
 
     fn reserve(
@@ -393,6 +430,7 @@ fn twice(reply: ActReply) -> (ActReply, ActReply)
             (ActReply::Exported { token }, ActReply::Exported { token })
         }
         ActReply::Kept => (ActReply::Kept, ActReply::Kept),
+        ActReply::Events { set } => (ActReply::Events { set }, ActReply::Events { set }),
         ActReply::Last => (ActReply::Last, ActReply::Last),
         ActReply::Refused { refusal } => refused_twice(refusal),
         ActReply::Reserved { .. } | ActReply::Bytes { .. } | ActReply::Imported { .. } => {

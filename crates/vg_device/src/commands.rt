@@ -1,7 +1,8 @@
 //! What the commands do (VIRTIO 1.2, 5.7.6.8), one function each, in the order of their codes. Those of blobs, of contexts and
 //! of the cursor queue stand in `blobs`, `contexts` and `cursors`.
 
-ghost use Rattle.std.specs.Prelude.{◌≡◌, ◌≢◌, true, IfOk, map, Some, ◌<◌, ◌-◌, ◌^◌, length};
+ghost use Rattle.std.specs.Prelude.{◌≡◌, ◌≢◌, true, IfOk, ◌<◌, ◌-◌, ◌^◌, length};
+ghost use Rattle.vg_wire.specs.Modes.{trimmed};
 ghost use Rattle.vg_wire_ext.specs.Commands.{FitsEntries};
 ghost use Rattle.vg_wire_ext.specs.declared.response.Response.TheVariants as responses;
 ghost use Rattle.vg_device.specs.FitsWithin.{IfDone, IfWant, response_of, takes_memory, told_by};
@@ -20,7 +21,7 @@ use vg_scanout::Binding;
 use vg_wire::kinds::{
     ERR_INVALID_PARAMETER, ERR_INVALID_RESOURCE_ID, ERR_INVALID_SCANOUT_ID, ERR_UNSPEC,
 };
-use vg_wire::{Command2d, Modes};
+use vg_wire::Command2d;
 use vg_wire_ext::{Command, Response};
 
 impl Device {
@@ -142,12 +143,10 @@ impl Device {
 
     /// The modes of the displays.
     fn display_info(&self, alloc: Global) -> Result<Response, Stop>
-        ensures { IfDone result (λ response. response ≡ responses.DisplayInfo (map Some self.now.setup.displays)) }
+        ensures { IfDone result (λ response. response ≡ responses.DisplayInfo (trimmed self.now.plugs.modes)) }
     {
-        let items = enabled(alloc, self.setup.displays.as_slice())?;
-        Ok(Response::DisplayInfo {
-            modes: Modes::from_vec(items),
-        })
+        let modes = self.plugs.told(alloc)?;
+        Ok(Response::DisplayInfo { modes })
     }
 
     fn create(
@@ -299,13 +298,13 @@ impl Device {
         self.backings.detach(resource)
     }
 
-    /// The EDID block of a scanout's display.
+    /// The EDID block of a scanout's display, as it is plugged.
     fn edid(&self, scanout: u32) -> Result<Response, u32>
         ensures { edid_step self.now scanout ≡ (self.now, told_by result) }
     {
-        match self.setup.displays.as_slice().get(scanout as usize) {
+        match self.plugs.mode(scanout) {
             Some((width, height)) => Ok(Response::Edid {
-                block: edid(*width, *height, scanout),
+                block: edid(width, height, scanout),
             }),
             None => Err(ERR_INVALID_SCANOUT_ID),
         }
@@ -325,11 +324,4 @@ impl Device {
             bytes: uuid.into_bytes(),
         })
     }
-}
-
-/// Each display's mode.
-fn enabled(alloc: Global, displays: &[(u32, u32)]) -> Result<Vec<Option<(u32, u32)>>, AllocError>
-    ensures { IfOk result (λ modes. modes.items ≡ map Some displays.now) }
-{
-    displays.iter().map(|size| Some(*size)).collect(alloc)
 }

@@ -3,6 +3,8 @@
 ghost use Rattle.std.specs.Prelude.{◌≡◌, ◌==◌, ◌<◌, ◌-◌, ◌^◌, [], if◌then◌else◌, bit_and, IfErr, IfOk, None, OnErr, OnOk, Some};
 ghost use Rattle.vg_wire_ext.specs.Commands.{FitsEntries};
 ghost use Rattle.vg_client_holds.specs.Setup.{IsSetup};
+ghost use Rattle.vg_plugs.specs.Plugs.{cleared};
+ghost use Rattle.vg_device.specs.ConfigSpace.{config_of};
 ghost use Rattle.vg_device.specs.State.{counted, start};
 ghost use Rattle.vg_device.specs.declared.request.Reply.TheVariants as replies;
 ghost use Rattle.vg_device.specs.ActStep.{KeepsIfRefused, act_step};
@@ -20,11 +22,13 @@ use std::marker::Model;
 use vg_blob::{Blobs, Uuids};
 use vg_chain::Shape;
 use vg_client_holds::{Act, ActReply, Holds, Setup};
+use vg_config::Config;
 use vg_config::features::CONTEXT_INIT;
 use vg_context::Contexts;
 use vg_cursor::Cursors;
 use vg_list::Seq;
 use vg_pages::Pages;
+use vg_plugs::Plugs;
 use vg_resource::Resources;
 use vg_scanout::{Frame, Scanouts};
 use vg_share::Share;
@@ -47,6 +51,7 @@ pub struct Device {
     pub(crate) cursors: Cursors,
     pub(crate) scanouts: Scanouts,
     pub(crate) share: Share,
+    pub(crate) plugs: Plugs,
 }
 
 impl Model for Device {
@@ -54,9 +59,9 @@ impl Model for Device {
 
     ghost Value = { State };
 
-    ghost view = { λ d. record { setup = d.setup; entries = d.entries; memory = d.pages; resources = d.resources.resources; backings = d.backings; blobs = d.blobs; contexts = d.contexts; uuids = d.uuids; cursors = d.cursors; scanouts = d.scanouts; share = d.share } };
+    ghost view = { λ d. record { setup = d.setup; entries = d.entries; memory = d.pages; resources = d.resources.resources; backings = d.backings; blobs = d.blobs; contexts = d.contexts; uuids = d.uuids; cursors = d.cursors; scanouts = d.scanouts; share = d.share; plugs = d.plugs } };
 
-    ghost invariant = { λ d. IsConsistent (record { setup = d.setup; entries = d.entries; memory = d.pages; resources = d.resources.resources; backings = d.backings; blobs = d.blobs; contexts = d.contexts; uuids = d.uuids; cursors = d.cursors; scanouts = d.scanouts; share = d.share }) };
+    ghost invariant = { λ d. IsConsistent (record { setup = d.setup; entries = d.entries; memory = d.pages; resources = d.resources.resources; backings = d.backings; blobs = d.blobs; contexts = d.contexts; uuids = d.uuids; cursors = d.cursors; scanouts = d.scanouts; share = d.share; plugs = d.plugs }) };
 }
 
 impl Device {
@@ -72,6 +77,7 @@ impl Device {
             cursors: Cursors::new(alloc, count)?,
             scanouts: Scanouts::new(alloc, count)?,
             share: Share::new(alloc, count)?,
+            plugs: Plugs::new(alloc, setup.displays.as_slice())?,
             entries: 0,
             resources: Resources::new(alloc),
             backings: Backings::new(alloc),
@@ -135,6 +141,33 @@ impl Device {
         ensures { result.now ≡ self.now.share }
     {
         &self.share
+    }
+
+    /// The displays as they are plugged, and the event bit.
+    pub fn plugs(&self) -> &Plugs
+        ensures { result.now ≡ self.now.plugs }
+    {
+        &self.plugs
+    }
+
+    /// The configuration space as the driver reads it (VIRTIO 1.2, 5.7.4): the display event waits while the event bit is set, and there
+    /// are no capsets.
+    pub fn config(&self) -> Config
+        ensures { result ≡ config_of self.now }
+    {
+        Config {
+            events_read: if self.plugs.changed() { 1 } else { 0 },
+            events_clear: 0,
+            num_scanouts: self.setup.displays.len() as u32,
+            num_capsets: 0,
+        }
+    }
+
+    /// Clears the event bit, as a driver does that writes it to `events_clear` (VIRTIO 1.2, 5.7.4). All else stays.
+    pub fn clear_events(&mut self)
+        ensures { self.new ≡ record self.old { plugs = cleared self.old.plugs } }
+    {
+        self.plugs.clear();
     }
 
     /// Gives the frames so far, in the order in which they were made, and leaves none; all else stays. How many bytes the frames of a
@@ -389,6 +422,8 @@ fn copy_of(alloc: Global, setup: &Setup) -> Result<Setup, AllocError>
         pages: setup.pages,
         accepted: setup.accepted,
         clients: setup.clients,
+        queues: setup.queues,
+        host: setup.host,
     })
 }
 

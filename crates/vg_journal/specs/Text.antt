@@ -1,4 +1,4 @@
-use Rattle.std.specs.Prelude.{ℕ, ◌==◌, if◌then◌else◌, List, [], ◌++◌, bit_and, length, codes, decimal}
+use Rattle.std.specs.Prelude.{ℕ, Bool, ◌==◌, if◌then◌else◌, List, [], ◌++◌, bit_and, length, codes, decimal}
 use Rattle.vg_config.specs.Features.{EDID, RESOURCE_BLOB, RESOURCE_UUID, VIRGL}
 use Rattle.vg_client_holds.specs.declared.setup.Setup.{Setup}
 use Rattle.vg_scanout.specs.declared.scanout.Frame.{Frame}
@@ -27,9 +27,17 @@ frame_line n frame =
 abbrev pub frame_text : ℕ → Frame → List ℕ
 frame_text n frame = frame_line n frame ++ frame.pixels ++ codes "\n"
 
--- The first line: the format and its version.
-unfoldable pub title_text : List ℕ
-title_text = codes "vgpu-journal 1\n"
+-- The first line: the format and its version, which goes with the sizes of both queues.
+unfoldable pub title_text : ℕ × ℕ → List ℕ
+title_text queues = if queues.0 == 64 then codes "vgpu-journal 1\n" else codes "vgpu-journal 2\n"
+
+-- `queues 256 64`, in version 2 alone.
+unfoldable pub queues_text : ℕ × ℕ → List ℕ
+queues_text queues = if queues.0 == 64 then [] else codes "queues 256 64\n"
+
+-- `host`, where there is one.
+unfoldable pub host_text : Bool → List ℕ
+host_text host = if host then codes "host\n" else []
 
 -- `without F`, where a feature's bit isn't accepted.
 unfoldable pub without_line : ℕ → ℕ → List ℕ → List ℕ
@@ -41,11 +49,13 @@ without_text accepted =
     without_line accepted EDID (codes "edid") ++ without_line accepted RESOURCE_UUID (codes "uuid")
     ++ without_line accepted RESOURCE_BLOB (codes "blob") ++ without_line accepted VIRGL (codes "context")
 
--- The lines before the entries: the title, the displays from 0, the pages, the features that are left out, and the clients.
+-- The lines before the entries: the title, the displays from 0, the pages, the queues, the features that are left out, the clients,
+-- and the host.
 unfoldable pub head_text : Setup → List ℕ
 head_text setup =
-    title_text ++ numbered display_line 0 setup.displays ++ codes "memory " ++ decimal setup.pages ++ codes "\n"
-    ++ without_text setup.accepted ++ codes "clients " ++ decimal setup.clients ++ codes "\n"
+    title_text setup.queues ++ numbered display_line 0 setup.displays ++ codes "memory " ++ decimal setup.pages ++ codes "\n"
+    ++ queues_text setup.queues ++ without_text setup.accepted ++ codes "clients " ++ decimal setup.clients ++ codes "\n"
+    ++ host_text setup.host
 
 -- `rings A B` and `frames M`
 unfoldable pub counts_text : ℕ → ℕ → ℕ → List ℕ

@@ -2,7 +2,7 @@
 
 ghost use Rattle.std.specs.Prelude.{◌≡◌, ◌++◌, true, OnOk};
 ghost use Rattle.vg_text.specs.Text.{are_characters, numbered};
-ghost use Rattle.vg_journal.specs.Text.{entry_line, display_line, frame_line, title_text, head_text, counts_text, without_line, without_text};
+ghost use Rattle.vg_journal.specs.Text.{entry_line, display_line, frame_line, title_text, head_text, host_text, queues_text, counts_text, without_line, without_text};
 
 use std::alloc::AllocError;
 use vg_config::features::{EDID, RESOURCE_BLOB, RESOURCE_UUID, VIRGL};
@@ -15,18 +15,47 @@ use vg_text::Packed;
 pub(crate) fn put_head(out: &mut Packed, setup: &Setup) -> Result<(), AllocError>
     ensures { OnOk result (out.new ≡ out.old ++ head_text setup.now) }
 {
-    put_title(out)?;
+    put_title(out, setup.queues)?;
     put_displays(out, setup.displays.as_slice())?;
     out.put_line(b"memory ", u64::from(setup.pages))?;
+    put_queues(out, setup.queues)?;
     put_without(out, setup.accepted)?;
-    out.put_line(b"clients ", u64::from(setup.clients))
+    out.put_line(b"clients ", u64::from(setup.clients))?;
+    put_host(out, setup.host)
 }
 
 #[tactic(auto, unfolding(crate::specs::Text::title_text))]
-fn put_title(out: &mut Packed) -> Result<(), AllocError>
-    ensures { OnOk result (out.new ≡ out.old ++ title_text) }
+fn put_title(out: &mut Packed, queues: (u16, u16)) -> Result<(), AllocError>
+    ensures { OnOk result (out.new ≡ out.old ++ title_text queues) }
 {
-    out.put(b"vgpu-journal 1\n")
+    if queues.0 == 64 {
+        out.put(b"vgpu-journal 1\n")
+    } else {
+        out.put(b"vgpu-journal 2\n")
+    }
+}
+
+/// Adds the line of the queues, which version 2 has.
+#[tactic(auto, unfolding(crate::specs::Text::queues_text))]
+fn put_queues(out: &mut Packed, queues: (u16, u16)) -> Result<(), AllocError>
+    ensures { OnOk result (out.new ≡ out.old ++ queues_text queues) }
+{
+    if queues.0 == 64 {
+        return Ok(());
+    }
+    out.put(b"queues 256 64\n")
+}
+
+/// Adds the line of the host, where there is one.
+#[tactic(auto, unfolding(crate::specs::Text::host_text))]
+fn put_host(out: &mut Packed, host: bool) -> Result<(), AllocError>
+    ensures { OnOk result (out.new ≡ out.old ++ host_text host) }
+{
+    if host {
+        out.put(b"host\n")
+    } else {
+        Ok(())
+    }
 }
 
 fn put_displays(out: &mut Packed, displays: &[(u32, u32)]) -> Result<(), AllocError>

@@ -10,7 +10,7 @@ use Rattle.vg_laws.proofs.Options.{some_is}
 use Rattle.vg_history.specs.declared.entry.Entry.TheVariants as entries
 use Rattle.vg_history.specs.Lines.{entry_line}
 use Rattle.vg_client_holds.specs.declared.act.Act.{Act}
-use Rattle.vg_client_holds.specs.declared.act.Act.TheVariants.{Enter, Reserve, Store, Load, Export, Import, Release, Free, Take, Drop, Await, Denied, Leave}
+use Rattle.vg_client_holds.specs.declared.act.Act.TheVariants.{Enter, Reserve, Store, Load, Export, Import, Release, Free, Take, Drop, Await, Denied, Mode, Unplug, Sync, Events, Ack, Leave}
 use Rattle.vg_client_holds.specs.declared.act.ActReply.{ActReply}
 use Rattle.vg_client_holds.specs.declared.act.ActReply.TheVariants as act_replies
 use Rattle.vg_share.specs.declared.share.ShareRefusal.{ShareRefusal}
@@ -38,7 +38,7 @@ use Rattle.vg_journal_lines.specs.Ranges.{IsCount}
 use Rattle.vg_journal_lines.specs.Entries.{EntryInRange, Sides, act_entry, act_in, and_before, command_entry, command_in, entry_by, entry_of, entry_words, sides, who_of}
 use Rattle.vg_journal_lines.proofs.TestLaws.{from_one_back, from_one_only, passes, this_back, this_only}
 use Rattle.vg_journal_lines.proofs.JoinLemmas.{AreWords, HasWord, joined_both, joined_more, words_line, words_parts}
-use Rattle.vg_limits.specs.Limits.{version_1}
+use Rattle.vg_limits.specs.Limits.{version_2}
 
 -- What is known of requests and of the replies to commands.
 pub record CommandsAreSaid : Type 0 where
@@ -65,6 +65,11 @@ act_some (Take scanout) = record { word = _; more = _; is = refl }
 act_some (Drop scanout) = record { word = _; more = _; is = refl }
 act_some (Await lane ordinal) = record { word = _; more = _; is = refl }
 act_some (Denied what) = record { word = _; more = _; is = refl }
+act_some (Mode scanout width height) = record { word = _; more = _; is = refl }
+act_some (Unplug scanout) = record { word = _; more = _; is = refl }
+act_some (Sync call) = record { word = _; more = _; is = refl }
+act_some Events = record { word = _; more = _; is = refl }
+act_some Ack = record { word = _; more = _; is = refl }
 act_some Leave = record { word = _; more = _; is = refl }
 
 refusal_some : (refusal : ShareRefusal) → HasWord (refusal_words refusal)
@@ -84,6 +89,7 @@ reply_some (act_replies.Exported token) = record { word = _; more = _; is = refl
 reply_some (act_replies.Imported key geometry pages) = record { word = _; more = _; is = refl }
 reply_some act_replies.Kept = record { word = _; more = _; is = refl }
 reply_some act_replies.Last = record { word = _; more = _; is = refl }
+reply_some (act_replies.Events set) = record { word = _; more = _; is = refl }
 reply_some (act_replies.Refused refusal) = refusal_some refusal
 
 request_some : (request : Request) → HasWord (request_words request)
@@ -156,7 +162,7 @@ sides_only [] both is = no_more both is
 sides_only (word ∷ words) both is = sides_by (bytes_eq word (codes "=")) word words both refl (λ s said. sides_only words s said) is
 
 -- The client and its own number.
-who_back : (n clients client call : ℕ) → clients ≤ version_1.clients → IsCount n → 1 ≤ client → client ≤ clients → IsCount call → who_of n clients (decimal n) (decimal client) (decimal call) ≡ Some (client, call)
+who_back : (n clients client call : ℕ) → clients ≤ version_2.clients + 1 → IsCount n → 1 ≤ client → client ≤ clients → IsCount call → who_of n clients (decimal n) (decimal client) (decimal call) ≡ Some (client, call)
 who_back n clients client call most small some few count =
     ap (λ b. if b then both (from_one (clients + 1) (decimal client)) (number_of (2 ^ 63) (decimal call)) else None) (this_back n small)
     ∙ (λ i. both (from_one_back (clients + 1) client some (omega (arith, few)) (omega (arith, most)) i) (number_back (2 ^ 63) call count (omega arith) i))
@@ -170,7 +176,7 @@ record IsWho (n clients : ℕ) (number client call : List ℕ) (who : ℕ × ℕ
   call_is : call ≡ decimal who.1
   count : IsCount who.1
 
-who_only : (n clients : ℕ) (number client call : List ℕ) (who : ℕ × ℕ) → clients ≤ version_1.clients → who_of n clients number client call ≡ Some who → IsWho n clients number client call who
+who_only : (n clients : ℕ) (number client call : List ℕ) (who : ℕ × ℕ) → clients ≤ version_2.clients + 1 → who_of n clients number client call ≡ Some who → IsWho n clients number client call who
 who_only n clients number client call who most is =
     let told = passes (is_this n number) (both (from_one (clients + 1) client) (number_of (2 ^ 63) call)) who is in
     let this = this_only n number told.0 in
@@ -188,7 +194,7 @@ who_only n clients number client call who most is =
     }
 
 -- The words say the entry.
-pub entry_back : CommandsAreSaid → (n clients : ℕ) (entry : Entry) → clients ≤ version_1.clients → IsCount n → EntryInRange clients entry → entry_of n clients (entry_words n entry) ≡ Some entry
+pub entry_back : CommandsAreSaid → (n clients : ℕ) (entry : Entry) → clients ≤ version_2.clients + 1 → IsCount n → EntryInRange clients entry → entry_of n clients (entry_words n entry) ≡ Some entry
 unfolding entry_of
 entry_back commands n clients (entries.Act client call act reply) most small r =
     (λ i. option_and_then (entry_by (codes "act")) (both (who_back n clients client call most small r.0 r.1 r.2 i) (sides_back (act_words act) (reply_words reply) (plain_act act r.3) i)))
@@ -232,7 +238,7 @@ kind_by commands false true n clients number client call kind who words entry is
     subst (λ k. IsEntry n clients (number ∷ client ∷ call ∷ k ∷ (words.0 ++ codes "=" ∷ words.1)) entry) (sym (same_bytes kind (codes "cmd") v)) (command_in_only commands n clients number client call who words entry is said)
 kind_by commands false false n clients number client call kind who words entry is u v said = no_more entry said
 
-pub entry_only : CommandsAreSaid → (n clients : ℕ) (entry : Entry) (words : List (List ℕ)) → clients ≤ version_1.clients → entry_of n clients words ≡ Some entry → (words ≡ entry_words n entry) × IsCount n × EntryInRange clients entry
+pub entry_only : CommandsAreSaid → (n clients : ℕ) (entry : Entry) (words : List (List ℕ)) → clients ≤ version_2.clients + 1 → entry_of n clients words ≡ Some entry → (words ≡ entry_words n entry) × IsCount n × EntryInRange clients entry
 unfolding entry_of
 entry_only commands n clients entry (number ∷ client ∷ call ∷ kind ∷ words) most is =
     let m = then_parts (entry_by kind) (both (who_of n clients number client call) (sides words)) entry is in
@@ -251,7 +257,7 @@ lacking p n client call kind front behind weaker sign four first last =
     All-append (λ w. lacks p w ≡ true) (n ∷ client ∷ call ∷ kind ∷ []) (front ++ codes "=" ∷ behind) (lacking (n ∷ client ∷ call ∷ kind ∷ []) four)
     (All-append (λ w. lacks p w ≡ true) front (codes "=" ∷ behind) (lacking front first) (All-cons (λ w. lacks p w ≡ true) (codes "=") behind sign (lacking behind last)))
 
-four_plain : (n clients client call : ℕ) (kind : List ℕ) → clients ≤ version_1.clients → IsCount n → client ≤ clients → IsCount call → is_plain kind ≡ true → All (λ w. is_plain w ≡ true) (decimal n ∷ decimal client ∷ decimal call ∷ kind ∷ [])
+four_plain : (n clients client call : ℕ) (kind : List ℕ) → clients ≤ version_2.clients + 1 → IsCount n → client ≤ clients → IsCount call → is_plain kind ≡ true → All (λ w. is_plain w ≡ true) (decimal n ∷ decimal client ∷ decimal call ∷ kind ∷ [])
 four_plain n clients client call kind most small few count plain =
     let P : List ℕ → Type 0 = λ w. is_plain w ≡ true in
     All-cons P (decimal n) (decimal client ∷ decimal call ∷ kind ∷ []) (plain_decimal n (omega (arith, small)))
@@ -267,7 +273,7 @@ plain_command_word : is_plain (codes "cmd") ≡ true
 unfolding is_plain
 plain_command_word = refl
 
-pub entry_are_words : CommandsAreSaid → (n clients : ℕ) (entry : Entry) → clients ≤ version_1.clients → IsCount n → EntryInRange clients entry → AreWords (entry_words n entry)
+pub entry_are_words : CommandsAreSaid → (n clients : ℕ) (entry : Entry) → clients ≤ version_2.clients + 1 → IsCount n → EntryInRange clients entry → AreWords (entry_words n entry)
 entry_are_words commands n clients (entries.Act client call act reply) most small r =
     let four = four_plain n clients client call (codes "act") most small r.1 r.2 plain_act_word in
     let first = plain_act act r.3 in
@@ -287,16 +293,16 @@ entry_are_words commands n clients (entries.Command client call request reply) m
       ends = lacking 10 (decimal n) (decimal client) (decimal call) (codes "cmd") (request_words request) (command_reply_words reply) plain_line_end refl four first last;
     }
 
-pub entry_parts : CommandsAreSaid → (n clients : ℕ) (entry : Entry) → clients ≤ version_1.clients → IsCount n → EntryInRange clients entry → parts_at 32 (joined (entry_words n entry)) ≡ entry_words n entry
+pub entry_parts : CommandsAreSaid → (n clients : ℕ) (entry : Entry) → clients ≤ version_2.clients + 1 → IsCount n → EntryInRange clients entry → parts_at 32 (joined (entry_words n entry)) ≡ entry_words n entry
 entry_parts commands n clients entry most small r = words_parts (entry_words n entry) (entry_are_words commands n clients entry most small r)
 
-pub entry_ends : CommandsAreSaid → (n clients : ℕ) (entry : Entry) → clients ≤ version_1.clients → IsCount n → EntryInRange clients entry → lacks 10 (joined (entry_words n entry)) ≡ true
+pub entry_ends : CommandsAreSaid → (n clients : ℕ) (entry : Entry) → clients ≤ version_2.clients + 1 → IsCount n → EntryInRange clients entry → lacks 10 (joined (entry_words n entry)) ≡ true
 entry_ends commands n clients entry most small r = words_line (entry_words n entry) (entry_are_words commands n clients entry most small r)
 
-entry_said : CommandsAreSaid → (n clients : ℕ) (entry : Entry) → clients ≤ version_1.clients → IsCount n → EntryInRange clients entry → entry_of n clients (parts_at 32 (joined (entry_words n entry))) ≡ Some entry
+entry_said : CommandsAreSaid → (n clients : ℕ) (entry : Entry) → clients ≤ version_2.clients + 1 → IsCount n → EntryInRange clients entry → entry_of n clients (parts_at 32 (joined (entry_words n entry))) ≡ Some entry
 entry_said commands n clients entry most small r = ap (entry_of n clients) (entry_parts commands n clients entry most small r) ∙ entry_back commands n clients entry most small r
 
-pub one_entry : CommandsAreSaid → (n clients : ℕ) (a b : Entry) → clients ≤ version_1.clients → IsCount n → EntryInRange clients a → EntryInRange clients b → journal.entry_line n a ≡ journal.entry_line n b → a ≡ b
+pub one_entry : CommandsAreSaid → (n clients : ℕ) (a b : Entry) → clients ≤ version_2.clients + 1 → IsCount n → EntryInRange clients a → EntryInRange clients b → journal.entry_line n a ≡ journal.entry_line n b → a ≡ b
 one_entry commands n clients a b most small r s same =
     let lines : line_of (entry_words n a) ≡ line_of (entry_words n b) = sym (text_entry commands n a) ∙ same ∙ text_entry commands n b in
     let words : joined (entry_words n a) ≡ joined (entry_words n b) = append_cancel_right (joined (entry_words n a)) (joined (entry_words n b)) (codes "\n") lines in

@@ -23,7 +23,7 @@ entry_words n (entries.Act client call act reply) =
 entry_words n (entries.Command client call request reply) =
     decimal n ∷ decimal client ∷ decimal call ∷ codes "cmd" ∷ (request_words request ++ codes "=" ∷ command_reply_words reply)
 
--- An entry of a journal with so many clients.
+-- An entry of a journal with so many clients, the host among them.
 abbrev pub EntryInRange : ℕ → Entry → Type 0
 EntryInRange clients (entries.Act client call act reply) =
     (1 ≤ client) × (client ≤ clients) × IsCount call × ActInRange act × ReplyInRange reply

@@ -1,4 +1,5 @@
 pub mod Words
+pub mod Versions
 pub mod Read
 pub mod Ranges
 pub mod Entries

@@ -1,5 +1,6 @@
 -- What a step in code did.
 use Rattle.std.specs.Prelude.{◌≡◌, ◌<◌, ◌≤◌, ◌^◌, Bool, true, false, ℕ, List, length, Option, Some, None}
+use Rattle.vg_limits.specs.Limits.{version_2}
 use Rattle.vg_journal_lines.specs.declared.state.State.{State}
 use Rattle.vg_journal_lines.specs.declared.counts.FrameHead.{FrameHead}
 use Rattle.vg_journal_lines.specs.declared.steps.Given.{Given}
@@ -13,7 +14,7 @@ Moved next old new false = (next ≡ None) × (new ≡ old)
 
 -- The counts of a state that is reached.
 abbrev pub IsKept : State → Type 0
-IsKept state = (state.entries < 2 ^ 63) × (state.frames < 2 ^ 63) × (state.bytes ≤ 268435456)
+IsKept state = (state.entries < 2 ^ 63) × (state.frames < 2 ^ 63) × (state.bytes ≤ 268435456) × (state.clients ≤ version_2.clients)
 
 -- What a line gave: nothing, or an entry.
 abbrev pub item_of : Given → Item

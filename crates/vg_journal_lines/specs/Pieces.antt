@@ -1,9 +1,9 @@
 -- The pieces of a journal, and what is read of them.
-use Rattle.std.specs.Prelude.{◌≡◌, ℕ, ◌+◌, ◌≤◌, ◌==◌, if◌then◌else◌, List, [], ◌∷◌, ◌++◌, bit_and, length, Some}
+use Rattle.std.specs.Prelude.{◌≡◌, ℕ, Bool, true, false, ◌+◌, ◌≤◌, ◌==◌, if◌then◌else◌, List, [], ◌∷◌, ◌++◌, bit_and, length, Some}
 use Rattle.std.specs.List.{All}
 use Rattle.vg_config.specs.Features.{EDID, RESOURCE_BLOB, RESOURCE_UUID, VIRGL}
 use Rattle.vg_client_holds.specs.declared.setup.Setup.{Setup}
-use Rattle.vg_client_holds.specs.Setup.{IsSetup}
+use Rattle.vg_client_holds.specs.Setup.{IsSetup, parties}
 use Rattle.vg_machine.specs.Entries.{Entry}
 use Rattle.vg_scanout.specs.declared.scanout.Frame.{Frame}
 use Rattle.vg_scanout.specs.Scanout.{frame_bytes}
@@ -14,7 +14,10 @@ use Rattle.vg_journal_lines.specs.declared.head.Feature.TheVariants.{Edid, Uuid,
 use Rattle.vg_journal_lines.specs.declared.state.LeftOut.{LeftOut}
 use Rattle.vg_journal_lines.specs.declared.state.Stage.TheVariants as stages
 use Rattle.vg_journal_lines.specs.declared.state.State.{State}
-use Rattle.vg_journal_lines.specs.Words.{clients_words, display_words, end_words, frame_words, frames_words, head_of, joined, memory_words, rings_words, title_words, without_words}
+use Rattle.vg_journal_lines.specs.Words.{clients_words, display_words, end_words, frame_words, frames_words, head_of, host_words, joined, memory_words, queues_words, rings_words, title_words, without_words}
+use Rattle.vg_journal_lines.specs.declared.head.Version.{Version}
+use Rattle.vg_journal_lines.specs.declared.head.Version.TheVariants.{One, Two}
+use Rattle.vg_journal_lines.specs.Versions.{version_of}
 use Rattle.vg_journal_lines.specs.Read.{pixels_of}
 use Rattle.vg_journal_lines.specs.Ranges.{HeadInRange, IsCount}
 use Rattle.vg_journal_lines.specs.Entries.{EntryInRange, entry_words}
@@ -29,7 +32,7 @@ pub record FrameInRange (frame : Frame) : Type 0 where
 -- A journal that can be read.
 pub record JournalInRange (journal : Journal) : Type 0 where
   pub setup : IsSetup journal.setup
-  pub entries : All (EntryInRange journal.setup.clients) journal.entries
+  pub entries : All (EntryInRange (parties journal.setup.clients journal.setup.host)) journal.entries
   pub count : IsCount (length journal.entries)
   pub control : IsCount journal.control
   pub cursor : IsCount journal.cursor
@@ -59,10 +62,19 @@ without_pieces accepted =
     without_piece accepted EDID Edid ++ without_piece accepted RESOURCE_UUID Uuid ++ without_piece accepted RESOURCE_BLOB Blob
     ++ without_piece accepted VIRGL Context
 
+abbrev pub queues_pieces : Version → List (List ℕ)
+queues_pieces One = []
+queues_pieces Two = joined queues_words ∷ []
+
+abbrev pub host_pieces : Bool → List (List ℕ)
+host_pieces true = joined host_words ∷ []
+host_pieces false = []
+
 abbrev pub head_pieces : Setup → List (List ℕ)
 head_pieces setup =
-    joined title_words ∷ [] ++ numbered_pieces display_pieces 0 setup.displays ++ joined (memory_words setup.pages) ∷ []
-    ++ without_pieces setup.accepted ++ joined (clients_words setup.clients) ∷ []
+    joined (title_words (version_of setup.queues)) ∷ [] ++ numbered_pieces display_pieces 0 setup.displays
+    ++ joined (memory_words setup.pages) ∷ queues_pieces (version_of setup.queues) ++ without_pieces setup.accepted
+    ++ joined (clients_words setup.clients) ∷ host_pieces setup.host
 
 abbrev pub count_pieces : ℕ → ℕ → ℕ → List (List ℕ)
 count_pieces control cursor frames = joined (rings_words (control, cursor)) ∷ joined (frames_words frames) ∷ []
@@ -91,10 +103,12 @@ left_out_of accepted = record {
 abbrev pub done_of : Journal → State
 done_of journal = record {
   stage = stages.Done;
+  version = version_of journal.setup.queues;
   displays = journal.setup.displays;
   pages = journal.setup.pages;
   left_out = left_out_of journal.setup.accepted;
   clients = journal.setup.clients;
+  host = journal.setup.host;
   entries = length journal.entries;
   control = journal.control;
   cursor = journal.cursor;

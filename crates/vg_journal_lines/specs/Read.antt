@@ -5,7 +5,9 @@ use Rattle.vg_act_lines.specs.Read.{both, short, two}
 use Rattle.vg_journal_lines.specs.declared.head.Feature.{Feature}
 use Rattle.vg_journal_lines.specs.declared.head.Feature.TheVariants.{Edid, Uuid, Blob, Context}
 use Rattle.vg_journal_lines.specs.declared.counts.FrameHead.{FrameHead}
-use Rattle.vg_limits.specs.Limits.{version_1}
+use Rattle.vg_journal_lines.specs.declared.head.Version.{Version}
+use Rattle.vg_journal_lines.specs.declared.head.Version.TheVariants.{One, Two}
+use Rattle.vg_limits.specs.Limits.{Limits}
 
 -- A word is this number, which is below 2 ^ 63.
 abbrev pub says : ℕ → Option ℕ → Bool
@@ -23,20 +25,29 @@ not_zero (Some n) = if n == 0 then None else Some n
 abbrev pub from_one : ℕ → List ℕ → Option ℕ
 from_one bound word = not_zero (number_of bound word)
 
-unfoldable pub is_title : List (List ℕ) → Bool
-is_title (name ∷ version ∷ []) = bytes_eq name (codes "vgpu-journal") && bytes_eq version (codes "1")
-is_title words = false
+-- The format, and its version
+abbrev pub version_in : List ℕ → Option Version
+version_in word = if bytes_eq word (codes "1") then Some One else if bytes_eq word (codes "2") then Some Two else None
 
--- `display S W H`, where S is expected
-unfoldable pub display_of : ℕ → List (List ℕ) → Option (ℕ × ℕ)
-display_of n (word ∷ number ∷ width ∷ height ∷ []) =
-    if bytes_eq word (codes "display") && is_this n number then both (from_one (version_1.width + 1) width) (from_one (version_1.height + 1) height) else None
-display_of n words = None
+unfoldable pub title_of : List (List ℕ) → Option Version
+title_of (name ∷ version ∷ []) = if bytes_eq name (codes "vgpu-journal") then version_in version else None
+title_of words = None
+
+-- `display S W H`, where S is expected, within these limits
+unfoldable pub display_of : Limits → ℕ → List (List ℕ) → Option (ℕ × ℕ)
+display_of most n (word ∷ number ∷ width ∷ height ∷ []) =
+    if bytes_eq word (codes "display") && is_this n number then both (from_one (most.width + 1) width) (from_one (most.height + 1) height) else None
+display_of most n words = None
 
 -- `memory P`
 unfoldable pub memory_of : List (List ℕ) → Option ℕ
 memory_of (word ∷ pages ∷ []) = if bytes_eq word (codes "memory") then from_one 16385 pages else None
 memory_of words = None
+
+-- `queues 256 64`
+unfoldable pub is_queues : List (List ℕ) → Bool
+is_queues (word ∷ control ∷ cursor ∷ []) = bytes_eq word (codes "queues") && bytes_eq control (codes "256") && bytes_eq cursor (codes "64")
+is_queues words = false
 
 -- `without F`
 abbrev pub feature_of : List ℕ → Option Feature
@@ -51,10 +62,14 @@ unfoldable pub without_of : List (List ℕ) → Option Feature
 without_of (word ∷ name ∷ []) = if bytes_eq word (codes "without") then feature_of name else None
 without_of words = None
 
--- `clients C`
-unfoldable pub clients_of : List (List ℕ) → Option ℕ
-clients_of (word ∷ clients ∷ []) = if bytes_eq word (codes "clients") then number_of (version_1.clients + 1) clients else None
-clients_of words = None
+-- `clients C`, within these limits
+unfoldable pub clients_of : Limits → List (List ℕ) → Option ℕ
+clients_of most (word ∷ clients ∷ []) = if bytes_eq word (codes "clients") then number_of (most.clients + 1) clients else None
+clients_of most words = None
+
+unfoldable pub is_host : List (List ℕ) → Bool
+is_host (word ∷ []) = bytes_eq word (codes "host")
+is_host words = false
 
 -- `rings A B`
 unfoldable pub rings_of : List (List ℕ) → Option (ℕ × ℕ)

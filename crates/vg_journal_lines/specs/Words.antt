@@ -4,6 +4,8 @@ use Rattle.std.specs.List.{join_with_byte}
 use Rattle.vg_scanout.specs.declared.scanout.Frame.{Frame}
 use Rattle.vg_journal_lines.specs.declared.head.Feature.{Feature}
 use Rattle.vg_journal_lines.specs.declared.head.Feature.TheVariants.{Edid, Uuid, Blob, Context}
+use Rattle.vg_journal_lines.specs.declared.head.Version.{Version}
+use Rattle.vg_journal_lines.specs.declared.head.Version.TheVariants.{One, Two}
 use Rattle.vg_journal_lines.specs.declared.counts.FrameHead.{FrameHead}
 
 -- The line that has these words, without its end.
@@ -14,8 +16,12 @@ joined words = join_with_byte 32 words
 abbrev pub line_of : List (List ℕ) → List ℕ
 line_of words = joined words ++ codes "\n"
 
-abbrev pub title_words : List (List ℕ)
-title_words = codes "vgpu-journal" ∷ codes "1" ∷ []
+abbrev pub version_word : Version → List ℕ
+version_word One = codes "1"
+version_word Two = codes "2"
+
+abbrev pub title_words : Version → List (List ℕ)
+title_words version = codes "vgpu-journal" ∷ version_word version ∷ []
 
 -- `display S W H`
 abbrev pub display_words : ℕ → ℕ × ℕ → List (List ℕ)
@@ -24,6 +30,9 @@ display_words n size = codes "display" ∷ decimal n ∷ decimal size.0 ∷ deci
 -- `memory P`
 abbrev pub memory_words : ℕ → List (List ℕ)
 memory_words pages = codes "memory" ∷ decimal pages ∷ []
+
+abbrev pub queues_words : List (List ℕ)
+queues_words = codes "queues" ∷ codes "256" ∷ codes "64" ∷ []
 
 abbrev pub feature_name : Feature → List ℕ
 feature_name Edid = codes "edid"
@@ -38,6 +47,9 @@ without_words feature = codes "without" ∷ feature_name feature ∷ []
 -- `clients C`
 abbrev pub clients_words : ℕ → List (List ℕ)
 clients_words clients = codes "clients" ∷ decimal clients ∷ []
+
+abbrev pub host_words : List (List ℕ)
+host_words = codes "host" ∷ []
 
 -- `rings A B`
 abbrev pub rings_words : ℕ × ℕ → List (List ℕ)

@@ -12,7 +12,7 @@ use vg_line_words::number;
 use vg_machine::Entry;
 use vg_script_words::is;
 
-/// The entry that some words are, if they are that with this number in a journal with so many clients.
+/// The entry that some words are, if they are that with this number in a journal with so many clients, the host among them.
 #[tactic(auto, unfolding(crate::specs::Entries::entry_of))]
 pub fn read_entry(
     alloc: Global,

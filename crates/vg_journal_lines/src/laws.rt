@@ -2,15 +2,17 @@
 //! work.
 
 ghost use Rattle.std.specs.List.{All};
-ghost use Rattle.std.specs.Prelude.{◌≡◌, ◌≤◌, ◌+◌, ◌==◌, ◌++◌, [], length, ℕ, List, Some, true, bit_and, codes, decimal, if◌then◌else◌};
+ghost use Rattle.std.specs.Prelude.{◌≡◌, ◌≤◌, ◌+◌, ◌==◌, ◌++◌, [], length, ℕ, Bool, List, Some, true, bit_and, codes, decimal, if◌then◌else◌};
 ghost use Rattle.vg_client_holds.specs.Setup.{IsDisplay};
 ghost use Rattle.vg_scanout.specs.declared.scanout.Frame.{Frame};
-ghost use Rattle.vg_journal.specs.Text.{counts_text, display_line, entry_line, frame_line, text_of, title_text, without_line};
+ghost use Rattle.vg_journal.specs.Text.{counts_text, display_line, entry_line, frame_line, host_text, queues_text, text_of, title_text, without_line};
 ghost use Rattle.vg_line_words.specs.Words.{AreBelow, is_plain, lacks, parts_at};
 ghost use Rattle.vg_journal_lines.specs.declared.head.Feature.{Feature as Features};
+ghost use Rattle.vg_journal_lines.specs.declared.head.Version.{Version as Versions};
 ghost use Rattle.vg_journal_lines.specs.declared.counts.FrameHead.{FrameHead as Heads};
-ghost use Rattle.vg_journal_lines.specs.Words.{clients_words, display_words, end_words, feature_name, frame_words, frames_words, head_of, joined, line_of, memory_words, rings_words, title_words, without_words};
-ghost use Rattle.vg_journal_lines.specs.Read.{clients_of, display_of, frame_of, frames_of, is_end, is_title, memory_of, rings_of, without_of};
+ghost use Rattle.vg_journal_lines.specs.Versions.{limits_of, version_of};
+ghost use Rattle.vg_journal_lines.specs.Words.{clients_words, display_words, end_words, feature_name, frame_words, frames_words, head_of, host_words, joined, line_of, memory_words, queues_words, rings_words, title_words, without_words};
+ghost use Rattle.vg_journal_lines.specs.Read.{clients_of, display_of, frame_of, frames_of, is_end, is_host, is_queues, memory_of, rings_of, title_of, without_of};
 ghost use Rattle.vg_machine.specs.Entries.{Entry};
 ghost use Rattle.vg_journal_lines.specs.Entries.{EntryInRange, entry_of, entry_words};
 ghost use Rattle.vg_journal.specs.declared.journal.Journal.{Journal as Journals};
@@ -19,27 +21,29 @@ ghost use Rattle.vg_journal_lines.specs.declared.state.Stage.TheVariants as stag
 ghost use Rattle.vg_journal_lines.specs.States.{Item, run, start};
 ghost use Rattle.vg_journal_lines.specs.Moves.{IsKept};
 ghost use Rattle.vg_journal_lines.specs.Refusals.{GoesNoMore, IsJournal, IsRefusedAt};
-ghost use Rattle.vg_journal_lines.specs.Pieces.{IsReadAs, JournalInRange, pieces_of, whole};
+ghost use Rattle.vg_journal_lines.specs.Pieces.{IsReadAs, JournalInRange, host_pieces, pieces_of, queues_pieces, whole};
 ghost use Rattle.vg_journal_lines.specs.Ranges.{HeadInRange, IsCount};
-ghost use Rattle.vg_limits.specs.Limits.{version_1};
+ghost use Rattle.vg_limits.specs.Limits.{version_2};
 
 use vg_command_lines::{command_replies_and_their_text, requests_and_their_text};
 
-/// The first line and its words.
+/// The first line and its words, by the version, which goes with the sizes of both queues.
 pub fn title_and_its_words()
-    ensures text { title_text ≡ line_of title_words }
-    ensures plain { All (λ word. is_plain word ≡ true) title_words }
-    ensures back { is_title title_words ≡ true }
-    ensures only { (words : List (List ℕ)) → is_title words ≡ true → words ≡ title_words }
+    ensures text { (queues : ℕ × ℕ) → title_text queues ≡ line_of (title_words (version_of queues)) }
+    ensures plain { (version : Versions) → All (λ word. is_plain word ≡ true) (title_words version) }
+    ensures back { (version : Versions) → title_of (title_words version) ≡ Some version }
+    ensures only { (version : Versions) (words : List (List ℕ)) → title_of words ≡ Some version → words ≡ title_words version }
 {}
 
 /// The line of a display is its words, which are plain; the display is read from them and from no other words.
 pub fn displays_and_their_words()
     ensures text { (n : ℕ) (size : ℕ × ℕ) → display_line n size ≡ line_of (display_words n size) }
-    ensures plain { (n : ℕ) (size : ℕ × ℕ) → IsCount n → IsDisplay size → All (λ word. is_plain word ≡ true) (display_words n size) }
-    ensures back { (n : ℕ) (size : ℕ × ℕ) → IsCount n → IsDisplay size → display_of n (display_words n size) ≡ Some size }
-    ensures only { (n : ℕ) (size : ℕ × ℕ) (words : List (List ℕ)) → display_of n words ≡ Some size
-        → (words ≡ display_words n size) × IsCount n × IsDisplay size }
+    ensures plain { (version : Versions) (n : ℕ) (size : ℕ × ℕ) → IsCount n → IsDisplay (limits_of version) size
+        → All (λ word. is_plain word ≡ true) (display_words n size) }
+    ensures back { (version : Versions) (n : ℕ) (size : ℕ × ℕ) → IsCount n → IsDisplay (limits_of version) size
+        → display_of (limits_of version) n (display_words n size) ≡ Some size }
+    ensures only { (version : Versions) (n : ℕ) (size : ℕ × ℕ) (words : List (List ℕ)) → display_of (limits_of version) n words ≡ Some size
+        → (words ≡ display_words n size) × IsCount n × IsDisplay (limits_of version) size }
 {}
 
 /// The same of the line of the pages.
@@ -49,6 +53,14 @@ pub fn pages_and_their_words()
     ensures back { (pages : ℕ) → 1 ≤ pages → pages ≤ 16384 → memory_of (memory_words pages) ≡ Some pages }
     ensures only { (pages : ℕ) (words : List (List ℕ)) → memory_of words ≡ Some pages
         → (words ≡ memory_words pages) × (1 ≤ pages) × (pages ≤ 16384) }
+{}
+
+/// The same of the line of the queues, which version 2 has.
+pub fn queues_and_their_words()
+    ensures text { (queues : ℕ × ℕ) → queues_text queues ≡ whole (queues_pieces (version_of queues)) }
+    ensures plain { All (λ word. is_plain word ≡ true) queues_words }
+    ensures back { is_queues queues_words ≡ true }
+    ensures only { (words : List (List ℕ)) → is_queues words ≡ true → words ≡ queues_words }
 {}
 
 /// The same of the line of a feature that is left out.
@@ -63,25 +75,35 @@ pub fn features_and_their_words()
 /// The same of the line of the clients.
 pub fn clients_and_their_words()
     ensures text { (clients : ℕ) → codes "clients " ++ decimal clients ++ codes "\n" ≡ line_of (clients_words clients) }
-    ensures plain { (clients : ℕ) → clients ≤ version_1.clients → All (λ word. is_plain word ≡ true) (clients_words clients) }
-    ensures back { (clients : ℕ) → clients ≤ version_1.clients → clients_of (clients_words clients) ≡ Some clients }
-    ensures only { (clients : ℕ) (words : List (List ℕ)) → clients_of words ≡ Some clients
-        → (words ≡ clients_words clients) × (clients ≤ version_1.clients) }
+    ensures plain { (version : Versions) (clients : ℕ) → clients ≤ (limits_of version).clients
+        → All (λ word. is_plain word ≡ true) (clients_words clients) }
+    ensures back { (version : Versions) (clients : ℕ) → clients ≤ (limits_of version).clients
+        → clients_of (limits_of version) (clients_words clients) ≡ Some clients }
+    ensures only { (version : Versions) (clients : ℕ) (words : List (List ℕ)) → clients_of (limits_of version) words ≡ Some clients
+        → (words ≡ clients_words clients) × (clients ≤ (limits_of version).clients) }
 {}
 
-/// The line of entry n of so many clients is its words; the entry is read from them, and from no other words. So two entries have
+/// The same of the line of the host, which stands where there is one.
+pub fn host_and_its_words()
+    ensures text { (host : Bool) → host_text host ≡ whole (host_pieces host) }
+    ensures plain { All (λ word. is_plain word ≡ true) host_words }
+    ensures back { is_host host_words ≡ true }
+    ensures only { (words : List (List ℕ)) → is_host words ≡ true → words ≡ host_words }
+{}
+
+/// The line of entry n of so many clients, with the host, is its words; the entry is read from them, and from no other words. So two entries have
 /// the same line only where they are the same.
 pub fn entries_and_their_words()
     ensures text { (n : ℕ) (entry : Entry) → entry_line n entry ≡ line_of (entry_words n entry) }
-    ensures parts { (n clients : ℕ) (entry : Entry) → clients ≤ version_1.clients → IsCount n → EntryInRange clients entry
+    ensures parts { (n clients : ℕ) (entry : Entry) → clients ≤ version_2.clients + 1 → IsCount n → EntryInRange clients entry
         → parts_at 32 (joined (entry_words n entry)) ≡ entry_words n entry }
-    ensures line { (n clients : ℕ) (entry : Entry) → clients ≤ version_1.clients → IsCount n → EntryInRange clients entry
+    ensures line { (n clients : ℕ) (entry : Entry) → clients ≤ version_2.clients + 1 → IsCount n → EntryInRange clients entry
         → lacks 10 (joined (entry_words n entry)) ≡ true }
-    ensures back { (n clients : ℕ) (entry : Entry) → clients ≤ version_1.clients → IsCount n → EntryInRange clients entry
+    ensures back { (n clients : ℕ) (entry : Entry) → clients ≤ version_2.clients + 1 → IsCount n → EntryInRange clients entry
         → entry_of n clients (entry_words n entry) ≡ Some entry }
-    ensures only { (n clients : ℕ) (entry : Entry) (words : List (List ℕ)) → clients ≤ version_1.clients → entry_of n clients words ≡ Some entry
+    ensures only { (n clients : ℕ) (entry : Entry) (words : List (List ℕ)) → clients ≤ version_2.clients + 1 → entry_of n clients words ≡ Some entry
         → (words ≡ entry_words n entry) × IsCount n × EntryInRange clients entry }
-    ensures one { (n clients : ℕ) (a b : Entry) → clients ≤ version_1.clients → IsCount n → EntryInRange clients a → EntryInRange clients b
+    ensures one { (n clients : ℕ) (a b : Entry) → clients ≤ version_2.clients + 1 → IsCount n → EntryInRange clients a → EntryInRange clients b
         → entry_line n a ≡ entry_line n b → a ≡ b }
 {
     requests_and_their_text();

@@ -1,6 +1,7 @@
 //! How far a reader of a journal is.
 
 use crate::counts::FrameHead;
+use crate::head::Version;
 use vg_list::Seq;
 
 /// What comes next.
@@ -9,8 +10,12 @@ pub enum Stage {
     Title,
     /// A display, or the pages.
     Displays,
+    /// The queues' sizes.
+    Queues,
     /// A feature that is left out, or the clients.
     Features,
+    /// The host, or what comes where there is none.
+    Host,
     /// An entry, or the counts of commands.
     Entries,
     /// The count of frames.
@@ -36,10 +41,14 @@ pub struct LeftOut {
 #[derive(Drop)]
 pub struct State {
     pub stage: Stage,
+    /// Until the title says it, the first.
+    pub version: Version,
     pub displays: Seq<(u32, u32)>,
     pub pages: u32,
     pub left_out: LeftOut,
     pub clients: u32,
+    /// Whether there is a host behind the last client.
+    pub host: bool,
     /// How many entries there were.
     pub entries: u64,
     pub control: u64,

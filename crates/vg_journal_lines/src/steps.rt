@@ -2,13 +2,15 @@
 
 ghost use Rattle.std.specs.Prelude.{◌≡◌, Some, None, if◌then◌else◌, map, IfOk, OnErr};
 ghost use Rattle.std.specs.Option.{option_or};
-ghost use Rattle.vg_journal_lines.specs.States.{and_out, clients_step, display_step, end_step, entry_step, frame_step, frames_step, head_step, is_behind, memory_step, rings_step, title_step, without_step, words_step};
+ghost use Rattle.vg_journal_lines.specs.States.{and_out, behind_clients, behind_pages, clients_step, display_step, end_step, entries_step, frame_step, frames_step, head_step, host_step, is_behind, memory_step, queues_step, rings_step, title_step, without_step, words_step};
 ghost use Rattle.vg_journal_lines.specs.Moves.{IsKept, Moved, Took, TookPixels};
 ghost use Rattle.vg_journal_lines.specs.declared.steps.Given.TheVariants as givens;
 
 use crate::counts::{FrameHead, frame_of, frames_of, is_end, rings_of};
 use crate::entries::read_entry;
-use crate::head::{Feature, clients_of, display_of, is_title, memory_of, without_of};
+use crate::head::{
+    Feature, Version, clients_of, display_of, is_host, is_queues, memory_of, title_of, without_of,
+};
 use crate::state::{LeftOut, Stage, State};
 use std::alloc::{AllocError, Global};
 use vg_formats::pixel_bytes;
@@ -34,7 +36,9 @@ pub fn take_line(
     match state.stage {
         Stage::Title => Ok(nothing(take_title(state, words))),
         Stage::Displays => Ok(nothing(take_display_or_pages(state, words)?)),
+        Stage::Queues => Ok(nothing(take_queues(state, words))),
         Stage::Features => Ok(nothing(take_feature_or_clients(state, words))),
+        Stage::Host => take_host_or_entry(alloc, state, words),
         Stage::Entries => take_entry_or_rings(alloc, state, words),
         Stage::Frames => Ok(nothing(take_frames(state, words))),
         Stage::Frame { left } => Ok(nothing(take_head_or_end(state, left, words))),
@@ -66,10 +70,11 @@ pub fn take_pixels(state: &mut State, head: FrameHead, left: u64, count: usize) 
 pub(crate) fn take_title(state: &mut State, words: &[&[u8]]) -> bool
     ensures { Moved (title_step state.old (map (λ word. word.now) words.now)) state.old state.new result }
 {
-    if !is_title(words) {
+    let Some(version) = title_of(words) else {
         return false;
-    }
+    };
     state.stage = Stage::Displays;
+    state.version = version;
     true
 }
 
@@ -92,7 +97,7 @@ fn take_display(state: &mut State, words: &[&[u8]]) -> Result<bool, AllocError>
     if state.displays.len() >= 16 {
         return Ok(false);
     }
-    let Some(size) = display_of(state.displays.len() as u64, words) else {
+    let Some(size) = display_of(state.version, state.displays.len() as u64, words) else {
         return Ok(false);
     };
     state.displays.push(size)?;
@@ -108,8 +113,29 @@ fn take_pages(state: &mut State, words: &[&[u8]]) -> bool
     let Some(pages) = memory_of(words) else {
         return false;
     };
-    state.stage = Stage::Features;
+    state.stage = behind_pages(state.version);
     state.pages = pages;
+    true
+}
+
+/// What comes behind the pages.
+fn behind_pages(version: Version) -> Stage
+    ensures { result ≡ behind_pages version }
+{
+    match version {
+        Version::One => Stage::Features,
+        Version::Two => Stage::Queues,
+    }
+}
+
+/// Goes on by the queues' sizes.
+fn take_queues(state: &mut State, words: &[&[u8]]) -> bool
+    ensures { Moved (queues_step state.old (map (λ word. word.now) words.now)) state.old state.new result }
+{
+    if !is_queues(words) {
+        return false;
+    }
+    state.stage = Stage::Features;
     true
 }
 
@@ -163,12 +189,51 @@ fn and_out(feature: Feature, out: LeftOut) -> LeftOut
 fn take_clients(state: &mut State, words: &[&[u8]]) -> bool
     ensures { Moved (clients_step state.old (map (λ word. word.now) words.now)) state.old state.new result }
 {
-    let Some(clients) = clients_of(words) else {
+    let Some(clients) = clients_of(state.version, words) else {
         return false;
     };
-    state.stage = Stage::Entries;
+    state.stage = behind_clients(state.version);
     state.clients = clients;
     true
+}
+
+/// What comes behind the clients.
+fn behind_clients(version: Version) -> Stage
+    ensures { result ≡ behind_clients version }
+{
+    match version {
+        Version::One => Stage::Entries,
+        Version::Two => Stage::Host,
+    }
+}
+
+/// Goes on by the host.
+fn take_host(state: &mut State, words: &[&[u8]]) -> bool
+    ensures { Moved (host_step state.old (map (λ word. word.now) words.now)) state.old state.new result }
+{
+    if !is_host(words) {
+        return false;
+    }
+    state.stage = Stage::Entries;
+    state.host = true;
+    true
+}
+
+/// Goes on by the host, or by what comes where there is none.
+fn take_host_or_entry(
+    alloc: Global,
+    state: &mut State,
+    words: &[&[u8]],
+) -> Result<Option<Given>, AllocError>
+    requires { IsKept state.old }
+    ensures ok { IfOk result (Took (option_or (host_step state.old (map (λ word. word.now) words.now))
+        (entries_step state.old (map (λ word. word.now) words.now))) state.old state.new) }
+    ensures err { OnErr result (state.new ≡ state.old) }
+{
+    if take_host(state, words) {
+        return Ok(Some(Given::Nothing));
+    }
+    take_entry_or_rings(alloc, state, words)
 }
 
 /// Goes on by the counts of commands.
@@ -191,16 +256,17 @@ fn take_entry_or_rings(
     words: &[&[u8]],
 ) -> Result<Option<Given>, AllocError>
     requires { IsKept state.old }
-    ensures ok { IfOk result (Took (option_or (rings_step state.old (map (λ word. word.now) words.now))
-        (entry_step state.old (map (λ word. word.now) words.now))) state.old state.new) }
+    ensures ok { IfOk result (Took (entries_step state.old (map (λ word. word.now) words.now)) state.old state.new) }
     ensures err { OnErr result (state.new ≡ state.old) }
 {
     if take_rings(state, words) {
         return Ok(Some(Given::Nothing));
     }
-    let Some(entry) = read_entry(alloc, state.entries + 1, state.clients, words)? else {
+    let parties = state.clients + u32::from(state.host);
+    let Some(entry) = read_entry(alloc, state.entries + 1, parties, words)? else {
         return Ok(None);
     };
+    state.stage = Stage::Entries;
     state.entries += 1;
     Ok(Some(Given::Entry { entry }))
 }

@@ -1,11 +1,11 @@
 -- The words of a journal's lines, and how it spells acts and their replies.
-use Rattle.std.specs.Prelude.{ℕ, List, [], ◌∷◌, ◌++◌, codes, decimal}
+use Rattle.std.specs.Prelude.{ℕ, Bool, true, false, List, [], ◌∷◌, ◌++◌, codes, decimal}
 use Rattle.vg_chain.specs.declared.chain.ChainFault.{ChainFault}
 use Rattle.vg_chain.specs.declared.chain.ChainFault.TheVariants.{Index, Loop, Nested, NextWithIndirect, TableLength, Order, Range}
 use Rattle.vg_chain.specs.declared.shape.Shape.{Shape}
 use Rattle.vg_chain.specs.declared.shape.Shape.TheVariants.{Plain, Pieces, Indirect, Mixed, Bad}
 use Rattle.vg_client_holds.specs.declared.act.Act.{Act}
-use Rattle.vg_client_holds.specs.declared.act.Act.TheVariants.{Enter, Reserve, Store, Load, Export, Import, Release, Free, Take, Drop, Await, Denied, Leave}
+use Rattle.vg_client_holds.specs.declared.act.Act.TheVariants.{Enter, Reserve, Store, Load, Export, Import, Release, Free, Take, Drop, Await, Denied, Mode, Unplug, Sync, Events, Ack, Leave}
 use Rattle.vg_client_holds.specs.declared.act.What.{What}
 use Rattle.vg_client_holds.specs.declared.act.What.TheVariants as whats
 use Rattle.vg_share.specs.declared.share.Geometry.{Geometry}
@@ -40,6 +40,10 @@ load_text key offset n = codes "load " ++ decimal key ++ codes " " ++ decimal of
 unfoldable pub await_text : ℕ → ℕ → List ℕ
 await_text lane ordinal = codes "await " ++ decimal lane ++ codes " " ++ decimal ordinal
 
+-- `mode S W H`
+unfoldable pub mode_text : ℕ → ℕ → ℕ → List ℕ
+mode_text scanout width height = codes "mode " ++ decimal scanout ++ codes " " ++ decimal width ++ codes " " ++ decimal height
+
 abbrev pub act_text : Act → List ℕ
 act_text Enter = codes "enter"
 act_text (Reserve width height format bytes) = reserve_text width height format bytes
@@ -53,6 +57,11 @@ act_text (Take scanout) = codes "take " ++ decimal scanout
 act_text (Drop scanout) = codes "drop " ++ decimal scanout
 act_text (Await lane ordinal) = await_text lane ordinal
 act_text (Denied what) = codes "denied " ++ what_text what
+act_text (Mode scanout width height) = mode_text scanout width height
+act_text (Unplug scanout) = codes "unplug " ++ decimal scanout
+act_text (Sync call) = codes "sync " ++ decimal call
+act_text Events = codes "events"
+act_text Ack = codes "ack"
 act_text Leave = codes "leave"
 
 abbrev pub refusal_text : ShareRefusal → List ℕ
@@ -86,6 +95,11 @@ size_text geometry =
 unfoldable pub imported_text : ℕ → Geometry → List ℕ → List ℕ
 imported_text key geometry pages = codes "key " ++ decimal key ++ size_text geometry ++ codes " pages " ++ pages_text pages
 
+-- `1` where a bit is set, else `0`
+abbrev pub bit_text : Bool → List ℕ
+bit_text true = codes "1"
+bit_text false = codes "0"
+
 abbrev pub act_reply_text : ActReply → List ℕ
 act_reply_text act_replies.Ok = codes "ok"
 act_reply_text (act_replies.Reserved key pages) = reserved_text key pages
@@ -94,6 +108,7 @@ act_reply_text (act_replies.Exported token) = codes "token " ++ decimal token
 act_reply_text (act_replies.Imported key geometry pages) = imported_text key geometry pages
 act_reply_text act_replies.Kept = codes "kept"
 act_reply_text act_replies.Last = codes "last"
+act_reply_text (act_replies.Events set) = codes "events " ++ bit_text set
 act_reply_text (act_replies.Refused refusal) = refusal_text refusal
 
 -- A chain's fault, by the layout that has it.

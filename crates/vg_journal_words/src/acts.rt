@@ -3,7 +3,7 @@
 ghost use Rattle.std.specs.Prelude.{◌≡◌, ◌++◌, codes, decimal, OnErr, OnOk};
 ghost use Rattle.vg_list.specs.Front.{HasFront};
 ghost use Rattle.vg_text.specs.Text.{hex_text};
-ghost use Rattle.vg_journal_words.specs.Text.{act_text, await_text, load_text, reserve_text, store_text, what_text};
+ghost use Rattle.vg_journal_words.specs.Text.{act_text, await_text, load_text, mode_text, reserve_text, store_text, what_text};
 
 use std::alloc::AllocError;
 use vg_client_holds::{Act, What};
@@ -42,6 +42,15 @@ pub fn put_act(out: &mut Packed, act: &Act) -> Result<(), AllocError>
         Act::Drop { scanout } => out.put_numbered(b"drop ", *scanout),
         Act::Await { lane, ordinal } => put_await(out, *lane, *ordinal),
         Act::Denied { what } => put_denied(out, what),
+        Act::Mode {
+            scanout,
+            width,
+            height,
+        } => put_mode(out, *scanout, *width, *height),
+        Act::Unplug { scanout } => out.put_numbered(b"unplug ", *scanout),
+        Act::Sync { call } => out.put_counted(b"sync ", *call),
+        Act::Events => out.put(b"events"),
+        Act::Ack => out.put(b"ack"),
         Act::Leave => out.put(b"leave"),
     }
 }
@@ -106,6 +115,15 @@ fn put_await(out: &mut Packed, lane: u32, ordinal: u64) -> Result<(), AllocError
 {
     out.put_numbered(b"await ", lane)?;
     out.put_counted(b" ", ordinal)
+}
+
+#[tactic(auto, unfolding(crate::specs::Text::mode_text), using(vg_list::proofs::FrontLemmas::fronts))]
+fn put_mode(out: &mut Packed, scanout: u32, width: u32, height: u32) -> Result<(), AllocError>
+    ensures ok { OnOk result (out.new ≡ out.old ++ mode_text scanout width height) }
+    ensures err { OnErr result (HasFront out.old out.new (mode_text scanout width height)) }
+{
+    out.put(b"mode ")?;
+    out.put_three(u64::from(scanout), u64::from(width), u64::from(height))
 }
 
 #[tactic(auto, using(vg_list::proofs::FrontLemmas::fronts))]

@@ -3,7 +3,7 @@
 ghost use Rattle.std.specs.Prelude.{◌≡◌, ◌++◌, codes, decimal, OnErr, OnOk};
 ghost use Rattle.vg_list.specs.Front.{HasFront};
 ghost use Rattle.vg_text.specs.Text.{numbered};
-ghost use Rattle.vg_journal_words.specs.Text.{act_reply_text, comma_text, imported_text, pages_text, refusal_text, reserved_text, size_text};
+ghost use Rattle.vg_journal_words.specs.Text.{act_reply_text, bit_text, comma_text, imported_text, pages_text, refusal_text, reserved_text, size_text};
 
 use std::alloc::AllocError;
 use vg_client_holds::ActReply;
@@ -28,8 +28,18 @@ pub fn put_act_reply(out: &mut Packed, reply: &ActReply) -> Result<(), AllocErro
         } => put_imported(out, *key, geometry, pages.as_slice()),
         ActReply::Kept => out.put(b"kept"),
         ActReply::Last => out.put(b"last"),
+        ActReply::Events { set } => put_events(out, *set),
         ActReply::Refused { refusal } => put_refusal(out, refusal),
     }
+}
+
+#[tactic(auto, using(vg_list::proofs::FrontLemmas::fronts))]
+fn put_events(out: &mut Packed, set: bool) -> Result<(), AllocError>
+    ensures ok { OnOk result (out.new ≡ out.old ++ (codes "events " ++ bit_text set)) }
+    ensures err { OnErr result (HasFront out.old out.new (codes "events " ++ bit_text set)) }
+{
+    out.put(b"events ")?;
+    if set { out.put(b"1") } else { out.put(b"0") }
 }
 
 #[tactic(auto, using(vg_list::proofs::FrontLemmas::fronts))]

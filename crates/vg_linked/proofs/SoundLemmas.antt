@@ -183,7 +183,7 @@ after-of setup before (entries.Command client call request reply) agrees may was
     in
     of-buffered share count (after s entry) same large
     (request-kept (IsBuffered share count) (IsBuffered share count) (HasBuffer share) (InBuffer share count) (buffered_commands share count) s request
-    (may-make client count holds share (linked-whole setup before client agrees) many (counted s) request may)
+    (may-make client count holds share (linked-whole setup before client agrees) many (counted s) request may.0)
     (buffered (counted s) (ids-stand setup before) (counted-of s was)))
 
 of-from : (setup : Setup) (before more : List Entry) → Agrees setup (before ++ more) → AreAllowed setup before more → AreOfBuffers (replay setup before) → AreOfBuffers (replay setup (before ++ more))

@@ -10,6 +10,7 @@ use Rattle.vg_laws.proofs.Bools.{or-first, or-second}
 use Rattle.vg_history.specs.Lists.{Has}
 use Rattle.vg_places.proofs.Places.{get_or-tabulate, length-tabulate}
 use Rattle.vg_pages.specs.Memory.{Memory, free_pages, is_among, zeroed, after_taking}
+use Rattle.vg_plugs.specs.Plugs.{PlugState}
 use Rattle.vg_share.specs.Cells.{pages_of, place_in_buffer, repeated, stored, stored_byte}
 use Rattle.vg_share.specs.declared.share.ShareRefusal.{ShareRefusal}
 use Rattle.vg_share.specs.declared.share.ShareRefusal.TheVariants.{GuestFull}
@@ -17,7 +18,7 @@ use Rattle.vg_share.specs.Share.{ShareState, SharesPages, drop_refusal, export_r
 use Rattle.vg_share.proofs.CellLemmas.{length-repeated, length-stored}
 use Rattle.vg_refusals.specs.Refusals.{refusal_of}
 use Rattle.vg_client_holds.specs.declared.act.Act.{Act}
-use Rattle.vg_client_holds.specs.declared.act.Act.TheVariants.{Enter, Reserve, Store, Load, Export, Import, Release, Free, Take, Drop, Await, Denied, Leave}
+use Rattle.vg_client_holds.specs.declared.act.Act.TheVariants.{Enter, Reserve, Store, Load, Export, Import, Release, Free, Take, Drop, Await, Denied, Mode, Unplug, Sync, Events, Ack, Leave}
 use Rattle.vg_client_holds.specs.declared.act.ActReply.{ActReply}
 use Rattle.vg_device.specs.ActStep.{effect_of, is_in_use, replied_by, shown_at}
 use Rattle.vg_device.specs.State.{State, has_resource}
@@ -112,6 +113,9 @@ leaves-replied None state next reply job leaves = leaves refl
 leaves-share : (state : State) (job : Job) (now : ShareState) → Leaves state (record state { share = now }) job
 leaves-share state job now = record { setup = refl; resource = refl; blob = refl; backing = refl; memory = same-itself job.pages state.memory; context = λ names live. live }
 
+leaves-plugs : (state : State) (job : Job) (now : PlugState) → Leaves state (record state { plugs = now }) job
+leaves-plugs state job now = record { setup = refl; resource = refl; blob = refl; backing = refl; memory = same-itself job.pages state.memory; context = λ names live. live }
+
 leaves-memory : (state : State) (job : Job) (memory : Memory) (share : ShareState) → AreSameIn job.pages state.memory memory → Leaves state (record state { memory = memory; share = share }) job
 leaves-memory state job memory share same = record { setup = refl; resource = refl; blob = refl; backing = refl; memory = same; context = λ names live. live }
 
@@ -146,4 +150,9 @@ leaves-effect jobs state job has shares client (Take scanout) free = leaves-repl
 leaves-effect jobs state job has shares client (Drop scanout) free = leaves-replied (drop_refusal client scanout (is_in_use state scanout) state.share) state _ _ job (λ none. leaves-share state job _)
 leaves-effect jobs state job has shares client (Await lane ordinal) free = leaves-itself state job
 leaves-effect jobs state job has shares client (Denied what) free = leaves-itself state job
+leaves-effect jobs state job has shares client (Mode scanout width height) free = leaves-plugs state job _
+leaves-effect jobs state job has shares client (Unplug scanout) free = leaves-plugs state job _
+leaves-effect jobs state job has shares client (Sync number) free = leaves-itself state job
+leaves-effect jobs state job has shares client Events free = leaves-itself state job
+leaves-effect jobs state job has shares client Ack free = leaves-plugs state job _
 leaves-effect jobs state job has shares client Leave free = leaves-share state job _

@@ -40,7 +40,7 @@ use Rattle.vg_wire_ext.specs.declared.names.Named.TheVariants as names
 use Rattle.vg_wire_ext.specs.Named.{named_2d, named_by, named_in}
 use Rattle.vg_share.specs.Share.{SharesPages, new_pages, pages_at}
 use Rattle.vg_client_holds.specs.declared.act.Act.{Act}
-use Rattle.vg_client_holds.specs.declared.act.Act.TheVariants.{Enter, Reserve, Store, Load, Export, Import, Release, Free, Take, Drop, Await, Denied, Leave}
+use Rattle.vg_client_holds.specs.declared.act.Act.TheVariants.{Enter, Reserve, Store, Load, Export, Import, Release, Free, Take, Drop, Await, Denied, Mode, Unplug, Sync, Events, Ack, Leave}
 use Rattle.vg_client_holds.specs.declared.act.ActReply.{ActReply}
 use Rattle.vg_device.specs.declared.request.Request.{Request}
 use Rattle.vg_device.specs.declared.request.Reply.{Reply}
@@ -155,6 +155,11 @@ none-blocks-act state (Take scanout) = refl
 none-blocks-act state (Drop scanout) = refl
 none-blocks-act state (Await lane ordinal) = refl
 none-blocks-act state (Denied what) = refl
+none-blocks-act state (Mode scanout width height) = refl
+none-blocks-act state (Unplug scanout) = refl
+none-blocks-act state (Sync number) = refl
+none-blocks-act state Events = refl
+none-blocks-act state Ack = refl
 none-blocks-act state Leave = refl
 
 -- what a transfer that isn't kept from running says of the jobs

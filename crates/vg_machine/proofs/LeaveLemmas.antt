@@ -261,7 +261,7 @@ leaves-command jobs state job has there context (TwoD command) free = leaves-2d 
 leaves-command jobs state job has there context (CapsetInfo index) free = leaves-itself state job
 leaves-command jobs state job has there context (Capset id version) free = leaves-itself state job
 leaves-command jobs state job has there context (Edid scanout) free =
-    leaves-answered (refusal_of (edid_refusals state.setup scanout)) state state (responses.Edid (block_of scanout (slice_get state.setup.displays scanout))) job (λ none. leaves-itself state job)
+    leaves-answered (refusal_of (edid_refusals state.plugs scanout)) state state _ job (λ none. leaves-itself state job)
 leaves-command jobs state job has there context (AssignUuid id) free =
     leaves-answered (refusal_of (assign_refusals (has_resource state id))) state _ (responses.Uuid (uuid_bytes (number_for id state.uuids))) job (λ none. leaves-uuids state job id)
 leaves-command jobs state job has there context (CreateBlob id mem flags blob_id size entries) free =

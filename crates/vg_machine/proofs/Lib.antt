@@ -5,3 +5,4 @@ pub mod LoanLemmas
 pub mod DisplayLemmas
 pub mod ReplayLemmas
 pub mod Sent
+pub mod PlugLemmas

@@ -44,7 +44,7 @@ scanouts_send = let S = scanouts_in.the_type in
 
 device_send : IsSend device.the_row
 device_send = let D = device_in.the_type in
-    view_send _ _ _ _ _ (recorded_send _ _ _ D.to_one (struct_send (shape D) (search (sendable, crosses, seq_send) depth 20, (search sendable, (pages_send, (search (sendable, crosses, BTreeMap-send, seq_send) depth 20, (search (sendable, crosses, BTreeMap-send) depth 20, (search (sendable, crosses, BTreeMap-send) depth 40, (search (sendable, crosses, BTreeMap-send) depth 40, (search (sendable, crosses, BTreeMap-send) depth 20, (search (sendable, crosses, seq_send) depth 20, (scanouts_send, (search (sendable, crosses, BTreeMap-send, seq_send) depth 20, tt)))))))))))))
+    view_send _ _ _ _ _ (recorded_send _ _ _ D.to_one (struct_send (shape D) (search (sendable, crosses, seq_send) depth 20, (search sendable, (pages_send, (search (sendable, crosses, BTreeMap-send, seq_send) depth 20, (search (sendable, crosses, BTreeMap-send) depth 20, (search (sendable, crosses, BTreeMap-send) depth 40, (search (sendable, crosses, BTreeMap-send) depth 40, (search (sendable, crosses, BTreeMap-send) depth 20, (search (sendable, crosses, seq_send) depth 20, (scanouts_send, (search (sendable, crosses, BTreeMap-send, seq_send) depth 20, (search (sendable, crosses) depth 20, tt))))))))))))))
 
 pub display_send : IsSend display.the_row
 display_send = let D = display_in.the_type in view_send _ _ _ _ _ (recorded_send _ _ _ D.to_one (struct_send (shape D) (device_send, (loans_send, tt))))
@@ -53,7 +53,7 @@ pub act_send : IsSend act.the_row
 act_send = search (sendable, crosses) depth 40
 
 pub act_reply_send : IsSend act_reply.the_row
-act_reply_send = search (sendable, crosses) depth 20
+act_reply_send = search (sendable, crosses) depth 40
 
 pub request_send : IsSend request.the_row
 request_send = let T = request.the_type in
@@ -64,4 +64,4 @@ reply_send = search (sendable, crosses) depth 20
 
 pub holds_send : IsSend holds.the_row
 holds_send = let T = holds.the_type in
-    recorded_send _ _ _ T.to_one (struct_send (shape T) (search sendable, (search sendable, (search sendable, (search (sendable, crosses, seq_send) depth 20, (search (sendable, crosses, seq_send) depth 20, (search (sendable, crosses, seq_send) depth 20, tt)))))))
+    recorded_send _ _ _ T.to_one (struct_send (shape T) (search sendable, (search sendable, (search sendable, (search sendable, (search (sendable, crosses, seq_send) depth 20, (search (sendable, crosses, seq_send) depth 20, (search (sendable, crosses, seq_send) depth 20, tt))))))))

@@ -14,7 +14,7 @@ use Rattle.vg_chain.specs.declared.shape.Shape.{Shape}
 use Rattle.vg_chain.specs.declared.shape.Shape.TheVariants.{Plain, Pieces, Indirect, Mixed, Bad}
 use Rattle.vg_formats.specs.declared.rect.Rect.{Rect}
 use Rattle.vg_client_holds.specs.declared.act.Act.{Act}
-use Rattle.vg_client_holds.specs.declared.act.Act.TheVariants.{Enter, Reserve, Store, Load, Export, Import, Release, Free, Take, Drop, Await, Denied, Leave}
+use Rattle.vg_client_holds.specs.declared.act.Act.TheVariants.{Enter, Reserve, Store, Load, Export, Import, Release, Free, Take, Drop, Await, Denied, Mode, Unplug, Sync, Events, Ack, Leave}
 use Rattle.vg_client_holds.specs.declared.act.ActReply.{ActReply}
 use Rattle.vg_share.specs.declared.share.ShareRefusal.{ShareRefusal}
 use Rattle.vg_resource.specs.declared.resource.Resource.{Resource}
@@ -127,6 +127,11 @@ effect-like state client (Take scanout) = like-replied (take_refusal scanout sta
 effect-like state client (Drop scanout) = like-replied (drop_refusal client scanout (is_in_use state scanout) state.share) state _ _ (record { setup = refl; entries = refl })
 effect-like state client (Await lane ordinal) = like-itself state
 effect-like state client (Denied what) = like-itself state
+effect-like state client (Mode scanout width height) = record { setup = refl; entries = refl }
+effect-like state client (Unplug scanout) = record { setup = refl; entries = refl }
+effect-like state client (Sync number) = like-itself state
+effect-like state client Events = like-itself state
+effect-like state client Ack = record { setup = refl; entries = refl }
 effect-like state client Leave = record { setup = refl; entries = refl }
 
 pub act-like : (state : State) (client : ℕ) (act : Act) → IsLike (counted state) (act_step state client act).0

@@ -1,15 +1,18 @@
 use Rattle.std.specs.Prelude.{◌≡◌, ◌≢◌, ◌≤◌, ◌<◌, ◌+◌, ◌-◌, ◌==◌, ℕ, Bool, true, false, List, [], ◌∷◌, ◌++◌, map, filter, count_by, nat_le, if◌then◌else◌}
 use Rattle.std.specs.List.{range_with_len, AllByRecursion}
 use Rattle.vg_client_holds.specs.declared.setup.Setup.{Setup}
+use Rattle.vg_client_holds.specs.declared.act.Act.{Act}
 use Rattle.vg_client_holds.specs.declared.act.Act.TheVariants.{Enter, Leave}
 use Rattle.vg_history.specs.Entries as numbers
 use Rattle.vg_history.specs.History as history
+use Rattle.vg_history.specs.Lists.{Has}
 use Rattle.vg_machine.specs.Entries.{Entry}
 use Rattle.vg_history.specs.declared.entry.Entry.TheVariants as entries
 use Rattle.vg_machine.specs.Lane.{lane_of}
 use Rattle.vg_client_holds.specs.declared.act.Act.TheVariants as acts
 use Rattle.vg_client_holds.specs.declared.holds.Holds.{Holds}
 use Rattle.vg_client_holds.specs.Holds.{Allowed, Deniable, first_holds, gives_up, update}
+use Rattle.vg_client_holds.specs.Host.{IsPart}
 use Rattle.vg_machine.specs.Replay.{Agrees, display}
 
 abbrev pub client_of : Entry → ℕ
@@ -76,12 +79,28 @@ abbrev pub FenceOrder : List Entry → Entry → Type 0
 FenceOrder before (entries.Act client call (acts.Await lane ordinal) reply) = history.HasFence display lane ordinal before
 FenceOrder before entry = Unit {0}
 
+-- The host's act of this number, with which a display was plugged, resized or unplugged.
+abbrev pub IsPlug : ℕ → Entry → Type 0
+IsPlug n (entries.Act client call (acts.Mode scanout width height) reply) = call ≡ n
+IsPlug n (entries.Act client call (acts.Unplug scanout) reply) = call ≡ n
+IsPlug n entry = ⊥
+
+-- It is among these entries.
+abbrev pub HasPlug : ℕ → List Entry → Type 0
+HasPlug n es = (entry : Entry) × Has es entry × IsPlug n entry
+
+-- A wait for the host stands after the act that it waited for. That such an act is the host's is said where it is allowed.
+abbrev pub SyncOrder : List Entry → Entry → Type 0
+SyncOrder before (entries.Act client call (acts.Sync n) reply) = HasPlug n before
+SyncOrder before entry = Unit {0}
+
 -- An entry stands rightly behind those before it.
 pub record IsInOrder (before : List Entry) (entry : Entry) : Type 0 where
   pub lane : LaneOrder before entry
   pub call : CallOrder before entry
   pub give_up : GiveUp before entry
   pub fence : FenceOrder before entry
+  pub sync : SyncOrder before entry
 
 -- Each of these entries does, behind those before them all.
 abbrev pub AreInOrder : List Entry → List Entry → Type 0
@@ -97,11 +116,15 @@ updated holds (entries.Command client call request reply) = holds
 abbrev pub holds_of : Setup → ℕ → List Entry → Holds
 holds_of setup client H = history.holds_after display client (first_holds setup client) H
 
--- A command is one that its client may ask, by what it holds; and what a client was denied is something that it may be denied.
+-- What a client was denied is something that it may be denied.
+abbrev pub MayBeDenied : Holds → Act → Type 0
+MayBeDenied holds (acts.Denied what) = Deniable holds what
+MayBeDenied holds act = Unit {0}
+
+-- A command is one that its client may ask, by what it holds, and the host asks none; and an act is one of its client's part.
 abbrev pub IsAllowed : Holds → Entry → Type 0
-IsAllowed holds (entries.Command client call request reply) = Allowed holds request.queue request.bytes
-IsAllowed holds (entries.Act client call (acts.Denied what) reply) = Deniable holds what
-IsAllowed holds (entries.Act client call act reply) = Unit {0}
+IsAllowed holds (entries.Command client call request reply) = Allowed holds request.queue request.bytes × (holds.host ≡ false)
+IsAllowed holds (entries.Act client call act reply) = MayBeDenied holds act × IsPart holds act
 
 -- Each of these entries is allowed, by what its client holds after those before it.
 abbrev pub AreAllowed : Setup → List Entry → List Entry → Type 0

@@ -1,4 +1,4 @@
-use Rattle.std.specs.Prelude.{List, is_none}
+use Rattle.std.specs.Prelude.{List, ◌&&◌, is_none, not}
 use Rattle.vg_history.specs.History as history
 use Rattle.vg_history.specs.declared.machine.Machine.{Ghosts}
 use Rattle.vg_client_holds.specs.declared.setup.Setup.{Setup}
@@ -29,7 +29,7 @@ display = record {
   update = update;
   requested = λ s request. (request_step s request).0;
   answered = λ s request. (request_step s request).1;
-  allows = λ h request. is_none (denied_of h request.queue request.bytes);
+  allows = λ h request. not h.host && is_none (denied_of h request.queue request.bytes);
   ends_hold = gives_up;
   tagged = λ request. (request.lane, request.ordinal);
   asks = asks_of;

@@ -30,7 +30,7 @@ impl Machine for Display {
 
     type Job = Job;
 
-    ghost use Rattle.std.specs.Prelude.{is_none};
+    ghost use Rattle.std.specs.Prelude.{◌&&◌, is_none, not};
     ghost use Rattle.vg_machine.specs.Jobs as jobs;
     ghost use Rattle.vg_machine.specs.Blocks as blocking;
     ghost use Rattle.vg_device.specs.ActStep.{act_step};
@@ -58,7 +58,7 @@ impl Machine for Display {
 
     ghost answered = { λ s q. (request_step s q).1 };
 
-    ghost allows = { λ h q. is_none (denied_of h q.queue q.bytes) };
+    ghost allows = { λ h q. not h.host && is_none (denied_of h q.queue q.bytes) };
 
     ghost ends_hold = { holding.gives_up };
 

@@ -144,7 +144,7 @@ module _ (setup : Setup) (H : List Entry) (sound : Sound setup H) (long : length
             subst (λ (share : ShareState). is_some (buffer_at key share) ≡ true) (ap (λ (state : State). state.share) next.state ∙ same) ((of-buffers setup H (suc i) sound).live key there)
             in
             let read = read-of (counted s) request.queue request.bytes asked.command asked.let_in asked.reads in
-            let may = allowed-at setup [] H i entry next.there sound.allowed in
+            let may = (allowed-at setup [] H i entry next.there sound.allowed).0 in
             fair client scanout key (length setup.displays) holds s.share (holds-linked setup H i client sound.agrees) (holds-of setup (take i H) client).1
             (within-setup (suc i) scanout key now) (not-0 setup (take (suc i) H) key there)
             (small setup H i key next.count (slice_get_within H i entry next.there) long buffer)
@@ -208,7 +208,7 @@ module _ (setup : Setup) (H : List Entry) (sound : Sound setup H) (long : length
       let displays : length s.setup.displays ≡ length setup.displays = ap (λ (now : Setup). length now.displays) (as-many setup (take i H)).setup_is in
       let within : scanout < length setup.displays = subst (λ n. scanout < n) displays (is-below (length s.setup.displays) scanout inside) in
       let read = read-of (counted s) request.queue request.bytes command updates.let_in (updates.reads ∙ ap Some points.is) in
-      let may = allowed-at setup [] H i (entries.Command client updates.call request updates.reply) (there ∙ ap Some updates.is) sound.allowed in
+      let may = (allowed-at setup [] H i (entries.Command client updates.call request updates.reply) (there ∙ ap Some updates.is) sound.allowed).0 in
       fair client scanout key (length setup.displays) holds s.share (holds-linked setup H i client sound.agrees) (holds-of setup (take i H) client).1 within points.some
       (small setup H i key (count-at i entry there) (slice_get_within H i entry there) long buffer)
       (may-point holds scanout key points.hot_x points.hot_y points.x points.y (named holds (header_of request.bytes) command (sym (ap (denied_request holds) read) ∙ may)))

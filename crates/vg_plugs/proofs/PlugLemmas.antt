@@ -1,12 +1,15 @@
 -- Modes of displays, and those at the end that are none.
-use Rattle.std.proofs.Common.{◌≡◌, ◌<◌, ◌≤◌, ℕ, zero, suc, List, [], ◌∷◌, ◌++◌, map, take, length, get_or, ◌-◌, Some, None, true, false, refl, sym, ap, subst, ◌∙◌, arith}
+use Rattle.std.proofs.Common.{◌≡◌, ◌<◌, ◌≤◌, ℕ, zero, suc, List, [], ◌∷◌, ◌++◌, map, take, length, get_or, set, ◌-◌, nat_le, nat_lt, Bool, cond, Some, None, true, false, refl, sym, ap, subst, ◌∙◌, arith}
 use Rattle.std.specs.Prelude.{is_none}
 use Rattle.std.specs.List.{All}
 use Rattle.std.proofs.Math.Seq.{take-suc}
 use Rattle.std.proofs.lemmas.List.Elements.{All-head, All-tail, All-cons, All-nil}
 use Rattle.vg_wire.specs.Modes.{Mode, trimmed}
 use Rattle.vg_wire.proofs.ModesLemmas.{trimmed-none, trimmed-some}
-use Rattle.vg_plugs.specs.Plugs.{FitsDisplay, IsSize}
+use Rattle.std.proofs.lemmas.Bool.Decides.{nat_tests}
+use Rattle.std.proofs.lemmas.List.{length-set}
+use Rattle.vg_limits.specs.Limits.{version_2}
+use Rattle.vg_plugs.specs.Plugs.{FitsDisplay, IsSize, PlugState, is_size, mode_at, plugged, unplugged, with_mode}
 
 pub sizes-fit : (displays : List (ℕ × ℕ)) → All IsSize displays → All FitsDisplay (map Some displays)
 sizes-fit [] all = All-nil FitsDisplay
@@ -49,3 +52,45 @@ stops modes (suc k) some within none same =
     let less : suc k - 1 ≡ k = omega arith in
     let last : is_none (get_or modes k None) ≡ false = subst (λ (n : ℕ). is_none (get_or modes n None) ≡ false) less none in
     sym same ∙ some-last modes k (get_or modes k None) (omega (arith, within)) refl last
+
+-- there are as many displays as before
+length-mode : (scanout : ℕ) (mode : Mode) (state : PlugState) → length (with_mode scanout mode state).modes ≡ length state.modes
+length-mode scanout mode state = by_test (nat_lt scanout (length state.modes))
+  where
+    by_test : (b : Bool) → length (cond b (record { modes = set state.modes scanout mode; changed = true }) state).modes ≡ length state.modes
+    by_test true = length-set state.modes scanout mode
+    by_test false = refl
+
+pub length-plugged : (scanout width height : ℕ) (state : PlugState) → length (plugged scanout width height state).modes ≡ length state.modes
+length-plugged scanout width height state = by_test (is_size width height)
+  where
+    by_test : (b : Bool) → length (cond b (with_mode scanout (Some (width, height)) state) state).modes ≡ length state.modes
+    by_test true = length-mode scanout (Some (width, height)) state
+    by_test false = refl
+
+pub length-unplugged : (scanout : ℕ) (state : PlugState) → length (unplugged scanout state).modes ≡ length state.modes
+length-unplugged scanout state = length-mode scanout None state
+
+-- a display with a mode is one that there is
+pub mode-within : (modes : List Mode) (scanout : ℕ) (size : ℕ × ℕ) → mode_at scanout modes ≡ Some size → scanout < length modes
+mode-within [] scanout size is = cc
+mode-within (mode ∷ more) zero size is = omega arith
+mode-within (mode ∷ more) (suc scanout) size is = let behind = mode-within more scanout size is in omega (arith, behind)
+
+-- a mode's sizes, as bounds
+pub sizes-of : (size : ℕ × ℕ) → FitsDisplay (Some size) → (1 ≤ size.0) × (size.0 ≤ version_2.width) × (1 ≤ size.1) × (size.1 ≤ version_2.height)
+sizes-of (width, height) is =
+    let low : nat_le 1 width ≡ true = grind (arith, nat_tests, is) in
+    let high : nat_le width version_2.width ≡ true = grind (arith, nat_tests, is) in
+    let low' : nat_le 1 height ≡ true = grind (arith, nat_tests, is) in
+    let high' : nat_le height version_2.height ≡ true = grind (arith, nat_tests, is) in
+    (grind (arith, nat_tests, low), grind (arith, nat_tests, high), grind (arith, nat_tests, low'), grind (arith, nat_tests, high'))
+
+-- and the other way
+pub size-is : (width height : ℕ) → 1 ≤ width → width ≤ version_2.width → 1 ≤ height → height ≤ version_2.height → is_size width height ≡ true
+size-is width height low high low' high' =
+    let a : nat_le 1 width ≡ true = grind (arith, nat_tests, low) in
+    let b : nat_le width version_2.width ≡ true = grind (arith, nat_tests, high) in
+    let c : nat_le 1 height ≡ true = grind (arith, nat_tests, low') in
+    let d : nat_le height version_2.height ≡ true = grind (arith, nat_tests, high') in
+    rw (a, b, c, d) refl

@@ -1,9 +1,13 @@
 use Rattle.std.proofs.Common.{◌+◌, arith, subst, sym}
+use Rattle.vg_client_holds.proofs.SetupLemmas.{few-clients}
 use Rattle.vg_check.proofs.CheckerLemmas.{IsMaking, making-more}
 use Rattle.vg_check.proofs.checker.unseen.Goals as goal
 
 pub returns-clause-count : goal.returns-clause-count
-returns-clause-count c = omega (arith, c.loop-place-test.false, c.loop-place.auto.place-end, c.loop-place.invariant.count)
+returns-clause-count c = omega (arith, c.loop-place-test.false, c.loop-place.auto.place-end, c.loop-place.invariant.count, c.parties.ensures)
+
+pub parties-requires : goal.parties-requires
+parties-requires c = few-clients c.args.setup.now c.requires
 
 pub loop-place-preserved : goal.loop-place-preserved
 loop-place-preserved c =

@@ -22,6 +22,7 @@ invariant_of-self-2 c =
       exports = was.exports;
       given = was.given;
       cursors = was.cursors;
+      plugs = was.plugs;
     }
 
 pub returns-clause-step : goal.returns-clause-step
@@ -30,5 +31,5 @@ returns-clause-step c =
     let apart : is_some (blob_at c.args.resource s.blobs) ≡ false = search rules in
     rw (c.nodata.ensures, ← c.self.view_is, apart)
     (if-nodata c.in_ok-done.done _
-    (lifted-create (λ resources. record { setup = s.setup; entries = s.entries; memory = s.pages; resources = resources; backings = s.backings; blobs = s.blobs; contexts = s.contexts; uuids = s.uuids; cursors = s.cursors; scanouts = s.scanouts; share = s.share })
+    (lifted-create (λ resources. record { setup = s.setup; entries = s.entries; memory = s.pages; resources = resources; backings = s.backings; blobs = s.blobs; contexts = s.contexts; uuids = s.uuids; cursors = s.cursors; scanouts = s.scanouts; share = s.share; plugs = s.plugs })
     c.args.resource c.args.width c.args.height c.args.format s.resources.resources c.create.new.self.resources c.in_ok-done.done c.in_ok-done.ensures.done))

@@ -26,6 +26,7 @@ invariant_of-self-2 c =
       exports = was.exports;
       given = was.given;
       cursors = was.cursors;
+      plugs = was.plugs;
     }
 
 pub returns-clause-step : goal.returns-clause-step
@@ -34,5 +35,5 @@ returns-clause-step c =
     let apart : is_some (resource_at c.args.resource s.resources.resources) ≡ false = search rules in
     rw (c.nodata.ensures, ← c.self.view_is, apart)
     (if-nodata c.in_ok-done.done _
-    (lifted-blob (λ blobs. record { setup = s.setup; entries = s.entries; memory = s.pages; resources = s.resources.resources; backings = s.backings; blobs = blobs; contexts = s.contexts; uuids = s.uuids; cursors = s.cursors; scanouts = s.scanouts; share = s.share })
+    (lifted-blob (λ blobs. record { setup = s.setup; entries = s.entries; memory = s.pages; resources = s.resources.resources; backings = s.backings; blobs = blobs; contexts = s.contexts; uuids = s.uuids; cursors = s.cursors; scanouts = s.scanouts; share = s.share; plugs = s.plugs })
     s.pages c.args.resource c.args.mem c.args.flags c.args.size c.args.entries.now s.blobs c.create.new.self c.in_ok-done.done c.in_ok-done.ensures.done))

@@ -22,6 +22,7 @@ invariant_of-self c =
       exports = was.exports;
       given = was.given;
       cursors = was.cursors;
+      plugs = was.plugs;
     }
 
 pub returns : goal.returns
@@ -30,5 +31,5 @@ returns c =
     let known : is_some (resource_at c.args.resource s.resources.resources) ≡ true = search rules in
     let apart : is_some (blob_at c.args.resource s.blobs) ≡ false = search rules in
     rw (← c.self.view_is, apart)
-    (lifted-detach (λ backings. record { setup = s.setup; entries = s.entries; memory = s.pages; resources = s.resources.resources; backings = backings; blobs = s.blobs; contexts = s.contexts; uuids = s.uuids; cursors = s.cursors; scanouts = s.scanouts; share = s.share })
+    (lifted-detach (λ backings. record { setup = s.setup; entries = s.entries; memory = s.pages; resources = s.resources.resources; backings = backings; blobs = s.blobs; contexts = s.contexts; uuids = s.uuids; cursors = s.cursors; scanouts = s.scanouts; share = s.share; plugs = s.plugs })
     (is_some (resource_at c.args.resource s.resources.resources)) c.args.resource s.backings c.detach.new.self c.detach.result known c.detach.ensures.done)

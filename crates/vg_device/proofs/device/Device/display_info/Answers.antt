@@ -1,5 +1,5 @@
-use Rattle.vg_device.proofs.Enabled.{modes-enabled}
+use Rattle.std.proofs.Common.{arith}
 use Rattle.vg_device.proofs.device.Device.display_info.Goals as goal
 
-pub from_vec-requires : goal.from_vec-requires
-from_vec-requires c = rw (c.in_ok-items.ensures, c.as_slice.ensures) (modes-enabled c.self.inside.setup.displays c.self.invariant.setup.at_most)
+pub told-requires : goal.told-requires
+told-requires c = omega (arith, c.self.invariant.plugs, c.self.invariant.setup.at_most)

@@ -35,6 +35,7 @@ invariant_of-self-2 c =
       exports = was.exports;
       given = was.given;
       cursors = was.cursors;
+      plugs = was.plugs;
     }
 
 pub returns-clause-step : goal.returns-clause-step
@@ -44,4 +45,4 @@ returns-clause-step c =
     let inside : is_inside c.args.rect.now surface.width surface.height ≡ true = search rules in
     rw (c.nodata.ensures, ← c.self.view_is)
     (if-nodata c.in_ok-done.done _
-    (step-flush (record { setup = s.setup; entries = s.entries; memory = s.pages; resources = s.resources.resources; backings = s.backings; blobs = s.blobs; contexts = s.contexts; uuids = s.uuids; cursors = s.cursors; scanouts = s.scanouts; share = s.share }) c.args.rect.now c.args.resource surface c.flush.new.self c.in_ok-done.done (search rules) (sym c.in-Some.ensures.value) inside (rw c.in-Some-as_slice.ensures.bytes at c.in_ok-done.ensures.done)))
+    (step-flush (record { setup = s.setup; entries = s.entries; memory = s.pages; resources = s.resources.resources; backings = s.backings; blobs = s.blobs; contexts = s.contexts; uuids = s.uuids; cursors = s.cursors; scanouts = s.scanouts; share = s.share; plugs = s.plugs }) c.args.rect.now c.args.resource surface c.flush.new.self c.in_ok-done.done (search rules) (sym c.in-Some.ensures.value) inside (rw c.in-Some-as_slice.ensures.bytes at c.in_ok-done.ensures.done)))

@@ -35,6 +35,7 @@ invariant_of-self-2 c =
       exports = was.exports;
       given = was.given;
       cursors = was.cursors;
+      plugs = was.plugs;
     }
 
 pub returns-clause-step : goal.returns-clause-step
@@ -43,5 +44,5 @@ returns-clause-step c =
     let (blob, found, bytes, size) = surface-found s.pages c.args.resource s.blobs c.in-Some.surface.items (search rules) (search rules) in
     rw (c.nodata.ensures, ← c.self.view_is)
     (if-nodata c.in_ok-done.done _
-    (step-flush-blob (record { setup = s.setup; entries = s.entries; memory = s.pages; resources = s.resources.resources; backings = s.backings; blobs = s.blobs; contexts = s.contexts; uuids = s.uuids; cursors = s.cursors; scanouts = s.scanouts; share = s.share }) c.args.rect.now c.args.resource blob c.flush.new.self c.in_ok-done.done found
+    (step-flush-blob (record { setup = s.setup; entries = s.entries; memory = s.pages; resources = s.resources.resources; backings = s.backings; blobs = s.blobs; contexts = s.contexts; uuids = s.uuids; cursors = s.cursors; scanouts = s.scanouts; share = s.share; plugs = s.plugs }) c.args.rect.now c.args.resource blob c.flush.new.self c.in_ok-done.done found
     (subst (λ surface. ◌≡◌ {A = ScanoutState × Result (Unit {0}) ℕ} (c.flush.new.self, c.in_ok-done.done) (flush s.entries c.args.resource c.args.rect.now surface s.cursors s.scanouts)) (c.as_slice-bytes.ensures.value ∙ bytes) c.in_ok-done.ensures.done)))

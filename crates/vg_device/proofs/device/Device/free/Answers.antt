@@ -21,4 +21,5 @@ invariant_of-self c =
       exports = now.exports;
       given = was.given;
       cursors = was.cursors;
+      plugs = was.plugs;
     }

@@ -23,4 +23,5 @@ invariant_of-self-2 c =
       exports = now.exports;
       given = was.given;
       cursors = was.cursors;
+      plugs = was.plugs;
     }

@@ -21,4 +21,5 @@ invariant_of-self-2 c =
       exports = rw left was.exports;
       given = was.given;
       cursors = was.cursors;
+      plugs = was.plugs;
     }

@@ -29,6 +29,7 @@ invariant_of-self-in-Err c =
       exports = was.exports;
       given = was.given;
       cursors = was.cursors;
+      plugs = was.plugs;
     }
 
 pub returns-in-Err-clause-step : goal.returns-in-Err-clause-step
@@ -38,7 +39,7 @@ returns-in-Err-clause-step c =
     let displays = subst (λ (state : State). c.args.scanout < length state.setup.displays) (sym c.self.view_is) c.requires.scanout in
     let like = cursor-changed change s.cursors c.args.scanout (omega (arith, displays, c.self.invariant.cursors)) ∙ sym c.look_after-look.ensures.look in
     let step = c.in_ok-code.ensures.done (changed change c.args.scanout s.cursors) like in
-    let state : State = record { setup = s.setup; entries = s.entries; memory = s.pages; resources = s.resources.resources; backings = s.backings; blobs = s.blobs; contexts = s.contexts; uuids = s.uuids; cursors = s.cursors; scanouts = s.scanouts; share = s.share } in
+    let state : State = record { setup = s.setup; entries = s.entries; memory = s.pages; resources = s.resources.resources; backings = s.backings; blobs = s.blobs; contexts = s.contexts; uuids = s.uuids; cursors = s.cursors; scanouts = s.scanouts; share = s.share; plugs = s.plugs } in
     rw (← c.self.view_is)
     (pointed-refused state c.args.scanout change (changed change c.args.scanout s.cursors) c.snap.new.self c.in_ok-code.field-0 c.in-Err.code step c.in-Err.is)
 
@@ -64,6 +65,7 @@ invariant_of-self-2 c =
       exports = was.exports;
       given = was.given;
       cursors = search rules;
+      plugs = was.plugs;
     }
 
 pub returns-clause-step : goal.returns-clause-step
@@ -73,6 +75,6 @@ returns-clause-step c =
     let displays = subst (λ (state : State). c.args.scanout < length state.setup.displays) (sym c.self.view_is) c.requires.scanout in
     let like = cursor-changed change s.cursors c.args.scanout (omega (arith, displays, c.self.invariant.cursors)) ∙ sym c.look_after-look.ensures.look in
     let step = c.in_ok-code.ensures.done (changed change c.args.scanout s.cursors) like in
-    let state : State = record { setup = s.setup; entries = s.entries; memory = s.pages; resources = s.resources.resources; backings = s.backings; blobs = s.blobs; contexts = s.contexts; uuids = s.uuids; cursors = s.cursors; scanouts = s.scanouts; share = s.share } in
+    let state : State = record { setup = s.setup; entries = s.entries; memory = s.pages; resources = s.resources.resources; backings = s.backings; blobs = s.blobs; contexts = s.contexts; uuids = s.uuids; cursors = s.cursors; scanouts = s.scanouts; share = s.share; plugs = s.plugs } in
     rw (← c.self.view_is, c.change_cursor.ensures)
     (pointed-done state c.args.scanout change (changed change c.args.scanout s.cursors) c.snap.new.self c.in_ok-code.field-0 refl step c.in_default.not-Err)

@@ -24,4 +24,5 @@ invariant_of-self-then-has_as_many c =
       exports = omega (arith, was.exports);
       given = omega (arith, was.given);
       cursors = was.cursors;
+      plugs = was.plugs;
     }

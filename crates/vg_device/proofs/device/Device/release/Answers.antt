@@ -24,6 +24,7 @@ invariant_of-self c =
       exports = now.exports;
       given = was.given;
       cursors = was.cursors;
+      plugs = was.plugs;
     }
 
 pub returns-clause-holds : goal.returns-clause-holds

@@ -19,6 +19,7 @@ invariant_of-self c =
       exports = rw same.0 was.exports;
       given = was.given;
       cursors = was.cursors;
+      plugs = was.plugs;
     }
 
 pub invariant_of-self-2 : goal.invariant_of-self-2
@@ -39,4 +40,5 @@ invariant_of-self-2 c =
       exports = now.exports;
       given = was.given;
       cursors = was.cursors;
+      plugs = was.plugs;
     }

@@ -35,6 +35,7 @@ invariant_of-self c =
       exports = was.exports;
       given = was.given;
       cursors = was.cursors;
+      plugs = was.plugs;
     }
 
 pub returns : goal.returns
@@ -45,4 +46,4 @@ returns c =
     let some : (c.args.resource == 0) ≡ false = grind (arith, nat_tests) in
     let fits : (is_empty c.args.rect.now || not (is_inside c.args.rect.now surface.width surface.height)) ≡ false = search rules in
     rw (← c.self.view_is)
-    (step-show (record { setup = s.setup; entries = s.entries; memory = s.pages; resources = s.resources.resources; backings = s.backings; blobs = s.blobs; contexts = s.contexts; uuids = s.uuids; cursors = s.cursors; scanouts = s.scanouts; share = s.share }) c.args.rect.now c.args.scanout c.args.resource surface c.bind.new.self c.bind.result there some (search rules) (sym c.in-Some.ensures.value) fits c.bind.ensures)
+    (step-show (record { setup = s.setup; entries = s.entries; memory = s.pages; resources = s.resources.resources; backings = s.backings; blobs = s.blobs; contexts = s.contexts; uuids = s.uuids; cursors = s.cursors; scanouts = s.scanouts; share = s.share; plugs = s.plugs }) c.args.rect.now c.args.scanout c.args.resource surface c.bind.new.self c.bind.result there some (search rules) (sym c.in-Some.ensures.value) fits c.bind.ensures)

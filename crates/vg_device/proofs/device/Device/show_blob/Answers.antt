@@ -31,6 +31,7 @@ invariant_of-self c =
       exports = was.exports;
       given = was.given;
       cursors = was.cursors;
+      plugs = was.plugs;
     }
 
 pub returns : goal.returns
@@ -40,4 +41,4 @@ returns c =
     let there : nat_le (length s.setup.displays) c.args.scanout ≡ false = grind (arith, nat_tests) in
     let some : (c.args.resource == 0) ≡ false = grind (arith, nat_tests) in
     rw (← c.self.view_is)
-    (step-show-blob (record { setup = s.setup; entries = s.entries; memory = s.pages; resources = s.resources.resources; backings = s.backings; blobs = s.blobs; contexts = s.contexts; uuids = s.uuids; cursors = s.cursors; scanouts = s.scanouts; share = s.share }) c.args.rect.now c.args.scanout c.args.resource c.args.layout.now blob c.in-Some-format_in.format c.bind.new.self c.bind.result there some found (search rules) (search rules) c.bind.ensures)
+    (step-show-blob (record { setup = s.setup; entries = s.entries; memory = s.pages; resources = s.resources.resources; backings = s.backings; blobs = s.blobs; contexts = s.contexts; uuids = s.uuids; cursors = s.cursors; scanouts = s.scanouts; share = s.share; plugs = s.plugs }) c.args.rect.now c.args.scanout c.args.resource c.args.layout.now blob c.in-Some-format_in.format c.bind.new.self c.bind.result there some found (search rules) (search rules) c.bind.ensures)

@@ -38,4 +38,5 @@ invariant_of-self-in-Ok c =
       exports = was.exports;
       given = was.given;
       cursors = was.cursors;
+      plugs = was.plugs;
     }

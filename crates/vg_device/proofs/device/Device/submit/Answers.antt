@@ -6,4 +6,4 @@ pub returns : goal.returns
 returns c =
     let s = c.self.inside in
     rw (← c.self.view_is)
-    (lifted-submitted (λ contexts. record { setup = s.setup; entries = s.entries; memory = s.pages; resources = s.resources.resources; backings = s.backings; blobs = s.blobs; contexts = contexts; uuids = s.uuids; cursors = s.cursors; scanouts = s.scanouts; share = s.share }) c.args.context c.args.stream.now s.contexts c.submit.result c.submit.ensures)
+    (lifted-submitted (λ contexts. record { setup = s.setup; entries = s.entries; memory = s.pages; resources = s.resources.resources; backings = s.backings; blobs = s.blobs; contexts = contexts; uuids = s.uuids; cursors = s.cursors; scanouts = s.scanouts; share = s.share; plugs = s.plugs }) c.args.context c.args.stream.now s.contexts c.submit.result c.submit.ensures)

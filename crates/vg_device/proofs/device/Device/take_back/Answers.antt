@@ -10,10 +10,10 @@ pub invariant_of-self : goal.invariant_of-self
 invariant_of-self c =
     let s = c.self.inside in
     let same : c.restore.new.self.resources ≡ s.resources.resources = brought-same c.args.resource c.args.pixels.items s.resources.resources c.restore.new.self.resources (resource_at c.args.resource s.resources.resources) refl (search rules) c.restore.ensures.same in
-    subst (λ (resources : List (ℕ × Resource)). IsConsistent (record { setup = s.setup; entries = s.entries; memory = s.pages; resources = resources; backings = s.backings; blobs = s.blobs; contexts = s.contexts; uuids = s.uuids; cursors = s.cursors; scanouts = s.scanouts; share = s.share })) (sym same) c.self.invariant
+    subst (λ (resources : List (ℕ × Resource)). IsConsistent (record { setup = s.setup; entries = s.entries; memory = s.pages; resources = resources; backings = s.backings; blobs = s.blobs; contexts = s.contexts; uuids = s.uuids; cursors = s.cursors; scanouts = s.scanouts; share = s.share; plugs = s.plugs })) (sym same) c.self.invariant
 
 pub returns : goal.returns
 returns c =
     let s = c.self.inside in
     let same : c.restore.new.self.resources ≡ s.resources.resources = brought-same c.args.resource c.args.pixels.items s.resources.resources c.restore.new.self.resources (resource_at c.args.resource s.resources.resources) refl (search rules) c.restore.ensures.same in
-    rw (← c.self.view_is) (ap (λ (resources : List (ℕ × Resource)). record { setup = s.setup; entries = s.entries; memory = s.pages; resources = resources; backings = s.backings; blobs = s.blobs; contexts = s.contexts; uuids = s.uuids; cursors = s.cursors; scanouts = s.scanouts; share = s.share }) same)
+    rw (← c.self.view_is) (ap (λ (resources : List (ℕ × Resource)). record { setup = s.setup; entries = s.entries; memory = s.pages; resources = resources; backings = s.backings; blobs = s.blobs; contexts = s.contexts; uuids = s.uuids; cursors = s.cursors; scanouts = s.scanouts; share = s.share; plugs = s.plugs }) same)

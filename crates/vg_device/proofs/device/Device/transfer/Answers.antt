@@ -23,6 +23,7 @@ invariant_of-self-2 c =
       exports = was.exports;
       given = was.given;
       cursors = was.cursors;
+      plugs = was.plugs;
     }
 
 pub returns-clause-step : goal.returns-clause-step
@@ -31,5 +32,5 @@ returns-clause-step c =
     let apart : is_some (blob_at c.args.resource s.blobs) ≡ false = search rules in
     rw (c.nodata.ensures, ← c.self.view_is, apart)
     (if-nodata c.in-Some.done _
-    (lifted-receive (λ resources. record { setup = s.setup; entries = s.entries; memory = s.pages; resources = resources; backings = s.backings; blobs = s.blobs; contexts = s.contexts; uuids = s.uuids; cursors = s.cursors; scanouts = s.scanouts; share = s.share })
+    (lifted-receive (λ resources. record { setup = s.setup; entries = s.entries; memory = s.pages; resources = resources; backings = s.backings; blobs = s.blobs; contexts = s.contexts; uuids = s.uuids; cursors = s.cursors; scanouts = s.scanouts; share = s.share; plugs = s.plugs })
     s.pages c.args.resource c.args.rect.now c.args.offset s.backings s.resources.resources c.receive.new.resources.resources c.in-Some.done c.in-Some.ensures.done))

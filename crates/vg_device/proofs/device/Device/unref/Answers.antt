@@ -24,6 +24,7 @@ invariant_of-self c =
       exports = was.exports;
       given = rw c.forget-2.ensures was.given;
       cursors = was.cursors;
+      plugs = was.plugs;
     }
 
 pub returns : goal.returns
@@ -31,6 +32,6 @@ returns c =
     let s = c.self.inside in
     let blob_gone = blob-taken c.args.resource s.blobs c.remove.new.self c.remove.result c.remove.ensures.done in
     let gone = resource-taken c.args.resource s.resources.resources c.remove-2.new.self.resources c.remove-2.result c.remove-2.ensures.done in
-    let state : State = record { setup = s.setup; entries = s.entries; memory = s.pages; resources = s.resources.resources; backings = s.backings; blobs = s.blobs; contexts = s.contexts; uuids = s.uuids; cursors = s.cursors; scanouts = s.scanouts; share = s.share } in
+    let state : State = record { setup = s.setup; entries = s.entries; memory = s.pages; resources = s.resources.resources; backings = s.backings; blobs = s.blobs; contexts = s.contexts; uuids = s.uuids; cursors = s.cursors; scanouts = s.scanouts; share = s.share; plugs = s.plugs } in
     let there : has_resource state c.args.resource ≡ true = search rules in
     rw (← c.self.view_is, c.remove-3.ensures.after, c.forget.ensures, c.forget-2.ensures, c.unbind_resource.ensures, blob_gone, gone, there) refl

@@ -1,0 +1,10 @@
+use Rattle.std.proofs.Common.{ap, length, ◌∙◌}
+use Rattle.vg_plugs.specs.Plugs.{PlugState}
+use Rattle.vg_plugs.proofs.PlugLemmas.{length-plugged}
+use Rattle.vg_device.proofs.EdidLemmas.{consistent-plugs}
+use Rattle.vg_device.proofs.device.Device.plug.Goals as goal
+
+pub invariant_of-self : goal.invariant_of-self
+invariant_of-self c =
+    let many = ap (λ (plugs : PlugState). length plugs.modes) c.plug.ensures ∙ length-plugged c.args.scanout c.args.width c.args.height c.self.inside.plugs in
+    consistent-plugs _ c.plug.new.self many c.self.invariant
