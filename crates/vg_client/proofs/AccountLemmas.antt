@@ -211,7 +211,7 @@ all-below (order ∷ orders) (t ∷ tickets) ticket are all o (inr has) same = a
 -- what was submitted the client may ask
 pub allows-asked : (token mid : Token) (requests : ℕ → Request) (ticket : Ticket) → Submitted token requests ticket mid → token.account.holds.host ≡ false
     → display.allows token.account.holds (requests ticket.fence.ordinal) ≡ true
-allows-asked token mid requests ticket is guest = 
+allows-asked token mid requests ticket is guest =
     let request = requests ticket.fence.ordinal in
     ap (λ (host : Bool). not host && is_none (denied_of token.account.holds request.queue request.bytes)) guest ∙ ap is_none is.allowed
 

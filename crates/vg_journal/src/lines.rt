@@ -51,11 +51,7 @@ fn put_queues(out: &mut Packed, queues: (u16, u16)) -> Result<(), AllocError>
 fn put_host(out: &mut Packed, host: bool) -> Result<(), AllocError>
     ensures { OnOk result (out.new ≡ out.old ++ host_text host) }
 {
-    if host {
-        out.put(b"host\n")
-    } else {
-        Ok(())
-    }
+    if host { out.put(b"host\n") } else { Ok(()) }
 }
 
 fn put_displays(out: &mut Packed, displays: &[(u32, u32)]) -> Result<(), AllocError>

@@ -21,7 +21,11 @@ pub use head::{
     Feature, Version, clients_of, display_of, is_host, is_queues, memory_of, title_of, without_of,
 };
 pub use laws::{
-    clients_and_their_words, counts_and_their_lines, displays_and_their_words, end_and_its_words, entries_and_their_words, features_and_their_words, frame_heads_and_their_words, frames_and_their_words, host_and_its_words, journals_and_their_pieces, journals_and_their_refusals, journals_and_their_text, pages_and_their_words, pieces_and_their_text, queues_and_their_words, rings_and_their_words, title_and_its_words,
+    clients_and_their_words, counts_and_their_lines, displays_and_their_words, end_and_its_words,
+    entries_and_their_words, features_and_their_words, frame_heads_and_their_words,
+    frames_and_their_words, host_and_its_words, journals_and_their_pieces,
+    journals_and_their_refusals, journals_and_their_text, pages_and_their_words,
+    pieces_and_their_text, queues_and_their_words, rings_and_their_words, title_and_its_words,
 };
 pub use state::{LeftOut, Stage, State};
 pub use steps::{Given, take_line, take_pixels};

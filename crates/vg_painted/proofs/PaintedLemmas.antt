@@ -123,13 +123,13 @@ effect-stands state client (Drop scanout) p was =
     (record { memory = was.memory; pixels = was.pixels; once = was.once; screens = was.screens; images = was.images; backings = was.backings; blobs = was.blobs })
 effect-stands state client (Await lane ordinal) p was = was
 effect-stands state client (Denied what) p was = was
-effect-stands state client (Mode scanout width height) p was = 
+effect-stands state client (Mode scanout width height) p was =
     record { memory = was.memory; pixels = was.pixels; once = was.once; screens = was.screens; images = was.images; backings = was.backings; blobs = was.blobs }
-effect-stands state client (Unplug scanout) p was = 
+effect-stands state client (Unplug scanout) p was =
     record { memory = was.memory; pixels = was.pixels; once = was.once; screens = was.screens; images = was.images; backings = was.backings; blobs = was.blobs }
 effect-stands state client (Sync number) p was = was
 effect-stands state client Events p was = was
-effect-stands state client Ack p was = 
+effect-stands state client Ack p was =
     record { memory = was.memory; pixels = was.pixels; once = was.once; screens = was.screens; images = was.images; backings = was.backings; blobs = was.blobs }
 effect-stands state client Leave p was =
     record { memory = was.memory; pixels = was.pixels; once = was.once; screens = was.screens; images = was.images; backings = was.backings; blobs = was.blobs }
