@@ -15,7 +15,7 @@ judges = toolbox.module("check-journals")
 clients = toolbox.module("check-clients")
 gen = toolbox.module("gen")
 TOP = pathlib.Path(__file__).resolve().parent.parent
-HEAVY = re.compile(rb"^(?:display|buffer) +\S* *(?:640|[3-6]\d\d) ", re.MULTILINE)
+HEAVY = re.compile(rb"^(?:display|buffer) +\S* *(?:[3-9]\d\d|1\d\d\d) ", re.MULTILINE)
 MOST_KEPT = 30_000  # bytes of a kept script
 
 
@@ -36,7 +36,7 @@ class Input:
 # Scripts that are spoiled
 
 WORDS = ["0", "1", "00", "01", "-1", "-0", "-", "--", "+1", "1x", "x", "", "4294967295", "4294967296", "18446744073709551617", 30 * "9"]
-WORDS += ["640", "641", "480", "481", "16384", "16385", "1228799", "1228800", "1228801", "307200", "307201", "1024", "1025", "8192", "8193"]
+WORDS += ["1920", "1921", "1080", "1081", "16384", "16385", "8294399", "8294400", "8294401", "2073600", "2073601", "1024", "1025", "8192", "8193"]
 WORDS += ["63", "64", "255", "32767", "32768", "-32768", "-32769", "5", "66", "69", "121", "134", "135", "0a", "0A", "0g", "abc", 8192 * "0", 8194 * "0"]
 WORDS += ["A", "K", "L1", "L2", "N0", "9A", "A_", "Abcdefghijklmno9", "Abcdefghijklmnop9", "K:0", "K:64", "K:x", ":0", "K:0:0", "K:", "9:0"]
 WORDS += ["control", "cursor", "plain", "pieces2", "pieces8", "pieces1", "pieces9", "loop", "range", "length", "edid", "uuid", "blob", "context", "virgl"]
@@ -117,7 +117,7 @@ def at_an_edge(lines, some):
         which = some.randrange(len(kinds))
         args[which] = edge_of(kinds[which], args[which], some)
     elif word in ("display", "memory", "without") and args:
-        args[some.randrange(len(args))] = some.choice(("0", "1", "480", "481", "640", "641", "16384", "16385", *script_faults.FEATURES))
+        args[some.randrange(len(args))] = some.choice(("0", "1", "1080", "1081", "1920", "1921", "16384", "16385", *script_faults.FEATURES))
     lines[at] = " ".join([word, *args]).encode("latin-1")
 
 
@@ -253,9 +253,9 @@ class Order:
     def head(self):
         """The lines of a journal in front of its entries."""
         script = self.history.script
-        lines = [b"vgpu-journal 1"]
+        lines = [b"vgpu-journal %d" % histories.VERSION]
         lines += [b"display %d %d %d" % (number, *size) for number, size in enumerate(script.displays)]
-        lines.append(b"memory %d" % script.pages)
+        lines += [b"memory %d" % script.pages, b"queues 256 64"]
         lines += [f"without {feature}".encode() for feature in histories.FEATURES if feature in script.without]
         return b"".join(line + b"\n" for line in [*lines, b"clients %d" % len(script.clients)])
 

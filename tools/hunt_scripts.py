@@ -42,7 +42,7 @@ class Script:
         self.pages = some.choice(PAGES)
         self.without = [feature for feature in script_faults.FEATURES if some.random() < 0.08]
         some.shuffle(self.without)
-        count = some.choice((1, 1, 1, 2, 2, 3, 4, 16)) if clients is None else clients
+        count = some.choice((1, 1, 1, 2, 2, 3, 4, 32)) if clients is None else clients
         self.clients = [Client() for _ in range(count)]
         self.tokens, self.fences, self.labels = [], [], 0
         for number, client in enumerate(self.clients):
@@ -126,7 +126,7 @@ class Script:
             return None
         width, height = self.some.choice((*AREAS, self.some.choice(self.displays)))
         if self.some.random() < 0.02:
-            width, height = 640, 480
+            width, height = self.some.choice(((640, 480), (1920, 1080)))
         client.buffers[name] = width, height
         return f"{name} {width} {height} {self.some.choice(script_faults.FORMATS)}"
 
@@ -134,7 +134,7 @@ class Script:
         name = self.new_name(client)
         if name is None:
             return None
-        size = self.some.choice((1, 31, 32, 100, 4096, 4096, 4097, 16_384, 40_000, 1_228_800 if self.some.random() < 0.1 else 64))
+        size = self.some.choice((1, 31, 32, 100, 4096, 4096, 4097, 16_384, 40_000, 8_294_400 if self.some.random() < 0.1 else 64))
         client.buffers[name] = size, None
         return f"{name} {size}"
 
@@ -150,7 +150,7 @@ class Script:
         length = min(self.some.choice((1, 4, 4, 4, 8, 12, 60)), size)
         offset = self.some.choice((0, 0, self.some.randrange(size)))
         times = max(1, (size - offset) // length + self.some.choice((0, 0, 0, 0, -1, 1)))
-        return f"{name} {offset} {self.bytes_of(length)} {min(times, 307_200)}" if times * length <= script_faults.STORED else None
+        return f"{name} {offset} {self.bytes_of(length)} {min(times, 2_073_600)}" if times * length <= script_faults.STORED else None
 
     def load(self, client):
         name = self.a_buffer(client)
@@ -158,7 +158,7 @@ class Script:
             return None
         size = self.size_of(client, name)
         length = self.some.choice((1, 4, 16, 100, 1024))
-        return f"{name} {self.some.choice((0, max(size - length, 0), min(size, 1_228_799), self.some.randrange(size)))} {length}"
+        return f"{name} {self.some.choice((0, max(size - length, 0), min(size, 8_294_399), self.some.randrange(size)))} {length}"
 
     def send(self, client):
         name = self.a_buffer(client)

@@ -25,10 +25,13 @@ from toolbox import listed
 MOST_BYTES = 16_777_216
 MOST_LINE = 16_384
 MOST_LINES = 100_000
-MOST_CLIENTS = MOST_DISPLAYS = 16
+MOST_DISPLAYS = 16
+MOST_CLIENTS = 32
+MOST_WIDTH, MOST_HEIGHT = 1920, 1080
 MOST_CONTEXTS = 255
 MOST_HEX = 4_096
-STORED = 1_228_800
+STORED = 8_294_400
+MOST_PAGES = 15_000_000  # of 4,096 bytes, that all buffers of a script ask for
 TEXT, WORD, NUMBER, LIMIT, NAME, CYCLE = range(1, 7)
 KINDS = {TEXT: "text", WORD: "word", NUMBER: "number", LIMIT: "limit", NAME: "name", CYCLE: "wait cycle"}
 TOO_LONG = "too long"
@@ -49,10 +52,10 @@ SURFACE = f"SURFACEWIDTH={U32} SURFACEHEIGHT={U32} FORMAT={U32} STRIDE={U32} OFF
 LINES = {
     "info": "",
     "edid": f"SCANOUT={U32}",
-    "buffer": "NAME=new-buffer WIDTH=1..640 HEIGHT=1..480 FORMAT=format",
-    "blob": "NAME=new-buffer SIZE=1..1228800",
-    "store": "NAME=buffer OFFSET=0..1228799 HEX=bytes TIMES=1..307200",
-    "load": "NAME=buffer OFFSET=0..1228799 LENGTH=1..1024",
+    "buffer": f"NAME=new-buffer WIDTH=1..{MOST_WIDTH} HEIGHT=1..{MOST_HEIGHT} FORMAT=format",
+    "blob": f"NAME=new-buffer SIZE=1..{STORED}",
+    "store": f"NAME=buffer OFFSET=0..{STORED - 1} HEX=bytes TIMES=1..{STORED // 4}",
+    "load": f"NAME=buffer OFFSET=0..{STORED - 1} LENGTH=1..1024",
     "send": f"NAME=buffer {RECTANGLE}",
     "flush": f"NAME=buffer {RECTANGLE}",
     "take": "SCANOUT=scanout",
@@ -366,6 +369,12 @@ def meant_name(name, known):
 # The lines
 
 
+def pages_of(word, args):
+    """How many pages a line asks for, whose numbers are spelled and in their limits."""
+    size = 4 * int(args[1]) * int(args[2]) if word == "buffer" else int(args[1]) if word == "blob" else 0
+    return -(-size // 4096)
+
+
 class Reader:
     """Goes through the lines, each of which is told by its words."""
 
@@ -375,6 +384,7 @@ class Reader:
         self.clients = []  # of each the lines of calls: their numbers and words
         self.first_client = 0  # its line
         self.calls, self.contexts = 0, 0  # how many; those that this client has made
+        self.pages = 0  # that the lines of all clients ask for
 
     def fault(self, number, words):
         """The fault of the least kind of a line of words, or None; the line counts then."""
@@ -420,7 +430,7 @@ class Reader:
             return Fault(WORD, f"displays stand before memory, without and client, and line {behind} is one of these")
         self.displays += 1
         many = Fault(LIMIT, f"a script has at most {MOST_DISPLAYS} displays") if self.displays > MOST_DISPLAYS else None
-        return least([of_number("WIDTH", args[0], 1, 640), of_number("HEIGHT", args[1], 1, 480), many])
+        return least([of_number("WIDTH", args[0], 1, MOST_WIDTH), of_number("HEIGHT", args[1], 1, MOST_HEIGHT), many])
 
     def of_memory(self, number, args):
         if self.memory:
@@ -483,6 +493,9 @@ class Reader:
             yield Fault(LIMIT, f"a script has at most {MOST_LINES} lines of calls, and this is one more")
         if word == "context" and self.contexts >= MOST_CONTEXTS:
             yield Fault(LIMIT, f"a client has at most {MOST_CONTEXTS} context lines, and this is one more")
+        pages = pages_of(word, args) if fault is None or fault.kind > LIMIT else 0
+        if self.pages + pages > MOST_PAGES:
+            yield Fault(LIMIT, f"the buffers of a script ask for at most {MOST_PAGES} pages, and with this line for {self.pages + pages}")
         if word == "store" and not (fault and fault.kind == NUMBER) and len(args[3]) < 12 and len(args[2]) // 2 * int(args[3]) > STORED:
             size = len(args[2]) // 2
             yield Fault(LIMIT, f"{plural(size, 'byte')} {args[3]} times are {size * int(args[3])} bytes, and a store has at most {STORED}")
@@ -492,6 +505,7 @@ class Reader:
     def add(self, number, word, args, kinds):
         self.calls += 1
         self.contexts += word == "context"
+        self.pages += pages_of(word, args)
         for kind, name in zip(kinds, args):
             if kind in ("new-buffer", "new-context", "end-buffer", "end-context"):
                 self.names.add(kind, name, number)

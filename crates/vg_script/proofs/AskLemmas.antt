@@ -1,6 +1,6 @@
 -- What a line asks for, by its words, is what its call asks for.
-use Rattle.std.proofs.Common.{◌≡◌, ℕ, ◌+◌, ◌/◌, ◌*◌, ◌≤◌, Bool, true, false, List, [], ◌∷◌, Option, Some, None, if◌then◌else◌, codes, bytes_eq, arith, refl, sym, ◌∙◌, subst, lit≤, mul-le-mul}
-use Rattle.std.specs.Prelude.{◌&&◌, nat_le, option_map}
+use Rattle.std.proofs.Common.{◌≡◌, ℕ, ◌*◌, ◌≤◌, Bool, true, false, List, [], ◌∷◌, Option, Some, None, if◌then◌else◌, codes, bytes_eq, arith, refl, sym, ◌∙◌, subst, lit≤, mul-le-mul}
+use Rattle.std.specs.Prelude.{option_map}
 use Rattle.std.specs.Bool.{⊤}
 use Rattle.std.proofs.lemmas.Bool.Decides.{nat_tests}
 use Rattle.vg_calls.specs.declared.call.Body.{Body}
@@ -8,11 +8,11 @@ use Rattle.vg_calls.specs.declared.call.ContextRef.{ContextRef}
 use Rattle.vg_chain.specs.declared.shape.Shape.{Shape}
 use Rattle.vg_wire.specs.declared.request.Queue.{Queue}
 use Rattle.vg_laws.proofs.Lists.{same_bytes}
-use Rattle.vg_script_words.specs.Words.{is_number, value, is_within}
+use Rattle.vg_script_words.specs.Words.{value}
 use Rattle.vg_call_lines.specs.Args.{no_args, one_arg, two_args, three_args, four_args, five_args, six_args, eleven_args}
 use Rattle.vg_call_lines.proofs.Counts.{no_args_give, one_arg_gives, two_args_give, three_args_give, four_args_give, five_args_give, six_args_give, eleven_args_give}
 use Rattle.vg_call_lines.specs.Tables.{NameTable}
-use Rattle.vg_call_lines.specs.Rows.{Row, info_row, edid_row, buffer_row, blob_row, store_row, load_row, send_row, flush_row, take_row, drop_row, hide_row, show_row, showblob_row, flip_row, cursor_row, move_row, uuid_row, close_row, raw_row, context_row, endcontext_row, attach_row, detach_row, submit_row, export_row, import_row, begun_row, begin_row, await_row, request_row, queue_of, shape_of, bad_shape_of, row_of, row_of_buffers, row_of_scanouts, row_of_others, row_of_contexts, row_of_shared, row_of_begun}
+use Rattle.vg_call_lines.specs.Rows.{Row, info_row, edid_row, buffer_row, blob_row, store_row, load_row, send_row, flush_row, take_row, drop_row, hide_row, show_row, showblob_row, flip_row, cursor_row, move_row, uuid_row, close_row, raw_row, context_row, endcontext_row, attach_row, detach_row, submit_row, export_row, import_row, begun_row, begin_row, await_row, request_row, queue_of, shape_of, row_of, row_of_buffers, row_of_scanouts, row_of_others, row_of_contexts, row_of_shared, row_of_begun}
 use Rattle.vg_call_lines.specs.Bodies.{Part, info_body, send_body, flush_body, submit_body, begun_parts}
 use Rattle.vg_script.specs.Asked.{pages_of, pages_asked}
 use Rattle.vg_script.specs.AskedWithin.{buffer_asks, blob_asks, buffer_args_ask, blob_args_ask, words_ask}

@@ -1,5 +1,4 @@
 use Rattle.std.proofs.Common.{rules, map, arith, ◌≡◌, ◌<◌, ◌≤◌, ◌+◌, inl, inr, length, ap, ◌∙◌}
-use Rattle.std.specs.Prelude.{sum_by}
 use Rattle.vg_script.specs.ReadingWithin.{seen}
 use Rattle.vg_script.specs.AskedWithin.{words_ask}
 use Rattle.vg_call_lines.specs.Code.{table_of}
