@@ -8,7 +8,6 @@ use Rattle.vg_call_numbers.specs.Numbers.{UsedNumbers, is_in_gap, is_used}
 use Rattle.vg_client_holds.specs.declared.act.Act.{Act}
 use Rattle.vg_client_holds.specs.declared.act.Act.TheVariants as acts
 use Rattle.vg_client_holds.specs.declared.act.ActReply.{ActReply}
-use Rattle.vg_client_holds.specs.declared.holds.Holds.{Holds}
 use Rattle.vg_client_holds.specs.declared.setup.Setup.{Setup}
 use Rattle.vg_history.specs.declared.entry.Entry.TheVariants as entries
 use Rattle.vg_device.specs.ActStep.{act_step}

@@ -28,7 +28,9 @@ use Rattle.vg_journal_lines.proofs.StepLemmas.{HasLine, at_end, at_frame, at_pix
 pub words_of : (stage : Stage) (state : State) (piece : List ℕ) (next : Next) → HasLine stage → piece_step stage state piece ≡ Some next → words_step stage state (parts_at 32 piece) ≡ Some next
 words_of stages.Title state piece next line is = (passes (lacks 10 piece) (words_step stages.Title state (parts_at 32 piece)) next is).1
 words_of stages.Displays state piece next line is = (passes (lacks 10 piece) (words_step stages.Displays state (parts_at 32 piece)) next is).1
+words_of stages.Queues state piece next line is = (passes (lacks 10 piece) (words_step stages.Queues state (parts_at 32 piece)) next is).1
 words_of stages.Features state piece next line is = (passes (lacks 10 piece) (words_step stages.Features state (parts_at 32 piece)) next is).1
+words_of stages.Host state piece next line is = (passes (lacks 10 piece) (words_step stages.Host state (parts_at 32 piece)) next is).1
 words_of stages.Entries state piece next line is = (passes (lacks 10 piece) (words_step stages.Entries state (parts_at 32 piece)) next is).1
 words_of stages.Frames state piece next line is = (passes (lacks 10 piece) (words_step stages.Frames state (parts_at 32 piece)) next is).1
 words_of (stages.Frame left) state piece next line is = (passes (lacks 10 piece) (words_step (stages.Frame left) state (parts_at 32 piece)) next is).1

@@ -46,7 +46,9 @@ one_long (a ∷ p) (b ∷ q) v w size same =
 abbrev pub IsCut : Stage → List ℕ → Type 0
 IsCut stages.Title piece = lacks 10 piece ≡ true
 IsCut stages.Displays piece = lacks 10 piece ≡ true
+IsCut stages.Queues piece = lacks 10 piece ≡ true
 IsCut stages.Features piece = lacks 10 piece ≡ true
+IsCut stages.Host piece = lacks 10 piece ≡ true
 IsCut stages.Entries piece = lacks 10 piece ≡ true
 IsCut stages.Frames piece = lacks 10 piece ≡ true
 IsCut (stages.Frame left) piece = lacks 10 piece ≡ true
@@ -56,7 +58,9 @@ IsCut stages.Done piece = ⊥
 pub cut_piece : (stage : Stage) (state : State) (piece : List ℕ) (next : Next) → piece_step stage state piece ≡ Some next → IsCut stage piece
 cut_piece stages.Title state piece next is = (passes (lacks 10 piece) (words_step stages.Title state (parts_at 32 piece)) next is).0
 cut_piece stages.Displays state piece next is = (passes (lacks 10 piece) (words_step stages.Displays state (parts_at 32 piece)) next is).0
+cut_piece stages.Queues state piece next is = (passes (lacks 10 piece) (words_step stages.Queues state (parts_at 32 piece)) next is).0
 cut_piece stages.Features state piece next is = (passes (lacks 10 piece) (words_step stages.Features state (parts_at 32 piece)) next is).0
+cut_piece stages.Host state piece next is = (passes (lacks 10 piece) (words_step stages.Host state (parts_at 32 piece)) next is).0
 cut_piece stages.Entries state piece next is = (passes (lacks 10 piece) (words_step stages.Entries state (parts_at 32 piece)) next is).0
 cut_piece stages.Frames state piece next is = (passes (lacks 10 piece) (words_step stages.Frames state (parts_at 32 piece)) next is).0
 cut_piece (stages.Frame left) state piece next is = (passes (lacks 10 piece) (words_step (stages.Frame left) state (parts_at 32 piece)) next is).0
@@ -67,7 +71,9 @@ cut_piece stages.Done state piece next is = no_more next is
 pub one_cut : (stage : Stage) (p q v w : List ℕ) → IsCut stage p → IsCut stage q → p ++ 10 ∷ v ≡ q ++ 10 ∷ w → Same p q v w
 one_cut stages.Title p q v w first second same = one_line p q v w first second same
 one_cut stages.Displays p q v w first second same = one_line p q v w first second same
+one_cut stages.Queues p q v w first second same = one_line p q v w first second same
 one_cut stages.Features p q v w first second same = one_line p q v w first second same
+one_cut stages.Host p q v w first second same = one_line p q v w first second same
 one_cut stages.Entries p q v w first second same = one_line p q v w first second same
 one_cut stages.Frames p q v w first second same = one_line p q v w first second same
 one_cut (stages.Frame left) p q v w first second same = one_line p q v w first second same

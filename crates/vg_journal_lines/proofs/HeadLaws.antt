@@ -28,6 +28,27 @@ pub queues_told : (queues : ℕ × ℕ) → AreQueues queues → queues_of (vers
 queues_told queues (inl is) = subst (λ q. queues_of (version_of q) ≡ q) (sym is) refl
 queues_told queues (inr is) = subst (λ q. queues_of (version_of q) ≡ q) (sym is) refl
 
+-- In the first there is no host.
+pub host_told : (queues : ℕ × ℕ) (host : Bool) → AreQueues queues → (queues ≡ (64, 16) → host ≡ false) → version_of queues ≡ One → host ≡ false
+host_told queues host (inl is) none first = none is
+host_told queues host (inr is) none first = let no : Two ≡ One = ap version_of (sym is) ∙ first in absurd cc
+
+pub version_told : (version : Version) → version_of (queues_of version) ≡ version
+version_told One = refl
+version_told Two = refl
+
+pub limits_back : (version : Version) → of_queues (queues_of version) ≡ limits_of version
+limits_back One = refl
+limits_back Two = refl
+
+pub are_queues : (version : Version) → AreQueues (queues_of version)
+are_queues One = inl refl
+are_queues Two = inr refl
+
+pub host_back_told : (version : Version) (host : Bool) → (version ≡ One → host ≡ false) → queues_of version ≡ (64, 16) → host ≡ false
+host_back_told One host none first = none refl
+host_back_told Two host none first = let no : 256 ≡ 64 = ap (λ (q : ℕ × ℕ). q.0) first in absurd (omega (arith, no))
+
 limits_by : (b : Bool) → (if b then version_1 else version_2) ≡ limits_of (if b then One else Two)
 limits_by true = refl
 limits_by false = refl

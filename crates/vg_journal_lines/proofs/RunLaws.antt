@@ -1,55 +1,126 @@
 -- A journal is read from its pieces, and so from its text.
-use Rattle.std.proofs.Common.{◌≡◌, ℕ, ◌+◌, List, [], ◌∷◌, ◌++◌, length, map, Some, arith, refl, sym, ap, ◌∙◌, append-nil}
+use Rattle.std.proofs.Common.{◌≡◌, ℕ, ◌+◌, ◌≤◌, false, List, [], ◌∷◌, ◌++◌, length, map, Some, arith, refl, sym, ap, ◌∙◌, subst, append_assoc, append-nil}
+use Rattle.std.proofs.lemmas.List.Elements.{All-head}
+use Rattle.std.specs.List.{All}
 use Rattle.vg_laws.proofs.Options.{some_is}
 use Rattle.vg_client_holds.specs.declared.setup.Setup.{Setup}
-use Rattle.vg_client_holds.specs.Setup.{IsSetup}
+use Rattle.vg_limits.specs.Limits.{Limits, version_2}
+use Rattle.vg_history.specs.declared.entry.Entry.TheVariants as entries
+use Rattle.vg_client_holds.specs.Setup.{AreDisplays, IsSetup, parties}
 use Rattle.vg_machine.specs.Entries.{Entry}
 use Rattle.vg_scanout.specs.declared.scanout.Frame.{Frame}
 use Rattle.vg_scanout.specs.Scanout.{frame_bytes}
 use Rattle.vg_journal.specs.declared.journal.Journal.{Journal}
 use Rattle.vg_journal.specs.Text.{text_of}
 use Rattle.vg_journal_lines.specs.declared.state.State.{State}
-use Rattle.vg_journal_lines.specs.Words.{clients_words, end_words, joined, memory_words, title_words}
+use Rattle.vg_journal_lines.specs.Versions.{limits_of, queues_of, version_of}
+use Rattle.vg_journal_lines.specs.Words.{clients_words, end_words, joined, memory_words, rings_words, title_words}
+use Rattle.vg_journal_lines.specs.Read.{is_host}
+use Rattle.vg_journal_lines.specs.Ranges.{IsCount}
+use Rattle.vg_journal_lines.specs.Entries.{EntryInRange, entry_words}
 use Rattle.vg_journal_lines.specs.States.{AFrame, AnEntry, Item, Nothing, none_left_out, run, start}
-use Rattle.vg_journal_lines.specs.Pieces.{IsReadAs, JournalInRange, count_pieces, display_pieces, done_of, entries_in, entry_pieces, frame_pieces, frames_in, head_pieces, left_out_of, numbered_pieces, pieces_of, whole, without_pieces}
-use Rattle.vg_journal_lines.proofs.EntryLaws.{CommandsAreSaid}
+use Rattle.vg_journal_lines.specs.Pieces.{IsReadAs, JournalInRange, count_pieces, display_pieces, done_of, entries_in, entry_pieces, frame_pieces, frames_in, host_pieces, left_out_of, numbered_pieces, pieces_of, queues_pieces, whole, without_pieces}
+use Rattle.vg_journal_lines.proofs.EntryLaws.{CommandsAreSaid, entry_are_words}
+use Rattle.vg_journal_lines.proofs.CountLaws.{plain_rings}
+use Rattle.vg_journal_lines.proofs.HeadLaws.{few_parties, host_told, limits_told, queues_told}
+use Rattle.vg_journal_lines.proofs.JoinLemmas.{AreWords, plain_words}
 use Rattle.vg_journal_lines.proofs.CutLemmas.{goes_on, one_run}
 use Rattle.vg_journal_lines.proofs.TextLemmas.{text_pieces}
-use Rattle.vg_journal_lines.proofs.StepLemmas.{accepted_go, accepted_told, at_displays, at_end, at_entries, at_features, at_frame, at_frames, clients_go, counts_go, displays_go, end_goes, entries_go, features_but, frame_items, frames_go, nothings, pages_go, title_goes}
+use Rattle.vg_journal_lines.proofs.StepLemmas.{accepted_go, accepted_told, at_clients, at_displays, at_end, at_entries, at_features, at_frame, at_frames, at_version, behind_go, clients_go, counts_go, displays_go, end_goes, entries_go, features_but, frame_items, frames_go, nothings, pages_go, title_goes, with_host}
 
 -- What the pieces give.
-abbrev head_items : Setup → List Item
-head_items setup = Nothing ∷ [] ++ nothings setup.displays ++ Nothing ∷ [] ++ nothings (without_pieces setup.accepted) ++ Nothing ∷ []
+abbrev front_items : Setup → List Item
+front_items setup =
+    Nothing ∷ [] ++ nothings setup.displays ++ Nothing ∷ nothings (queues_pieces (version_of setup.queues)) ++ nothings (without_pieces setup.accepted) ++ Nothing ∷ []
+
+abbrev tail_items : Journal → List Item
+tail_items journal = map AnEntry journal.entries ++ Nothing ∷ Nothing ∷ [] ++ frame_items journal.frames ++ Nothing ∷ []
 
 abbrev items_of : Journal → List Item
-items_of journal = head_items journal.setup ++ map AnEntry journal.entries ++ Nothing ∷ Nothing ∷ [] ++ frame_items journal.frames ++ Nothing ∷ []
+items_of journal = front_items journal.setup ++ (nothings (host_pieces journal.setup.host) ++ tail_items journal)
 
--- The state behind the head.
-abbrev head_of_run : Setup → State
-head_of_run setup = at_features (at_displays start setup.displays) setup.pages (left_out_of setup.accepted)
+-- The pieces up to the clients, and those behind the host.
+abbrev front_pieces : Setup → List (List ℕ)
+front_pieces setup =
+    joined (title_words (version_of setup.queues)) ∷ [] ++ numbered_pieces display_pieces 0 setup.displays ++ joined (memory_words setup.pages) ∷ queues_pieces (version_of setup.queues)
+    ++ without_pieces setup.accepted ++ joined (clients_words setup.clients) ∷ []
 
-head_goes : (setup : Setup) → IsSetup setup → run start (head_pieces setup) ≡ Some (at_entries (head_of_run setup) setup.clients 0, head_items setup)
-head_goes setup r =
+abbrev tail_pieces : Journal → List (List ℕ)
+tail_pieces journal =
+    numbered_pieces entry_pieces 1 journal.entries ++ count_pieces journal.control journal.cursor (length journal.frames)
+    ++ numbered_pieces frame_pieces 1 journal.frames ++ joined end_words ∷ []
+
+parts_flat : (clients title displays pages without host entries counts frames last : List (List ℕ))
+    → (title ++ displays ++ pages ++ without ++ (clients ++ host)) ++ entries ++ counts ++ frames ++ last
+    ≡ (title ++ displays ++ pages ++ without ++ clients) ++ (host ++ (entries ++ counts ++ frames ++ last))
+parts_flat clients title displays pages without host entries counts frames last = simp append_assoc
+
+parts_of : (journal : Journal) → pieces_of journal ≡ front_pieces journal.setup ++ (host_pieces journal.setup.host ++ tail_pieces journal)
+parts_of journal =
+    let setup = journal.setup in
+    let version = version_of setup.queues in
+    parts_flat (joined (clients_words setup.clients) ∷ []) (joined (title_words version) ∷ []) (numbered_pieces display_pieces 0 setup.displays) (joined (memory_words setup.pages) ∷ queues_pieces version) (without_pieces setup.accepted) (host_pieces setup.host)
+    (numbered_pieces entry_pieces 1 journal.entries) (count_pieces journal.control journal.cursor (length journal.frames)) (numbered_pieces frame_pieces 1 journal.frames) (joined end_words ∷ [])
+
+-- The state behind the features.
+abbrev pub head_of_run : Setup → State
+head_of_run setup = at_features (at_displays (at_version (version_of setup.queues)) setup.displays) setup.pages (left_out_of setup.accepted)
+
+front_goes : (setup : Setup) → IsSetup setup → run start (front_pieces setup) ≡ Some (at_clients (version_of setup.queues) (head_of_run setup) setup.clients, front_items setup)
+front_goes setup r =
+    let version = version_of setup.queues in
     let most = r.at_most in
-    let displays = at_displays start setup.displays in
+    let begun = at_version version in
+    let displays = at_displays begun setup.displays in
     let pages = at_features displays setup.pages none_left_out in
-    let one = goes_on (joined title_words ∷ []) (numbered_pieces display_pieces 0 setup.displays) start (at_displays start []) displays (Nothing ∷ []) (nothings setup.displays) title_goes
-    (displays_go start 0 [] setup.displays refl (omega (arith, most)) r.displays) in
-    let two = goes_on (joined title_words ∷ [] ++ numbered_pieces display_pieces 0 setup.displays) (joined (memory_words setup.pages) ∷ []) start displays pages (Nothing ∷ [] ++ nothings setup.displays) (Nothing ∷ []) one
-    (pages_go start setup.displays setup.pages r.some r.one_page r.pages) in
-    let three = goes_on (joined title_words ∷ [] ++ numbered_pieces display_pieces 0 setup.displays ++ joined (memory_words setup.pages) ∷ []) (without_pieces setup.accepted) start pages (head_of_run setup)
-    (Nothing ∷ [] ++ nothings setup.displays ++ Nothing ∷ []) (nothings (without_pieces setup.accepted)) two (accepted_go displays setup.pages setup.accepted r.accepted) in
-    goes_on (joined title_words ∷ [] ++ numbered_pieces display_pieces 0 setup.displays ++ joined (memory_words setup.pages) ∷ [] ++ without_pieces setup.accepted) (joined (clients_words setup.clients) ∷ [])
-    start (head_of_run setup) (at_entries (head_of_run setup) setup.clients 0) (Nothing ∷ [] ++ nothings setup.displays ++ Nothing ∷ [] ++ nothings (without_pieces setup.accepted)) (Nothing ∷ []) three
-    (clients_go displays setup.pages (left_out_of setup.accepted) setup.clients r.clients)
+    let title : List (List ℕ) = joined (title_words version) ∷ [] in
+    let memory : List (List ℕ) = joined (memory_words setup.pages) ∷ queues_pieces version in
+    let given : List Item = Nothing ∷ nothings (queues_pieces version) in
+    let few : setup.clients ≤ (limits_of version).clients = subst (λ (m : Limits). setup.clients ≤ m.clients) (limits_told setup.queues) r.clients in
+    let one = goes_on title (numbered_pieces display_pieces 0 setup.displays) start (at_displays begun []) displays (Nothing ∷ []) (nothings setup.displays) (title_goes version)
+    (displays_go begun 0 [] setup.displays refl (omega (arith, most)) (subst (λ m. AreDisplays m setup.displays) (limits_told setup.queues) r.displays)) in
+    let two = goes_on (title ++ numbered_pieces display_pieces 0 setup.displays) memory start displays pages (Nothing ∷ [] ++ nothings setup.displays) given one
+    (pages_go begun setup.displays setup.pages r.some r.one_page r.pages) in
+    let three = goes_on (title ++ numbered_pieces display_pieces 0 setup.displays ++ memory) (without_pieces setup.accepted) start pages (head_of_run setup)
+    (Nothing ∷ [] ++ nothings setup.displays ++ given) (nothings (without_pieces setup.accepted)) two (accepted_go displays setup.pages setup.accepted r.accepted) in
+    goes_on (title ++ numbered_pieces display_pieces 0 setup.displays ++ memory ++ without_pieces setup.accepted) (joined (clients_words setup.clients) ∷ [])
+    start (head_of_run setup) (at_clients version (head_of_run setup) setup.clients) (Nothing ∷ [] ++ nothings setup.displays ++ given ++ nothings (without_pieces setup.accepted)) (Nothing ∷ []) three
+    (clients_go displays setup.pages (left_out_of setup.accepted) setup.clients few)
 
-journal_goes : CommandsAreSaid → (journal : Journal) → JournalInRange journal → run start (pieces_of journal) ≡ Some (done_of journal, items_of journal)
-journal_goes commands journal r =
+-- The first piece behind the clients and the host is an entry or a count.
+record HasFirst (pieces : List (List ℕ)) : Type 0 where
+  words : List (List ℕ)
+  more : List (List ℕ)
+  is : pieces ≡ joined words ∷ more
+  are : AreWords words
+  other : is_host words ≡ false
+
+entry_other : (n : ℕ) (entry : Entry) → is_host (entry_words n entry) ≡ false
+unfolding is_host
+entry_other n (entries.Act client call act reply) = refl
+entry_other n (entries.Command client call request reply) = refl
+
+rings_other : (counts : ℕ × ℕ) → is_host (rings_words counts) ≡ false
+unfolding is_host
+rings_other counts = refl
+
+first_of : CommandsAreSaid → (clients control cursor count : ℕ) (es : List Entry) (frames last : List (List ℕ)) → clients ≤ version_2.clients + 1 → All (EntryInRange clients) es → IsCount control → IsCount cursor
+    → HasFirst (numbered_pieces entry_pieces 1 es ++ count_pieces control cursor count ++ frames ++ last)
+first_of commands clients control cursor count [] frames last few fit first second =
+    record { words = rings_words (control, cursor); more = _; is = refl; are = plain_words (rings_words (control, cursor)) (record { word = _; more = _; is = refl }) (plain_rings (control, cursor) first second); other = rings_other (control, cursor) }
+first_of commands clients control cursor count (entry ∷ es) frames last few fit first second =
+    record { words = entry_words 1 entry; more = _; is = refl; are = entry_are_words commands 1 clients entry few (omega arith) (All-head (EntryInRange clients) entry es fit); other = entry_other 1 entry }
+
+-- What stands behind the host.
+tail_goes : CommandsAreSaid → (journal : Journal) → JournalInRange journal → parties journal.setup.clients journal.setup.host ≤ version_2.clients + 1
+    → run (at_entries (with_host (head_of_run journal.setup) journal.setup.host) journal.setup.clients 0) (tail_pieces journal) ≡ Some (done_of journal, tail_items journal)
+tail_goes commands journal r most =
     let setup = journal.setup in
     let small = r.count in
     let frames = r.frame_count in
     let few = r.few in
-    let head = head_of_run setup in
+    let head = with_host (head_of_run setup) setup.host in
+    let begun = at_entries head setup.clients 0 in
     let entries = at_entries head setup.clients (length journal.entries) in
     let counts = at_frames entries journal.control journal.cursor in
     let first = at_frame counts (length journal.frames) 0 0 in
@@ -57,16 +128,32 @@ journal_goes commands journal r =
     let none : 0 + length journal.entries ≡ length journal.entries = omega arith in
     let none' : 0 + length journal.frames ≡ length journal.frames = omega arith in
     let none'' : 0 + frame_bytes journal.frames ≡ frame_bytes journal.frames = omega arith in
-    let one = goes_on (head_pieces setup) (numbered_pieces entry_pieces 1 journal.entries) start (at_entries head setup.clients 0) entries (head_items setup) (map AnEntry journal.entries) (head_goes setup r.setup)
-    (entries_go commands head setup.clients 0 1 journal.entries refl r.setup.clients (omega (arith, small)) r.entries ∙ ap (λ n. Some (at_entries head setup.clients n, map AnEntry journal.entries)) none) in
-    let two = goes_on (head_pieces setup ++ numbered_pieces entry_pieces 1 journal.entries) (count_pieces journal.control journal.cursor (length journal.frames)) start entries first (head_items setup ++ map AnEntry journal.entries) (Nothing ∷ Nothing ∷ []) one
+    let one = entries_go commands head setup.clients 0 1 journal.entries refl most (omega (arith, small)) r.entries ∙ ap (λ n. Some (at_entries head setup.clients n, map AnEntry journal.entries)) none in
+    let two = goes_on (numbered_pieces entry_pieces 1 journal.entries) (count_pieces journal.control journal.cursor (length journal.frames)) begun entries first (map AnEntry journal.entries) (Nothing ∷ Nothing ∷ []) one
     (counts_go head setup.clients (length journal.entries) journal.control journal.cursor (length journal.frames) r.control r.cursor r.frame_count) in
-    let three = goes_on (head_pieces setup ++ numbered_pieces entry_pieces 1 journal.entries ++ count_pieces journal.control journal.cursor (length journal.frames)) (numbered_pieces frame_pieces 1 journal.frames) start first last
-    (head_items setup ++ map AnEntry journal.entries ++ Nothing ∷ Nothing ∷ []) (frame_items journal.frames) two
+    let three = goes_on (numbered_pieces entry_pieces 1 journal.entries ++ count_pieces journal.control journal.cursor (length journal.frames)) (numbered_pieces frame_pieces 1 journal.frames) begun first last
+    (map AnEntry journal.entries ++ Nothing ∷ Nothing ∷ []) (frame_items journal.frames) two
     (frames_go counts 0 1 0 journal.frames refl (omega (arith, frames)) r.frames (omega (arith, few)) ∙ (λ i. Some (at_frame counts 0 (none' i) (none'' i), frame_items journal.frames))) in
-    goes_on (head_pieces setup ++ numbered_pieces entry_pieces 1 journal.entries ++ count_pieces journal.control journal.cursor (length journal.frames) ++ numbered_pieces frame_pieces 1 journal.frames) (joined end_words ∷ [])
-    start last (at_end last) (head_items setup ++ map AnEntry journal.entries ++ Nothing ∷ Nothing ∷ [] ++ frame_items journal.frames) (Nothing ∷ []) three
+    goes_on (numbered_pieces entry_pieces 1 journal.entries ++ count_pieces journal.control journal.cursor (length journal.frames) ++ numbered_pieces frame_pieces 1 journal.frames) (joined end_words ∷ [])
+    begun last (at_end last) (map AnEntry journal.entries ++ Nothing ∷ Nothing ∷ [] ++ frame_items journal.frames) (Nothing ∷ []) three
     (end_goes counts (length journal.frames) (frame_bytes journal.frames))
+
+pub most_parties : (setup : Setup) → IsSetup setup → parties setup.clients setup.host ≤ version_2.clients + 1
+most_parties setup r = few_parties (version_of setup.queues) setup.clients setup.host (subst (λ (m : Limits). setup.clients ≤ m.clients) (limits_told setup.queues) r.clients)
+
+journal_goes : CommandsAreSaid → (journal : Journal) → JournalInRange journal → run start (pieces_of journal) ≡ Some (done_of journal, items_of journal)
+journal_goes commands journal r =
+    let setup = journal.setup in
+    let version = version_of setup.queues in
+    let most = most_parties setup r.setup in
+    let begun = at_clients version (head_of_run setup) setup.clients in
+    let after = at_entries (with_host (head_of_run setup) setup.host) setup.clients 0 in
+    let f = first_of commands (parties setup.clients setup.host) journal.control journal.cursor (length journal.frames) journal.entries (numbered_pieces frame_pieces 1 journal.frames) (joined end_words ∷ []) most r.entries r.control r.cursor in
+    let tail : run after (joined f.words ∷ f.more) ≡ Some (done_of journal, tail_items journal) = ap (run after) (sym f.is) ∙ tail_goes commands journal r most in
+    let behind = behind_go version (head_of_run setup) setup.clients setup.host f.words f.more (done_of journal, tail_items journal) (host_told setup.queues setup.host r.setup.queues r.setup.host) f.are f.other tail in
+    let behind' : run begun (host_pieces setup.host ++ tail_pieces journal) ≡ Some (done_of journal, nothings (host_pieces setup.host) ++ tail_items journal) = ap (λ ps. run begun (host_pieces setup.host ++ ps)) f.is ∙ behind in
+    ap (run start) (parts_of journal)
+    ∙ goes_on (front_pieces setup) (host_pieces setup.host ++ tail_pieces journal) start begun (done_of journal) (front_items setup) (nothings (host_pieces setup.host) ++ tail_items journal) (front_goes setup r.setup) behind'
 
 -- Entries and frames among the items.
 pub entries_append : (xs ys : List Item) → entries_in (xs ++ ys) ≡ entries_in xs ++ entries_in ys
@@ -105,28 +192,28 @@ frames_alone : (fs : List Frame) → entries_in (frame_items fs) ≡ []
 frames_alone [] = refl
 frames_alone (frame ∷ fs) = frames_alone fs
 
-head_entries : (setup : Setup) → entries_in (head_items setup) ≡ []
-head_entries setup = simp (entries_append, no_entries)
+front_entries : (setup : Setup) → entries_in (front_items setup) ≡ []
+front_entries setup = simp (entries_append, no_entries)
 
-head_frames : (setup : Setup) → frames_in (head_items setup) ≡ []
-head_frames setup = simp (frames_append, no_frames)
+front_frames : (setup : Setup) → frames_in (front_items setup) ≡ []
+front_frames setup = simp (frames_append, no_frames)
 
-five_entries : (a b c d e : List Item) → entries_in (a ++ b ++ c ++ d ++ e) ≡ entries_in a ++ entries_in b ++ entries_in c ++ entries_in d ++ entries_in e
-five_entries a b c d e = simp entries_append
+six_entries : (a b c d e f : List Item) → entries_in (a ++ (b ++ (c ++ d ++ e ++ f))) ≡ entries_in a ++ entries_in b ++ entries_in c ++ entries_in d ++ entries_in e ++ entries_in f
+six_entries a b c d e f = simp (entries_append, append_assoc)
 
-five_frames : (a b c d e : List Item) → frames_in (a ++ b ++ c ++ d ++ e) ≡ frames_in a ++ frames_in b ++ frames_in c ++ frames_in d ++ frames_in e
-five_frames a b c d e = simp frames_append
+six_frames : (a b c d e f : List Item) → frames_in (a ++ (b ++ (c ++ d ++ e ++ f))) ≡ frames_in a ++ frames_in b ++ frames_in c ++ frames_in d ++ frames_in e ++ frames_in f
+six_frames a b c d e f = simp (frames_append, append_assoc)
 
 entries_given : (journal : Journal) → entries_in (items_of journal) ≡ journal.entries
 entries_given journal =
-    five_entries (head_items journal.setup) (map AnEntry journal.entries) (Nothing ∷ Nothing ∷ []) (frame_items journal.frames) (Nothing ∷ [])
-    ∙ (λ i. head_entries journal.setup i ++ all_entries journal.entries i ++ [] ++ frames_alone journal.frames i ++ [])
+    six_entries (front_items journal.setup) (nothings (host_pieces journal.setup.host)) (map AnEntry journal.entries) (Nothing ∷ Nothing ∷ []) (frame_items journal.frames) (Nothing ∷ [])
+    ∙ (λ i. front_entries journal.setup i ++ no_entries (host_pieces journal.setup.host) i ++ all_entries journal.entries i ++ [] ++ frames_alone journal.frames i ++ [])
     ∙ simp append-nil
 
 frames_given : (journal : Journal) → frames_in (items_of journal) ≡ journal.frames
 frames_given journal =
-    five_frames (head_items journal.setup) (map AnEntry journal.entries) (Nothing ∷ Nothing ∷ []) (frame_items journal.frames) (Nothing ∷ [])
-    ∙ (λ i. head_frames journal.setup i ++ entries_alone journal.entries i ++ [] ++ all_frames journal.frames i ++ [])
+    six_frames (front_items journal.setup) (nothings (host_pieces journal.setup.host)) (map AnEntry journal.entries) (Nothing ∷ Nothing ∷ []) (frame_items journal.frames) (Nothing ∷ [])
+    ∙ (λ i. front_frames journal.setup i ++ no_frames (host_pieces journal.setup.host) i ++ entries_alone journal.entries i ++ [] ++ all_frames journal.frames i ++ [])
     ∙ append-nil journal.frames
 
 -- A journal is read from its pieces.
@@ -138,10 +225,11 @@ pub one_read : (pieces : List (List ℕ)) (a b : Journal) → JournalInRange a �
 one_read pieces a b r s first second =
     let same : (done_of a, first.items) ≡ (done_of b, second.items) = some_is (done_of a, first.items) (done_of b, second.items) (sym first.run_is ∙ second.run_is) in
     let accepted : a.setup.accepted ≡ b.setup.accepted = sym (accepted_told a.setup.accepted r.setup.accepted) ∙ ap (λ d. features_but d.0.left_out) same ∙ accepted_told b.setup.accepted s.setup.accepted in
+    let queues : a.setup.queues ≡ b.setup.queues = sym (queues_told a.setup.queues r.setup.queues) ∙ ap (λ d. queues_of d.0.version) same ∙ queues_told b.setup.queues s.setup.queues in
     let entries : a.entries ≡ b.entries = sym first.entries ∙ ap (λ d. entries_in d.1) same ∙ second.entries in
     let frames : a.frames ≡ b.frames = sym first.frames ∙ ap (λ d. frames_in d.1) same ∙ second.frames in
     λ i. record {
-      setup = record { displays = (same i).0.displays; pages = (same i).0.pages; accepted = accepted i; clients = (same i).0.clients };
+      setup = record { displays = (same i).0.displays; pages = (same i).0.pages; accepted = accepted i; clients = (same i).0.clients; queues = queues i; host = (same i).0.host };
       entries = entries i;
       control = (same i).0.control;
       cursor = (same i).0.cursor;

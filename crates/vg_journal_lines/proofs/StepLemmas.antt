@@ -1,12 +1,12 @@
 -- The steps of a run over a journal's pieces.
 use Rattle.std.proofs.Common.{◌≡◌, ℕ, ◌+◌, ◌-◌, ◌<◌, ◌≤◌, Bool, true, false, nat_lt, List, [], ◌∷◌, ◌++◌, length, map, if◌then◌else◌, Some, None, option_map, option_and_then, arith, refl, sym, ap, ◌∙◌, subst, append_assoc, append-nil, length-append}
-use Rattle.std.proofs.lemmas.Bool.{eq-eqb, le-leb, lt-ltb, ne_eqb}
+use Rattle.std.proofs.lemmas.Bool.{eq-eqb, false≢true, le-leb, lt-ltb, ne_eqb}
 use Rattle.std.proofs.lemmas.List.Elements.{All-head, All-tail}
 use Rattle.std.proofs.lemmas.List.Sums.{sum_by-cons}
 use Rattle.std.specs.List.{All}
 use Rattle.std.specs.Option.{option_or}
 use Rattle.vg_history.specs.declared.entry.Entry.TheVariants as entries
-use Rattle.vg_client_holds.specs.Setup.{AreAccepted, AreDisplays, IsDisplay, features_without}
+use Rattle.vg_client_holds.specs.Setup.{AreAccepted, AreDisplays, IsDisplay, features_without, parties}
 use Rattle.vg_machine.specs.Entries.{Entry}
 use Rattle.vg_scanout.specs.declared.scanout.Frame.{Frame}
 use Rattle.vg_scanout.specs.Scanout.{frame_bytes}
@@ -16,18 +16,21 @@ use Rattle.vg_journal_lines.specs.declared.state.LeftOut.{LeftOut}
 use Rattle.vg_journal_lines.specs.declared.state.Stage.{Stage}
 use Rattle.vg_journal_lines.specs.declared.state.Stage.TheVariants as stages
 use Rattle.vg_journal_lines.specs.declared.state.State.{State}
-use Rattle.vg_journal_lines.specs.Words.{clients_words, display_words, end_words, frame_words, frames_words, head_of, joined, memory_words, rings_words, title_words}
-use Rattle.vg_journal_lines.specs.Read.{display_of, frame_of, memory_of, pixels_of, rings_of, without_of}
+use Rattle.vg_journal_lines.specs.declared.head.Version.{Version}
+use Rattle.vg_journal_lines.specs.declared.head.Version.TheVariants.{One, Two}
+use Rattle.vg_journal_lines.specs.Versions.{limits_of}
+use Rattle.vg_journal_lines.specs.Words.{clients_words, display_words, end_words, frame_words, frames_words, head_of, host_words, joined, memory_words, queues_words, rings_words, title_words}
+use Rattle.vg_journal_lines.specs.Read.{display_of, frame_of, is_host, memory_of, pixels_of, rings_of, without_of}
 use Rattle.vg_journal_lines.specs.Ranges.{IsCount}
 use Rattle.vg_journal_lines.specs.Entries.{EntryInRange, entry_of, entry_words}
-use Rattle.vg_journal_lines.specs.States.{AFrame, AnEntry, Item, Nothing, clients_step, display_step, end_step, entry_step, frame_with, head_step, line_step, memory_step, none_left_out, piece_step, rings_step, run, start, step, with_clients, with_counts, with_display, with_entry, with_frames, with_head, with_pages, without_step, words_step}
-use Rattle.vg_journal_lines.specs.Pieces.{FrameInRange, count_pieces, display_pieces, entry_pieces, frame_pieces, left_out_of, numbered_pieces, without_piece, without_pieces}
-use Rattle.vg_journal_lines.proofs.HeadLaws.{clients_back, display_back, memory_back, plain_clients, plain_display, plain_memory, plain_title, title_back}
+use Rattle.vg_journal_lines.specs.States.{AFrame, AnEntry, Item, Next, Nothing, and_given, behind_clients, behind_pages, clients_step, display_step, end_step, entries_step, entry_step, frame_with, head_step, line_step, memory_step, none_left_out, piece_step, rings_step, run, start, step, with_clients, with_counts, with_display, with_entry, with_frames, with_head, with_pages, with_version, without_step, words_step}
+use Rattle.vg_journal_lines.specs.Pieces.{FrameInRange, count_pieces, display_pieces, entry_pieces, frame_pieces, host_pieces, left_out_of, numbered_pieces, queues_pieces, without_piece, without_pieces}
+use Rattle.vg_journal_lines.proofs.HeadLaws.{clients_back, display_back, host_back, memory_back, plain_clients, plain_display, plain_host, plain_memory, plain_queues, plain_title, queues_back, title_back}
 use Rattle.vg_journal_lines.proofs.CountLaws.{end_back, frame_back, frames_back, plain_end, plain_frame, plain_frames, plain_rings, rings_back}
 use Rattle.vg_journal_lines.proofs.EntryLaws.{CommandsAreSaid, entry_are_words, entry_back}
 use Rattle.vg_journal_lines.proofs.JoinLemmas.{AreWords, plain_words, words_line, words_parts}
 use Rattle.vg_journal_lines.proofs.CutLemmas.{goes_more, goes_one}
-use Rattle.vg_limits.specs.Limits.{version_1}
+use Rattle.vg_limits.specs.Limits.{version_2}
 
 -- A stage at which a line comes.
 abbrev pub HasLine : Stage → Type 0
@@ -43,7 +46,9 @@ line_said stage state words are =
 pub said : (stage : Stage) (state : State) (words : List (List ℕ)) → HasLine stage → AreWords words → piece_step stage state (joined words) ≡ words_step stage state words
 said stages.Title state words line are = line_said stages.Title state words are
 said stages.Displays state words line are = line_said stages.Displays state words are
+said stages.Queues state words line are = line_said stages.Queues state words are
 said stages.Features state words line are = line_said stages.Features state words are
+said stages.Host state words line are = line_said stages.Host state words are
 said stages.Entries state words line are = line_said stages.Entries state words are
 said stages.Frames state words line are = line_said stages.Frames state words are
 said (stages.Frame left) state words line are = line_said (stages.Frame left) state words are
@@ -59,27 +64,30 @@ nothings [] = []
 nothings (x ∷ xs) = Nothing ∷ nothings xs
 
 -- The title.
+abbrev pub at_version : Version → State
+at_version version = record start { version = version }
+
 abbrev pub at_displays : State → List (ℕ × ℕ) → State
 at_displays state front = record state { stage = stages.Displays; displays = front }
 
-pub title_goes : run start (joined title_words ∷ []) ≡ Some (at_displays start [], Nothing ∷ [])
-title_goes =
-    goes_one start (at_displays start []) Nothing (joined title_words)
-    (said stages.Title start title_words tt (plain _ _ plain_title) ∙ ap (λ b. if b then Some (at_displays start [], Nothing) else None) title_back)
+pub title_goes : (version : Version) → run start (joined (title_words version) ∷ []) ≡ Some (at_displays (at_version version) [], Nothing ∷ [])
+title_goes version =
+    goes_one start (at_displays (at_version version) []) Nothing (joined (title_words version))
+    (said stages.Title start (title_words version) tt (plain _ _ (plain_title version)) ∙ ap (option_map (with_version start)) (title_back version))
 
 -- Displays.
-display_said : (state : State) (n : ℕ) (front : List (ℕ × ℕ)) (size : ℕ × ℕ) → length front ≡ n → n < 16 → IsDisplay size → display_step (at_displays state front) (display_words n size) ≡ Some (at_displays state (front ++ size ∷ []), Nothing)
+display_said : (state : State) (n : ℕ) (front : List (ℕ × ℕ)) (size : ℕ × ℕ) → length front ≡ n → n < 16 → IsDisplay (limits_of state.version) size → display_step (at_displays state front) (display_words n size) ≡ Some (at_displays state (front ++ size ∷ []), Nothing)
 display_said state n front size same few r =
-    ap (λ b. if b then option_map (with_display (at_displays state front)) (display_of (length front) (display_words n size)) else None) (lt-ltb (length front) 16 (omega (arith, same, few)))
-    ∙ ap (λ k. option_map (with_display (at_displays state front)) (display_of k (display_words n size))) same
-    ∙ ap (option_map (with_display (at_displays state front))) (display_back n size (omega (arith, few)) r)
+    ap (λ b. if b then option_map (with_display (at_displays state front)) (display_of (limits_of state.version) (length front) (display_words n size)) else None) (lt-ltb (length front) 16 (omega (arith, same, few)))
+    ∙ ap (λ k. option_map (with_display (at_displays state front)) (display_of (limits_of state.version) k (display_words n size))) same
+    ∙ ap (option_map (with_display (at_displays state front))) (display_back state.version n size (omega (arith, few)) r)
 
-pub displays_go : (state : State) (n : ℕ) (front sizes : List (ℕ × ℕ)) → length front ≡ n → n + length sizes ≤ 16 → AreDisplays sizes
+pub displays_go : (state : State) (n : ℕ) (front sizes : List (ℕ × ℕ)) → length front ≡ n → n + length sizes ≤ 16 → AreDisplays (limits_of state.version) sizes
     → run (at_displays state front) (numbered_pieces display_pieces n sizes) ≡ Some (at_displays state (front ++ sizes), nothings sizes)
 displays_go state n front [] same few r = ap (λ l. Some (at_displays state l, [])) (sym (append-nil front))
 displays_go state n front (size ∷ sizes) same few r =
     let small : n < 16 = omega (arith, few) in
-    let words = plain _ _ (plain_display n size (omega (arith, small)) r.0) in
+    let words = plain _ _ (plain_display state.version n size (omega (arith, small)) r.0) in
     let first : step (at_displays state front) (joined (display_words n size)) ≡ Some (at_displays state (front ++ size ∷ []), Nothing) =
     said stages.Displays (at_displays state front) (display_words n size) tt words
     ∙ ap (λ o. option_or o (memory_step (at_displays state front) (display_words n size))) (display_said state n front size same small r.0) in
@@ -88,25 +96,39 @@ displays_go state n front (size ∷ sizes) same few r =
     goes_more (at_displays state front) (at_displays state (front ++ size ∷ [])) Nothing (joined (display_words n size)) (numbered_pieces display_pieces (n + 1) sizes) (at_displays state ((front ++ size ∷ []) ++ sizes), nothings sizes) first rest
     ∙ ap (λ l. Some (at_displays state l, Nothing ∷ nothings sizes)) (append_assoc front (size ∷ []) sizes)
 
--- Pages.
+-- Pages, and the queues.
+abbrev pub at_pages : Version → State → ℕ → State
+at_pages version state pages = record state { stage = behind_pages version; pages = pages }
+
 abbrev pub at_features : State → ℕ → LeftOut → State
 at_features state pages out = record state { stage = stages.Features; pages = pages; left_out = out }
 
-no_display : (b : Bool) (state : State) (n pages : ℕ) → (if b then option_map (with_display state) (display_of n (memory_words pages)) else None) ≡ None
+no_display : (b : Bool) (state : State) (n pages : ℕ) → (if b then option_map (with_display state) (display_of (limits_of state.version) n (memory_words pages)) else None) ≡ None
 unfolding display_of
 no_display true state n pages = refl
 no_display false state n pages = refl
 
+pub queues_go : (version : Version) (state : State) (pages : ℕ) → run (at_pages version state pages) (queues_pieces version) ≡ Some (at_features state pages state.left_out, nothings (queues_pieces version))
+queues_go One state pages = refl
+queues_go Two state pages =
+    let before = at_pages Two state pages in
+    let after = at_features state pages state.left_out in
+    goes_one before after Nothing (joined queues_words)
+    (said stages.Queues before queues_words tt (plain _ _ plain_queues) ∙ ap (λ b. if b then Some (after, Nothing) else None) queues_back)
+
 pub pages_go : (state : State) (sizes : List (ℕ × ℕ)) (pages : ℕ) → 1 ≤ length sizes → 1 ≤ pages → pages ≤ 16384
-    → run (at_displays state sizes) (joined (memory_words pages) ∷ []) ≡ Some (at_features (at_displays state sizes) pages state.left_out, Nothing ∷ [])
+    → run (at_displays state sizes) (joined (memory_words pages) ∷ queues_pieces state.version)
+    ≡ Some (at_features (at_displays state sizes) pages state.left_out, Nothing ∷ nothings (queues_pieces state.version))
 pages_go state sizes pages some one few =
     let before = at_displays state sizes in
     let words = plain _ _ (plain_memory pages few) in
-    goes_one before (at_features before pages state.left_out) Nothing (joined (memory_words pages))
+    goes_more before (at_pages state.version before pages) Nothing (joined (memory_words pages)) (queues_pieces state.version)
+    (at_features before pages state.left_out, nothings (queues_pieces state.version))
     (said stages.Displays before (memory_words pages) tt words
     ∙ ap (λ o. option_or o (memory_step before (memory_words pages))) (no_display (nat_lt (length sizes) 16) before (length sizes) pages)
     ∙ ap (λ b. if b then option_map (with_pages before) (memory_of (memory_words pages)) else None) (lt-ltb 0 (length sizes) (omega (arith, some)))
     ∙ ap (option_map (with_pages before)) (memory_back pages one few))
+    (queues_go state.version before pages)
 
 -- Features that are left out.
 pub features_go : (state : State) (pages : ℕ) (edid uuid blob context : Bool)
@@ -163,6 +185,9 @@ pub accepted_told : (accepted : ℕ) → AreAccepted accepted → features_but (
 accepted_told accepted are = subst (λ f. features_but (left_out_of f) ≡ f) (sym are.left) (features_told are.edid are.uuid are.blob are.context)
 
 -- Clients.
+abbrev pub at_clients : Version → State → ℕ → State
+at_clients version state clients = record state { stage = behind_clients version; clients = clients }
+
 abbrev pub at_entries : State → ℕ → ℕ → State
 at_entries state clients count = record state { stage = stages.Entries; clients = clients; entries = count }
 
@@ -170,15 +195,48 @@ no_feature : (state : State) (clients : ℕ) → without_step state (clients_wor
 unfolding without_of
 no_feature state clients = refl
 
-pub clients_go : (state : State) (pages : ℕ) (out : LeftOut) (clients : ℕ) → clients ≤ version_1.clients
-    → run (at_features state pages out) (joined (clients_words clients) ∷ []) ≡ Some (at_entries (at_features state pages out) clients state.entries, Nothing ∷ [])
+pub clients_go : (state : State) (pages : ℕ) (out : LeftOut) (clients : ℕ) → clients ≤ (limits_of state.version).clients
+    → run (at_features state pages out) (joined (clients_words clients) ∷ []) ≡ Some (at_clients state.version (at_features state pages out) clients, Nothing ∷ [])
 clients_go state pages out clients few =
     let before = at_features state pages out in
-    let words = plain _ _ (plain_clients clients few) in
-    goes_one before (at_entries before clients state.entries) Nothing (joined (clients_words clients))
+    let words = plain _ _ (plain_clients state.version clients few) in
+    goes_one before (at_clients state.version before clients) Nothing (joined (clients_words clients))
     (said stages.Features before (clients_words clients) tt words
     ∙ ap (λ o. option_or o (clients_step before (clients_words clients))) (no_feature before clients)
-    ∙ ap (option_map (with_clients before)) (clients_back clients few))
+    ∙ ap (option_map (with_clients before)) (clients_back state.version clients few))
+
+-- The host.
+abbrev pub with_host : State → Bool → State
+with_host state host = record state { host = host }
+
+pub host_goes : (state : State) (clients : ℕ) → step (at_clients Two state clients) (joined host_words) ≡ Some (at_entries (with_host state true) clients state.entries, Nothing)
+host_goes state clients =
+    let before = at_clients Two state clients in
+    let after = at_entries (with_host state true) clients state.entries in
+    said stages.Host before host_words tt (plain _ _ plain_host)
+    ∙ ap (λ b. option_or (if b then Some (after, Nothing) else None) (entries_step before host_words)) host_back
+
+-- A line that isn't the host's is read as in front of entries.
+no_host : (state : State) (clients : ℕ) (words : List (List ℕ)) → AreWords words → is_host words ≡ false
+    → step (at_clients Two state clients) (joined words) ≡ step (at_clients One state clients) (joined words)
+no_host state clients words are other =
+    let before = at_clients Two state clients in
+    let after = at_entries (with_host state true) clients state.entries in
+    said stages.Host before words tt are
+    ∙ ap (λ b. option_or (if b then Some (after, Nothing) else None) (entries_step before words)) other
+    ∙ sym (said stages.Entries (at_clients One state clients) words tt are)
+
+pub behind_go : (version : Version) (state : State) (clients : ℕ) (host : Bool) (words : List (List ℕ)) (pieces : List (List ℕ)) (all : State × List Item)
+    → (version ≡ One → host ≡ false) → AreWords words → is_host words ≡ false
+    → run (at_entries (with_host state host) clients state.entries) (joined words ∷ pieces) ≡ Some all
+    → run (at_clients version (with_host state false) clients) (host_pieces host ++ joined words ∷ pieces) ≡ Some (all.0, nothings (host_pieces host) ++ all.1)
+behind_go One state clients true words pieces all none are other is = absurd (false≢true (sym (none refl)))
+behind_go One state clients false words pieces all none are other is = is
+behind_go Two state clients true words pieces all none are other is =
+    goes_more (at_clients Two (with_host state false) clients) (at_entries (with_host state true) clients state.entries) Nothing (joined host_words) (joined words ∷ pieces) all
+    (host_goes (with_host state false) clients) is
+behind_go Two state clients false words pieces all none are other is =
+    ap (option_and_then (λ (next : Next). and_given next.1 (run next.0 pieces))) (no_host (with_host state false) clients words are other) ∙ is
 
 -- Entries.
 no_rings : (state : State) (n : ℕ) (entry : Entry) → rings_step state (entry_words n entry) ≡ None
@@ -186,22 +244,22 @@ unfolding rings_of
 no_rings state n (entries.Act client call act reply) = refl
 no_rings state n (entries.Command client call request reply) = refl
 
-entry_goes : CommandsAreSaid → (state : State) (clients count n : ℕ) (entry : Entry) → n ≡ count + 1 → clients ≤ version_1.clients → IsCount n → EntryInRange clients entry
+entry_goes : CommandsAreSaid → (state : State) (clients count n : ℕ) (entry : Entry) → n ≡ count + 1 → parties clients state.host ≤ version_2.clients + 1 → IsCount n → EntryInRange (parties clients state.host) entry
     → step (at_entries state clients count) (joined (entry_words n entry)) ≡ Some (at_entries state clients (count + 1), AnEntry entry)
 entry_goes commands state clients count n entry place most small r =
     let before = at_entries state clients count in
-    said stages.Entries before (entry_words n entry) tt (entry_are_words commands n clients entry most small r)
+    said stages.Entries before (entry_words n entry) tt (entry_are_words commands n (parties clients state.host) entry most small r)
     ∙ ap (λ o. option_or o (entry_step before (entry_words n entry))) (no_rings before n entry)
-    ∙ ap (λ k. option_map (with_entry before) (entry_of k clients (entry_words n entry))) (sym place)
-    ∙ ap (option_map (with_entry before)) (entry_back commands n clients entry most small r)
+    ∙ ap (λ k. option_map (with_entry before) (entry_of k (parties clients state.host) (entry_words n entry))) (sym place)
+    ∙ ap (option_map (with_entry before)) (entry_back commands n (parties clients state.host) entry most small r)
 
-pub entries_go : CommandsAreSaid → (state : State) (clients count n : ℕ) (es : List Entry) → n ≡ count + 1 → clients ≤ version_1.clients → IsCount (count + length es) → All (EntryInRange clients) es
+pub entries_go : CommandsAreSaid → (state : State) (clients count n : ℕ) (es : List Entry) → n ≡ count + 1 → parties clients state.host ≤ version_2.clients + 1 → IsCount (count + length es) → All (EntryInRange (parties clients state.host)) es
     → run (at_entries state clients count) (numbered_pieces entry_pieces n es) ≡ Some (at_entries state clients (count + length es), map AnEntry es)
 entries_go commands state clients count n [] place most small r = let same : count ≡ count + 0 = omega arith in ap (λ k. Some (at_entries state clients k, [])) same
 entries_go commands state clients count n (entry ∷ es) place most small r =
     let this : IsCount n = omega (arith, place, small) in
-    let first = entry_goes commands state clients count n entry place most this (All-head (EntryInRange clients) entry es r) in
-    let rest = entries_go commands state clients (count + 1) (n + 1) es (omega (arith, place)) most (omega (arith, small)) (All-tail (EntryInRange clients) entry es r) in
+    let first = entry_goes commands state clients count n entry place most this (All-head (EntryInRange (parties clients state.host)) entry es r) in
+    let rest = entries_go commands state clients (count + 1) (n + 1) es (omega (arith, place)) most (omega (arith, small)) (All-tail (EntryInRange (parties clients state.host)) entry es r) in
     let sum : count + 1 + length es ≡ count + length (entry ∷ es) = omega arith in
     goes_more (at_entries state clients count) (at_entries state clients (count + 1)) (AnEntry entry) (joined (entry_words n entry)) (numbered_pieces entry_pieces (n + 1) es) (at_entries state clients (count + 1 + length es), map AnEntry es) first rest
     ∙ ap (λ k. Some (at_entries state clients k, AnEntry entry ∷ map AnEntry es)) sum

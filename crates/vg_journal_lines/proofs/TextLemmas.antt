@@ -5,12 +5,13 @@ use Rattle.vg_text.specs.Text.{numbered}
 use Rattle.vg_client_holds.specs.declared.setup.Setup.{Setup}
 use Rattle.vg_scanout.specs.declared.scanout.Frame.{Frame}
 use Rattle.vg_journal.specs.declared.journal.Journal.{Journal}
-use Rattle.vg_journal.specs.Text.{counts_text, display_line, entry_line, frame_text, head_text, text_of, title_text, without_line, without_text}
+use Rattle.vg_journal.specs.Text.{counts_text, display_line, entry_line, frame_text, head_text, host_text, queues_text, text_of, title_text, without_line, without_text}
 use Rattle.vg_journal_lines.specs.declared.head.Feature.{Feature}
 use Rattle.vg_journal_lines.specs.declared.head.Feature.TheVariants.{Edid, Uuid, Blob, Context}
+use Rattle.vg_journal_lines.specs.Versions.{version_of}
 use Rattle.vg_journal_lines.specs.Words.{clients_words, end_words, feature_name, frame_words, frames_words, head_of, joined, line_of, memory_words, rings_words, title_words, without_words}
-use Rattle.vg_journal_lines.specs.Pieces.{count_pieces, display_pieces, entry_pieces, frame_pieces, head_pieces, numbered_pieces, pieces_of, whole, without_piece, without_pieces}
-use Rattle.vg_journal_lines.proofs.HeadLaws.{text_display, text_title, text_without}
+use Rattle.vg_journal_lines.specs.Pieces.{count_pieces, display_pieces, entry_pieces, frame_pieces, head_pieces, host_pieces, numbered_pieces, pieces_of, queues_pieces, whole, without_piece, without_pieces}
+use Rattle.vg_journal_lines.proofs.HeadLaws.{text_display, text_host, text_queues, text_title, text_without}
 use Rattle.vg_journal_lines.proofs.CountLaws.{text_counts, text_frame}
 use Rattle.vg_journal_lines.proofs.EntryLaws.{CommandsAreSaid, text_entry}
 
@@ -41,20 +42,27 @@ whole_without accepted =
     (λ i. one_without accepted EDID Edid i ++ one_without accepted RESOURCE_UUID Uuid i ++ one_without accepted RESOURCE_BLOB Blob i ++ one_without accepted VIRGL Context i)
     ∙ four_whole (without_piece accepted EDID Edid) (without_piece accepted RESOURCE_UUID Uuid) (without_piece accepted RESOURCE_BLOB Blob) (without_piece accepted VIRGL Context)
 
-head_flat : (title displays pages without clients : List ℕ)
-    → title ++ displays ++ codes "memory " ++ pages ++ codes "\n" ++ without ++ codes "clients " ++ clients ++ codes "\n"
-    ≡ title ++ displays ++ (codes "memory " ++ pages ++ codes "\n") ++ without ++ (codes "clients " ++ clients ++ codes "\n")
-head_flat title displays pages without clients = simp append_assoc
+head_flat : (title displays pages queues without clients host : List ℕ)
+    → title ++ displays ++ codes "memory " ++ pages ++ codes "\n" ++ queues ++ without ++ codes "clients " ++ clients ++ codes "\n" ++ host
+    ≡ title ++ displays ++ ((codes "memory " ++ pages ++ codes "\n") ++ queues) ++ without ++ ((codes "clients " ++ clients ++ codes "\n") ++ host)
+head_flat title displays pages queues without clients host = simp append_assoc
 
 five_whole : (a b c d e : List (List ℕ)) → whole a ++ whole b ++ whole c ++ whole d ++ whole e ≡ whole (a ++ b ++ c ++ d ++ e)
 five_whole a b c d e = ap (λ l. l ++ whole e) (four_whole a b c d) ∙ sym (whole_append (a ++ b ++ c ++ d) e)
 
+-- A line and others behind it.
+line_and : (piece : List ℕ) (text : List ℕ) (pieces : List (List ℕ)) → text ≡ whole pieces → (piece ++ codes "\n") ++ text ≡ whole (piece ∷ pieces)
+line_and piece text pieces is = append_assoc piece (codes "\n") text ∙ ap (λ l. piece ++ 10 ∷ l) is
+
 whole_head : (setup : Setup) → head_text setup ≡ whole (head_pieces setup)
 unfolding head_text
 whole_head setup =
-    head_flat title_text (numbered display_line 0 setup.displays) (decimal setup.pages) (without_text setup.accepted) (decimal setup.clients)
-    ∙ (λ i. text_title i ++ whole_numbered display_line display_pieces text_display 0 setup.displays i ++ whole (joined (memory_words setup.pages) ∷ []) ++ whole_without setup.accepted i ++ whole (joined (clients_words setup.clients) ∷ []))
-    ∙ five_whole (joined title_words ∷ []) (numbered_pieces display_pieces 0 setup.displays) (joined (memory_words setup.pages) ∷ []) (without_pieces setup.accepted) (joined (clients_words setup.clients) ∷ [])
+    let version = version_of setup.queues in
+    head_flat (title_text setup.queues) (numbered display_line 0 setup.displays) (decimal setup.pages) (queues_text setup.queues) (without_text setup.accepted) (decimal setup.clients) (host_text setup.host)
+    ∙ (λ i. text_title setup.queues i ++ whole_numbered display_line display_pieces text_display 0 setup.displays i
+    ++ line_and (joined (memory_words setup.pages)) (queues_text setup.queues) (queues_pieces version) (text_queues setup.queues) i ++ whole_without setup.accepted i
+    ++ line_and (joined (clients_words setup.clients)) (host_text setup.host) (host_pieces setup.host) (text_host setup.host) i)
+    ∙ five_whole (joined (title_words version) ∷ []) (numbered_pieces display_pieces 0 setup.displays) (joined (memory_words setup.pages) ∷ queues_pieces version) (without_pieces setup.accepted) (joined (clients_words setup.clients) ∷ host_pieces setup.host)
 
 whole_counts : (control cursor frames : ℕ) → counts_text control cursor frames ≡ whole (count_pieces control cursor frames)
 whole_counts control cursor frames =

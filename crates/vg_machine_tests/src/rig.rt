@@ -55,6 +55,8 @@ fn small(alloc: Global) -> Result<Setup, AllocError>
         pages: 16,
         accepted: 0x1_1000_001f,
         clients: 1,
+        queues: (256, 64),
+        host: false,
     })
 }
 

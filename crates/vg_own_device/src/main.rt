@@ -22,6 +22,8 @@ fn main(rt: HostRuntime) -> io::Result<()> {
         pages: 16,
         accepted: FEATURES,
         clients: 0,
+        queues: (256, 64),
+        host: false,
     };
     let mut device = Device::new(rt.alloc(), &setup)?;
     // The room for a response is 48 bytes: its header, and what is told of scanout 0.

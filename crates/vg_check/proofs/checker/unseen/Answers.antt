@@ -4,10 +4,10 @@ use Rattle.vg_check.proofs.CheckerLemmas.{IsMaking, making-more}
 use Rattle.vg_check.proofs.checker.unseen.Goals as goal
 
 pub returns-clause-count : goal.returns-clause-count
-returns-clause-count c = omega (arith, c.loop-place-test.false, c.loop-place.auto.place-end, c.loop-place.invariant.count, c.parties.ensures)
+returns-clause-count c = omega (arith, c.loop-place-test.false, c.loop-place.auto.place-end, c.loop-place.invariant.count, c.parties-place-end.ensures)
 
-pub parties-requires : goal.parties-requires
-parties-requires c = few-clients c.args.setup.now c.requires
+pub parties-place-end-requires : goal.parties-place-end-requires
+parties-place-end-requires c = few-clients c.args.setup.now c.requires
 
 pub loop-place-preserved : goal.loop-place-preserved
 loop-place-preserved c =

@@ -1,4 +1,4 @@
-use Rattle.std.proofs.Common.{◌-◌, refl, subst}
+use Rattle.std.proofs.Common.{rules, ◌-◌, refl, subst}
 use Rattle.std.proofs.lemmas.Option.{slice_get_read}
 use Rattle.vg_check.specs.TestsWithin.{HasActed}
 use Rattle.vg_check.proofs.checker.Checker.next_act.Goals as goal
@@ -12,7 +12,7 @@ returns-clause-right c = λ is. record {
       c.as_slice-lanes.ensures.value (c.in_ok-check_act.ensures.right (let h = c.if-not-branch.false in h));
   clients = refl;
   lanes = refl;
-  met = ?;
+  met = search rules;
   plugs = c.in_ok-keep_plug.ensures;
   control = refl;
   cursor = refl;

@@ -13,6 +13,7 @@ returns-then-is_control-clause-right c = λ is. record {
       c.as_slice-lanes.ensures.value (c.in_ok-check_command.ensures.right (let h = c.if-not-branch.false in h));
   clients = refl;
   lanes = c.put_number.ensures;
+  plugs = refl;
   control = c.saturating_add-self.ensures ∙ ap (λ b. cond b (counted_up c.args.self.now.control) c.args.self.now.control) (sym c.if-is_control.true ∙ c.is_control.ensures);
   cursor = ap (λ b. cond b c.args.self.now.cursor (counted_up c.args.self.now.cursor)) (sym c.if-is_control.true ∙ c.is_control.ensures);
 }
@@ -26,6 +27,7 @@ returns-else-is_control-clause-right c = λ is. record {
       c.as_slice-lanes.ensures.value (c.in_ok-check_command.ensures.right (let h = c.if-not-branch.false in h));
   clients = refl;
   lanes = c.put_number.ensures;
+  plugs = refl;
   control = ap (λ b. cond b (counted_up c.args.self.now.control) c.args.self.now.control) (sym c.if-is_control.false ∙ c.is_control.ensures);
   cursor = c.saturating_add-self-else-is_control.ensures ∙ ap (λ b. cond b c.args.self.now.cursor (counted_up c.args.self.now.cursor)) (sym c.if-is_control.false ∙ c.is_control.ensures);
 }
