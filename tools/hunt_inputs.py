@@ -313,9 +313,16 @@ def reader(some):
 
 
 def journal_to_read(words, some):
-    """A journal for this word. In few of the scripts anything is drawn that is shown, so for `origins` mostly pictures are made."""
+    """A journal for this word. In few of the scripts anything is drawn that is shown, so for `origins` mostly pictures are made.
+
+    Some have a host, for which no script asks, and some are told in version 1, which no run writes.
+    """
     is_picture = words == ["origins"] and some.random() < 0.7
-    return journal_of(clients.random_pictures(some.randrange(2**32)) if is_picture else a_script(some), some)
+    text = journal_of(clients.random_pictures(some.randrange(2**32)) if is_picture else a_script(some), some)
+    how = some.random()
+    if how < 0.25:
+        return judges.plugged(text, some)
+    return how < 0.35 and judges.in_version_1(text) or text
 
 
 def of_journal(some):
@@ -386,7 +393,7 @@ def wrong_journal(text, some):
     elif how < 0.9:
         entries.insert(at, entries[other])
     else:
-        line = some.choice([line for line in range(len(found)) if found[line][:1] in b"dmwrf" or line in range(end, len(found))])
+        line = some.choice([line for line in range(len(found)) if found[line][:1] in b"dmqwhrf" or line in range(end, len(found))])
         found[line] = changed_field(found[line][:-1], some) + b"\n"
     return b"".join([*found[:first], *(line + b"\n" for line in numbered(entries)), *found[end:]])
 
