@@ -136,17 +136,17 @@ module _ (laws : NumberLaws) (setup : Setup) (H : List Entry) (seen : Seen) (cli
   pub right-passes : (state : State) (lanes : List ℕ) → state ≡ replay setup H → AreInOrder [] H → ((lane : ℕ) → get_or lanes lane 0 ≡ count_by (is_of_lane lane) H)
       → IsRightly setup H entry → PassesAct state lanes seen client call act reply
   right-passes state lanes at order counts right =
-    let allowed = subst (λ h. IsAllowed h entry) (sym is.holds) right.allowed in
-    record {
-    may = record {
-      next = order-next right.order.call;
-      give_up = up-give right.order.give_up;
-      known = is-fence H lanes client call act reply order counts right.order.fence;
-      denied = allowed.0;
-      part = allowed.1;
-    };
-    replied = right.reply ∙ ap (λ (s : State). (act_step s client act).1) (sym at);
-  }
+      let allowed = subst (λ h. IsAllowed h entry) (sym is.holds) right.allowed in
+      record {
+        may = record {
+          next = order-next right.order.call;
+          give_up = up-give right.order.give_up;
+          known = is-fence H lanes client call act reply order counts right.order.fence;
+          denied = allowed.0;
+          part = allowed.1;
+        };
+        replied = right.reply ∙ ap (λ (s : State). (act_step s client act).1) (sym at);
+      }
 
 pub is-above : (seen : Seen) (call : ℕ) (act : Act) → is_next_act seen call act ≡ true → seen.numbers.top < call
 is-above seen call act next = below-test seen.numbers.top call (and_parts (nat_lt seen.numbers.top call) _ next).0

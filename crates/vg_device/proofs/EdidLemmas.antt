@@ -1,10 +1,9 @@
 -- The display of a scanout as it is plugged, and its block.
-use Rattle.std.proofs.Common.{◌≡◌, ◌==◌, ◌≤◌, ℕ, List, [], ◌∷◌, map, length, Some, None, true, false, cond, Bool, sym, ap, refl, ◌∙◌, arith}
+use Rattle.std.proofs.Common.{◌≡◌, ◌==◌, ◌≤◌, ℕ, List, [], ◌∷◌, length, Some, true, false, cond, Bool, sym, ap, ◌∙◌, arith}
 use Rattle.std.specs.List.{All}
 use Rattle.std.proofs.lemmas.List.{length-map}
 use Rattle.std.proofs.lemmas.List.Elements.{All-cons, All-nil}
 use Rattle.vg_edid.specs.Edid.{edid_bytes}
-use Rattle.vg_wire.specs.Modes.{Mode}
 use Rattle.vg_wire_ext.specs.declared.response.Response.TheVariants as responses
 use Rattle.vg_limits.specs.Limits.{Limits, of_queues, version_1, version_2}
 use Rattle.vg_client_holds.specs.Setup.{AreDisplays}

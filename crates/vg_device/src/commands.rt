@@ -18,10 +18,10 @@ use std::alloc::{AllocError, Global};
 use vg_edid::edid;
 use vg_formats::{MemEntry, Rect};
 use vg_scanout::Binding;
+use vg_wire::Command2d;
 use vg_wire::kinds::{
     ERR_INVALID_PARAMETER, ERR_INVALID_RESOURCE_ID, ERR_INVALID_SCANOUT_ID, ERR_UNSPEC,
 };
-use vg_wire::Command2d;
 use vg_wire_ext::{Command, Response};
 
 impl Device {

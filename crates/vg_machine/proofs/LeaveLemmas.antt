@@ -1,6 +1,6 @@
 -- What a step that isn't blocked leaves of the parts that a lent job stands on.
 use Rattle.std.proofs.Common.{◌≡◌, ◌≢◌, ℕ, ◌+◌, ◌*◌, ◌%◌, ◌==◌, ◌||◌, ◌&&◌, not, inl, inr, Bool, true, false, cond, List, [], ◌∷◌, length, drop, Option, Some, None, Result, Ok, Err, ap, sym, ◌∙◌, refl, subst}
-use Rattle.std.specs.Prelude.{is_none, is_some, ok_or, option_map, nat_lt, slice_get, if◌then◌else◌}
+use Rattle.std.specs.Prelude.{is_none, is_some, ok_or, option_map, nat_lt, if◌then◌else◌}
 use Rattle.std.specs.List.{list_any}
 use Rattle.std.specs.Ordering.{nat_cmp}
 use Rattle.std.specs.Map.{lookup, set_value}
@@ -15,15 +15,13 @@ use Rattle.vg_formats.specs.declared.format.Format.{Format}
 use Rattle.vg_pages.specs.Memory.{Memory}
 use Rattle.vg_resource.specs.declared.resource.Resource.{Resource}
 use Rattle.vg_refusals.specs.Refusals.{refusal_of}
-use Rattle.vg_resource.specs.Resource as resources
 use Rattle.vg_resource.specs.Resource.{pixel_bytes, resource_at, with_blank}
 use Rattle.vg_wire.specs.Kinds.{ERR_INVALID_CONTEXT_ID, ERR_INVALID_PARAMETER, ERR_INVALID_RESOURCE_ID, ERR_OUT_OF_MEMORY}
 use Rattle.vg_blob.specs.declared.blobs.Blob.{Blob}
 use Rattle.vg_blob.specs.Blobs as blobs
 use Rattle.vg_blob.specs.Blobs.{blob_at}
 use Rattle.vg_blob.specs.Uuids.{assign_refusals, assigned, number_for, uuid_bytes}
-use Rattle.vg_context.specs.Contexts as contexts
-use Rattle.vg_context.specs.Contexts.{Context, NAME_BYTES, changed, context_at, create_refusals, destroy_refusals, destroyed, detach_refusals, forgotten, is_live, submit_refusals, with_resource, without_resource}
+use Rattle.vg_context.specs.Contexts.{Context, NAME_BYTES, changed, context_at, create_refusals, destroy_refusals, detach_refusals, forgotten, is_live, submit_refusals, with_resource, without_resource}
 use Rattle.vg_transfer.specs.Backings.{backing_at}
 use Rattle.vg_formats.specs.declared.entry.MemEntry.{MemEntry}
 use Rattle.vg_scanout.specs.Scanout.{ScanoutState, unbound}
@@ -51,7 +49,7 @@ use Rattle.vg_wire.specs.declared.request.Malformed.{Malformed}
 use Rattle.vg_wire.specs.declared.request.Malformed.TheVariants.{ShortHeader, UnknownKind, WrongQueue, ShortBody}
 use Rattle.vg_wire_ext.specs.Commands.{command_of, is_known}
 use Rattle.vg_wire_ext.specs.Request.{is_queue_of, request_of}
-use Rattle.vg_device.specs.Step.{answer_of, attach_2d_refusals, block_of, command_step, create_2d_refusals, cursor_refusals, detach_2d_refusals, edid_refusals, flush_refusals, flushed_by, move_refusals, refused_or_ran, request_refusals, set_scanout_refusals, timeline_refusals, transfer_2d_step, two_d_step, unref_refusals, unreferenced, with_scanout, with_shown}
+use Rattle.vg_device.specs.Step.{answer_of, attach_2d_refusals, command_step, create_2d_refusals, cursor_refusals, detach_2d_refusals, edid_refusals, flush_refusals, flushed_by, move_refusals, refused_or_ran, request_refusals, set_scanout_refusals, timeline_refusals, transfer_2d_step, two_d_step, unref_refusals, unreferenced, with_scanout, with_shown}
 use Rattle.vg_device.proofs.MapLemmas.{insert_other, remove_other, set_other}
 use Rattle.vg_device.proofs.ShowingLemmas.{first-not}
 use Rattle.vg_pages.specs.Lending.{AreSameIn}

@@ -6,7 +6,6 @@ use Rattle.vg_history.specs.History as history
 use Rattle.vg_history.specs.Lists.{Has}
 use Rattle.vg_history.specs.declared.entry.Entry.TheVariants as entries
 use Rattle.vg_history.proofs.ListLemmas.{has_left, has_right}
-use Rattle.vg_client_holds.specs.declared.act.Act.{Act}
 use Rattle.vg_client_holds.specs.declared.act.Act.TheVariants as acts
 use Rattle.vg_client_holds.specs.declared.act.ActReply.{ActReply}
 use Rattle.vg_client_holds.specs.declared.holds.Holds.{Holds}

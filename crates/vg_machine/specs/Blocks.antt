@@ -1,6 +1,6 @@
 -- What the jobs that a display has lent stand in the way of: what reads or changes a resource whose pixels are away, or guest pages whose
 -- bytes are being copied, and the end of a context that a lent transfer names. All of it is our own.
-use Rattle.std.specs.Prelude.{◌==◌, ◌&&◌, ◌||◌, ℕ, Bool, false, List, [], ◌∷◌, ◌++◌, length, nat_lt, bit_and, if◌then◌else◌, Option, Some, None}
+use Rattle.std.specs.Prelude.{◌==◌, ◌&&◌, ◌||◌, ℕ, Bool, false, List, [], ◌∷◌, ◌++◌, length, nat_lt, bit_and, if◌then◌else◌}
 use Rattle.std.specs.List.{list_any}
 use Rattle.vg_formats.specs.declared.entry.MemEntry.{MemEntry}
 use Rattle.vg_pages.specs.Memory.{free_pages, is_among}

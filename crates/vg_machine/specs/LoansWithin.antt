@@ -1,8 +1,6 @@
 -- What a display remembers of the jobs that it has lent.
-use Rattle.std.specs.Prelude.{◌≡◌, ℕ, ◌==◌, Bool, List, [], ◌∷◌, Option, Some, None, if◌then◌else◌}
+use Rattle.std.specs.Prelude.{◌≡◌, ℕ, ◌==◌, Bool, List, [], ◌∷◌, Option}
 use Rattle.std.specs.List.{AllByRecursion}
-use Rattle.vg_wire.specs.Header.{header_of}
-use Rattle.vg_device.specs.declared.request.Request.{Request}
 use Rattle.vg_machine.specs.Blocks.{lent_pages}
 use Rattle.vg_pages.specs.Lending.{AreFlagged}
 use Rattle.vg_machine.specs.Jobs.{Job}

@@ -1,6 +1,6 @@
 -- What a display keeps of the jobs that it has lent.
-use Rattle.std.specs.Prelude.{◌≡◌, ◌≢◌, ◌*◌, ◌<◌, ℕ, false, true, List, length, drop, Option, Some, None}
-use Rattle.std.specs.List.{All, AllPairs}
+use Rattle.std.specs.Prelude.{◌≡◌, ◌≢◌, ℕ, false, true, List, drop, Some, None}
+use Rattle.std.specs.List.{All}
 use Rattle.vg_pages.specs.Memory.{Memory, is_among}
 use Rattle.vg_refusals.specs.Refusals.{refusal_of}
 use Rattle.vg_resource.specs.declared.resource.Resource.{Resource}

@@ -16,7 +16,8 @@ pub use lane::lane_of;
 pub use laws::{plugs_stay, syncs_stand_behind_the_host};
 pub use machine::{Entry, History};
 pub use vg_client_holds::{
-    Act, ActReply, Buffers, Holds, Setup, What, denied, denied_command, holds_only_grow, is_part, parties,
+    Act, ActReply, Buffers, Holds, Setup, What, denied, denied_command, holds_only_grow, is_part,
+    parties,
 };
 pub use vg_device::{Device, Reply, Request};
 pub use vg_resource::Resource;

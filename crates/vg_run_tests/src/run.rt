@@ -124,7 +124,7 @@ fn is_due(row: &Row, ended: Status, written: &[u8], whole: &[u8]) -> bool {
 #[test]
 fn faults_leave_a_front(rt: HostRuntime) -> Result<(), Fail> {
     let (_, whole) = ran(&rt, rt.alloc(), SCRIPT, &WHOLE)?;
-    assert!(rt; whole.as_slice().starts_with(b"vgpu-journal 1\n"));
+    assert!(rt; whole.as_slice().starts_with(b"vgpu-journal 2\n"));
     for row in &RUNS {
         let (status, written) = ran(&rt, rt.alloc(), SCRIPT, row)?;
         assert!(rt;

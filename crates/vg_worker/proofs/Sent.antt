@@ -4,11 +4,6 @@ use denote.Param.Send.{IsSend, IsSync, sendable, recorded_send, struct_send}
 use denote.Struct.Declared.{shape}
 use denote.Ref.{NamedLft}
 use Rattle.std.proofs.Crossing.{crosses}
-use Rattle.vg_list.specs.contracts.seq.Seq as seq
-use Rattle.vg_scanout.specs.contracts.panel.Panel as panel
-use Rattle.vg_scanout.specs.contracts.scanout.Frame as frame
-use Rattle.vg_scanout.specs.contracts.scanout.Scanouts as scanouts
-use Rattle.vg_scanout.specs.contracts.scanout.Scanouts.TheInside as scanouts_in
 use Rattle.vg_book.specs.contracts.outcome.Carried as carried
 use Rattle.vg_book.specs.contracts.lane.LaneToken as lane
 use Rattle.vg_book.specs.contracts.book.Book as book
@@ -23,11 +18,9 @@ use Rattle.vg_front.proofs.Sent.{front_send}
 use Rattle.vg_machine.specs.contracts.machine.DisplayMachine.TheImpl as machine
 use Rattle.vg_worker.specs.contracts.worker.Worker as worker
 use Rattle.vg_machine.specs.contracts.display.Display as display
-use Rattle.vg_machine.specs.contracts.display.Display.TheInside as display_in
 use Rattle.vg_machine.specs.contracts.job.Job as job
 use Rattle.vg_machine.proofs.Sent.{display_send, act_send, act_reply_send, request_send, reply_send, holds_send}
 use Rattle.vg_device.specs.contracts.device.Device as device
-use Rattle.vg_device.specs.contracts.device.Device.TheInside as device_in
 use Rattle.vg_client_holds.specs.contracts.act.Act as act
 use Rattle.vg_client_holds.specs.contracts.act.ActReply as act_reply
 use Rattle.vg_device.specs.contracts.request.Request as request

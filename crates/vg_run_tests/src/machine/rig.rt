@@ -71,6 +71,8 @@ impl Rig {
             pages: 16,
             accepted: 0x11000001f,
             clients: 2,
+            queues: (256, 64),
+            host: false,
         };
         Ok(Rig {
             alloc,

@@ -1,9 +1,9 @@
 -- The resource that is found is the one that the copy is of.
-use Rattle.std.proofs.Common.{◌≡◌, Some, None, false, refl, sym, rules}
+use Rattle.std.proofs.Common.{◌≡◌, false, refl, sym, rules}
 use Rattle.std.specs.Prelude.{is_some}
 use Rattle.vg_laws.proofs.Options.{none-there}
 use Rattle.vg_blob.specs.Blobs.{blob_at}
-use Rattle.vg_resource.specs.Resource.{resource_at, resource_of}
+use Rattle.vg_resource.specs.Resource.{resource_of}
 use Rattle.vg_device.proofs.device.Device.accepted.Goals as goal
 
 pub returns-in-None-clause-accepted : goal.returns-in-None-clause-accepted

@@ -1,5 +1,4 @@
-use Rattle.std.proofs.Common.{◌≡◌, ◌∙◌, Some, ap, arith, subst, sym}
-use Rattle.vg_wire.specs.Modes.{Mode}
+use Rattle.std.proofs.Common.{◌∙◌, ap, arith, subst, sym}
 use Rattle.vg_plugs.specs.Plugs.{FitsDisplay, mode_at}
 use Rattle.vg_plugs.proofs.PlugLemmas.{mode-within, sizes-of}
 use Rattle.vg_device.specs.State.{State}

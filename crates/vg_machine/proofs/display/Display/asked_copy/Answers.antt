@@ -2,7 +2,6 @@
 use Rattle.std.proofs.Common.{◌≡◌, rules, ◌∙◌}
 use Rattle.vg_wire_ext.specs.Request.{request_of}
 use Rattle.vg_wire_ext.specs.Named.{named_in}
-use Rattle.vg_wire_ext.specs.declared.names.Named.TheVariants as names
 use Rattle.vg_machine.proofs.DisplayLemmas.{copies-named}
 use Rattle.vg_machine.proofs.display.Display.asked_copy.Goals as goal
 

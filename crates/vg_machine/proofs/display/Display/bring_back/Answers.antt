@@ -1,5 +1,5 @@
 -- The job of the lane is the one that comes back, and the others stay out.
-use Rattle.std.proofs.Common.{List, ap, refl, sym, subst, ◌∙◌, rules}
+use Rattle.std.proofs.Common.{List, ap, sym, subst, ◌∙◌, rules}
 use Rattle.std.specs.List.{AllByRecursion}
 use Rattle.vg_history.specs.Jobs.{IsBack}
 use Rattle.vg_device.specs.State.{State}

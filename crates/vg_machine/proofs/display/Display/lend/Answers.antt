@@ -1,5 +1,5 @@
 -- The new job is out, and apart from those that are.
-use Rattle.std.proofs.Common.{◌≡◌, [], false, ap, refl, sym, subst, ◌∙◌}
+use Rattle.std.proofs.Common.{◌≡◌, [], false, ap, sym, subst, ◌∙◌}
 use Rattle.std.specs.List.{AllByRecursion}
 use Rattle.vg_history.specs.Jobs.{of_lane}
 use Rattle.vg_device.specs.Copies.{AsksFor, IsAccepted}
