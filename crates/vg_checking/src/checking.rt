@@ -4,7 +4,7 @@ ghost use Rattle.std.specs.Prelude.{◌≤◌, length, IfOk, IfErr};
 ghost use Rattle.vg_journal_lines.specs.Refusals.{IsRefusedAt};
 ghost use Rattle.vg_checking.specs.Checking.{IsFound};
 ghost use Rattle.vg_checking.specs.Outlining.{IsOutlined};
-ghost use Rattle.vg_limits.specs.Limits.{version_1};
+ghost use Rattle.vg_limits.specs.Limits.{version_2};
 
 use crate::outlining::outlined;
 use std::alloc::{AllocError, Global};
@@ -23,7 +23,7 @@ pub enum Checked {
 /// What is found of the journal that these bytes are, or the line, counted from 1, at which they are none. A frame's pixels are one
 /// line. It fails only for want of memory.
 pub fn check(alloc: Global, bytes: &[u8]) -> Result<Result<Checked, u32>, AllocError>
-    requires { length bytes.now ≤ version_1.journal }
+    requires { length bytes.now ≤ version_2.journal }
     ensures found { IfOk result (λ read. IfOk read (IsFound bytes.now)) }
     ensures refused { IfOk result (λ read. IfErr read (IsRefusedAt bytes.now)) }
 {

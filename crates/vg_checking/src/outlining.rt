@@ -3,7 +3,7 @@
 ghost use Rattle.std.specs.Prelude.{◌≡◌, ◌≤◌, length, IfOk, IfErr};
 ghost use Rattle.vg_journal_lines.specs.Refusals.{IsRefusedAt};
 ghost use Rattle.vg_checking.specs.Outlining.{IsOutlined, outline_of};
-ghost use Rattle.vg_limits.specs.Limits.{version_1};
+ghost use Rattle.vg_limits.specs.Limits.{version_2};
 
 use std::alloc::{AllocError, Global};
 use vg_journal_lines::State;
@@ -15,7 +15,7 @@ use vg_machine::Setup;
 /// none. A frame's pixels are one line. It fails only for want of memory.
 #[tactic(auto, using(crate::proofs::OutlineLemmas::is_outlined))]
 pub fn outlined(alloc: Global, bytes: &[u8]) -> Result<Result<Outline, u32>, AllocError>
-    requires { length bytes.now ≤ version_1.journal }
+    requires { length bytes.now ≤ version_2.journal }
     ensures ok { IfOk result (λ read. IfOk read (IsOutlined bytes.now)) }
     ensures err { IfOk result (λ read. IfErr read (IsRefusedAt bytes.now)) }
 {
@@ -34,10 +34,12 @@ fn outline_of(scanned: Scanned) -> Outline
         frames_at,
     } = scanned;
     let State {
+        version,
         displays,
         pages,
         left_out,
         clients,
+        host,
         entries,
         control,
         cursor,
@@ -50,6 +52,8 @@ fn outline_of(scanned: Scanned) -> Outline
             pages,
             accepted: accepted_by_lines(left_out),
             clients,
+            queues: version.queues(),
+            host,
         },
         entries,
         control,

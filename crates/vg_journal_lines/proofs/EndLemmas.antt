@@ -217,14 +217,14 @@ end_pixels state head left count bytes small few =
 abbrev Zero : State → Type 0
 Zero state = (state.frames ≡ 0) × (state.bytes ≡ 0)
 
--- Before entries.
-abbrev Fresh : State → Type 0
-Fresh state = (state.frames ≡ 0) × (state.bytes ≡ 0) × (state.entries ≡ 0)
+-- Before the host and the entries.
+abbrev pub Fresh : State → Type 0
+Fresh state = (state.frames ≡ 0) × (state.bytes ≡ 0) × (state.entries ≡ 0) × (state.host ≡ false)
 
 abbrev pub Fits : Stage → State → Type 0
 Fits stages.Title state = state ≡ start
 Fits stages.Displays state = Fresh state
-Fits stages.Queues state = Fresh state
+Fits stages.Queues state = (state.frames ≡ 0) × (state.bytes ≡ 0) × (state.entries ≡ 0) × (state.host ≡ false) × (state.version ≡ Two)
 Fits stages.Features state = Fresh state
 Fits stages.Host state = Fresh state
 Fits stages.Entries state = Zero state
@@ -267,11 +267,11 @@ fit state few fits = record { few = few; fits = fits }
 title_fits : (state : State) (words : List (List ℕ)) (next : Next) → AreFew state → state ≡ start → title_step state words ≡ Some next → NextFits next
 title_fits state words next counted fits is =
     let m = map_parts (with_version state) (title_of words) next is in
-    subst NextFits m.2 (fit (with_version state m.0).0 counted (ap (λ (s : State). s.frames) fits, ap (λ (s : State). s.bytes) fits, ap (λ (s : State). s.entries) fits))
+    subst NextFits m.2 (fit (with_version state m.0).0 counted (ap (λ (s : State). s.frames) fits, ap (λ (s : State). s.bytes) fits, ap (λ (s : State). s.entries) fits, ap (λ (s : State). s.host) fits))
 
-pages_fit : (version : Version) (state : State) (pages : ℕ) → AreFew state → Fresh state → IsFit (at_pages version state pages)
-pages_fit One state pages counted fits = record { few = counted; fits = fits }
-pages_fit Two state pages counted fits = record { few = counted; fits = fits }
+pages_fit : (version : Version) (state : State) (pages : ℕ) → state.version ≡ version → AreFew state → Fresh state → IsFit (at_pages version state pages)
+pages_fit One state pages same counted fits = record { few = counted; fits = fits }
+pages_fit Two state pages same counted fits = record { few = counted; fits = (fits.0, fits.1, fits.2, fits.3, same) }
 
 displays_fit : (state : State) (words : List (List ℕ)) (next : Next) → AreFew state → state.stage ≡ stages.Displays → Fresh state
     → (display_step state words ≡ Some next) ⊎ (memory_step state words ≡ Some next) → NextFits next
@@ -283,13 +283,13 @@ displays_fit state words next counted at fits (inl is) =
 displays_fit state words next counted at fits (inr is) =
     let told = passes (nat_lt 0 (length state.displays)) (option_map (with_pages state) (memory_of words)) next is in
     let m = map_parts (with_pages state) (memory_of words) next told.1 in
-    subst NextFits m.2 (pages_fit state.version state m.0 counted fits)
+    subst NextFits m.2 (pages_fit state.version state m.0 refl counted fits)
 
-queues_fit : (state : State) (words : List (List ℕ)) (next : Next) → AreFew state → Fresh state → queues_step state words ≡ Some next → NextFits next
+queues_fit : (state : State) (words : List (List ℕ)) (next : Next) → AreFew state → Fits stages.Queues state → queues_step state words ≡ Some next → NextFits next
 queues_fit state words next counted fits is =
     let after : State = record state { stage = stages.Features } in
     let told = passes (is_queues words) (Some (after, Nothing)) next is in
-    subst NextFits (some_is (after, Nothing) next told.1) (fit after counted fits)
+    subst NextFits (some_is (after, Nothing) next told.1) (fit after counted (fits.0, fits.1, fits.2, fits.3))
 
 clients_fit : (version : Version) (state : State) (clients : ℕ) → IsCount state.entries → clients ≤ version_2.clients → Fresh state → IsFit (at_clients version state clients)
 clients_fit One state clients counted few fits = record { few = (counted, few); fits = (fits.0, fits.1) }

@@ -14,7 +14,7 @@ use crate::head::{
 use crate::state::{LeftOut, Stage, State};
 use std::alloc::{AllocError, Global};
 use vg_formats::pixel_bytes;
-use vg_machine::Entry;
+use vg_machine::{Entry, parties};
 
 /// What a line gives beside what is known then.
 #[derive(Drop)]
@@ -262,8 +262,8 @@ fn take_entry_or_rings(
     if take_rings(state, words) {
         return Ok(Some(Given::Nothing));
     }
-    let parties = state.clients + u32::from(state.host);
-    let Some(entry) = read_entry(alloc, state.entries + 1, parties, words)? else {
+    let clients = parties(state.clients, state.host);
+    let Some(entry) = read_entry(alloc, state.entries + 1, clients, words)? else {
         return Ok(None);
     };
     state.stage = Stage::Entries;

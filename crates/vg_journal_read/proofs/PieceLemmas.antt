@@ -52,7 +52,9 @@ one_line bytes place is = (cut_text bytes place is.0.high (eqb-true (get_or byte
 may_be : (stage : Stage) (state : State) (piece : List ℕ) (next : Next) → piece_step stage state piece ≡ Some next → MayBe (head_at stage) piece
 may_be stages.Title state piece next is = cut_piece stages.Title state piece next is
 may_be stages.Displays state piece next is = cut_piece stages.Displays state piece next is
+may_be stages.Queues state piece next is = cut_piece stages.Queues state piece next is
 may_be stages.Features state piece next is = cut_piece stages.Features state piece next is
+may_be stages.Host state piece next is = cut_piece stages.Host state piece next is
 may_be stages.Entries state piece next is = cut_piece stages.Entries state piece next is
 may_be stages.Frames state piece next is = cut_piece stages.Frames state piece next is
 may_be (stages.Frame left) state piece next is = cut_piece (stages.Frame left) state piece next is

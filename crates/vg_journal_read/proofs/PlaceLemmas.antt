@@ -3,7 +3,7 @@ use Rattle.std.proofs.Common.{◌≡◌, inl, inr, ℕ, ◌+◌, ◌*◌, ◌≤
 use Rattle.std.proofs.lemmas.Bool.{and_parts, and_from, cases_lt, eqb-true, eq-eqb, false≢true}
 use Rattle.std.proofs.lemmas.List.{take-append-le, take_all}
 use Rattle.vg_journal_lines.specs.Pieces.{whole}
-use Rattle.vg_journal_read.proofs.SizeLemmas.{ByEnd, ByEntry, ByFrame, ByHead, ByStage, Grew}
+use Rattle.vg_journal_read.proofs.SizeLemmas.{ByEnd, ByEntry, ByFrame, ByHead, ByHost, ByStage, Grew}
 
 -- What is so of the pieces that were read, and of the places that are kept.
 pub record Places (h e f r : ℕ) (front : List (List ℕ)) (entries_at frames_at : ℕ) : Type 0 where
@@ -24,6 +24,7 @@ module _ (h e f r h' e' f' r' : ℕ) where
   was_no_end : Grew h e f r h' e' f' r' → r ≤ 6
   was_no_end (ByHead a b c d g) = omega arith
   was_no_end (ByStage a b c d g) = omega arith
+  was_no_end (ByHost a b c d g k) = omega arith
   was_no_end (ByEntry a b c d g) = omega arith
   was_no_end (ByFrame a b c d g) = omega arith
   was_no_end (ByEnd a b c d g) = omega arith
@@ -31,6 +32,7 @@ module _ (h e f r h' e' f' r' : ℕ) where
   count_more : Grew h e f r h' e' f' r' → r' ≤ 6 → h' + e' + 2 * f' + r' ≡ h + e + 2 * f + r + 1
   count_more (ByHead a b c d g) on = omega arith
   count_more (ByStage a b c d g) on = omega arith
+  count_more (ByHost a b c d g k) on = omega arith
   count_more (ByEntry a b c d g) on = omega arith
   count_more (ByFrame a b c d g) on = omega arith
   count_more (ByEnd a b c d g) on = absurd (omega arith)
@@ -38,6 +40,7 @@ module _ (h e f r h' e' f' r' : ℕ) where
   entries_none : Grew h e f r h' e' f' r' → (r ≤ 2 → e ≡ 0) → r' ≤ 2 → e' ≡ 0
   entries_none (ByHead a b c d g) none few = omega arith
   entries_none (ByStage a b c d g) none few = omega arith
+  entries_none (ByHost a b c d g k) none few = absurd (omega arith)
   entries_none (ByEntry a b c d g) none few = absurd (omega arith)
   entries_none (ByFrame a b c d g) none few = absurd (omega arith)
   entries_none (ByEnd a b c d g) none few = absurd (omega arith)
@@ -45,6 +48,7 @@ module _ (h e f r h' e' f' r' : ℕ) where
   frames_none : Grew h e f r h' e' f' r' → (r ≤ 4 → f ≡ 0) → r' ≤ 4 → f' ≡ 0
   frames_none (ByHead a b c d g) none few = omega arith
   frames_none (ByStage a b c d g) none few = omega arith
+  frames_none (ByHost a b c d g k) none few = omega arith
   frames_none (ByEntry a b c d g) none few = omega arith
   frames_none (ByFrame a b c d g) none few = absurd (omega arith)
   frames_none (ByEnd a b c d g) none few = absurd (omega arith)
@@ -57,6 +61,7 @@ module _ (h e f r h' e' f' r' : ℕ) where
         | inl less ↦ absurd (not_both r' 3 e' 0 other (omega arith) (omega (arith, none)))
         | inr more ↦ (more, b)
       ]
+  entries_kept (ByHost a b c d g k) none behind other = absurd (not_both r' 3 e' 0 other k d)
   entries_kept (ByEntry a b c d g) none behind other = (omega arith, b)
   entries_kept (ByFrame a b c d g) none behind other = (omega arith, b)
   entries_kept (ByEnd a b c d g) none behind other = (omega arith, b)
@@ -69,6 +74,7 @@ module _ (h e f r h' e' f' r' : ℕ) where
         | inl less ↦ absurd (not_both r' 5 f' 0 other (omega arith) (omega (arith, none)))
         | inr more ↦ (more, b, c)
       ]
+  frames_kept (ByHost a b c d g k) none behind other = absurd (omega arith)
   frames_kept (ByEntry a b c d g) none behind other = absurd (omega arith)
   frames_kept (ByFrame a b c d g) none behind other = (omega arith, b, c)
   frames_kept (ByEnd a b c d g) none behind other = (omega arith, b, c)

@@ -9,6 +9,8 @@ use Rattle.vg_journal_lines.specs.declared.state.State.{State}
 use Rattle.vg_journal_lines.specs.States.{Item, start}
 use Rattle.vg_journal_lines.specs.Pieces.{IsReadAs, JournalInRange, done_of, entries_in, frames_in}
 use Rattle.vg_journal_lines.specs.Refusals.{IsJournal, IsRefusedAt}
+use Rattle.vg_journal_lines.specs.Versions.{queues_of}
+use Rattle.vg_journal_lines.proofs.HeadLaws.{queues_told}
 use Rattle.vg_journal_lines.proofs.StepLemmas.{accepted_told}
 use Rattle.vg_journal_lines.proofs.RunLaws.{entries_append, frames_append}
 use Rattle.vg_journal_read.specs.declared.pieces.Part.{Part}
@@ -51,8 +53,9 @@ read_is bytes state pieces rest es fs r journal is read =
     let entries : es ≡ journal.entries = sym r.entries_are ∙ ap (λ (a : State × List Item). entries_in a.1) same ∙ read.entries in
     let frames : fs ≡ journal.frames = sym r.frames_are ∙ ap (λ (a : State × List Item). frames_in a.1) same ∙ read.frames in
     let accepted : accepted_by_lines state.left_out ≡ journal.setup.accepted = ap (λ (s : State). accepted_by_lines s.left_out) known ∙ accepted_told journal.setup.accepted is.in_range.setup.accepted in
+    let queues : queues_of state.version ≡ journal.setup.queues = ap (λ (s : State). queues_of s.version) known ∙ queues_told journal.setup.queues is.in_range.setup.queues in
     let whole : journal_of state es fs ≡ journal = λ i. record {
-      setup = record { displays = (known i).displays; pages = (known i).pages; accepted = accepted i; clients = (known i).clients };
+      setup = record { displays = (known i).displays; pages = (known i).pages; accepted = accepted i; clients = (known i).clients; queues = queues i; host = (known i).host };
       entries = entries i;
       control = (known i).control;
       cursor = (known i).cursor;

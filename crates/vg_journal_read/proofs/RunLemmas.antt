@@ -79,7 +79,9 @@ bytes_below bytes fit = λ k d within. let small = fit k in subst (λ n. n < 256
 over_stage : (stage : Stage) → rank stage ≡ 7 → stage ≡ stages.Done
 over_stage stages.Title is = absurd (omega (arith, is))
 over_stage stages.Displays is = absurd (omega (arith, is))
+over_stage stages.Queues is = absurd (omega (arith, is))
 over_stage stages.Features is = absurd (omega (arith, is))
+over_stage stages.Host is = absurd (omega (arith, is))
 over_stage stages.Entries is = absurd (omega (arith, is))
 over_stage stages.Frames is = absurd (omega (arith, is))
 over_stage (stages.Frame left) is = absurd (omega (arith, is))

@@ -7,16 +7,20 @@ use Rattle.vg_client_holds.specs.declared.setup.Setup.{Setup}
 use Rattle.vg_journal.specs.declared.journal.Journal.{Journal}
 use Rattle.vg_journal_lines.specs.declared.state.State.{State}
 use Rattle.vg_journal.specs.Text.{text_of}
+use Rattle.vg_journal_lines.specs.declared.head.Version.{Version}
+use Rattle.vg_journal_lines.specs.declared.head.Version.TheVariants.{One, Two}
+use Rattle.vg_journal_lines.specs.Versions.{version_of}
 use Rattle.vg_journal_lines.specs.declared.head.Feature.{Feature}
 use Rattle.vg_journal_lines.specs.declared.head.Feature.TheVariants.{Edid, Uuid, Blob, Context}
 use Rattle.vg_journal_lines.specs.Words.{clients_words, end_words, joined, memory_words, title_words, without_words}
 use Rattle.vg_journal_lines.specs.States.{Item, run, start}
-use Rattle.vg_journal_lines.specs.Pieces.{IsReadAs, JournalInRange, count_pieces, display_pieces, done_of, entry_pieces, frame_pieces, head_pieces, left_out_of, numbered_pieces, pieces_of, whole, without_piece, without_pieces}
+use Rattle.vg_journal_lines.specs.Pieces.{IsReadAs, JournalInRange, count_pieces, display_pieces, done_of, entry_pieces, frame_pieces, head_pieces, host_pieces, left_out_of, numbered_pieces, pieces_of, queues_pieces, whole, without_piece, without_pieces}
 use Rattle.vg_journal_lines.specs.Refusals.{IsJournal}
 use Rattle.vg_journal_lines.proofs.TextLemmas.{whole_append}
+use Rattle.vg_journal_lines.proofs.EndLemmas.{run_fits, start_fits}
 use Rattle.vg_journal_read.specs.Scans.{IsScanned, StandsAt}
 use Rattle.vg_journal_read.specs.ScansWithin.{Passed, is_at_entries, is_at_frames, rank}
-use Rattle.vg_journal_read.proofs.SizeLemmas.{as_one, heads, outs, step_grows}
+use Rattle.vg_journal_read.proofs.SizeLemmas.{as_one, as_two, heads, outs, step_grows}
 use Rattle.vg_journal_read.proofs.PlaceLemmas.{Places, places_more}
 use Rattle.vg_journal_read.proofs.RunLemmas.{IsAt, at_more, at_start, place_is, read_whole}
 
@@ -45,7 +49,7 @@ scanning_more bytes old new pieces rest after entries_at frames_at s p =
       at = at;
       places =
           places_more (heads old) old.entries old.frames (rank old.stage) (heads new) new.entries new.frames (rank new.stage) s.at.front p.piece (length bytes - length after) entries_at frames_at
-          (step_grows old.stage old p.piece (new, p.item) refl p.step_is) s.places (place_is bytes (s.at.front ++ p.piece ∷ []) after at.begins);
+          (step_grows old.stage old p.piece (new, p.item) refl (run_fits s.at.front start (old, s.at.items) start_fits s.at.run_is).fits p.step_is) s.places (place_is bytes (s.at.front ++ p.piece ∷ []) after at.begins);
     }
 
 -- How many pieces the parts of a journal have.
@@ -77,13 +81,24 @@ outs_count accepted =
     four_lengths (without_piece accepted EDID Edid) (without_piece accepted RESOURCE_UUID Uuid) (without_piece accepted RESOURCE_BLOB Blob) (without_piece accepted VIRGL Context)
     ∙ (λ i. out_count accepted EDID Edid i + out_count accepted RESOURCE_UUID Uuid i + out_count accepted RESOURCE_BLOB Blob i + out_count accepted VIRGL Context i)
 
-head_count : (setup : Setup) → length (head_pieces setup) ≡ 3 + (length setup.displays + outs (left_out_of setup.accepted))
+queues_count : (version : Version) → length (queues_pieces version) ≡ as_two version
+queues_count One = refl
+queues_count Two = refl
+
+host_count : (host : Bool) → length (host_pieces host) ≡ as_one host
+host_count true = refl
+host_count false = refl
+
+head_count : (setup : Setup) → length (head_pieces setup) ≡ 3 + (length setup.displays + outs (left_out_of setup.accepted) + as_one setup.host + as_two (version_of setup.queues))
 head_count setup =
+    let version = version_of setup.queues in
     let sum =
-    five_lengths (joined title_words ∷ []) (numbered_pieces display_pieces 0 setup.displays) (joined (memory_words setup.pages) ∷ []) (without_pieces setup.accepted) (joined (clients_words setup.clients) ∷ []) in
+    five_lengths (joined (title_words version) ∷ []) (numbered_pieces display_pieces 0 setup.displays) (joined (memory_words setup.pages) ∷ queues_pieces version) (without_pieces setup.accepted) (joined (clients_words setup.clients) ∷ host_pieces setup.host) in
     let displays = numbered_ones display_pieces (λ n x. refl) 0 setup.displays in
     let without = outs_count setup.accepted in
-    omega (arith, sum, displays, without)
+    let queues = queues_count version in
+    let host = host_count setup.host in
+    omega (arith, sum, displays, without, queues, host)
 
 -- A part of a text behind so many pieces.
 stands : (bytes : List ℕ) (n at : ℕ) (front part rest pieces : List (List ℕ)) → bytes ≡ whole pieces → pieces ≡ front ++ (part ++ rest) → length front ≡ n → at ≡ length (whole (take n pieces))

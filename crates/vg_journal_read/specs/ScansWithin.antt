@@ -9,14 +9,16 @@ use Rattle.vg_journal_lines.specs.States.{Item, step}
 abbrev pub rank : Stage → ℕ
 rank stages.Title = 0
 rank stages.Displays = 1
+rank stages.Queues = 2
 rank stages.Features = 2
+rank stages.Host = 3
 rank stages.Entries = 3
 rank stages.Frames = 4
 rank (stages.Frame left) = 5
 rank (stages.Pixels head left) = 6
 rank stages.Done = 7
 
--- Just behind the clients' line.
+-- Just behind the clients' line, or behind that of the host.
 abbrev pub is_at_entries : State → Bool
 is_at_entries state = rank state.stage == 3 && state.entries == 0
 

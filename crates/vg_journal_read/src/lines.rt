@@ -19,7 +19,7 @@ use vg_journal_lines::{
 pub struct Scanned {
     /// What its lines say, but for its entries and frames.
     pub state: State,
-    /// The place behind the clients' line, where the entries begin.
+    /// The place behind the clients' line, or behind that of the host, where the entries begin.
     pub entries_at: usize,
     /// The place behind the count of frames, where the frames begin.
     pub frames_at: usize,
@@ -83,11 +83,11 @@ fn place_if(test: bool, at: usize, before: usize) -> usize
     if test { at } else { before }
 }
 
-/// Whether the clients' line was the last one.
+/// Whether the clients' line was the last one, or that of the host.
 fn is_at_entries(state: &State) -> bool
     ensures { result ≡ is_at_entries state.now }
 {
-    matches!(state.stage, Stage::Entries) && state.entries == 0
+    matches!(state.stage, Stage::Host | Stage::Entries) && state.entries == 0
 }
 
 /// Whether the count of frames was the last line.

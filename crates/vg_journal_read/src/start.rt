@@ -4,7 +4,7 @@ ghost use Rattle.std.specs.Prelude.{◌≡◌};
 ghost use Rattle.vg_journal_lines.specs.States.{start};
 
 use std::alloc::Global;
-use vg_journal_lines::{LeftOut, Stage, State};
+use vg_journal_lines::{LeftOut, Stage, State, Version};
 use vg_list::Seq;
 
 /// What is known before the first line.
@@ -13,6 +13,7 @@ pub(crate) fn start(alloc: Global) -> State
 {
     State {
         stage: Stage::Title,
+        version: Version::One,
         displays: Seq::from_vec(Vec::new(alloc)),
         pages: 0,
         left_out: LeftOut {
@@ -22,6 +23,7 @@ pub(crate) fn start(alloc: Global) -> State
             context: false,
         },
         clients: 0,
+        host: false,
         entries: 0,
         control: 0,
         cursor: 0,

@@ -108,10 +108,12 @@ fn journal_of(state: State, entries: History, frames: Vec<Frame>) -> Journal
     ensures { result ≡ journal_of state entries frames.items }
 {
     let State {
+        version,
         displays,
         pages,
         left_out,
         clients,
+        host,
         control,
         cursor,
         ..
@@ -122,6 +124,8 @@ fn journal_of(state: State, entries: History, frames: Vec<Frame>) -> Journal
             pages,
             accepted: accepted_by_lines(left_out),
             clients,
+            queues: version.queues(),
+            host,
         },
         entries,
         control,

@@ -1,5 +1,5 @@
 -- An entry's line read.
-use Rattle.std.proofs.Common.{◌≡◌, ℕ, ◌==◌, ◌≤◌, true, List, [], ◌∷◌, ◌++◌, Option, Some, ap, ◌∙◌, append_assoc}
+use Rattle.std.proofs.Common.{◌≡◌, ℕ, ◌+◌, ◌==◌, ◌≤◌, true, List, [], ◌∷◌, ◌++◌, Option, Some, ap, ◌∙◌, append_assoc}
 use Rattle.std.specs.List.{after_first, before_first}
 use Rattle.vg_machine.specs.Entries.{Entry}
 use Rattle.vg_line_words.specs.Words.{lacks, parts_at}
@@ -9,13 +9,13 @@ use Rattle.vg_journal_lines.specs.Words.{joined}
 use Rattle.vg_journal_lines.specs.Pieces.{whole}
 use Rattle.vg_judge.specs.EntriesWithin.{StandsNext}
 use Rattle.vg_judge.proofs.LineLemmas.{before_end, behind_end}
-use Rattle.vg_limits.specs.Limits.{version_1}
+use Rattle.vg_limits.specs.Limits.{version_2}
 
 -- What the law of the crate below says of an entry's line.
 pub record EntriesAreSaid : Type 0 where
-  pub parts : (n clients : ℕ) (entry : Entry) → clients ≤ version_1.clients → IsCount n → EntryInRange clients entry → parts_at 32 (joined (entry_words n entry)) ≡ entry_words n entry
-  pub line : (n clients : ℕ) (entry : Entry) → clients ≤ version_1.clients → IsCount n → EntryInRange clients entry → lacks 10 (joined (entry_words n entry)) ≡ true
-  pub back : (n clients : ℕ) (entry : Entry) → clients ≤ version_1.clients → IsCount n → EntryInRange clients entry → entry_of n clients (entry_words n entry) ≡ Some entry
+  pub parts : (n clients : ℕ) (entry : Entry) → clients ≤ version_2.clients + 1 → IsCount n → EntryInRange clients entry → parts_at 32 (joined (entry_words n entry)) ≡ entry_words n entry
+  pub line : (n clients : ℕ) (entry : Entry) → clients ≤ version_2.clients + 1 → IsCount n → EntryInRange clients entry → lacks 10 (joined (entry_words n entry)) ≡ true
+  pub back : (n clients : ℕ) (entry : Entry) → clients ≤ version_2.clients + 1 → IsCount n → EntryInRange clients entry → entry_of n clients (entry_words n entry) ≡ Some entry
 
 -- Its line is cut off and read.
 pub record IsRead (n clients : ℕ) (bytes : List ℕ) (entry : Entry) (more : List ℕ) : Type 0 where

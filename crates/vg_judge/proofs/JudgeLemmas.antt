@@ -2,6 +2,7 @@
 use Rattle.std.proofs.Common.{◌≡◌, ℕ, ◌+◌, ◌<◌, ◌≤◌, ◌-◌, ◌^◌, ◌==◌, ◌&&◌, ◌↔◌, Bool, true, IsTrue, List, [], ◌∷◌, ◌++◌, length, count_by, arith, refl, sym, ap, subst, ◌∙◌, append-nil, length-append}
 use Rattle.std.proofs.lemmas.Bool.{and_parts, eq-eqb, eqb-true}
 use Rattle.vg_history.specs.Lines.{is_on_first, is_on_second}
+use Rattle.vg_client_holds.specs.Setup.{parties}
 use Rattle.vg_machine.specs.Replay as machine
 use Rattle.vg_check.specs.Right.{HasLeftAll, frames_after}
 use Rattle.vg_machine.specs.Entries.{Entry}
@@ -60,7 +61,7 @@ four_give p q l m first second third last = rw (first, second, third, last) refl
 
 pub fits_if : (bytes : List ℕ) (journal : Journal) (outline : Outline) (control cursor : ℕ) (left met : Bool) → IsOutline bytes journal outline
     → control ≡ count_by (is_on_first machine.display) journal.entries → cursor ≡ count_by (is_on_second machine.display) journal.entries
-    → IsTrue left ↔ HasLeftAll journal.setup.clients journal.entries → IsTrue met ↔ (frames_after journal.setup journal.entries ≡ journal.frames)
+    → IsTrue left ↔ HasLeftAll (parties journal.setup.clients journal.setup.host) journal.entries → IsTrue met ↔ (frames_after journal.setup journal.entries ≡ journal.frames)
     → IsTrue ((control == outline.control) && (cursor == outline.cursor) && left && met) ↔ FitsEntries journal
 fits_if bytes journal outline control cursor left met is first second third last = (
   (λ all.

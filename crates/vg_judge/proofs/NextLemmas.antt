@@ -3,6 +3,8 @@ use Rattle.std.proofs.Common.{◌≡◌, ℕ, ◌+◌, ◌<◌, ◌≤◌, ◌^�
 use Rattle.std.proofs.lemmas.List.Elements.{All-head, All-tail}
 use Rattle.std.specs.List.{All}
 use Rattle.vg_history.specs.declared.entry.Entry.TheVariants as entries
+use Rattle.vg_client_holds.specs.Setup.{parties}
+use Rattle.vg_client_holds.proofs.SetupLemmas.{few-parties}
 use Rattle.vg_machine.specs.Entries.{Entry}
 use Rattle.vg_machine.specs.Order.{call_of, client_of}
 use Rattle.vg_journal.specs.declared.journal.Journal.{Journal}
@@ -20,7 +22,7 @@ pub record Turn (journal : Journal) (done : List Entry) (now : Entries) : Type 0
   pub behind : List ℕ
   pub place : journal.entries ≡ done ++ (entry ∷ left)
   pub one : 1 ≤ client_of entry
-  pub client : client_of entry ≤ journal.setup.clients
+  pub client : client_of entry ≤ parties journal.setup.clients journal.setup.host
   pub call : call_of entry < 2 ^ 63
   pub stands : StandsNext (now.read + 1) now.clients now.rest.now entry (whole (numbered_pieces entry_pieces (length done + 1 + 1) left) ++ behind)
 
@@ -44,13 +46,13 @@ turn_of journal done now [] next is =
 turn_of journal done now (entry ∷ left) next is =
     let read = next.read in
     let place : journal.entries ≡ done ++ (entry ∷ left) = read.place ∙ ap (λ l. done ++ l) is in
-    let all = subst (All (EntryInRange journal.setup.clients)) place next.in_range.entries in
-    let range = All-head (EntryInRange journal.setup.clients) entry left (all_behind (EntryInRange journal.setup.clients) done (entry ∷ left) all) in
-    let client = has_client journal.setup.clients entry range in
+    let all = subst (All (EntryInRange (parties journal.setup.clients journal.setup.host))) place next.in_range.entries in
+    let range = All-head (EntryInRange (parties journal.setup.clients journal.setup.host)) entry left (all_behind (EntryInRange (parties journal.setup.clients journal.setup.host)) done (entry ∷ left) all) in
+    let client = has_client (parties journal.setup.clients journal.setup.host) entry range in
     let size = ap length place in
     let sum = length-append done (entry ∷ left) in
     let few = next.few in
-    let clients = next.in_range.setup.clients in
+    let clients = few-parties journal.setup next.in_range.setup in
     let same = read.clients in
     let count = read.count in
     record {
@@ -85,7 +87,7 @@ has_gone journal done now new entry next t is clients count rest =
       left = t.left;
       place = place;
       one = subst (λ e. 1 ≤ client_of e) (sym is) t.one;
-      client = subst (λ e. client_of e ≤ journal.setup.clients) (sym is) t.client;
+      client = subst (λ e. client_of e ≤ parties journal.setup.clients journal.setup.host) (sym is) t.client;
       call = subst (λ e. call_of e < 2 ^ 63) (sym is) t.call;
       read = record {
         left = t.left;

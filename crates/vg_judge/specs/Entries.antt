@@ -1,5 +1,6 @@
 -- How far the entries of a journal were read from its text.
 use Rattle.std.specs.Prelude.{◌≡◌, ◌<◌, ◌≤◌, ◌+◌, ◌-◌, ◌^◌, ℕ, List, [], ◌∷◌, ◌++◌, length}
+use Rattle.vg_client_holds.specs.Setup.{parties}
 use Rattle.vg_machine.specs.Entries.{Entry}
 use Rattle.vg_machine.specs.Order.{call_of, client_of}
 use Rattle.vg_journal.specs.declared.journal.Journal.{Journal}
@@ -11,7 +12,7 @@ pub record AreRead (journal : Journal) (done : List Entry) (entries : Entries) :
   pub left : List Entry
   pub behind : List ℕ
   pub place : journal.entries ≡ done ++ left
-  pub clients : entries.clients ≡ journal.setup.clients
+  pub clients : entries.clients ≡ parties journal.setup.clients journal.setup.host
   pub count : entries.read ≡ length done
   pub rest : entries.rest.now ≡ whole (numbered_pieces entry_pieces (length done + 1) left) ++ behind
 
@@ -27,6 +28,6 @@ pub record HasGone (journal : Journal) (done : List Entry) (entry : Entry) (entr
   pub left : List Entry
   pub place : journal.entries ≡ done ++ (entry ∷ left)
   pub one : 1 ≤ client_of entry
-  pub client : client_of entry ≤ journal.setup.clients
+  pub client : client_of entry ≤ parties journal.setup.clients journal.setup.host
   pub call : call_of entry < 2 ^ 63
   pub read : AreRead journal (done ++ entry ∷ []) entries

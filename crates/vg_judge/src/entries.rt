@@ -12,13 +12,13 @@ use crate::verdicts::Outline;
 use std::alloc::{AllocError, Global};
 use vg_journal_lines::{entries_and_their_words, read_entry};
 use vg_line_words::put_parts;
-use vg_machine::Entry;
+use vg_machine::{Entry, parties};
 use vg_script_words::cut;
 
 /// How far the entries of a journal were read from its text. Nothing is kept of those that were.
 #[derive(Drop)]
 pub struct Entries<'a> {
-    /// How many clients there are.
+    /// How many clients there are, the host among them.
     clients: u32,
     /// How many entries were read.
     read: u64,
@@ -35,7 +35,7 @@ impl<'a> Entries<'a> {
         ensures { (journal : Journal) → JournalInRange journal → IsOutline bytes.now journal outline.now → AreRead journal [] result }
     {
         Entries {
-            clients: outline.setup.clients,
+            clients: parties(outline.setup.clients, outline.setup.host),
             read: 0,
             rest: &bytes[outline.entries_at..],
             words: Vec::new(alloc),

@@ -3,6 +3,8 @@ use Rattle.std.proofs.Common.{◌≡◌, ℕ, ◌+◌, ◌-◌, ◌^◌, ◌<◌
 use Rattle.std.specs.List.{All}
 use Rattle.std.proofs.lemmas.List.Elements.{All-weaker}
 use Rattle.vg_history.specs.declared.entry.Entry.TheVariants as entries
+use Rattle.vg_client_holds.specs.Setup.{parties}
+use Rattle.vg_client_holds.proofs.SetupLemmas.{few-parties}
 use Rattle.vg_machine.specs.Entries.{Entry}
 use Rattle.vg_machine.specs.Order.{client_of}
 use Rattle.vg_check.specs.Right.{frames_after}
@@ -32,7 +34,7 @@ has_next journal n now drawn in_range few more t =
 pub is_of_few : (journal : Journal) (done : List Entry) (entry : Entry) (new : Entries) → JournalInRange journal → HasGone journal done entry new → IsOfFew entry
 is_of_few journal done entry new in_range gone =
     let client = gone.client in
-    let clients = in_range.setup.clients in
+    let clients = few-parties journal.setup in_range.setup in
     (gone.one, omega (arith, client, clients))
 
 pub goes_on : (journal : Journal) (n : ℕ) (now new : Entries) (drawn drawn' : Drawn) (entry : Entry) → (t : AreTraced journal n now drawn) → HasGone journal t.done entry new → GoesOver drawn entry drawn' → AreTraced journal (n + 1) new drawn'
@@ -80,7 +82,7 @@ are_clients journal sets in_range legal law have =
       count = same.0;
       clients = λ n client frame is.
           let of : has_client (union_below ((painting words journal.setup journal.entries).frames n) (length frame.pixels)) client ≡ true ↔ AreTagsBelow journal.entries client ((painting tags journal.setup journal.entries).frames n) (length frame.pixels) =
-          law n (length frame.pixels) client (numbered journal.setup.clients journal.entries in_range.entries) in
+          law n (length frame.pixels) client (numbered (parties journal.setup.clients journal.setup.host) journal.entries in_range.entries) in
           subst (λ word. has_client word client ≡ true ↔ AreTagsBelow journal.entries client ((painting tags journal.setup journal.entries).frames n) (length frame.pixels)) (sym (same.1 n frame is)) of;
     }
 

@@ -4,7 +4,7 @@ ghost use Rattle.std.specs.Prelude.{◌≤◌, length, IfOk, IfErr};
 ghost use Rattle.vg_journal_lines.specs.Refusals.{IsRefusedAt};
 ghost use Rattle.vg_checking.specs.Outlining.{IsOutlined};
 ghost use Rattle.vg_tracing.specs.Origins.{AreOrigins};
-ghost use Rattle.vg_limits.specs.Limits.{version_1};
+ghost use Rattle.vg_limits.specs.Limits.{version_2};
 
 use crate::tracing::traced;
 use std::alloc::{AllocError, Global};
@@ -24,7 +24,7 @@ pub enum Found {
 /// Whose bytes each frame has of the journal that these bytes are, or the line, counted from 1, at which they are none. A frame's pixels
 /// are one line. It fails only for want of memory.
 pub fn origins(alloc: Global, bytes: &[u8]) -> Result<Result<Found, u32>, AllocError>
-    requires { length bytes.now ≤ version_1.journal }
+    requires { length bytes.now ≤ version_2.journal }
     ensures found { IfOk result (λ read. IfOk read (AreOrigins bytes.now)) }
     ensures refused { IfOk result (λ read. IfErr read (IsRefusedAt bytes.now)) }
 {
