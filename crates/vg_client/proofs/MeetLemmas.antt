@@ -1,5 +1,5 @@
 -- A client that has met a note.
-use Rattle.std.proofs.Common.{◌≡◌, ◌≤◌, sym, ap, subst, arith, ℕ, List, length, Option}
+use Rattle.std.proofs.Common.{◌∙◌, ◌≡◌, ◌≤◌, sym, ap, subst, arith, ℕ, List, length, Option}
 use Rattle.vg_book.specs.Places.{IsCurrent}
 use Rattle.vg_book.specs.Tokens.{Watched}
 use Rattle.vg_names.specs.Names.{NamesState}

@@ -25,5 +25,5 @@ pub make_act-requires-clause-may : goal.make_act-requires-clause-may
 make_act-requires-clause-may g c =
     let token = c.args.client.now.token in
     let told : IfSome (Some c.in-Some.what) (Deniable token.account.holds) =
-    subst (λ (o : Option What). IfSome o (Deniable token.account.holds)) c.in-Some.is (subst (λ (h : Holds). IfSome _ (Deniable h)) c.holds.ensures c.in_ok-what.ensures.deniable) in
+    subst (λ (o : Option What). IfSome o (Deniable token.account.holds)) c.in-Some.is (subst (λ (h : Holds). IfSome c.in_ok-what.field-0 (Deniable h)) c.holds.ensures c.in_ok-what.ensures.deniable) in
     may-deny token c.in-Some.what c.requires.active c.requires.guest told
