@@ -270,6 +270,6 @@ of_acts =
           (kept.free s client key none was.share) was;
       take = λ s client scanout none was. of-now s s.memory _ (stays-else s s.share.exports (slice_set s.share.leases scanout (Some client)) s.share.clients was) (kept.take s client scanout none was.share) was;
       drop = λ s client scanout none was. of-now s s.memory _ (stays-else s s.share.exports (slice_set s.share.leases scanout None) s.share.clients was) (kept.drop s client scanout none was.share) was;
-      plug = λ s plugs was. record { ids = was.ids; share = was.share; of = record { live = was.of.live; backings = was.of.backings; blobs = was.of.blobs } };
+      plug = λ s plugs many was. record { ids = was.ids; share = was.share; of = record { live = was.of.live; backings = was.of.backings; blobs = was.of.blobs } };
       leave = λ s client was. of-now s s.memory _ (stays-else s s.share.exports s.share.leases (ended client (entered client s.share)).clients was) (kept.leave s client was.share) was;
     }

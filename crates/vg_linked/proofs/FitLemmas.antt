@@ -117,7 +117,7 @@ memory_moves setup = record {
     free = λ s client key none was. stands-gone setup s.memory s.share client key (has_resource s key) (may-free client key (has_resource s key) s.share none) was;
     take = λ s client scanout none was. stands-lease setup s.memory s.share scanout (Some client) was;
     drop = λ s client scanout none was. stands-lease setup s.memory s.share scanout None was;
-    plug = λ s plugs was. was;
+    plug = λ s plugs many was. was;
     leave = λ s client was. stands-share setup s.memory s.share _ (shares-else s.memory s.share s.share.leases _ was.fits) refl was;
   };
 }
@@ -225,7 +225,7 @@ held_acts = record {
   free = λ s client key none was. held-memory s _ _ (large-giving s.memory (pages_at key s.share)) was;
   take = λ s client scanout none was. held-memory s s.memory _ (large-itself s.memory) was;
   drop = λ s client scanout none was. held-memory s s.memory _ (large-itself s.memory) was;
-  plug = λ s plugs was. record { backings = was.backings; blobs = was.blobs };
+  plug = λ s plugs many was. record { backings = was.backings; blobs = was.blobs };
   leave = λ s client was. held-memory s s.memory _ (large-itself s.memory) was;
 }
 

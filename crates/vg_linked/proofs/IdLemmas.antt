@@ -218,7 +218,7 @@ ids_moves = record {
     context = λ s now was. was;
     point = λ s scanout change was. was;
   };
-  acts = acts_leave IdsOf (λ s memory share plugs was. was);
+  acts = acts_leave IdsOf (λ s memory share plugs many was. was);
 }
 
 pub ids-stand : (setup : Setup) (H : List Entry) → IdsOf (replay setup H)

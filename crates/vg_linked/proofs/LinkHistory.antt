@@ -46,7 +46,7 @@ moves_stand = record {
     free = λ s client key none was. stands-freed key s.share was;
     take = λ s client scanout none was. stands-else s.share s.share.exports _ s.share.clients was;
     drop = λ s client scanout none was. stands-else s.share s.share.exports _ s.share.clients was;
-    plug = λ s plugs was. was;
+    plug = λ s plugs many was. was;
     leave = λ s client was. stands-else s.share s.share.exports s.share.leases _ was;
   };
 }

@@ -30,6 +30,7 @@ use Rattle.vg_context.specs.Contexts.{Context}
 use Rattle.vg_scanout.specs.Scanout.{bound, unbound}
 use Rattle.vg_refusals.specs.Refusals.{refusal_of}
 use Rattle.vg_plugs.specs.Plugs.{PlugState, cleared, plugged, unplugged}
+use Rattle.vg_plugs.proofs.PlugLemmas.{length-plugged, length-unplugged}
 use Rattle.vg_share.specs.declared.share.Geometry.{Geometry}
 use Rattle.vg_share.specs.declared.share.ShareRefusal.{ShareRefusal}
 use Rattle.vg_share.specs.Cells.{repeated, stored}
@@ -207,7 +208,7 @@ pub record ActMoves (P Q : State → Type 0) : Type 0 where
       → Q (record s { memory = given_back (pages_at key s.share) s.memory; share = freed key s.share })
   pub take : (s : State) (client scanout : ℕ) → take_refusal scanout s.share ≡ None → P s → Q (record s { share = leased client scanout s.share })
   pub drop : (s : State) (client scanout : ℕ) → drop_refusal client scanout (is_in_use s scanout) s.share ≡ None → P s → Q (record s { share = unleased scanout s.share })
-  pub plug : (s : State) (plugs : PlugState) → P s → Q (record s { plugs = plugs })
+  pub plug : (s : State) (plugs : PlugState) → length plugs.modes ≡ length s.plugs.modes → P s → Q (record s { plugs = plugs })
   pub leave : (s : State) (client : ℕ) → P s → Q (record s { share = ended client (entered client s.share) })
 
 module _ (P Q : State → Type 0) (moves : ActMoves P Q) where
@@ -230,11 +231,11 @@ module _ (P Q : State → Type 0) (moves : ActMoves P Q) where
   effect-kept s client (Drop scanout) was = replied (drop_refusal client scanout (is_in_use s scanout) s.share) s _ _ was (λ none. moves.drop s client scanout none was)
   effect-kept s client (Await lane ordinal) was = moves.stay s was
   effect-kept s client (Denied what) was = moves.stay s was
-  effect-kept s client (Mode scanout width height) was = moves.plug s (plugged scanout width height s.plugs) was
-  effect-kept s client (Unplug scanout) was = moves.plug s (unplugged scanout s.plugs) was
+  effect-kept s client (Mode scanout width height) was = moves.plug s (plugged scanout width height s.plugs) (length-plugged scanout width height s.plugs) was
+  effect-kept s client (Unplug scanout) was = moves.plug s (unplugged scanout s.plugs) (length-unplugged scanout s.plugs) was
   effect-kept s client (Sync number) was = moves.stay s was
   effect-kept s client Events was = moves.stay s was
-  effect-kept s client Ack was = moves.plug s (cleared s.plugs) was
+  effect-kept s client Ack was = moves.plug s (cleared s.plugs) refl was
   effect-kept s client Leave was = moves.leave s client was
 
 -- whatever is made
@@ -309,17 +310,17 @@ commands_leave P = record {
 }
 
 -- acts change memory, the shares and what is plugged alone
-pub acts_leave : (P : State → Type 0) → ((s : State) (memory : Memory) (share : ShareState) (plugs : PlugState) → P s → P (record s { memory = memory; share = share; plugs = plugs })) → ActMoves P P
+pub acts_leave : (P : State → Type 0) → ((s : State) (memory : Memory) (share : ShareState) (plugs : PlugState) → length plugs.modes ≡ length s.plugs.modes → P s → P (record s { memory = memory; share = share; plugs = plugs })) → ActMoves P P
 acts_leave P still = record {
   stay = λ s was. was;
-  reserve = λ s client geometry none was. still s _ _ s.plugs was;
-  store = λ s client key offset bytes times none was. still s _ s.share s.plugs was;
-  export = λ s key was. still s s.memory _ s.plugs was;
-  import = λ s client token none was. still s s.memory _ s.plugs was;
-  release = λ s client key none was. still s s.memory _ s.plugs was;
-  free = λ s client key none was. still s _ _ s.plugs was;
-  take = λ s client scanout none was. still s s.memory _ s.plugs was;
-  drop = λ s client scanout none was. still s s.memory _ s.plugs was;
-  plug = λ s plugs was. still s s.memory s.share plugs was;
-  leave = λ s client was. still s s.memory _ s.plugs was;
+  reserve = λ s client geometry none was. still s _ _ s.plugs refl was;
+  store = λ s client key offset bytes times none was. still s _ s.share s.plugs refl was;
+  export = λ s key was. still s s.memory _ s.plugs refl was;
+  import = λ s client token none was. still s s.memory _ s.plugs refl was;
+  release = λ s client key none was. still s s.memory _ s.plugs refl was;
+  free = λ s client key none was. still s _ _ s.plugs refl was;
+  take = λ s client scanout none was. still s s.memory _ s.plugs refl was;
+  drop = λ s client scanout none was. still s s.memory _ s.plugs refl was;
+  plug = λ s plugs many was. still s s.memory s.share plugs many was;
+  leave = λ s client was. still s s.memory _ s.plugs refl was;
 }

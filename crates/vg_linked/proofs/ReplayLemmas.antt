@@ -11,7 +11,7 @@ use Rattle.vg_linked.proofs.FitLemmas.{entries-held, memory-stands}
 use Rattle.vg_linked.proofs.IdLemmas.{ids-stand}
 use Rattle.vg_linked.proofs.LinkHistory.{stands}
 use Rattle.vg_linked.proofs.ScreenLemmas.{bound-there, shows}
-use Rattle.vg_linked.proofs.SizeLemmas.{as-many, counts-within}
+use Rattle.vg_linked.proofs.SizeLemmas.{as-many, as-plugged, counts-within}
 
 consistent : (setup : Setup) (H : List Entry) → IsSetup setup → IsConsistent (replay setup H)
 consistent setup H is =
@@ -34,6 +34,7 @@ consistent setup H is =
       exports = omega (arith, counts.exports_are);
       given = omega (arith, counts.given_are);
       cursors = many.cursors_are ∙ displays;
+      plugs = as-plugged setup H ∙ displays;
     }
 
 pub replayed : (setup : Setup) (H : List Entry) → IsSetup setup → IsReplayed setup (replay setup H)

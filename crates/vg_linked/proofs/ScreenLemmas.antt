@@ -164,7 +164,7 @@ shows_moves = record {
     context = λ s now was. was;
     point = λ s scanout change was. was;
   };
-  acts = acts_leave ShowsOf (λ s memory share plugs was. was);
+  acts = acts_leave ShowsOf (λ s memory share plugs many was. was);
 }
 
 pub shows : (setup : Setup) (H : List Entry) → ShowsOf (replay setup H)

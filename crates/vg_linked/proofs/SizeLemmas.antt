@@ -53,12 +53,42 @@ many_moves setup = record {
       cursors_are = length-set s.cursors scanout (change (cursor_of s.cursors scanout)) ∙ was.cursors_are;
     };
   };
-  acts = acts_leave (ManyOf setup) (λ s memory share plugs was. was);
+  acts = acts_leave (ManyOf setup) (λ s memory share plugs many was. was);
 }
 
 pub as-many : (setup : Setup) (H : List Entry) → ManyOf setup (replay setup H)
 as-many setup H = replay-kept (ManyOf setup) (ManyOf setup) (many_moves setup) (start setup) H
     (record { setup_is = refl; screens_are = length-replicate (length setup.displays) None; cursors_are = length-replicate (length setup.displays) unset })
+
+-- ---- the modes of displays
+
+abbrev PlugsOf : Setup → State → Type 0
+PlugsOf setup s = length s.plugs.modes ≡ length setup.displays
+
+plug_moves : (setup : Setup) → AllMoves (PlugsOf setup) (PlugsOf setup)
+plug_moves setup = record {
+  count = λ s was. was;
+  commands = record {
+    stay = λ s was. was;
+    create = λ s id format width height known none made was. was;
+    unref = λ s id was. was;
+    bind = λ s rect scanout id resource none some is was. was;
+    bind_blob = λ s rect scanout id layout format none some is was. was;
+    unbind = λ s scanout was. was;
+    flush = λ s rect id was. was;
+    receive = λ s rect offset id resource none is was. was;
+    attach = λ s id ranges none made was. was;
+    detach = λ s id was. was;
+    assign = λ s id was. was;
+    create_blob = λ s id mem flags size ranges none made given was. was;
+    context = λ s now was. was;
+    point = λ s scanout change was. was;
+  };
+  acts = acts_leave (PlugsOf setup) (λ s memory share plugs many was. many ∙ was);
+}
+
+pub as-plugged : (setup : Setup) (H : List Entry) → PlugsOf setup (replay setup H)
+as-plugged setup H = replay-kept (PlugsOf setup) (PlugsOf setup) (plug_moves setup) (start setup) H (length-map _ _)
 
 -- ---- keys, tokens and UUIDs are no more than entries
 
@@ -120,7 +150,7 @@ within_moves = record {
     free = λ s client key none was. still s was;
     take = λ s client scanout none was. still s was;
     drop = λ s client scanout none was. still s was;
-    plug = λ s plugs was. still s was;
+    plug = λ s plugs many was. still s was;
     leave = λ s client was. still s was;
   };
 }

@@ -144,6 +144,6 @@ keep_acts client scanout key = record {
       ap (keeps_buffer client) (freed-other at s.share key (λ same. not-both (has_resource s key) had.there (ap (has_resource s) same ∙ is.dead))) ∙ had.keeps;
   take = λ s actor at none had. had.keeps;
   drop = λ s actor at none had. had.keeps;
-  plug = λ s plugs had. had.keeps;
+  plug = λ s plugs many had. had.keeps;
   leave = λ s actor had. had.keeps;
 }
