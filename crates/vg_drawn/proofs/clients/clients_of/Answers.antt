@@ -22,3 +22,8 @@ loop-before-preserved c =
           ap (λ (v : Vec ℕ Global). v.items) w.clients-is ∙ c.loop-before.invariant ∙ sym (append-nil so_far)
           ∙ sym (all ∙ ap (λ b. so_far ++ cond b ((n + 1) ∷ []) []) (sym c.has_client.ensures ∙ w.if-has_client.false))
     ]
+
+pub returns : goal.returns
+returns c =
+    let end : c.loop-before.before ≡ 33 = omega (arith, c.loop-before-test.false, c.loop-before.auto.before-end) in
+    c.loop-before.invariant ∙ ap (λ (n : ℕ). filter (has_client c.args.set) (range_with_len 1 n)) end
