@@ -26,7 +26,7 @@ histories = toolbox.module("check-history")
 judges = toolbox.module("check-journals")
 TOP = pathlib.Path(__file__).resolve().parent.parent
 LAUNCH = TOP / "bench" / "launch.py"
-USAGE = "usage: vgpu run | run --workers N | check | gen --number N --clients C | origins"
+USAGE = "usage: vgpu run | run --workers N | check | gen --number N --clients C | origins | upgrade"
 SAID = {4: "read fault", 5: "write fault", 6: "too long", 7: "out of memory"}
 MOST_PIXELS = 134_217_728
 MADE = re.compile(rb" 01010000[0-9a-f]{56}([0-9a-f]{16})")  # the sizes in a RESOURCE_CREATE_2D
@@ -81,8 +81,8 @@ def is_number(word, least, most):
 
 
 def meant(words):
-    """What the words ask for: `run`, `check`, `origins`, `gen`, or nothing."""
-    if words in (["run"], ["check"], ["origins"]):
+    """What the words ask for: `run`, `check`, `origins`, `upgrade`, `gen`, or nothing."""
+    if words in (["run"], ["check"], ["origins"], ["upgrade"]):
         return words[0]
     if len(words) == 3 and words[:2] == ["run", "--workers"] and is_number(words[2], 1, 8):
         return "run"
@@ -109,6 +109,9 @@ def wanted_of(given):
         return Wanted(0, "", sums(int(given.words[4])))
     if given.reads_fail:
         return Wanted(4, SAID[4])
+    if word == "upgrade":
+        status, written, said = judges.upgraded(given.given)
+        return Wanted(status, said, written)
     if word in ("check", "origins"):
         status, written, said = judges.expected(given.given)
         if word == "origins" and status == 0:

@@ -5,13 +5,14 @@ use Rattle.vg_io.specs.Streams.{IsAtEnd, Takes, TakesSome}
 use Rattle.vg_checking.specs.declared.checking.Checked.TheVariants as checkeds
 use Rattle.vg_tracing.specs.declared.found.Found.TheVariants as found
 use Rattle.vg_run.specs.declared.journals.Question.{Question}
-use Rattle.vg_run.specs.declared.journals.Question.TheVariants.{Check, Origins}
+use Rattle.vg_run.specs.declared.journals.Question.TheVariants.{Check, Origins, Upgrade}
 use Rattle.vg_run.specs.declared.top.Status.{Status}
 use Rattle.vg_run.specs.declared.top.Status.TheVariants.{Done, WriteFault}
 use Rattle.vg_run.specs.declared.top.Status.TheVariants as statuses
 use Rattle.vg_run.specs.Checks.{ChecksWrong, IsCheckable, WritesLegal, WritesWrong, legal_text}
 use Rattle.vg_run.specs.Origins.{WritesOrigins}
-use Rattle.vg_run.specs.JournalsWithin.{Answers, AnswersPartly, Says, Told}
+use Rattle.vg_run.specs.Upgrade.{WritesUpgraded}
+use Rattle.vg_run.specs.JournalsWithin.{Answers, AnswersPartly, IsEndOf, Judges, Says, Told}
 
 -- whether a call is done, and which entry it ends with as wrong
 abbrev done-with : Status → Type 0
@@ -38,6 +39,9 @@ origins-done bytes text held held' fits (found.Drawn frames, (journal, is, legal
     (journal, fits, is, legal, (frames.items, are, subst (Takes held held') written takes))
 origins-done bytes text held held' fits (found.Wrong entry, found, same, written) takes = absurd (subst done-with same tt)
 
+upgrade-done : (bytes text : List ℕ) (held held' : Option (List ℕ)) → IsCheckable bytes → Says Upgrade bytes Done text → Takes held held' text → WritesUpgraded held held' bytes
+upgrade-done bytes text held held' fits ((journal, is, written), same) takes = (journal, fits, is, subst (Takes held held') written takes)
+
 says-wrong : (asked : Question) (entry : ℕ) (bytes text : List ℕ) (held held' : Option (List ℕ)) → IsCheckable bytes → Says asked bytes (statuses.Wrong entry) text
     → Takes held held' text → WritesWrong entry held held' bytes
 says-wrong Check entry bytes text held held' fits (checkeds.Wrong other, (journal, is, wrong), same, written) takes =
@@ -48,17 +52,22 @@ says-wrong Origins entry bytes text held held' fits (found.Wrong other, (journal
     let this : other ≡ entry = subst (wrong-with entry) same refl in
     subst (λ n. WritesWrong n held held' bytes) this (journal, fits, is, wrong, subst (Takes held held') written takes)
 says-wrong Origins entry bytes text held held' fits (found.Drawn frames, found, same, written) takes = absurd (subst (wrong-with entry) same refl)
+says-wrong Upgrade entry bytes text held held' fits (is, same) takes = absurd (subst (wrong-with entry) same refl)
 
 pub told_done : (asked : Question) (left left' : Option (List ℕ)) (result end : Status) (text : List ℕ) (held held' : Option (List ℕ)) (faults faults' : ℕ) → IsAtEnd left'
     → IfSome left (λ bytes. IsCheckable bytes × Says asked bytes end text) → Told result end text held held' faults faults' → result ≡ Done → Answers asked left left' held held'
 told_done Check None left' result end text held held' faults faults' at says told is = (at, says)
 told_done Origins None left' result end text held held' faults faults' at says told is = (at, says)
+told_done Upgrade None left' result end text held held' faults faults' at says told is = (at, says)
 told_done Check (Some bytes) left' result end text held held' faults faults' at (fits, says) told is =
     let all = subst (λ r. Told r end text held held' faults faults') is told in
     (at, checked-done bytes text held held' fits (subst (λ e. Says Check bytes e text) all.0 says) all.1)
 told_done Origins (Some bytes) left' result end text held held' faults faults' at (fits, says) told is =
     let all = subst (λ r. Told r end text held held' faults faults') is told in
     (at, origins-done bytes text held held' fits (subst (λ e. Says Origins bytes e text) all.0 says) all.1)
+told_done Upgrade (Some bytes) left' result end text held held' faults faults' at (fits, says) told is =
+    let all = subst (λ r. Told r end text held held' faults faults') is told in
+    (at, upgrade-done bytes text held held' fits (subst (λ e. Says Upgrade bytes e text) all.0 says) all.1)
 
 pub told_wrong : (asked : Question) (entry : ℕ) (left left' : Option (List ℕ)) (result end : Status) (text : List ℕ) (held held' : Option (List ℕ)) (faults faults' : ℕ) → IsAtEnd left'
     → IfSome left (λ bytes. IsCheckable bytes × Says asked bytes end text) → Told result end text held held' faults faults' → result ≡ statuses.Wrong entry → ChecksWrong entry left left' held held'
@@ -67,13 +76,25 @@ told_wrong asked entry (Some bytes) left' result end text held held' faults faul
     let all = subst (λ r. Told r end text held held' faults faults') is told in
     (at, says-wrong asked entry bytes text held held' fits (subst (λ e. Says asked bytes e text) all.0 says) all.1)
 
+pub told_judges : (asked : Question) (entry : ℕ) (result end : Status) (text : List ℕ) (held held' : Option (List ℕ)) (faults faults' : ℕ) → IsEndOf asked end
+    → Told result end text held held' faults faults' → result ≡ statuses.Wrong entry → Judges asked
+told_judges Check entry result end text held held' faults faults' ends told is = tt
+told_judges Origins entry result end text held held' faults faults' ends told is = tt
+told_judges Upgrade entry result end text held held' faults faults' ends told is =
+    let all = subst (λ r. Told r end text held held' faults faults') is told in
+    subst (IsEndOf Upgrade) all.0 ends
+
 pub told_partly : (asked : Question) (left left' : Option (List ℕ)) (result end : Status) (text : List ℕ) (held held' : Option (List ℕ)) (faults faults' : ℕ) → IsAtEnd left'
     → IfSome left (λ bytes. IsCheckable bytes × Says asked bytes end text) → Told result end text held held' faults faults' → result ≡ WriteFault → AnswersPartly asked left left' held held'
 told_partly Check None left' result end text held held' faults faults' at says told is = (at, says)
 told_partly Origins None left' result end text held held' faults faults' at says told is = (at, says)
+told_partly Upgrade None left' result end text held held' faults faults' at says told is = (at, says)
 told_partly Check (Some bytes) left' result end text held held' faults faults' at (fits, (checked, found, same, written)) told is =
     let all = subst (λ r. Told r end text held held' faults faults') is told in
     (at, (checked, fits, found, subst (TakesSome held held') written all.1))
 told_partly Origins (Some bytes) left' result end text held held' faults faults' at (fits, (origins, are, same, written)) told is =
     let all = subst (λ r. Told r end text held held' faults faults') is told in
     (at, (origins, fits, are, subst (TakesSome held held') written all.1))
+told_partly Upgrade (Some bytes) left' result end text held held' faults faults' at (fits, ((journal, is, written), same)) told ended =
+    let all = subst (λ r. Told r end text held held' faults faults') ended told in
+    (at, (journal, fits, is, subst (TakesSome held held') written all.1))

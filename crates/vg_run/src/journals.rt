@@ -4,13 +4,14 @@ ghost use Rattle.std.specs.Prelude.{◌≡◌, ◌≤◌, ◌+◌, ◌<◌, ℕ,
 ghost use Rattle.vg_io.specs.Streams.{GivesUpTo, IsAtEnd, Rose};
 ghost use Rattle.vg_journal_lines.specs.Refusals.{IsRefusedAt};
 ghost use Rattle.vg_run.specs.Checks.{ChecksWrong, IsCheckable, wrong_text};
-ghost use Rattle.vg_run.specs.JournalsWithin.{Answers, AnswersPartly, EndsFound, Says, Told, Unchecked};
+ghost use Rattle.vg_run.specs.JournalsWithin.{Answers, AnswersPartly, EndsFound, IsEndOf, Judges, Says, Told, Unchecked};
 ghost use Rattle.vg_run.specs.Status.{EndsCheck, IsFaultless};
 ghost use Rattle.vg_limits.specs.Limits.{version_2};
 
 use crate::check_command::say_check;
 use crate::origins_command::say_origins;
 use crate::top::Status;
+use crate::upgrade_command::say_upgrade;
 use std::alloc::{AllocError, Global};
 use vg_io::{ReadError, Sink, Source, read_all, write_all};
 use vg_limits::version_2::MOST_JOURNAL;
@@ -22,6 +23,8 @@ pub(crate) enum Question {
     Check,
     /// Whose bytes its frames have.
     Origins,
+    /// How it is written with the queues of version 2.
+    Upgrade,
 }
 
 /// What is said of a journal.
@@ -33,7 +36,7 @@ pub(crate) struct Said {
 }
 
 /// Reads a journal, and writes what it is asked.
-#[tactic(auto, using(crate::proofs::SaidLemmas::told_done, crate::proofs::SaidLemmas::told_wrong, crate::proofs::SaidLemmas::told_partly))]
+#[tactic(auto, using(crate::proofs::SaidLemmas::told_done, crate::proofs::SaidLemmas::told_wrong, crate::proofs::SaidLemmas::told_judges, crate::proofs::SaidLemmas::told_partly))]
 pub(crate) fn answer_from<S: Source, K: Sink>(
     alloc: Global,
     asked: Question,
@@ -44,6 +47,7 @@ pub(crate) fn answer_from<S: Source, K: Sink>(
         → Answers asked (S.left source.old) (S.left source.new) (K.held sink.old) (K.held sink.new) }
     ensures wrong { (entry : ℕ) → result ≡ Status.Wrong entry
         → ChecksWrong entry (S.left source.old) (S.left source.new) (K.held sink.old) (K.held sink.new) }
+    ensures judges { (entry : ℕ) → result ≡ Status.Wrong entry → Judges asked }
     ensures ends { EndsCheck result }
     ensures journal { (line : ℕ) → result ≡ Status.Journal line
         → IfSome (S.left source.old) (λ bytes. IsCheckable bytes × IsRefusedAt bytes line) × (sink.new ≡ sink.old) }
@@ -73,6 +77,7 @@ fn said_from<S: Source>(alloc: Global, asked: Question, source: &mut S) -> Resul
     ensures end { IfOk result (λ said. IsAtEnd (S.left source.new)) }
     ensures says { IfOk result (λ said. IfSome (S.left source.old) (λ bytes. IsCheckable bytes × Says asked bytes said.end said.text.items)) }
     ensures ends { IfOk result (λ said. EndsFound said.end) }
+    ensures end_of { IfOk result (λ said. IsEndOf asked said.end) }
     ensures err { IfErr result (λ status. Unchecked status (S.left source.old) (S.faults source.old) (S.faults source.new)) }
     ensures same { OnOk result (S.faults source.new ≡ S.faults source.old) }
     ensures taken { GivesUpTo (S.left source.old) (S.left source.new) (version_2.journal + 1) }
@@ -92,11 +97,13 @@ fn say(alloc: Global, asked: Question, bytes: &[u8]) -> Result<Result<Said, u32>
     requires { IsCheckable bytes.now }
     ensures says { IfOk result (λ read. IfOk read (λ said. Says asked bytes.now said.end said.text.items)) }
     ensures ends { IfOk result (λ read. IfOk read (λ said. EndsFound said.end)) }
+    ensures end_of { IfOk result (λ read. IfOk read (λ said. IsEndOf asked said.end)) }
     ensures refused { IfOk result (λ read. IfErr read (IsRefusedAt bytes.now)) }
 {
     match asked {
         Question::Check => say_check(alloc, bytes),
         Question::Origins => say_origins(alloc, bytes),
+        Question::Upgrade => say_upgrade(alloc, bytes),
     }
 }
 
