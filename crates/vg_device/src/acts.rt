@@ -15,7 +15,9 @@ use std::alloc::{AllocError, Global};
 use vg_client_holds::{Act, ActReply, Holds};
 use vg_list::Seq;
 use vg_pages::Pages;
-use vg_share::{Geometry, PageList, Share, ShareRefusal, load, pages_of, remove_number, store_times};
+use vg_share::{
+    Geometry, PageList, Share, ShareRefusal, load, pages_of, remove_number, store_times,
+};
 
 impl Device {
     /// Does an act, and gives its reply twice. What the client holds changes with it.
