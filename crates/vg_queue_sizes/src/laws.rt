@@ -21,11 +21,13 @@ pub fn sound_with_other_queues()
 {}
 
 /// A law, and no work: a legal journal is legal with queues of any other sizes. One that can be read can be read with these too, where
-/// its setup with these is one that a journal can have: the limits of displays and of clients go with the sizes.
+/// its setup with these is one that a journal can have: the limits of displays and of clients go with the sizes. With those of version
+/// 2 each setup is one.
 pub fn legal_with_other_queues()
     ensures legal { (journal : Journal) (queues : ℕ × ℕ) → IsLegal journal → IsLegal (with_other_queues journal queues) }
     ensures in_range { (journal : Journal) (queues : ℕ × ℕ) → JournalInRange journal → IsSetup (other_queues journal.setup queues)
         → JournalInRange (with_other_queues journal queues) }
+    ensures upgraded { (setup : Setup) → IsSetup setup → IsSetup (other_queues setup (256, 64)) }
 {
     sound_with_other_queues();
 }

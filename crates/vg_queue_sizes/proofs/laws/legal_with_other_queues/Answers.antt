@@ -1,4 +1,5 @@
 use Rattle.std.proofs.Common.{◌∙◌}
+use Rattle.vg_queue_sizes.proofs.SetupLemmas.{setup-still}
 use Rattle.vg_queue_sizes.proofs.laws.legal_with_other_queues.Goals as goal
 
 pub returns : goal.returns
@@ -22,4 +23,5 @@ returns c = record {
     frame_count = was.frame_count;
     few = was.few;
   };
+  upgraded = setup-still;
 }
