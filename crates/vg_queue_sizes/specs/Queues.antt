@@ -8,10 +8,10 @@ use Rattle.vg_journal.specs.declared.journal.Journal.{Journal}
 abbrev pub other_queues : Setup → ℕ × ℕ → Setup
 other_queues setup queues = record setup { queues = queues }
 
--- The same display with such a setup.
+-- The same display with queues of these sizes in its setup.
 abbrev pub requeued : State → ℕ × ℕ → State
 requeued state queues = record state { setup = other_queues state.setup queues }
 
--- The same journal with such a setup.
+-- The same journal with queues of these sizes in its setup.
 abbrev pub with_other_queues : Journal → ℕ × ℕ → Journal
 with_other_queues journal queues = record journal { setup = other_queues journal.setup queues }
