@@ -15,7 +15,7 @@ use Rattle.vg_client_holds.specs.declared.act.What.{What}
 use Rattle.vg_client_holds.specs.declared.act.What.TheVariants.{Name}
 use Rattle.vg_machine.specs.Entries.{Entry}
 use Rattle.vg_client_holds.specs.declared.holds.Holds.{Holds}
-use Rattle.vg_client_holds.specs.Holds.{Deniable, gives_up}
+use Rattle.vg_client_holds.specs.Holds.{gives_up, update}
 use Rattle.vg_client_holds.specs.Host.{IsPart}
 use Rattle.vg_machine.specs.Order.{MayBeDenied, call_of, is_leave, updated}
 use Rattle.vg_calls.specs.declared.call.Call.{Call}
@@ -31,7 +31,6 @@ use Rattle.vg_tasks.specs.declared.task.Deed.{Deed}
 use Rattle.vg_tasks.specs.declared.task.Deed.TheVariants as deeds
 use Rattle.vg_tasks.specs.declared.task.Task.{Task}
 use Rattle.vg_driver.specs.declared.ask.Ask.{Ask}
-use Rattle.vg_history.specs.Fences.{FenceData}
 use Rattle.vg_driver.specs.Asks.{denied_for, request_for}
 use Rattle.vg_client.specs.Calls.{BeginsTasks, Gives, GivesTasks, IsAsked, IsDenial, IsDone, IsEntryOf, IsFrontOf, Plays, contexts_after, learned, names_after, names_imported, names_reserved, shows_after}
 use Rattle.vg_tasks.specs.Tasks.{end_tasks, tasks_of}
@@ -41,7 +40,7 @@ use Rattle.vg_client.specs.Given.{follow_ups, given_of, goes_on, is_accepted, le
 use Rattle.vg_tasks.specs.Known.{Known}
 use Rattle.vg_names.specs.Names.{NamesState, is_numbered, without_name}
 use Rattle.vg_names.specs.Contexts.{ContextsState, is_context, with_context, with_no_context, without, without_at}
-use Rattle.vg_tasks.specs.Fits.{IsFit, IsFitDeed}
+use Rattle.vg_tasks.specs.Fits.{HasFewBytes, IsFit, IsFitDeed}
 use Rattle.vg_tasks.specs.Keeps.{KeepsByChange, KeepsByDeed, KeepsHolds}
 use Rattle.vg_client.specs.Outcomes.{HasPlayed, IsNumbered, last_given}
 use Rattle.vg_tasks.specs.Table.{page_entry}
@@ -54,7 +53,7 @@ use Rattle.vg_tasks.proofs.TaskLemmas.{fit-append, weights-append}
 use Rattle.vg_book.specs.Places.{HasCall, IsPlaced, begun_of}
 use Rattle.vg_book.specs.Views.{order_call}
 use Rattle.vg_client.specs.Own.{ArePlaced}
-use Rattle.vg_client.specs.Steps.{HasDenied, HasLeft, HasLeftOffBy, HasTickets}
+use Rattle.vg_client.specs.Steps.{HasLeft, HasLeftOffBy, HasTickets, HasTold, IsTelling, StandsTold}
 use Rattle.vg_driver.specs.declared.ticket.Ticket.{Ticket}
 use Rattle.vg_history.proofs.ListLemmas.{has_prefix, prefix_self, prefix_trans}
 
@@ -218,7 +217,6 @@ small-more used used' known known' task entry small next learns =
     let contexts = contexts-little task.change (given_of entry) known.contexts small.current_contexts in
     subst P (sym learns) (record {
       few_displays = let same = updated-displays known.holds entry in omega (arith, same, small.few_displays);
-      guest = updated-host known.holds entry ∙ small.guest;
       current = names.0;
       made = omega (arith, names.1, small.made, next);
       current_contexts = contexts.0;
@@ -307,6 +305,7 @@ playing-first stops tasks client gathered ready fit idle has = record {
     placed = next.placed;
     apart = next.apart;
     displays = refl;
+    host = refl;
     made = omega arith;
     ready = ready;
   };
@@ -389,6 +388,7 @@ playing-more stops tasks0 client0 client client' client'' left left1 left' gathe
         placed = next.placed;
         apart = next.apart;
         displays = ap (λ (k : Known). k.holds.displays) learns ∙ updated-displays client.token.account.holds entry ∙ playing.on.displays;
+        host = ap (λ (k : Known). k.holds.host) learns ∙ updated-host client.token.account.holds entry ∙ playing.on.host;
         made = omega (arith, little.2, made_is, playing.on.made);
         ready = record {
           active = subst (λ (t : Token). IsActive t) (sym same) done.active;
@@ -533,27 +533,28 @@ pub ask-made : {B : Type 0} (client client' : Caller B) (deed : Deed) (ask : Ask
 ask-made client client' deed ask is gave (entry, asked, done, few) =
     (entry, subst (λ (d : Deed). IsDone client.token.account.number client.token.account.holds d entry) (sym is) asked, done, few)
 
-pub wait-made : {B : Type 0} (client client' : Caller B) (deed : Deed) (fence : FenceData) → deed ≡ deeds.Wait fence → (gave : Added)
-    → HasDone client (Act client.token.account.number (client.token.account.used + 1) (acts.Await fence.lane fence.ordinal) act_replies.Ok) gave client' × IsFewPages gave.given
-    → (entry : Entry) × IsDone client.token.account.number client.token.account.holds deed entry × HasDone client entry gave client' × IsFewPages gave.given
-wait-made client client' deed fence is gave (done, few) =
-    let entry : Entry = Act client.token.account.number (client.token.account.used + 1) (acts.Await fence.lane fence.ordinal) act_replies.Ok in
-    (entry, subst (λ (d : Deed). IsDone client.token.account.number client.token.account.holds d entry) (sym is) (client.token.account.used + 1, act_replies.Ok, refl), done, few)
+-- what tells something leaves its client's holds
+pub telling-holds : (holds : Holds) (act : the_act.Act) (reply : ActReply) → IsTelling act → update holds act reply ≡ holds
+telling-holds holds (acts.Await lane ordinal) reply tells = refl
+telling-holds holds (acts.Denied what) reply tells = refl
+telling-holds holds (acts.Mode scanout width height) reply tells = refl
+telling-holds holds (acts.Unplug scanout) reply tells = refl
+telling-holds holds (acts.Sync call) reply tells = refl
+telling-holds holds act reply tells = absurd tells
 
--- a denial that was told, and what it was answered
-pub denied-told : {B : Type 0} (client client' : Caller B) (what : What) (gathered gathered' : Played) (gave : Added) → IsReady client → HasPlayed client.token.seen [] client.token.seen gathered
-    → (reply : ActReply) × HasDone client (Act client.token.account.number (client.token.account.used + 1) (acts.Denied what) reply) gave client' × IsFewPages gave.given
+-- something that was told, and what it was answered
+pub act-told : {B : Type 0} (client client' : Caller B) (act : the_act.Act) (reply : ActReply) (gathered gathered' : Played) (gave : Added) → IsTelling act → IsReady client → HasPlayed client.token.seen [] client.token.seen gathered
+    → HasDone client (Act client.token.account.number (client.token.account.used + 1) act reply) gave client'
     → gathered'.entries.items ≡ gathered.entries.items ++ gave.number ∷ [] → gathered'.last ≡ Some (last_given gave.number gave.given)
-    → HasDenied what client gathered' client'
-denied-told client client' what gathered gathered' gave ready has (reply, done, few) numbers last =
-    let entry : Entry = Act client.token.account.number (client.token.account.used + 1) (acts.Denied what) reply in
-    let holds : client'.token.account.holds ≡ client.token.account.holds = done.holds in
+    → HasTold act client gathered' client'
+act-told client client' act reply gathered gathered' gave tells ready has done numbers last =
+    let entry : Entry = Act client.token.account.number (client.token.account.used + 1) act reply in
+    let holds : client'.token.account.holds ≡ client.token.account.holds = done.holds ∙ telling-holds client.token.account.holds act reply tells in
     let same : known client' ≡ known client =
     same-known client'.token.account.holds client.token.account.holds client'.names client.names client'.contexts client.contexts client'.shows.items client.shows.items holds done.names done.contexts done.shows in
     let used = done.used in
     let small : IsSmall client'.token.account.used (known client) = record {
       few_displays = ready.small.few_displays;
-      guest = ready.small.guest;
       current = ready.small.current;
       made = omega (arith, ready.small.made, used);
       current_contexts = ready.small.current_contexts;
@@ -565,7 +566,7 @@ denied-told client client' what gathered gathered' gave ready has (reply, done, 
     next-more client.token client.token client'.token [] entry (next-none client.token) refl refl (prefix_self client.token.seen) done.added.more done.used done.call done.placed done.apart in
     record {
       mine = entry ∷ [];
-      denial = (client.token.account.used + 1, reply, refl);
+      told = (client.token.account.used + 1, reply, refl);
       gone_on = record {
         added = done.added;
         used = next.used;
@@ -573,6 +574,7 @@ denied-told client client' what gathered gathered' gave ready has (reply, done, 
         placed = next.placed;
         apart = next.apart;
         displays = ap (λ (h : Holds). h.displays) holds;
+        host = ap (λ (h : Holds). h.host) holds;
         made = omega (arith, made);
         ready = record { active = done.active; small = subst (λ (k : Known). IsSmall client'.token.account.used k) (sym same) small };
       };
@@ -581,17 +583,31 @@ denied-told client client' what gathered gathered' gave ready has (reply, done, 
       played_is = played-more client.token.seen client.token.seen client'.token.seen [] entry gathered gathered' gave has (prefix_self client.token.seen) done.added.more done.given_is done.numbered done.behind numbers last;
     }
 
--- what stands of a denial where memory lacked
-abbrev pub StoodDenial : {B : Type 0} → What → Caller B → Caller B → Type 0
-StoodDenial what client client' = (mine : List Entry) × ((mine ≡ []) ⊎ IsDenial client.token.account.number what mine) × HasAdded client mine client'
+-- what stands of it where memory lacked
+pub stood-untold : {B : Type 0} (client client' : Caller B) (act : the_act.Act) → HasAdded client [] client' → StandsTold act client client'
+stood-untold client client' act added = ([], inl refl, added)
 
-pub stood-undenied : {B : Type 0} (client client' : Caller B) (what : What) → HasAdded client [] client' → StoodDenial what client client'
-stood-undenied client client' what added = ([], inl refl, added)
+pub stood-told : {B : Type 0} (client client' : Caller B) (act : the_act.Act) (reply : ActReply) (gave : Added)
+    → HasDone client (Act client.token.account.number (client.token.account.used + 1) act reply) gave client' → StandsTold act client client'
+stood-told client client' act reply gave done =
+    (Act client.token.account.number (client.token.account.used + 1) act reply ∷ [], inr (client.token.account.used + 1, reply, refl), done.added)
 
-pub stood-denied : {B : Type 0} (client client' : Caller B) (what : What) (gave : Added)
-    → (reply : ActReply) × HasDone client (Act client.token.account.number (client.token.account.used + 1) (acts.Denied what) reply) gave client' × IsFewPages gave.given → StoodDenial what client client'
-stood-denied client client' what gave (reply, done, few) =
-    (Act client.token.account.number (client.token.account.used + 1) (acts.Denied what) reply ∷ [], inr (client.token.account.used + 1, reply, refl), done.added)
+-- it is no leave, and takes few bytes
+pub telling-stays : (act : the_act.Act) → IsTelling act → leaves act ≡ false
+telling-stays (acts.Await lane ordinal) tells = refl
+telling-stays (acts.Denied what) tells = refl
+telling-stays (acts.Mode scanout width height) tells = refl
+telling-stays (acts.Unplug scanout) tells = refl
+telling-stays (acts.Sync call) tells = refl
+telling-stays act tells = absurd tells
+
+pub telling-few : (act : the_act.Act) → IsTelling act → HasFewBytes act
+telling-few (acts.Await lane ordinal) tells = tt
+telling-few (acts.Denied what) tells = tt
+telling-few (acts.Mode scanout width height) tells = tt
+telling-few (acts.Unplug scanout) tells = tt
+telling-few (acts.Sync call) tells = tt
+telling-few act tells = absurd tells
 
 -- the entry with which a client left, by its number
 pub left-by : (token token' : Token) (n : ℕ) (reply : ActReply) → IsAddedAct token n acts.Leave reply token' → HasLeftBy token' n
@@ -677,21 +693,22 @@ may-deed token act active guest fit idle = record {
     knows (acts.Sync call) fit = absurd fit
     knows act fit = tt
 
--- and so may the telling of a denial
-pub may-deny : (token : Token) (what : What) → IsActive token → token.account.holds.host ≡ false → Deniable token.account.holds what → MayAct token (acts.Denied what)
-may-deny token what active guest may = record {
+-- and so may an act that gives nothing up, and is its client's to do
+pub may-tell : (token : Token) (act : the_act.Act) → IsActive token → MayBeDenied token.account.holds act → IsPart token.account.holds act → gives_up act ≡ false → IsKnown token.seen act → MayAct token act
+may-tell token act active may part keeps knows = record {
   account_is = active.account_is;
   first = λ none. absurd (omega (arith, active.begun, none));
   present = active.present;
   denied = may;
-  part = of_guest what;
-  idle = λ gives. absurd (true≢false (sym gives));
-  known = tt;
+  part = part;
+  idle = λ gives. absurd (true≢false (sym gives ∙ keeps));
+  known = knows;
 }
-  where
-    of_guest : (what : What) → IsPart token.account.holds (acts.Denied what)
-    of_guest Name = tt
-    of_guest what = guest
+
+-- one that isn't the host may be told whatever is denied
+pub guest-denied : (holds : Holds) (what : What) → holds.host ≡ false → IsPart holds (acts.Denied what)
+guest-denied holds Name guest = tt
+guest-denied holds what guest = guest
 
 -- what a task does gives up a hold with nothing out alone
 pub make-idle : {B : Type 0} (client0 client : Caller B) (left left1 : List Task) (task : Task) → left ≡ task ∷ left1 → client.token.account.out ≡ client0.token.account.out

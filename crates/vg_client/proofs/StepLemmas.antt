@@ -260,6 +260,25 @@ module _ {B : Type 0} (client : Caller B) (played : Played) (client' : Caller B)
       by_test true = inr (followed, λ _. (what, denied.denial))
       by_test false = inr (followed, λ _. (what, denied.denial))
 
+of-guest : (holds : Holds) (plan : Result (List Task) What) → holds.host ≡ false → IsPlanOfPart holds plan
+of-guest holds (Ok tasks) guest = guest
+of-guest holds (Err what) guest = guest-denied holds what guest
+
+-- the entry of what is told
+told-plays : (client : ℕ) (knew knew' : Known) (act : the_act.Act) (mine : List Entry) → IsTelling act → IsTold client act mine → knew' ≡ knew → Plays client true knew (act_task act ∷ []) mine knew' []
+told-plays client knew knew' act mine tells (call, reply, are) same =
+    subst (λ (xs : List Entry). Plays client true knew (act_task act ∷ []) xs knew' []) (sym are) (
+      (call, reply, refl),
+      (same ∙ sym (ap (λ (h : Holds). record knew { holds = h }) (telling-holds knew.holds act reply tells)), none-left (given_of (Act client call act reply))),
+    )
+  where
+    none-left : (given : Given) → [] ≡ left_after true Nothing given []
+    none-left given = by_test (is_accepted given)
+      where
+        by_test : (b : Bool) → [] ≡ cond (false || false || b) ([] ++ []) []
+        by_test true = refl
+        by_test false = refl
+
 -- an outcome by its entries isn't that of what was begun
 called-gone : {B : Type 0} (client : Caller B) (call : Call) (outcome : Outcome) (client' : Caller B) → HasCalled client call outcome client' → HasGone outcome.last client call outcome client'
 called-gone client call outcome client' called =
@@ -302,6 +321,52 @@ gone-by client call plan played client' outcome begun finished begun_is finished
       outcome_is = outcome-is followed.middle.token.seen followed.mine client'.token.seen played outcome followed.played_is entries last;
       told = λ sure. told (begun_is ∙ sure);
     })
+
+-- the same in the words of its own plan
+pub answered-by : {B : Type 0} (client : Caller B) (call : Call) (plan : Result (List Task) What) (played : Played) (client' : Caller B) (begun finished : Bool) → begun ≡ begins call → finished ≡ gives_up call → tasks_of (known client) call ≡ plan
+    → HasGonePlan begun (finished && is_planned plan) plan client played client' → HasAnswered call client played client'
+answered-by client call plan played client' begun finished begun_is finished_is is gone =
+    let P : Bool → Bool → Result (List Task) What → Type 0 = λ b f p. HasGonePlan b (f && is_planned p) p client played client' in
+    subst (λ (p : Result (List Task) What). P (begins call) (gives_up call) p) (sym is)
+    (subst (λ (f : Bool). P (begins call) f plan) finished_is (subst (λ (b : Bool). P b finished plan) begun_is gone))
+
+-- what is told by one act is the call's only task
+pub told-answers : {B : Type 0} (client : Caller B) (call : Call) (act : the_act.Act) (played : Played) (client' : Caller B) → begins call ≡ false → gives_up call ≡ false → tasks_of (known client) call ≡ Ok (act_task act ∷ [])
+    → IsTelling act → HasTold act client played client' → HasAnswered call client played client'
+told-answers client call act played client' begun finished is tells told =
+    answered-by client call (Ok (act_task act ∷ [])) played client' false false (sym begun) (sym finished) is (inr (
+      record {
+        middle = client;
+        finished = refl;
+        mine = told.mine;
+        gives = told-plays client.token.account.number (known client) (known client') act told.mine tells told.told told.known_is;
+        gone_on = told.gone_on;
+        few = let one = told.one in omega (arith, one);
+        played_is = told.played_is;
+      },
+      λ e. absurd (cc e),
+    ))
+
+pub told-some : {B : Type 0} (client : Caller B) (act : the_act.Act) (played : Played) (client' : Caller B) → HasTold act client played client' → IsSome played.last
+told-some client act played client' told =
+    ends-some played.entries.items told.mine played.last told.played_is.ends (λ none. let one = told.one in let no : length told.mine ≡ 0 = ap length none in absurd (omega (arith, one, no)))
+
+-- and where memory lacked
+pub told-left-off : {B : Type 0} (client : Caller B) (call : Call) (act : the_act.Act) (client' : Caller B) → IsReady client → HasTickets client → IsTelling act → tasks_of (known client) call ≡ Ok (act_task act ∷ []) → StandsTold act client client' → HasLeftOff client call client'
+told-left-off client call act client' ready out tells is (mine, so, added) =
+    left-off client call (Ok (act_task act ∷ [])) client' is (stopped-by (Ok (act_task act ∷ [])) client client client' mine (behind-self client ready out) (begins_so so) added)
+  where
+    begins_so : (mine ≡ []) ⊎ IsTold client.token.account.number act mine → BeginsTasks client.token.account.number (known client) (Ok (act_task act ∷ [])) mine
+    begins_so (inl none) = (known client, act_task act ∷ [], subst (λ (xs : List Entry). Plays client.token.account.number true (known client) (act_task act ∷ []) xs (known client) (act_task act ∷ [])) (sym none) (refl, refl))
+    begins_so (inr told) = (known client, [], told-plays client.token.account.number (known client) (known client) act mine tells told refl)
+
+-- a plan of one that isn't the host, or a denial that the host may be told
+pub plan-part : (known : Known) (call : Call) (plan : Result (List Task) What) → tasks_of known call ≡ plan → IsCallFit known.holds call → is_told call ≡ false → IsPlanOfPart known.holds plan
+plan-part known (calls.Mode scanout width height label) plan is fit planned = absurd (cc planned)
+plan-part known (calls.Unplug scanout label) plan is fit planned = absurd (cc planned)
+plan-part known (calls.Await label (Some fence)) plan is fit planned = absurd (cc planned)
+plan-part known (calls.Await label None) plan is fit planned = subst (λ (p : Result (List Task) What). IsPlanOfPart known.holds p) is tt
+plan-part known call plan is fit planned = of-guest known.holds plan fit.0
 
 -- something is told of what came of it
 pub went-some : {B : Type 0} (client : Caller B) (plan : Result (List Task) What) (played : Played) (client' : Caller B) (begun finished : Bool)

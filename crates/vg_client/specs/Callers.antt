@@ -1,5 +1,5 @@
 -- A client, and how its calls go on.
-use Rattle.std.specs.Prelude.{◌≡◌, ◌≤◌, ◌<◌, ◌+◌, ℕ, Bool, true, false, List, [], ◌∷◌, ◌++◌, length, map, None, Ok}
+use Rattle.std.specs.Prelude.{◌≡◌, ◌≤◌, ◌<◌, ◌+◌, ℕ, Bool, true, false, List, [], ◌∷◌, ◌++◌, length, map, Some, None, Ok}
 use Rattle.std.specs.List.{AllByRecursion, range_with_len}
 use mathlib.Core.List.{IsPrefix}
 use Rattle.vg_machine.specs.Entries.{Entry}
@@ -11,13 +11,14 @@ use Rattle.vg_client_holds.specs.declared.setup.Setup.{Setup}
 use Rattle.vg_history.specs.declared.entry.Entry.TheVariants.{Act}
 use Rattle.vg_driver.specs.Tickets.{Token}
 use Rattle.vg_book.specs.Places.{HasCall, IsPlaced, begun_of}
-use Rattle.vg_machine.specs.Order.{call_of, updated}
+use Rattle.vg_machine.specs.Order.{HasPlug, call_of, updated}
 use Rattle.vg_client.specs.declared.caller.Caller.{Caller}
 use Rattle.vg_client.specs.declared.given.Added.{Added}
 use Rattle.vg_client.specs.declared.given.Given.{Given}
 use Rattle.vg_client.specs.declared.given.Given.TheVariants as givens
 use Rattle.vg_client.specs.Given.{given_of}
 use Rattle.vg_calls.specs.declared.call.Call.{Call}
+use Rattle.vg_calls.specs.declared.call.Call.TheVariants as calls
 use Rattle.vg_client_holds.specs.declared.act.What.{What}
 use Rattle.vg_driver.specs.Asks.{denied_for, request_for}
 use Rattle.vg_driver.specs.declared.ask.Ask.{Ask}
@@ -44,11 +45,10 @@ pub record ClientState (B : Type 0) : Type 0 where
 abbrev pub known : {B : Type 0} → Caller B → Known
 known client = record { holds = client.token.account.holds; names = client.names; contexts = client.contexts; shows = client.shows.items }
 
--- No more names are current than were made, of buffers and of contexts, no more were made than numbers drawn, there are few
--- scanouts, and the client isn't the host.
+-- No more names are current than were made, of buffers and of contexts, no more were made than numbers drawn, and there are few
+-- scanouts.
 pub record IsSmall (used : ℕ) (known : Known) : Type 0 where
   pub few_displays : known.holds.displays ≤ 16
-  pub guest : known.holds.host ≡ false
   pub current : length known.names.current ≤ known.names.made
   pub made : known.names.made ≤ used
   pub current_contexts : length known.contexts.current ≤ known.contexts.made
@@ -78,8 +78,14 @@ pub record HasGoneOn {B : Type 0} (client : Caller B) (mine : List Entry) (clien
   pub placed : ArePlaced client'.token.seen client.token.account.number (begun_of client.token.account) mine
   pub apart : AllByRecursion (λ e. HasCall client.token.seen client.token.account.number (call_of e) → ⊥) mine
   pub displays : client'.token.account.holds.displays ≡ client.token.account.holds.displays
+  pub host : client'.token.account.holds.host ≡ client.token.account.holds.host
   pub made : client.names.made ≤ client'.names.made
   pub ready : IsReady client'
+
+-- The act of the host for which a call waits has been seen.
+abbrev pub IsMet : List Entry → Call → Type 0
+IsMet seen (calls.Sync label (Some call)) = HasPlug call seen
+IsMet seen call = Unit {0}
 
 -- What one task adds: its entry, by which the client's holds change, with its number. Of the rest that the client knows nothing
 -- is changed.

@@ -1,6 +1,7 @@
 -- The entries that a client's calls give.
 use Rattle.std.specs.Prelude.{◌≡◌, ◌⊎◌, ◌+◌, ℕ, Bool, true, List, [], ◌∷◌, slice_set, if◌then◌else◌, Option, Some, None, Result, Ok, Err}
-use Rattle.vg_client_holds.specs.declared.act.Act.TheVariants.{Await, Denied}
+use Rattle.vg_client_holds.specs.declared.act.Act.{Act}
+use Rattle.vg_client_holds.specs.declared.act.Act.TheVariants.{Denied}
 use Rattle.vg_client_holds.specs.declared.act.ActReply.{ActReply}
 use Rattle.vg_client_holds.specs.declared.act.ActReply.TheVariants as act_replies
 use Rattle.vg_client_holds.specs.declared.act.What.{What}
@@ -38,7 +39,6 @@ IsAsked client None request entry = (call ordinal : ℕ) × (reply : Reply) × (
 abbrev pub IsDone : ℕ → Holds → Deed → Entry → Type 0
 IsDone client holds (deeds.Act act) entry = (call : ℕ) × (reply : ActReply) × (entry ≡ entries.Act client call act reply)
 IsDone client holds (deeds.Ask ask) entry = IsAsked client (denied_for holds ask) (request_for ask) entry
-IsDone client holds (deeds.Wait fence) entry = (call : ℕ) × (reply : ActReply) × (entry ≡ entries.Act client call (Await fence.lane fence.ordinal) reply)
 
 abbrev pub IsEntryOf : ℕ → Holds → Task → Entry → Type 0
 IsEntryOf client holds task entry = IsDone client holds task.deed entry
@@ -95,9 +95,13 @@ Plays client stops known (task ∷ tasks) (entry ∷ more) known' left =
 abbrev pub IsFrontOf : ℕ → Bool → Known → List Task → List Entry → Type 0
 IsFrontOf client stops known tasks mine = (known' : Known) × (left : List Task) × Plays client stops known tasks mine known' left
 
+-- The one entry that is this act.
+abbrev pub IsTold : ℕ → Act → List Entry → Type 0
+IsTold client act mine = (call : ℕ) × (reply : ActReply) × (mine ≡ entries.Act client call act reply ∷ [])
+
 -- The one entry that says what was denied.
 abbrev pub IsDenial : ℕ → What → List Entry → Type 0
-IsDenial client what mine = (call : ℕ) × (reply : ActReply) × (mine ≡ entries.Act client call (Denied what) reply ∷ [])
+IsDenial client what mine = IsTold client (Denied what) mine
 
 -- These are the entries of a call: of its tasks, until one isn't accepted; or the one that says what was denied.
 abbrev pub GivesTasks : ℕ → Known → Result (List Task) What → List Entry → Known → Type 0

@@ -5,6 +5,9 @@ use mathlib.Core.List.{IsPrefix}
 use Rattle.vg_machine.specs.Entries.{Entry}
 use Rattle.vg_machine.specs.Order.{call_of}
 use Rattle.vg_history.specs.declared.entry.Entry.TheVariants.{Act}
+use Rattle.vg_calls.specs.declared.call.Call.{Call}
+use Rattle.vg_client_holds.specs.declared.act.Act as the_act
+use Rattle.vg_client_holds.specs.declared.act.Act.TheVariants as acts
 use Rattle.vg_client_holds.specs.declared.act.Act.TheVariants.{Leave}
 use Rattle.vg_client_holds.specs.declared.act.ActReply.TheVariants as act_replies
 use Rattle.vg_client_holds.specs.declared.act.What.{What}
@@ -14,14 +17,14 @@ use Rattle.vg_driver.specs.declared.ask.Ask.{Ask}
 use Rattle.vg_driver.specs.declared.ticket.Ticket.{Ticket}
 use Rattle.vg_tasks.specs.Keeps.{plain_task}
 use Rattle.vg_tasks.specs.Known.{Known}
-use Rattle.vg_tasks.specs.Tasks.{end_tasks}
+use Rattle.vg_tasks.specs.Tasks.{begins, end_tasks, finishes, tasks_of}
 use Rattle.vg_tasks.specs.declared.task.Task.{Task}
 use Rattle.vg_client.specs.declared.caller.Caller.{Caller}
 use Rattle.vg_client.specs.declared.outcome.Last.TheVariants.{Begun}
 use Rattle.vg_client.specs.declared.outcome.Played.{Played}
 use Rattle.vg_client.specs.Accounts.{AreOfOut, AreOut, IsAccount, IsBegun, mine_of}
 use Rattle.vg_client.specs.Callers.{BeginsEnd, FinishesFirst, HasAdded, HasGoneOn, IsReady, known}
-use Rattle.vg_client.specs.Calls.{BeginsTasks, GivesTasks, IsDenial, Plays}
+use Rattle.vg_client.specs.Calls.{BeginsTasks, GivesTasks, IsDenial, IsTold, Plays}
 use Rattle.vg_client.specs.Outcomes.{HasPlayed}
 use Rattle.vg_client.specs.Own.{ArePlaced}
 
@@ -44,14 +47,31 @@ pub record HasFollowed {B : Type 0} (finishes : Bool) (plan : Result (List Task)
 abbrev pub TellsDenial : ℕ → List Entry → Type 0
 TellsDenial client mine = (what : What) × IsDenial client what mine
 
--- The client has told what was denied.
-pub record HasDenied {B : Type 0} (what : What) (client : Caller B) (played : Played) (client' : Caller B) : Type 0 where
+-- An act that tells something, and changes nothing of what its client knows.
+abbrev pub IsTelling : the_act.Act → Type 0
+IsTelling (acts.Await lane ordinal) = Unit {0}
+IsTelling (acts.Denied what) = Unit {0}
+IsTelling (acts.Mode scanout width height) = Unit {0}
+IsTelling (acts.Unplug scanout) = Unit {0}
+IsTelling (acts.Sync call) = Unit {0}
+IsTelling act = ⊥
+
+-- The client has told something by one act.
+pub record HasTold {B : Type 0} (act : the_act.Act) (client : Caller B) (played : Played) (client' : Caller B) : Type 0 where
   pub mine : List Entry
-  pub denial : IsDenial client.token.account.number what mine
+  pub told : IsTold client.token.account.number act mine
   pub gone_on : HasGoneOn client mine client'
   pub known_is : known client' ≡ known client
   pub one : length mine ≡ 1
   pub played_is : HasPlayed client.token.seen mine client'.token.seen played
+
+-- What was denied, for instance.
+abbrev pub HasDenied : {B : Type 0} → What → Caller B → Played → Caller B → Type 0
+HasDenied what client played client' = HasTold (acts.Denied what) client played client'
+
+-- What stands of that where memory lacked.
+abbrev pub StandsTold : {B : Type 0} → the_act.Act → Caller B → Caller B → Type 0
+StandsTold act client client' = (mine : List Entry) × ((mine ≡ []) ⊎ IsTold client.token.account.number act mine) × HasAdded client mine client'
 
 -- The client has begun what it asks, which it may.
 pub record HasBegunAsk {B : Type 0} (ask : Ask) (client : Caller B) (played : Played) (client' : Caller B) : Type 0 where
@@ -83,6 +103,10 @@ HasFollowedPlan begins finishes plan client played client' =
 abbrev pub HasGonePlan : {B : Type 0} → Bool → Bool → Result (List Task) What → Caller B → Played → Caller B → Type 0
 HasGonePlan begins finishes plan client played client' =
     ((begins ≡ true) × HasBegunPlan plan client played client') ⊎ HasFollowedPlan begins finishes plan client played client'
+
+-- The same of a call, by its own plan.
+abbrev pub HasAnswered : {B : Type 0} → Call → Caller B → Played → Caller B → Type 0
+HasAnswered call client played client' = HasGonePlan (begins call) (finishes (known client) call) (tasks_of (known client) call) client played client'
 
 -- Memory lacked: some of what was begun may have come back, and these are the first entries of what was planned.
 pub record HasStoppedPlan {B : Type 0} (plan : Result (List Task) What) (client : Caller B) (client' : Caller B) : Type 0 where

@@ -31,6 +31,7 @@ pub(crate) fn begin_tasks<B: Naming, N: Rings, R: Wait>(
     tasks: Tasks,
 ) -> Result<Played, AllocError>
     requires ready { IsReady client.old }
+    requires guest { client.old.token.account.holds.host ≡ false }
     requires out { HasTickets client.old }
     requires one { AsksOnce tasks }
     requires fit { AllByRecursion IsFit tasks }
@@ -69,6 +70,7 @@ fn begin_ask<B: Naming, N: Rings, R: Wait>(
     ask: &Ask,
 ) -> Result<Played, AllocError>
     requires ready { IsReady client.old }
+    requires guest { client.old.token.account.holds.host ≡ false }
     requires out { HasTickets client.old }
     requires ask { IsAsk ask.now }
     ensures done { IfOk result (λ played. HasBegunOr ask.now client.old played client.new) }
@@ -91,6 +93,7 @@ fn begin_allowed<B: Naming, N: Rings, R: Wait>(
     ask: &Ask,
 ) -> Result<Played, AllocError>
     requires ready { IsReady client.old }
+    requires guest { client.old.token.account.holds.host ≡ false }
     requires out { HasTickets client.old }
     requires ask { IsAsk ask.now }
     requires allowed { denied_for client.old.token.account.holds ask.now ≡ None }

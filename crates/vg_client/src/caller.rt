@@ -1,22 +1,22 @@
 //! What a client is between its calls, and how it makes one.
 
-ghost use Rattle.std.specs.Prelude.{◌≡◌, ◌<◌, ◌≤◌, ◌-◌, ◌+◌, ◌^◌, ◌&&◌, ◌++◌, ◌∷◌, [], true, false, length, replicate, None, Ok, IfOk, MatchResult, OnOk, OnErr};
+ghost use Rattle.std.specs.Prelude.{◌≡◌, ◌<◌, ◌≤◌, ◌-◌, ◌+◌, ◌^◌, ◌&&◌, ◌++◌, ◌∷◌, [], true, false, length, replicate, None, Ok, IfOk, IsSome, MatchResult, OnOk, OnErr};
 ghost use Rattle.std.specs.List.{AllByRecursion};
 ghost use Rattle.vg_history.specs.declared.entry.Entry.TheVariants as entries;
 ghost use Rattle.vg_client_holds.specs.declared.act.Act.TheVariants as acts;
 ghost use Rattle.vg_client_holds.specs.declared.act.ActReply.TheVariants as act_replies;
 ghost use Rattle.vg_client_holds.specs.declared.setup.Setup.{Setup as Setups};
 ghost use Rattle.vg_client.specs.Accounts.{IsAccount, IsActive, IsNew, IsNextOf, IsUnadded, mine_of};
-ghost use Rattle.vg_client.specs.Callers.{HasEnded, HasEntered, HasGone, HasLeftBy, HasLeftOff, HasLeftOffAtEnd, IsReady, known};
-ghost use Rattle.vg_client.specs.Steps.{HasFollowed, HasGonePlan, HasLeft, HasLeftOffBy, HasStoppedPlan, HasTickets};
+ghost use Rattle.vg_client.specs.Callers.{HasEnded, HasEntered, HasGone, HasLeftBy, HasLeftOff, HasLeftOffAtEnd, IsMet, IsReady, known};
+ghost use Rattle.vg_client.specs.Steps.{HasAnswered, HasFollowed, HasGonePlan, HasLeft, HasLeftOffBy, HasStoppedPlan, HasTickets};
 ghost use Rattle.vg_tasks.specs.Keeps.{KeepsHolds, PlansToAskOnce, PlansToKeep};
-ghost use Rattle.vg_tasks.specs.Plans.{IsCallFit, IsFitPlan};
-ghost use Rattle.vg_tasks.specs.Tasks.{is_planned};
+ghost use Rattle.vg_tasks.specs.Plans.{IsCallFit, IsFitPlan, IsPlanOfPart};
+ghost use Rattle.vg_tasks.specs.Tasks.{is_planned, is_told};
 ghost use Rattle.vg_client.specs.Calls.{context_behind, name_behind, newest, newest_context};
 
 use crate::begun::{begin_tasks, finish, finish_first};
 use crate::outcome::{Outcome, Played};
-use crate::play::{deny, play};
+use crate::play::{deny, play, tell, tell_fence};
 use crate::tickets::Tickets;
 use crate::tokens::{Token, act};
 use std::alloc::{AllocError, Global};
@@ -28,7 +28,8 @@ use vg_machine::{Act, Display, What};
 use vg_names::{Contexts, Names};
 use vg_ring::Rings;
 use vg_tasks::{
-    Tasks, a_begun_call_asks_once, a_call_keeps_its_holds, begins, end_tasks, gives_up, tasks_of,
+    Tasks, a_begun_call_asks_once, a_call_keeps_its_holds, begins, gives_up, tasks_of,
+    tasks_to_give_up,
 };
 
 /// A client, which draws its own call numbers from 1.
@@ -50,7 +51,7 @@ pub(crate) fn enter<B: Naming, R: Wait>(
     book: &Book<Display, B>,
     token: Token<B>,
 ) -> Result<Caller<B>, Token<B>>
-    requires { (setup : Setups) × IsNew setup token × (length setup.displays ≤ 16) × (setup.host ≡ false) }
+    requires { (setup : Setups) × IsNew setup token × (length setup.displays ≤ 16) }
     ensures entered { MatchResult result (λ client. HasEntered token client) (λ left. IsUnadded token left) }
     ensures out { IfOk result HasTickets }
 {
@@ -92,7 +93,8 @@ pub(crate) fn make_call<B: Naming, N: Rings, R: Wait>(
 ) -> Result<Outcome, AllocError>
     requires ready { IsReady client.old }
     requires out { HasTickets client.old }
-    requires fit { IsCallFit client.old.token.account.holds.displays call }
+    requires fit { IsCallFit client.old.token.account.holds call }
+    requires met { IsMet client.old.token.seen call }
     requires room { client.old.token.account.used + 20 < 2 ^ 31 - 1 }
     ensures done { IfOk result (λ outcome. HasGone outcome.last client.old call outcome client.new) }
     ensures name { IfOk result (λ outcome. outcome.name ≡ newest (known client.old) (known client.new)) }
@@ -100,11 +102,86 @@ pub(crate) fn make_call<B: Naming, N: Rings, R: Wait>(
     ensures begun { OnErr result (HasLeftOff client.old call client.new) }
     ensures out { HasTickets client.new }
 {
+    let made = client.names.made();
+    let made_contexts = client.contexts.made();
+    let played = answer(rt, alloc, book, driver, client, call)?;
+    let name = name_made(&client.names, made);
+    let context = context_made(&client.contexts, made_contexts);
+    Ok(played.outcome(name, context))
+}
+
+/// Tells what a call tells, where it is one act that tells something; else does what is planned of it.
+fn answer<B: Naming, N: Rings, R: Wait>(
+    rt: &R,
+    alloc: Global,
+    book: &Book<Display, B>,
+    driver: &Driver<B, N>,
+    client: &mut Caller<B>,
+    call: Call,
+) -> Result<Played, AllocError>
+    requires ready { IsReady client.old }
+    requires out { HasTickets client.old }
+    requires fit { IsCallFit client.old.token.account.holds call }
+    requires met { IsMet client.old.token.seen call }
+    requires room { client.old.token.account.used + 20 < 2 ^ 31 - 1 }
+    ensures done { IfOk result (λ played. HasAnswered call client.old played client.new) }
+    ensures some { IfOk result (λ played. IsSome played.last) }
+    ensures begun { OnErr result (HasLeftOff client.old call client.new) }
+    ensures out { HasTickets client.new }
+{
+    match call {
+        Call::Await {
+            fence: Some(fence),
+            ..
+        } => tell_fence(rt, alloc, book, driver, client, fence),
+        Call::Sync {
+            call: Some(number),
+            ..
+        } => tell(rt, alloc, book, client, Act::Sync { call: number }),
+        Call::Mode {
+            scanout,
+            width,
+            height,
+            ..
+        } => tell(
+            rt,
+            alloc,
+            book,
+            client,
+            Act::Mode {
+                scanout,
+                width,
+                height,
+            },
+        ),
+        Call::Unplug { scanout, .. } => tell(rt, alloc, book, client, Act::Unplug { scanout }),
+        call => do_planned(rt, alloc, book, driver, client, call),
+    }
+}
+
+/// Does what is planned of a call: its tasks one after another, or the act that says what was denied; of one that begins its command
+/// it begins that.
+fn do_planned<B: Naming, N: Rings, R: Wait>(
+    rt: &R,
+    alloc: Global,
+    book: &Book<Display, B>,
+    driver: &Driver<B, N>,
+    client: &mut Caller<B>,
+    call: Call,
+) -> Result<Played, AllocError>
+    requires ready { IsReady client.old }
+    requires out { HasTickets client.old }
+    requires fit { IsCallFit client.old.token.account.holds call }
+    requires planned { is_told call ≡ false }
+    requires room { client.old.token.account.used + 20 < 2 ^ 31 - 1 }
+    ensures done { IfOk result (λ played. HasAnswered call client.old played client.new) }
+    ensures some { IfOk result (λ played. IsSome played.last) }
+    ensures begun { OnErr result (HasLeftOff client.old call client.new) }
+    ensures out { HasTickets client.new }
+{
     // Laws, and no work: which calls give up holds, and what a call that begins its command asks.
     a_call_keeps_its_holds();
     a_begun_call_asks_once();
-    let made = client.names.made();
-    let made_contexts = client.contexts.made();
     let begun = begins(&call);
     let finishes = gives_up(&call);
     let plan = tasks_of(
@@ -115,10 +192,7 @@ pub(crate) fn make_call<B: Naming, N: Rings, R: Wait>(
         client.shows.as_slice(),
         call,
     )?;
-    let played = follow(rt, alloc, book, driver, client, begun, finishes, plan)?;
-    let name = name_made(&client.names, made);
-    let context = context_made(&client.contexts, made_contexts);
-    Ok(played.outcome(name, context))
+    follow(rt, alloc, book, driver, client, begun, finishes, plan)
 }
 
 /// Begins the task of a call, or does its tasks, or tells what was denied.
@@ -133,6 +207,7 @@ fn follow<B: Naming, N: Rings, R: Wait>(
     plan: Result<Tasks, What>,
 ) -> Result<Played, AllocError>
     requires ready { IsReady client.old }
+    requires part { IsPlanOfPart client.old.token.account.holds plan }
     requires out { HasTickets client.old }
     requires plan { IsFitPlan client.old.token.account.holds plan }
     requires once { begins ≡ true → PlansToAskOnce plan }
@@ -166,6 +241,7 @@ fn play_behind<B: Naming, N: Rings, R: Wait>(
     tasks: Tasks,
 ) -> Result<Played, AllocError>
     requires ready { IsReady client.old }
+    requires guest { client.old.token.account.holds.host ≡ false }
     requires out { HasTickets client.old }
     requires plan { IsFitPlan client.old.token.account.holds (Ok tasks) }
     requires keeps { finishes ≡ false → AllByRecursion KeepsHolds tasks }
@@ -222,10 +298,35 @@ pub(crate) fn end<B: Naming, N: Rings, R: Wait>(
     ensures begun { OnErr result (HasLeftOffAtEnd client.old client.new.token) }
 {
     finish(rt, book, driver, client)?;
-    give_up(rt, alloc, book, driver, client)
+    if client.token.holds().host {
+        leave_as_host(rt, alloc, book, client)
+    } else {
+        give_up(rt, alloc, book, driver, client)
+    }
 }
 
-/// The client, which has nothing out, gives up all that it has, and leaves. It gives the number of the entry with which it left.
+/// The host, which has nothing out and nothing to give up, leaves. It gives the number of the entry with which it left.
+fn leave_as_host<B: Naming, R: Wait>(
+    rt: &R,
+    alloc: Global,
+    book: &Book<Display, B>,
+    client: &mut Caller<B>,
+) -> Result<u64, AllocError>
+    requires ready { IsReady client.old }
+    requires host { client.old.token.account.holds.host ≡ true }
+    requires idle { client.old.token.account.out ≡ [] }
+    ensures number { client.new.token.account.number ≡ client.old.token.account.number }
+    ensures start { client.new.token.start ≡ client.old.token.start }
+    ensures idle { client.new.token.account.out ≡ [] }
+    ensures left { OnOk result (HasLeft client.old client.new.token) }
+    ensures entry { IfOk result (HasLeftBy client.new.token) }
+    ensures begun { OnErr result (HasLeftOffBy client.old client.new.token) }
+{
+    leave(rt, alloc, book, &mut client.token)
+}
+
+/// The client, which isn't the host and has nothing out, gives up all that it has, and leaves. It gives the number of the entry with
+/// which it left.
 fn give_up<B: Naming, N: Rings, R: Wait>(
     rt: &R,
     alloc: Global,
@@ -234,6 +335,7 @@ fn give_up<B: Naming, N: Rings, R: Wait>(
     client: &mut Caller<B>,
 ) -> Result<u64, AllocError>
     requires ready { IsReady client.old }
+    requires guest { client.old.token.account.holds.host ≡ false }
     requires out { HasTickets client.old }
     requires idle { client.old.token.account.out ≡ [] }
     requires room { client.old.token.account.used < 2 ^ 24 }
@@ -244,7 +346,7 @@ fn give_up<B: Naming, N: Rings, R: Wait>(
     ensures entry { IfOk result (HasLeftBy client.new.token) }
     ensures begun { OnErr result (HasLeftOffBy client.old client.new.token) }
 {
-    let tasks = end_tasks(alloc, client.token.holds(), &client.names, &client.contexts)?;
+    let tasks = tasks_to_give_up(alloc, client.token.holds(), &client.names, &client.contexts)?;
     play(rt, alloc, book, driver, client, false, tasks)?;
     leave(rt, alloc, book, &mut client.token)
 }

@@ -4,7 +4,7 @@ ghost use Rattle.std.specs.Prelude.{◌≡◌, ◌<◌, ◌≤◌, ◌-◌, ◌+
 ghost use mathlib.Core.List.{IsPrefix};
 ghost use Rattle.vg_client_holds.specs.declared.setup.Setup.{Setup as Setups};
 ghost use Rattle.vg_client.specs.Accounts.{HasNothingOut, IsNew, IsUnadded};
-ghost use Rattle.vg_client.specs.Callers.{HasEnded, HasEntered, HasGone, HasLeftBy, HasLeftOff, HasLeftOffAtEnd, known};
+ghost use Rattle.vg_client.specs.Callers.{HasEnded, HasEntered, HasGone, HasLeftBy, HasLeftOff, HasLeftOffAtEnd, IsMet, known};
 ghost use Rattle.vg_tasks.specs.Plans.{IsCallFit};
 ghost use Rattle.vg_client.specs.Calls.{newest, newest_context};
 
@@ -49,7 +49,7 @@ impl<B: Naming> Client<B> {
         book: &Book<Display, B>,
         token: ClientToken<Display, B>,
     ) -> Result<Client<B>, (ClientToken<Display, B>, AllocError)>
-        requires { (setup : Setups) × IsNew setup token × (length setup.displays ≤ 16) × (setup.host ≡ false) }
+        requires { (setup : Setups) × IsNew setup token × (length setup.displays ≤ 16) }
         ensures { MatchResult result (λ client. HasEntered token client.caller × (client.stopped ≡ false)) (λ left. IsUnadded token left.0) }
     {
         match enter(rt, alloc, book, token) {
@@ -74,7 +74,9 @@ impl<B: Naming> Client<B> {
         driver: &Driver<B, N>,
         call: Call,
     ) -> Result<Outcome, AllocError>
-        requires fit { IsCallFit self.old.caller.token.account.holds.displays call }
+        requires fit { IsCallFit self.old.caller.token.account.holds call }
+        // An act of the host for which it waits has been seen.
+        requires met { IsMet self.old.caller.token.seen call }
         requires room { self.old.caller.token.account.used + 20 < 2 ^ 31 - 1 }
         ensures done { IfOk result (λ outcome. HasGone outcome.last self.old.caller call outcome self.new.caller) }
         ensures name { IfOk result (λ outcome. outcome.name ≡ newest (known self.old.caller) (known self.new.caller)) }

@@ -9,17 +9,18 @@ ghost use Rattle.vg_client_holds.specs.declared.act.ActReply.TheVariants as act_
 ghost use Rattle.vg_device.specs.declared.request.Reply.{Reply as Replies};
 ghost use Rattle.vg_machine.specs.Entries.{Entry as Entries};
 ghost use Rattle.vg_client_holds.specs.Holds.{Deniable};
+ghost use Rattle.vg_client_holds.specs.Host.{IsPart};
 ghost use Rattle.vg_driver.specs.Asks.{IsAsk, denied_for, request_for};
 ghost use Rattle.vg_client.specs.declared.given.Given.TheVariants as givens;
 ghost use Rattle.vg_client.specs.Accounts.{AreOut, IsActive, MayAct, leaves};
 ghost use Rattle.vg_client.specs.Callers.{HasAdded, HasDone, HasGoneOn, IsFewPages, IsReady, known};
 ghost use Rattle.vg_tasks.specs.Plans.{weights};
-ghost use Rattle.vg_client.specs.Calls.{IsAsked, IsDenial, IsDone, IsFrontOf, Plays};
+ghost use Rattle.vg_client.specs.Calls.{IsAsked, IsDone, IsFrontOf, Plays};
 ghost use Rattle.vg_tasks.specs.Keeps.{KeepsByDeed, KeepsHolds};
 ghost use Rattle.vg_tasks.specs.Fits.{HasFewBytes, IsFit, IsFitDeed};
 ghost use Rattle.vg_client.specs.Given.{tells_denial};
 ghost use Rattle.vg_client.specs.Outcomes.{HasPlayed};
-ghost use Rattle.vg_client.specs.Steps.{HasDenied};
+ghost use Rattle.vg_client.specs.Steps.{HasDenied, HasTold, IsTelling, StandsTold};
 
 use crate::caller::Caller;
 use crate::given::{Added, Given, leave_tasks};
@@ -47,6 +48,7 @@ pub(crate) fn play<B: Naming, N: Rings, R: Wait>(
     tasks: Tasks,
 ) -> Result<Played, AllocError>
     requires ready { IsReady client.old }
+    requires guest { client.old.token.account.holds.host ≡ false }
     requires out { AreOut client.old.token.account.out client.old.begun.items }
     requires fit { AllByRecursion IsFit tasks }
     // A hold is given up with nothing outstanding.
@@ -96,7 +98,6 @@ fn make<B: Naming, N: Rings, R: Wait>(
     match deed {
         Deed::Act { act } => make_act(rt, alloc, book, client, act),
         Deed::Ask { ask } => make_ask(rt, alloc, book, driver, client, &ask),
-        Deed::Wait { fence } => make_wait(rt, alloc, book, driver, client, fence),
     }
 }
 
@@ -241,13 +242,48 @@ pub(crate) fn deny<B: Naming, R: Wait>(
 ) -> Result<Played, AllocError>
     requires ready { IsReady client.old }
     requires may { Deniable client.old.token.account.holds what }
+    requires part { IsPart client.old.token.account.holds (acts.Denied what) }
     ensures done { IfOk result (λ played. HasDenied what client.old played client.new) }
-    ensures begun { OnErr result ((mine : List Entries)
-        × ((mine ≡ []) ⊎ IsDenial client.old.token.account.number what mine)
-        × HasAdded client.old mine client.new) }
+    ensures begun { OnErr result (StandsTold (acts.Denied what) client.old client.new) }
+{
+    tell(rt, alloc, book, client, Act::Denied { what })
+}
+
+/// Tells something by one act, which changes nothing of what the client knows. For want of memory the entry that was made stands.
+pub(crate) fn tell<B: Naming, R: Wait>(
+    rt: &R,
+    alloc: Global,
+    book: &Book<Display, B>,
+    client: &mut Caller<B>,
+    act: Act,
+) -> Result<Played, AllocError>
+    requires ready { IsReady client.old }
+    requires may { MayAct client.old.token act }
+    requires tells { IsTelling act }
+    ensures done { IfOk result (λ played. HasTold act client.old played client.new) }
+    ensures begun { OnErr result (StandsTold act client.old client.new) }
 {
     let mut played = Played::with_room(alloc, 1)?;
-    let added = make_act(rt, alloc, book, client, Act::Denied { what })?;
+    let added = make_act(rt, alloc, book, client, act)?;
+    played.add(added)?;
+    Ok(played)
+}
+
+/// Waits for a fence, and tells so, likewise.
+pub(crate) fn tell_fence<B: Naming, N: Rings, R: Wait>(
+    rt: &R,
+    alloc: Global,
+    book: &Book<Display, B>,
+    driver: &Driver<B, N>,
+    client: &mut Caller<B>,
+    fence: Fence,
+) -> Result<Played, AllocError>
+    requires { IsReady client.old }
+    ensures done { IfOk result (λ played. HasTold (acts.Await fence.lane fence.ordinal) client.old played client.new) }
+    ensures begun { OnErr result (StandsTold (acts.Await fence.lane fence.ordinal) client.old client.new) }
+{
+    let mut played = Played::with_room(alloc, 1)?;
+    let added = make_wait(rt, alloc, book, driver, client, fence)?;
     played.add(added)?;
     Ok(played)
 }

@@ -16,7 +16,7 @@ use Rattle.vg_names.specs.Contexts.{is_current}
 use Rattle.vg_tasks.specs.declared.task.Task.{Task}
 use Rattle.vg_tasks.specs.Keeps.{AsksOnce, KeepsHolds, PlansToAskOnce, PlansToKeep}
 use Rattle.vg_tasks.specs.Known.{Known}
-use Rattle.vg_tasks.specs.Tasks.{await_tasks, begins, body_tasks, cursor_tasks, gives_up, if_current, import_tasks, is_timeline, tasks_of}
+use Rattle.vg_tasks.specs.Tasks.{await_tasks, begins, body_tasks, cursor_tasks, gives_up, if_current, import_tasks, is_timeline, sync_tasks, tasks_of}
 use Rattle.vg_tasks.specs.Table.{begun_way}
 
 held-keeps : (held : Option Held) (tasks : Held → List Task) → ((one : Held) → AllByRecursion KeepsHolds (tasks one)) → PlansToKeep (if_current held tasks)
@@ -42,8 +42,12 @@ body-keeps known way (bodies.Flush name rect) = held-keeps (found name.number kn
 body-keeps known way (bodies.Submit context ring) = context-keeps (is_current context.number known.contexts) _ ((tt, tt), tt)
 
 await-keeps : (fence : Option FenceData) → PlansToKeep (await_tasks fence)
-await-keeps (Some fence) = ((tt, tt), tt)
+await-keeps (Some fence) = ((refl, tt), tt)
 await-keeps None = tt
+
+sync-keeps : (call : Option ℕ) → PlansToKeep (sync_tasks call)
+sync-keeps (Some call) = ((refl, tt), tt)
+sync-keeps None = tt
 
 pub call-keeps : (known : Known) (call : Call) → gives_up call ≡ false → PlansToKeep (tasks_of known call)
 call-keeps known calls.Info keeps = ((tt, tt), tt)
@@ -77,6 +81,11 @@ call-keeps known (calls.Begin label timeline body) keeps =
 call-keeps known (calls.Await label fence) keeps = await-keeps fence
 call-keeps known (calls.Raw queue room shape bytes) keeps = ((tt, tt), tt)
 call-keeps known (calls.Close name) keeps = absurd (cc keeps)
+call-keeps known (calls.Mode scanout width height label) keeps = ((refl, tt), tt)
+call-keeps known (calls.Unplug scanout label) keeps = ((refl, tt), tt)
+call-keeps known (calls.Sync label call) keeps = sync-keeps call
+call-keeps known calls.Events keeps = ((refl, tt), tt)
+call-keeps known calls.Ack keeps = ((refl, tt), tt)
 
 held-once : (held : Option Held) (tasks : Held → List Task) → ((one : Held) → AsksOnce (tasks one)) → PlansToAskOnce (if_current held tasks)
 held-once None tasks each = tt

@@ -16,8 +16,8 @@ abbrev pub HasFewBytes : the_act.Act → Type 0
 HasFewBytes (acts.Reserve width height format bytes) = bytes ≤ version_2.bytes
 HasFewBytes act = Unit {0}
 
--- What is done for a task is no client's first act, nor its last, nor the telling of a denial, but of a name, nor that of a fence or of the
--- host, which it waits for, nor the host's; and a request of it is no longer than may be sent.
+-- What is done for a task that isn't a call's only one is no client's first act, nor its last, nor the telling of a denial, but of a name,
+-- nor that of a fence or of the host, which it waits for, nor the host's; and a request of it is no longer than may be sent.
 abbrev pub IsFitDeed : Deed → Type 0
 IsFitDeed (deeds.Act acts.Enter) = ⊥
 IsFitDeed (deeds.Act acts.Leave) = ⊥
@@ -29,7 +29,6 @@ IsFitDeed (deeds.Act (acts.Denied Name)) = Unit {0}
 IsFitDeed (deeds.Act (acts.Denied what)) = ⊥
 IsFitDeed (deeds.Act act) = HasFewBytes act
 IsFitDeed (deeds.Ask ask) = IsAsk ask
-IsFitDeed (deeds.Wait fence) = Unit {0}
 
 -- A buffer is no larger than a display.
 abbrev pub IsFitChange : Change → Type 0

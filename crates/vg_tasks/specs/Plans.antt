@@ -1,11 +1,13 @@
 -- What a call that is within its limits plans: few tasks, each within its limits, or what is denied.
-use Rattle.std.specs.Prelude.{◌≡◌, ◌≤◌, ◌<◌, ◌+◌, ℕ, List, [], ◌∷◌, length, IfSome, Result, Ok, Err}
+use Rattle.std.specs.Prelude.{◌≡◌, ◌≤◌, ◌<◌, ◌+◌, ℕ, false, List, [], ◌∷◌, length, IfSome, Result, Ok, Err}
 use Rattle.std.specs.List.{AllByRecursion}
 use Rattle.vg_chain.specs.Space.{most_request, most_room}
 use Rattle.vg_chain.specs.Made.{IsCount}
 use Rattle.vg_client_holds.specs.declared.act.What.{What}
 use Rattle.vg_client_holds.specs.declared.holds.Holds.{Holds}
 use Rattle.vg_client_holds.specs.Holds.{Deniable}
+use Rattle.vg_client_holds.specs.Host.{IsPart}
+use Rattle.vg_client_holds.specs.declared.act.Act.TheVariants as acts
 use Rattle.vg_calls.specs.declared.call.Call.{Call}
 use Rattle.vg_calls.specs.declared.call.Call.TheVariants as calls
 use Rattle.vg_calls.specs.declared.call.Body.{Body}
@@ -32,15 +34,23 @@ abbrev pub IsBodyFit : Body → Type 0
 IsBodyFit (bodies.Submit context ring) = ring < 64
 IsBodyFit body = Unit {0}
 
--- A call whose numbers are within its limits, with so many displays.
-abbrev pub IsCallFit : ℕ → Call → Type 0
-IsCallFit displays (calls.Buffer width height format) = (width ≤ version_2.width) × (height ≤ version_2.height)
-IsCallFit displays (calls.Blob size) = size ≤ version_2.bytes
-IsCallFit displays (calls.Drop scanout) = scanout < displays
-IsCallFit displays (calls.Submit context ring) = ring < 64
-IsCallFit displays (calls.Begin label timeline body) = IfSome timeline (λ t. t.1 < 64) × IsBodyFit body
-IsCallFit displays (calls.Raw queue room shape bytes) = (length bytes ≤ most_request) × (room ≤ most_room) × IsCount shape
-IsCallFit displays call = Unit {0}
+-- The numbers of a client's call are within their limits, with so many displays.
+abbrev pub HasFitNumbers : ℕ → Call → Type 0
+HasFitNumbers displays (calls.Buffer width height format) = (width ≤ version_2.width) × (height ≤ version_2.height)
+HasFitNumbers displays (calls.Blob size) = size ≤ version_2.bytes
+HasFitNumbers displays (calls.Drop scanout) = scanout < displays
+HasFitNumbers displays (calls.Submit context ring) = ring < 64
+HasFitNumbers displays (calls.Begin label timeline body) = IfSome timeline (λ t. t.1 < 64) × IsBodyFit body
+HasFitNumbers displays (calls.Raw queue room shape bytes) = (length bytes ≤ most_request) × (room ≤ most_room) × IsCount shape
+HasFitNumbers displays call = Unit {0}
+
+-- A call that one with these holds may make: of the host, which there is for it, or of a client that isn't the host; both wait for
+-- fences. Its numbers are within their limits.
+abbrev pub IsCallFit : Holds → Call → Type 0
+IsCallFit holds (calls.Mode scanout width height label) = IsPart holds (acts.Mode scanout width height)
+IsCallFit holds (calls.Unplug scanout label) = IsPart holds (acts.Unplug scanout)
+IsCallFit holds (calls.Await label fence) = Unit {0}
+IsCallFit holds call = (holds.host ≡ false) × HasFitNumbers holds.displays call
 
 -- What was made of a plan: its tasks, which are few and fit, or what is denied.
 abbrev pub IsPlanOf : Result (List Task) What → Result (List Task) What → Type 0
@@ -51,6 +61,11 @@ IsPlanOf plan (Err what) = plan ≡ Err what
 abbrev pub Plans : {E : Type 0} → Result (List Task) What → Result (Result (List Task) What) E → Type 0
 Plans plan (Ok made) = IsPlanOf plan made
 Plans plan (Err none) = Unit {0}
+
+-- The plan is one of a client that isn't the host, or a denial that the host may be told.
+abbrev pub IsPlanOfPart : Holds → Result (List Task) What → Type 0
+IsPlanOfPart holds (Ok tasks) = holds.host ≡ false
+IsPlanOfPart holds (Err what) = IsPart holds (acts.Denied what)
 
 -- The tasks are few and fit; what is denied may be.
 abbrev pub IsFitPlan : Holds → Result (List Task) What → Type 0

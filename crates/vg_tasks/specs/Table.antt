@@ -17,7 +17,7 @@ use Rattle.vg_history.specs.Fences.{FenceData}
 use Rattle.vg_names.specs.declared.names.Held.{Held}
 use Rattle.vg_tasks.specs.declared.task.Change.{Change}
 use Rattle.vg_tasks.specs.declared.task.Change.TheVariants.{Nothing, NewBuffer, NewBlob, Imported, EndOfName, Shows, NewContext, EndOfContext, GoesOn}
-use Rattle.vg_tasks.specs.declared.task.Deed.TheVariants.{Act, Ask, Wait}
+use Rattle.vg_tasks.specs.declared.task.Deed.TheVariants.{Act, Ask}
 use Rattle.vg_tasks.specs.declared.task.Task.{Task}
 use Rattle.vg_driver.specs.declared.ask.Ask.TheVariants.{Command, Raw}
 use Rattle.vg_driver.specs.declared.request.Way.{Way}
@@ -187,7 +187,7 @@ begun_way client None = Control 0
 
 -- The client waits for a fence, and tells so.
 abbrev pub wait_task : FenceData → Task
-wait_task fence = record { deed = Wait fence; change = Nothing }
+wait_task fence = act_task (acts.Await fence.lane fence.ordinal)
 
 -- Commands of no bytes on a timeline of a context.
 abbrev pub submit_task : ℕ → ℕ → ℕ → Task

@@ -15,10 +15,11 @@ use Rattle.vg_names.specs.declared.names.Held.{Held}
 use Rattle.vg_calls.specs.declared.call.NameRef.{NameRef}
 use Rattle.vg_calls.specs.declared.call.ContextRef.{ContextRef}
 use Rattle.vg_tasks.specs.declared.task.Task.{Task}
+use Rattle.vg_client_holds.specs.declared.act.Act.TheVariants as acts
 use Rattle.vg_tasks.specs.Known.{Known}
 use Rattle.vg_names.specs.Names.{NamesState, found, has_one_name}
 use Rattle.vg_names.specs.Contexts.{ContextsState, is_current}
-use Rattle.vg_tasks.specs.Table.{attach_context_task, begun_way, clear_task, cursor_task, detach_context_task, drop_task, edid_task, end_context_task, export_task, flush_on, flush_task, hide_cursor_task, hide_task, import_task, info_on, info_task, load_task, make_context_task, move_task, no_import_task, raw_task, release_task, reserve_blob_task, reserve_task, send_on, send_task, show_blob_task, show_task, store_task, submit_task, take_task, uuid_task, wait_task}
+use Rattle.vg_tasks.specs.Table.{act_task, attach_context_task, begun_way, clear_task, cursor_task, detach_context_task, drop_task, edid_task, end_context_task, export_task, flush_on, flush_task, hide_cursor_task, hide_task, import_task, info_on, info_task, load_task, make_context_task, move_task, no_import_task, raw_task, release_task, reserve_blob_task, reserve_task, send_on, send_task, show_blob_task, show_task, store_task, submit_task, take_task, uuid_task, wait_task}
 
 -- The tasks of a call on a name: where the name isn't current the call is denied for it.
 abbrev pub if_current : Option Held → (Held → List Task) → Result (List Task) What
@@ -85,13 +86,17 @@ body_tasks known way (bodies.Send name rect) = with_held known.names name (λ he
 body_tasks known way (bodies.Flush name rect) = with_held known.names name (λ held. flush_on way held.key rect ∷ [])
 body_tasks known way (bodies.Submit context ring) = with_context known.contexts context (Ok (submit_task known.holds.client context.number ring ∷ []))
 
--- The wait for a fence, if there is one.
+-- The wait for a fence, if there is one, and for an act of the host.
 abbrev pub await_tasks : Option FenceData → Result (List Task) What
 await_tasks (Some fence) = Ok (wait_task fence ∷ [])
 await_tasks None = Err Name
 
+abbrev pub sync_tasks : Option ℕ → Result (List Task) What
+sync_tasks (Some call) = Ok (act_task (acts.Sync call) ∷ [])
+sync_tasks None = Err Name
+
 -- The tasks of a call, by what its client knows; or what is denied before there is any: a name that isn't current, of a buffer or
--- of a context, the end of a lease that there isn't, and a wait for no fence. An import without a token is denied by its task, since its name takes a number.
+-- of a context, the end of a lease that there isn't, and a wait for no fence or for no act of the host. An import without a token is denied by its task, since its name takes a number.
 abbrev pub tasks_of : Known → Call → Result (List Task) What
 tasks_of known calls.Info = Ok (info_task ∷ [])
 tasks_of known (calls.Edid scanout) = Ok (edid_task scanout ∷ [])
@@ -124,6 +129,19 @@ tasks_of known (calls.Begin label timeline body) = on_timeline known.contexts ti
 tasks_of known (calls.Await label fence) = await_tasks fence
 tasks_of known (calls.Raw queue room shape bytes) = Ok (raw_task queue room shape bytes ∷ [])
 tasks_of known (calls.Close name) = with_held known.names name (close_tasks known.names.current known.shows)
+tasks_of known (calls.Mode scanout width height label) = Ok (act_task (acts.Mode scanout width height) ∷ [])
+tasks_of known (calls.Unplug scanout label) = Ok (act_task (acts.Unplug scanout) ∷ [])
+tasks_of known (calls.Sync label call) = sync_tasks call
+tasks_of known calls.Events = Ok (act_task acts.Events ∷ [])
+tasks_of known calls.Ack = Ok (act_task acts.Ack ∷ [])
+
+-- A call that is one act, which tells of what was waited for or is the host's.
+abbrev pub is_told : Call → Bool
+is_told (calls.Await label (Some fence)) = true
+is_told (calls.Sync label (Some call)) = true
+is_told (calls.Mode scanout width height label) = true
+is_told (calls.Unplug scanout label) = true
+is_told call = false
 
 -- A call that begins its one command, and goes on without the reply.
 abbrev pub begins : Call → Bool
@@ -152,8 +170,12 @@ leases_back leased scanout (suc more) = (if has_number scanout leased then give_
 
 -- What a client gives up at its end: its leases, its contexts, and then its buffers; contexts and buffers in the order in which they
 -- were made.
-abbrev pub end_tasks : Known → List Task
-end_tasks known =
+abbrev pub tasks_to_give_up : Known → List Task
+tasks_to_give_up known =
     leases_back known.holds.scanouts 0 known.holds.displays
     ++ map (end_context_task known.holds.client) known.contexts.current
     ++ map release_task known.names.current
+
+-- The host has none of these.
+abbrev pub end_tasks : Known → List Task
+end_tasks known = if known.holds.host then [] else tasks_to_give_up known

@@ -11,4 +11,4 @@ pub use queue::Tasks;
 pub use task::{
     Change, Deed, Task, act_task, attach_task, create_blob_task, create_task, unref_task,
 };
-pub use tasks::{begins, end_tasks, gives_up, tasks_of};
+pub use tasks::{begins, gives_up, tasks_of, tasks_to_give_up};

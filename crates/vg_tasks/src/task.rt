@@ -12,7 +12,6 @@ use vg_chain::Shape;
 use vg_client_holds::{Act, What};
 use vg_driver::{Ask, Way};
 use vg_formats::{MemEntry, Rect};
-use vg_history::Fence;
 use vg_list::Seq;
 use vg_names::Held;
 use vg_pages::{PAGE_BYTES, page_address};
@@ -31,8 +30,6 @@ pub struct Task {
 pub enum Deed {
     Act { act: Act },
     Ask { ask: Ask },
-    /// Waits for a fence, and tells so by an act.
-    Wait { fence: Fence },
 }
 
 /// What the answer to a task changes, for its client and for the rest of the call.
@@ -366,16 +363,6 @@ pub(crate) fn begun_way(client: u32, timeline: Option<(ContextRef, u8)>) -> Way
             ring,
         },
         None => Way::Control { context: 0 },
-    }
-}
-
-/// Waits for a fence, and tells so.
-pub(crate) fn wait_task(fence: Fence) -> Task
-    ensures { result ≡ table.wait_task fence }
-{
-    Task {
-        deed: Deed::Wait { fence },
-        change: Change::Nothing,
     }
 }
 

@@ -17,13 +17,12 @@ use crate::task::{
     drop_task, edid_task, end_context_task, export_task, flush_on, flush_task, hide_cursor_task,
     hide_task, import_task, info_on, info_task, load_task, make_context_task, move_task,
     no_import_task, raw_task, release_task, reserve_blob_task, reserve_task, send_on, send_task,
-    show_blob_task, show_task, store_task, submit_task, uuid_task, wait_task,
+    show_blob_task, show_task, store_task, submit_task, uuid_task,
 };
 use std::alloc::{AllocError, Global};
 use vg_calls::{Body, Call, ContextRef, NameRef};
 use vg_client_holds::{Act, Holds, What};
 use vg_formats::Rect;
-use vg_history::Fence;
 use vg_list::Seq;
 use vg_names::{Contexts, Held, Names};
 
@@ -57,7 +56,9 @@ pub fn tasks_of(
     shows: &[Option<u32>],
     call: Call,
 ) -> Result<Result<Tasks, What>, AllocError>
-    requires call { IsCallFit holds.now.displays call }
+    requires call { IsCallFit holds.now call }
+    // What is told by one act alone has no plan.
+    requires planned { plan.is_told call ≡ false }
     requires shows { length shows.now ≤ 16 }
     requires contexts { contexts.now.made < 2 ^ 31 }
     ensures plans { Plans (plan.tasks_of (record { holds = holds.now; names = names.now; contexts = contexts.now; shows = shows.now }) call) result }
@@ -161,7 +162,7 @@ pub fn tasks_of(
         Call::Begin { timeline, body, .. } => {
             begun_tasks(alloc, holds, names, contexts, timeline, body)
         }
-        Call::Await { fence, .. } => await_tasks(alloc, fence),
+        Call::Await { .. } | Call::Sync { .. } => Ok(Err(What::Name)),
         Call::Raw {
             queue,
             room,
@@ -171,6 +172,9 @@ pub fn tasks_of(
         Call::Close { name } => {
             with_held!(names, name, held => close_held(alloc, names, shows, held))
         }
+        Call::Events => one(alloc, act_task(Act::Events)),
+        Call::Ack => one(alloc, act_task(Act::Ack)),
+        Call::Mode { .. } | Call::Unplug { .. } => unreachable!(),
     }
 }
 
@@ -219,17 +223,6 @@ fn is_timeline(contexts: &Contexts, timeline: Option<(ContextRef, u8)>) -> bool
     match timeline {
         Some((context, _)) => contexts.is_current(context.number),
         None => true,
-    }
-}
-
-/// The wait for a fence, if there is one.
-fn await_tasks(alloc: Global, fence: Option<Fence>) -> Result<Result<Tasks, What>, AllocError>
-    ensures plans { Plans (plan.await_tasks fence) result }
-    ensures denied { IfOk result (λ done. IfErr done (λ what. what ≡ whats.Name)) }
-{
-    match fence {
-        Some(fence) => one(alloc, wait_task(fence)),
-        None => Ok(Err(What::Name)),
     }
 }
 
@@ -425,7 +418,7 @@ fn is_shown(key: u32, shown: Option<u32>) -> bool
 }
 
 /// What the client gives up at its end: its leases, rising, its contexts, and then its buffers, in the order in which they were made.
-pub fn end_tasks(
+pub fn tasks_to_give_up(
     alloc: Global,
     holds: &Holds,
     names: &Names,

@@ -2,7 +2,7 @@ use Rattle.std.proofs.Common.{◌≡◌, ◌⊎◌, [], subst}
 use Rattle.vg_tasks.specs.Fits.{IsFitDeed}
 use Rattle.vg_tasks.specs.Keeps.{KeepsByDeed}
 use Rattle.vg_tasks.specs.declared.task.Deed.{Deed}
-use Rattle.vg_client.proofs.PlayLemmas.{act-made, ask-made, map_ok, may-deed, wait-made}
+use Rattle.vg_client.proofs.PlayLemmas.{act-made, ask-made, map_ok, may-deed}
 use Rattle.vg_client.proofs.play.make.Goals as goal
 
 pub returns-in-Act-clause-done : goal.returns-in-Act-clause-done
@@ -10,9 +10,6 @@ returns-in-Act-clause-done g c = map_ok c.make_act.result (λ added. act-made c.
 
 pub returns-in-Ask-clause-done : goal.returns-in-Ask-clause-done
 returns-in-Ask-clause-done g c = map_ok c.make_ask.result (λ added. ask-made c.args.client.now c.make_ask.new.client c.args.deed c.in-Ask.ask c.in-Ask.is added) c.make_ask.ensures.done
-
-pub returns-in-Wait-clause-done : goal.returns-in-Wait-clause-done
-returns-in-Wait-clause-done g c = map_ok c.make_wait.result (λ added. wait-made c.args.client.now c.make_wait.new.client c.args.deed c.in-Wait.fence c.in-Wait.is added) c.make_wait.ensures.done
 
 pub make_act-requires-clause-may : goal.make_act-requires-clause-may
 make_act-requires-clause-may g c =

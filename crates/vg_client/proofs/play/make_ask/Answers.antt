@@ -1,10 +1,11 @@
-use Rattle.std.proofs.Common.{◌≡◌, ◌∙◌, Option, Some, None, ap, subst, sym}
+use Rattle.std.proofs.Common.{◌≡◌, ◌∙◌, Option, Some, None, ap, refl, subst, sym}
 use Rattle.std.specs.Prelude.{IfSome}
 use Rattle.vg_client_holds.specs.declared.holds.Holds.{Holds}
 use Rattle.vg_client_holds.specs.declared.act.What.{What}
 use Rattle.vg_client_holds.specs.Holds.{Deniable}
+use Rattle.vg_client_holds.specs.declared.act.Act.TheVariants as acts
 use Rattle.vg_driver.specs.Asks.{denied_for, request_for}
-use Rattle.vg_client.proofs.PlayLemmas.{asked-done, denied-done, map_ok, may-deny}
+use Rattle.vg_client.proofs.PlayLemmas.{asked-done, denied-done, guest-denied, map_ok, may-tell}
 use Rattle.vg_client.proofs.play.make_ask.Goals as goal
 
 pub returns-in-Some-clause-done : goal.returns-in-Some-clause-done
@@ -26,4 +27,4 @@ make_act-requires-clause-may g c =
     let token = c.args.client.now.token in
     let told : IfSome (Some c.in-Some.what) (Deniable token.account.holds) =
     subst (λ (o : Option What). IfSome o (Deniable token.account.holds)) c.in-Some.is (subst (λ (h : Holds). IfSome c.in_ok-what.field-0 (Deniable h)) c.holds.ensures c.in_ok-what.ensures.deniable) in
-    may-deny token c.in-Some.what c.requires.active c.requires.guest told
+    may-tell token (acts.Denied c.in-Some.what) c.requires.active told (guest-denied token.account.holds c.in-Some.what c.requires.guest) refl tt

@@ -1,4 +1,4 @@
-use Rattle.std.proofs.Common.{◌≡◌, ap, arith, []}
+use Rattle.std.proofs.Common.{◌≡◌, ◌∙◌, ap, arith, []}
 use Rattle.vg_laws.proofs.Results.{on_err}
 use Rattle.vg_names.specs.Names.{NamesState}
 use Rattle.vg_names.specs.Contexts.{ContextsState}
@@ -60,6 +60,9 @@ pub returns-clause-done : goal.returns-clause-done
 returns-clause-done g c =
     let none : c.loop-task.left ≡ [] = c.in_default.ensures.0 in
     played-all c.args.stops c.args.tasks c.args.client.now c.loop-task.client c.loop-task.left c.loop-task.played none c.loop-task.invariant
+
+pub make-requires-clause-guest : goal.make-requires-clause-guest
+make-requires-clause-guest g c = c.loop-task.invariant.on.host ∙ c.requires.guest
 
 pub make-requires-clause-out : goal.make-requires-clause-out
 make-requires-clause-out g c = tickets-kept c.loop-task.invariant.on.added c.requires.out

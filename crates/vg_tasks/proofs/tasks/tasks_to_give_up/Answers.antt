@@ -6,7 +6,7 @@ use Rattle.vg_tasks.specs.Fits.{IsFit}
 use Rattle.vg_tasks.specs.Table.{end_context_task, release_task}
 use Rattle.vg_tasks.specs.Tasks.{leases_back}
 use Rattle.vg_tasks.proofs.TaskLemmas.{end-few, end-fit}
-use Rattle.vg_tasks.proofs.tasks.end_tasks.Goals as goal
+use Rattle.vg_tasks.proofs.tasks.tasks_to_give_up.Goals as goal
 
 pub returns-clause-fit : goal.returns-clause-fit
 returns-clause-fit c =

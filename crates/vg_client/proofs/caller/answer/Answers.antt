@@ -1,0 +1,1 @@
+use Rattle.vg_client.proofs.caller.answer.Goals as goal
