@@ -19,7 +19,7 @@ use Rattle.vg_names.specs.Contexts.{is_current}
 use Rattle.vg_names.specs.declared.names.Held.{Held}
 use Rattle.vg_tasks.specs.declared.task.Task.{Task}
 use Rattle.vg_tasks.specs.Table.{begun_way, release_task}
-use Rattle.vg_tasks.specs.Tasks.{await_tasks, body_tasks, clear_tasks, close_tasks, cursor_tasks, drop_tasks, give_back, if_current, is_timeline, tasks_of}
+use Rattle.vg_tasks.specs.Tasks.{await_tasks, body_tasks, clear_tasks, close_tasks, cursor_tasks, drop_tasks, give_back, if_current, is_timeline, sync_tasks, tasks_of}
 
 -- a call that isn't denied before there is any task has one
 abbrev HasTasks : Result (List Task) What → Type 0
@@ -56,6 +56,10 @@ has-await : (fence : Option FenceData) → HasTasks (await_tasks fence)
 has-await (Some fence) = omega arith
 has-await None = tt
 
+has-sync : (call : Option ℕ) → HasTasks (sync_tasks call)
+has-sync (Some call) = omega arith
+has-sync None = tt
+
 has-tasks : (known : Known) (call : Call) → HasTasks (tasks_of known call)
 has-tasks known calls.Info = omega arith
 has-tasks known (calls.Edid scanout) = omega arith
@@ -88,6 +92,11 @@ has-tasks known (calls.Raw queue room shape bytes) = omega arith
 has-tasks known (calls.Close name) =
     held-tasks (found name.number known.names) (close_tasks known.names.current known.shows)
     (λ one. let longer = length-append (cond (has_one_name one.key known.names.current) (clear_tasks one.key 0 known.shows) []) (release_task one ∷ []) in omega (arith, longer))
+has-tasks known (calls.Mode scanout width height label) = omega arith
+has-tasks known (calls.Unplug scanout label) = omega arith
+has-tasks known (calls.Sync label call) = has-sync call
+has-tasks known calls.Events = omega arith
+has-tasks known calls.Ack = omega arith
 
 -- so it gives an entry
 gives-tasks : (client : ℕ) (known known' : Known) (plan : Result (List Task) What) → HasTasks plan → GivesTasks client known plan [] known' → ⊥

@@ -21,7 +21,7 @@ use Rattle.vg_tasks.specs.declared.task.Change.TheVariants.{Nothing, NewBuffer, 
 use Rattle.vg_tasks.specs.declared.task.Task.{Task}
 use Rattle.vg_tasks.specs.Known.{Known}
 use Rattle.vg_tasks.specs.Table.{begun_way, clear_task, release_task}
-use Rattle.vg_tasks.specs.Tasks.{await_tasks, body_tasks, clear_tasks, cursor_tasks, drop_tasks, give_back, if_current, is_shown, is_timeline, tasks_of}
+use Rattle.vg_tasks.specs.Tasks.{await_tasks, body_tasks, clear_tasks, cursor_tasks, drop_tasks, give_back, if_current, is_shown, is_timeline, sync_tasks, tasks_of}
 use Rattle.vg_client.specs.declared.given.Given.{Given}
 use Rattle.vg_client.specs.declared.given.Given.TheVariants as givens
 use Rattle.vg_client.specs.Given.{follow_ups, given_of, goes_on, is_accepted, left_after}
@@ -184,6 +184,10 @@ module _ (count : Known → ℕ) (news : Change → ℕ) (counts : Counts count 
   await-none (Some fence) = (counts.nothing, tt)
   await-none None = tt
 
+  sync-none : (call : Option ℕ) → PlansNone (sync_tasks call)
+  sync-none (Some call) = (counts.nothing, tt)
+  sync-none None = tt
+
   plans-none : (known : Known) (call : Call) → defines call ≡ false → makes_context call ≡ false → PlansNone (tasks_of known call)
   plans-none known calls.Info other same = (counts.nothing, tt)
   plans-none known (calls.Edid scanout) other same = (counts.nothing, tt)
@@ -218,6 +222,11 @@ module _ (count : Known → ℕ) (news : Change → ℕ) (counts : Counts count 
   plans-none known (calls.Raw queue room shape bytes) other same = (counts.nothing, tt)
   plans-none known (calls.Close name) other same =
       held-none (found name.number known.names) _ (λ one. close-none (has_one_name one.key known.names.current) one known.shows)
+  plans-none known (calls.Mode scanout width height label) other same = (counts.nothing, tt)
+  plans-none known (calls.Unplug scanout label) other same = (counts.nothing, tt)
+  plans-none known (calls.Sync label call) other same = sync-none call
+  plans-none known calls.Events other same = (counts.nothing, tt)
+  plans-none known calls.Ack other same = (counts.nothing, tt)
 
   gives-none : (client : ℕ) (known known' : Known) (plan : Result (List Task) What) (mine : List Entry) → PlansNone plan → GivesTasks client known plan mine known' → count known' ≡ count known
   gives-none client known known' (Ok tasks) mine none gives = plays-none client true known known' tasks mine none gives

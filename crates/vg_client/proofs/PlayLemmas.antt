@@ -15,7 +15,7 @@ use Rattle.vg_client_holds.specs.declared.act.What.{What}
 use Rattle.vg_client_holds.specs.declared.act.What.TheVariants.{Name}
 use Rattle.vg_machine.specs.Entries.{Entry}
 use Rattle.vg_client_holds.specs.declared.holds.Holds.{Holds}
-use Rattle.vg_client_holds.specs.Holds.{gives_up, update}
+use Rattle.vg_client_holds.specs.Holds.{Deniable, gives_up, update}
 use Rattle.vg_client_holds.specs.Host.{IsPart}
 use Rattle.vg_machine.specs.Order.{MayBeDenied, call_of, is_leave, updated}
 use Rattle.vg_calls.specs.declared.call.Call.{Call}
@@ -32,8 +32,8 @@ use Rattle.vg_tasks.specs.declared.task.Deed.TheVariants as deeds
 use Rattle.vg_tasks.specs.declared.task.Task.{Task}
 use Rattle.vg_driver.specs.declared.ask.Ask.{Ask}
 use Rattle.vg_driver.specs.Asks.{denied_for, request_for}
-use Rattle.vg_client.specs.Calls.{BeginsTasks, Gives, GivesTasks, IsAsked, IsDenial, IsDone, IsEntryOf, IsFrontOf, Plays, contexts_after, learned, names_after, names_imported, names_reserved, shows_after}
-use Rattle.vg_tasks.specs.Tasks.{end_tasks, tasks_of}
+use Rattle.vg_client.specs.Calls.{BeginsTasks, Gives, GivesTasks, IsAsked, IsDone, IsEntryOf, IsFrontOf, Plays, contexts_after, learned, names_after, names_imported, names_reserved, shows_after}
+use Rattle.vg_tasks.specs.Tasks.{end_tasks, tasks_of, tasks_to_give_up}
 use Rattle.vg_client.specs.Callers.{HasAdded, HasDone, HasGoneOn, HasLeftBy, IsFewPages, IsReady, IsSmall, known}
 use Rattle.vg_tasks.specs.Plans.{IsFitPlan, IsPlanOf, weight_of, weights}
 use Rattle.vg_client.specs.Given.{follow_ups, given_of, goes_on, is_accepted, left_after, tells_denial}
@@ -295,20 +295,24 @@ added-then client0 client client' mine more one other = record {
   more = prefix_trans client0.token.seen client.token.seen client'.token.seen one.more other.more;
 }
 
+-- a client that has done nothing goes on
+pub gone-none : {B : Type 0} (client : Caller B) → IsReady client → HasGoneOn client [] client
+gone-none client ready = let next = next-none client.token in record {
+  added = added-none client;
+  used = next.used;
+  numbers = next.numbers;
+  placed = next.placed;
+  apart = next.apart;
+  displays = refl;
+  host = refl;
+  made = omega arith;
+  ready = ready;
+}
+
 pub playing-first : {B : Type 0} (stops : Bool) (tasks : List Task) (client : Caller B) (gathered : Played) → IsReady client → AllByRecursion IsFit tasks → (client.token.account.out ≡ []) ⊎ AllByRecursion KeepsHolds tasks → HasPlayed client.token.seen [] client.token.seen gathered → IsPlaying stops tasks client client tasks gathered
 playing-first stops tasks client gathered ready fit idle has = record {
   mine = [];
-  on = let next = next-none client.token in record {
-    added = added-none client;
-    used = next.used;
-    numbers = next.numbers;
-    placed = next.placed;
-    apart = next.apart;
-    displays = refl;
-    host = refl;
-    made = omega arith;
-    ready = ready;
-  };
+  on = gone-none client ready;
   fit = fit;
   idle = idle;
   room = omega arith;
@@ -616,6 +620,13 @@ left-by token token' n reply (added, (state, is)) =
     let told : Left token.account.number (token.account.used + 1) act_replies.Ok = subst (λ (r : ActReply). Left token.account.number (token.account.used + 1) r) is added.numbered in
     let numbered : Left token.account.number token'.account.used act_replies.Ok = subst (λ (k : ℕ). Left token.account.number k act_replies.Ok) (sym added.used) told in
     subst (λ (c : ℕ). Left c token'.account.used act_replies.Ok) (sym added.number) numbered
+
+-- what is given up at the end: by the host nothing
+pub guest-ends : (known : Known) → known.holds.host ≡ false → end_tasks known ≡ tasks_to_give_up known
+guest-ends known guest = ap (λ (b : Bool). cond b [] (tasks_to_give_up known)) guest
+
+pub host-ends : (known : Known) → known.holds.host ≡ true → end_tasks known ≡ []
+host-ends known host = ap (λ (b : Bool). cond b [] (tasks_to_give_up known)) host
 
 -- the end of a client: what it gives up, and its leave
 pub ended-by : {B : Type 0} (client client' : Caller B) (tasks : List Task) (ending : List Entry) (token : Token) → tasks ≡ end_tasks (known client) → Plays client.token.account.number false (known client) tasks ending (known client') []

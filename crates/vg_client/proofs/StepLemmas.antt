@@ -1,12 +1,16 @@
 -- What comes of a call, from its steps: what it begins, what it finishes first, and what it does.
-use Rattle.std.proofs.Common.{◌≡◌, ◌⊎◌, ◌+◌, ◌≤◌, ◌∙◌, ◌&&◌, sym, ap, refl, subst, arith, inl, inr, ⊎_elim, ℕ, Bool, true, false, List, [], ◌∷◌, ◌++◌, length, map, append_assoc, append-nil, Option, Some, Result, Ok, Err}
+use Rattle.std.proofs.Common.{◌≡◌, ◌⊎◌, ◌+◌, ◌≤◌, ◌∙◌, ◌&&◌, sym, ap, refl, subst, arith, inl, inr, ⊎_elim, ℕ, Bool, true, false, List, [], ◌∷◌, ◌++◌, length, map, append_assoc, append-nil, Option, Some, None, Result, Ok, Err, cond, ◌||◌}
 use Rattle.std.specs.Prelude.{IfOk, IsSome, OnErr}
 use Rattle.std.specs.List.{AllByRecursion, range_with_len}
 use mathlib.Core.List.{IsPrefix}
 use Rattle.vg_history.specs.Lists.{Has}
 use Rattle.vg_history.proofs.ListLemmas.{prefix_self, prefix_trans}
 use Rattle.vg_machine.specs.Entries.{Entry}
+use Rattle.vg_client_holds.specs.declared.act.Act as the_act
 use Rattle.vg_client_holds.specs.declared.act.What.{What}
+use Rattle.vg_client_holds.specs.declared.holds.Holds.{Holds}
+use Rattle.vg_client.specs.declared.given.Given.{Given}
+use Rattle.vg_client.specs.Given.{given_of, is_accepted, left_after}
 use Rattle.vg_book.specs.Views.{IsEntryOf}
 use Rattle.vg_calls.specs.declared.call.Call.{Call}
 use Rattle.vg_calls.specs.declared.call.Call.TheVariants as calls
@@ -17,7 +21,10 @@ use Rattle.vg_driver.specs.declared.ticket.Ticket.{Ticket}
 use Rattle.vg_tasks.specs.Fits.{IsFit}
 use Rattle.vg_tasks.specs.Keeps.{plain_task}
 use Rattle.vg_tasks.specs.Known.{Known}
-use Rattle.vg_tasks.specs.Tasks.{begins, finishes, gives_up, is_planned, tasks_of}
+use Rattle.vg_tasks.specs.Plans.{IsCallFit, IsPlanOfPart}
+use Rattle.vg_tasks.specs.Table.{act_task}
+use Rattle.vg_tasks.specs.Tasks.{begins, finishes, gives_up, is_planned, is_told, tasks_of}
+use Rattle.vg_tasks.specs.declared.task.Change.TheVariants.{Nothing}
 use Rattle.vg_tasks.specs.declared.task.Task.{Task}
 use Rattle.vg_client.specs.declared.caller.Caller.{Caller}
 use Rattle.vg_client.specs.declared.outcome.Last.{Last}
@@ -26,12 +33,12 @@ use Rattle.vg_client.specs.declared.outcome.Outcome.{Outcome}
 use Rattle.vg_client.specs.declared.outcome.Played.{Played}
 use Rattle.vg_client.specs.Accounts.{AreEntries, AreOfOut, AreOut, HasNothingOut, IsActive, IsBegun, IsIdle, mine_of}
 use Rattle.vg_client.specs.Callers.{BeginsEnd, FinishesFirst, HasAdded, HasCalled, HasEnded, HasFinished, HasGone, HasGoneOn, HasLeftOff, HasLeftOffAtEnd, IsReady, IsSmall, known}
-use Rattle.vg_client.specs.Calls.{BeginsTasks, GivesTasks, IsAsked, IsDenial, Plays}
+use Rattle.vg_client.specs.Calls.{BeginsTasks, GivesTasks, IsAsked, IsDenial, IsTold, Plays}
 use Rattle.vg_client.specs.Outcomes.{HasPlayed, last_of}
-use Rattle.vg_client.specs.Steps.{HasBegunOr, HasBegunPlan, HasDenied, HasFollowed, HasFollowedPlan, HasGonePlan, HasLeft, HasLeftOffBy, HasStoppedAsk, HasStoppedPlan, HasTickets}
+use Rattle.vg_client.specs.Steps.{HasAnswered, HasBegunOr, HasBegunPlan, HasDenied, HasFollowed, HasFollowedPlan, HasGonePlan, HasLeft, HasLeftOffBy, HasStoppedAsk, HasStoppedPlan, HasTickets, HasTold, IsTelling, StandsTold}
 use Rattle.vg_client.proofs.OwnLemmas.{all-map}
 use Rattle.vg_client.proofs.OutcomeLemmas.{ends-some, outcome-is}
-use Rattle.vg_client.proofs.PlayLemmas.{Stood, begins-none, same-known}
+use Rattle.vg_client.proofs.PlayLemmas.{Stood, begins-none, guest-denied, same-known, telling-holds}
 use Rattle.vg_history.specs.declared.entry.Entry.TheVariants.{Act, Command}
 use Rattle.vg_client_holds.specs.declared.act.Act.TheVariants.{Denied, Leave}
 use Rattle.vg_client_holds.specs.declared.act.ActReply.TheVariants as act_replies
@@ -195,7 +202,7 @@ begun-by ask tasks client client' played are (inr (what, is, denied)) =
     let n : ℕ = client.token.account.number in
     let plays : Plays n true (known client) tasks denied.mine (known client') [] =
     subst (λ (k : Known). Plays n true (known client) tasks denied.mine k []) (sym denied.known_is)
-    (subst (λ (ts : List Task). Plays n true (known client) ts denied.mine (known client) []) (sym are) (denial-plays n (known client) ask what denied.mine is denied.denial)) in
+    (subst (λ (ts : List Task). Plays n true (known client) ts denied.mine (known client) []) (sym are) (denial-plays n (known client) ask what denied.mine is denied.told)) in
     inr (
       record {
         middle = client;
@@ -206,7 +213,7 @@ begun-by ask tasks client client' played are (inr (what, is, denied)) =
         few = let one = denied.one in omega (arith, one);
         played_is = denied.played_is;
       },
-      λ _. (what, denied.denial),
+      λ _. (what, denied.told),
     )
 
 pub begun-stopped : {B : Type 0} (ask : Ask) (tasks : List Task) (client client' : Caller B) → tasks ≡ plain_task ask ∷ [] → IsReady client → HasTickets client → HasStoppedAsk ask client client' → HasStoppedPlan (Ok tasks) client client'
@@ -250,15 +257,15 @@ module _ {B : Type 0} (client : Caller B) (played : Played) (client' : Caller B)
         middle = client;
         finished = refl;
         mine = denied.mine;
-        gives = (denied.denial, denied.known_is);
+        gives = (denied.told, denied.known_is);
         gone_on = denied.gone_on;
         few = let one = denied.one in omega (arith, one);
         played_is = denied.played_is;
       }
 
       by_test : (f : Bool) → HasGonePlan begins (f && false) (Err what) client played client'
-      by_test true = inr (followed, λ _. (what, denied.denial))
-      by_test false = inr (followed, λ _. (what, denied.denial))
+      by_test true = inr (followed, λ _. (what, denied.told))
+      by_test false = inr (followed, λ _. (what, denied.told))
 
 of-guest : (holds : Holds) (plan : Result (List Task) What) → holds.host ≡ false → IsPlanOfPart holds plan
 of-guest holds (Ok tasks) guest = guest

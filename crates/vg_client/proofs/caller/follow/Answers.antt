@@ -1,4 +1,6 @@
+use Rattle.std.proofs.Common.{subst}
 use Rattle.vg_laws.proofs.Results.{err_then}
+use Rattle.vg_tasks.specs.Plans.{IsPlanOfPart}
 use Rattle.vg_client.proofs.PlayLemmas.{map_ok, tickets-kept}
 use Rattle.vg_client.proofs.StepLemmas.{denied-stopped, either_way, stopped-as, went-begun, went-denied}
 use Rattle.vg_client.proofs.caller.follow.Goals as goal
@@ -19,3 +21,12 @@ returns-then-begins-clause-done g c =
     map_ok c.begin_tasks.result
     (λ played. went-begun c.args.client.now played c.begin_tasks.new.client c.args.begins c.args.finishes c.args.plan c.in-Ok.tasks c.if-begins.true (c.requires.apart c.if-begins.true) c.in-Ok.is)
     c.begin_tasks.ensures.done
+
+pub begin_tasks-requires-clause-guest : goal.begin_tasks-requires-clause-guest
+begin_tasks-requires-clause-guest g c = subst (λ plan. IsPlanOfPart c.args.client.now.token.account.holds plan) c.in-Ok.is c.requires.part
+
+pub play_behind-requires-clause-guest : goal.play_behind-requires-clause-guest
+play_behind-requires-clause-guest g c = subst (λ plan. IsPlanOfPart c.args.client.now.token.account.holds plan) c.in-Ok.is c.requires.part
+
+pub deny-requires-clause-part : goal.deny-requires-clause-part
+deny-requires-clause-part g c = subst (λ plan. IsPlanOfPart c.args.client.now.token.account.holds plan) c.in-Err.is c.requires.part

@@ -1,4 +1,5 @@
-use Rattle.std.proofs.Common.{arith}
+use Rattle.std.proofs.Common.{◌∙◌, ap, arith}
+use Rattle.vg_tasks.specs.Known.{Known}
 use Rattle.vg_laws.proofs.Results.{on_err, err_then}
 use Rattle.vg_client.proofs.PlayLemmas.{map_ok, tickets-kept}
 use Rattle.vg_client.proofs.StepLemmas.{behind, behind-idle, either_way, followed-by, stopped-finishing, stopped-playing}
@@ -38,3 +39,8 @@ returns-clause-begun g c =
 
 pub returns-clause-out : goal.returns-clause-out
 returns-clause-out g c = either_way c.play.result (λ played done. tickets-kept done.2.added c.finish_first.ensures.out) (λ stood. tickets-kept stood.2 c.finish_first.ensures.out) c.play.ensures.done c.play.ensures.begun
+
+pub play-requires-clause-guest : goal.play-requires-clause-guest
+play-requires-clause-guest g c =
+    let at = behind c.args.finishes c.args.client.now c.finish_first.new.client c.requires.ready c.requires.out c.in_ok-finish_first.ensures.done in
+    ap (λ (k : Known). k.holds.host) at.known_is ∙ c.requires.guest
