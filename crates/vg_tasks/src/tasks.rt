@@ -1,6 +1,6 @@
 //! The tasks of each call.
 
-ghost use Rattle.std.specs.Prelude.{◌≡◌, ◌<◌, ◌≤◌, ◌+◌, ◌*◌, ◌^◌, ◌++◌, ◌∷◌, [], if◌then◌else◌, map, length, Ok, OnOk, OnErr, IfOk, IfErr, IfSome};
+ghost use Rattle.std.specs.Prelude.{◌≡◌, ◌<◌, ◌≤◌, ◌+◌, ◌*◌, ◌^◌, ◌++◌, ◌∷◌, [], false, if◌then◌else◌, map, length, Ok, OnOk, OnErr, IfOk, IfErr, IfSome};
 ghost use Rattle.std.specs.List.{AllByRecursion};
 ghost use Rattle.vg_tasks.specs.Plans.{IsBodyFit, IsCallFit, Plans, weights};
 ghost use Rattle.vg_tasks.specs.Fits.{IsFit};
