@@ -279,10 +279,10 @@ told-plays client knew knew' act mine tells (call, reply, are) same =
       (same ∙ sym (ap (λ (h : Holds). record knew { holds = h }) (telling-holds knew.holds act reply tells)), none-left (given_of (Act client call act reply))),
     )
   where
-    none-left : (given : Given) → [] ≡ left_after true Nothing given []
+    none-left : (given : Given) → ◌≡◌ {A = List Task} [] (left_after true Nothing given [])
     none-left given = by_test (is_accepted given)
       where
-        by_test : (b : Bool) → [] ≡ cond (false || false || b) ([] ++ []) []
+        by_test : (b : Bool) → ◌≡◌ {A = List Task} [] (cond (false || false || b) ([] ++ []) [])
         by_test true = refl
         by_test false = refl
 
@@ -358,15 +358,6 @@ pub told-some : {B : Type 0} (client : Caller B) (act : the_act.Act) (played : P
 told-some client act played client' told =
     ends-some played.entries.items told.mine played.last told.played_is.ends (λ none. let one = told.one in let no : length told.mine ≡ 0 = ap length none in absurd (omega (arith, one, no)))
 
--- and where memory lacked
-pub told-left-off : {B : Type 0} (client : Caller B) (call : Call) (act : the_act.Act) (client' : Caller B) → IsReady client → HasTickets client → IsTelling act → tasks_of (known client) call ≡ Ok (act_task act ∷ []) → StandsTold act client client' → HasLeftOff client call client'
-told-left-off client call act client' ready out tells is (mine, so, added) =
-    left-off client call (Ok (act_task act ∷ [])) client' is (stopped-by (Ok (act_task act ∷ [])) client client client' mine (behind-self client ready out) (begins_so so) added)
-  where
-    begins_so : (mine ≡ []) ⊎ IsTold client.token.account.number act mine → BeginsTasks client.token.account.number (known client) (Ok (act_task act ∷ [])) mine
-    begins_so (inl none) = (known client, act_task act ∷ [], subst (λ (xs : List Entry). Plays client.token.account.number true (known client) (act_task act ∷ []) xs (known client) (act_task act ∷ [])) (sym none) (refl, refl))
-    begins_so (inr told) = (known client, [], told-plays client.token.account.number (known client) (known client) act mine tells told refl)
-
 -- a plan of one that isn't the host, or a denial that the host may be told
 pub plan-part : (known : Known) (call : Call) (plan : Result (List Task) What) → tasks_of known call ≡ plan → IsCallFit known.holds call → is_told call ≡ false → IsPlanOfPart known.holds plan
 plan-part known (calls.Mode scanout width height label) plan is fit planned = absurd (cc planned)
@@ -394,6 +385,15 @@ left-off client call plan client' is stopped = record {
   own = stopped.own;
   more = stopped.more;
 }
+
+-- something that was to be told
+pub told-left-off : {B : Type 0} (client : Caller B) (call : Call) (act : the_act.Act) (client' : Caller B) → IsReady client → HasTickets client → IsTelling act → tasks_of (known client) call ≡ Ok (act_task act ∷ []) → StandsTold act client client' → HasLeftOff client call client'
+told-left-off client call act client' ready out tells is (mine, so, added) =
+    left-off client call (Ok (act_task act ∷ [])) client' is (stopped-by (Ok (act_task act ∷ [])) client client client' mine (behind-self client ready out) (begins_so so) added)
+  where
+    begins_so : (mine ≡ []) ⊎ IsTold client.token.account.number act mine → BeginsTasks client.token.account.number (known client) (Ok (act_task act ∷ [])) mine
+    begins_so (inl none) = (known client, act_task act ∷ [], subst (λ (xs : List Entry). Plays client.token.account.number true (known client) (act_task act ∷ []) xs (known client) (act_task act ∷ [])) (sym none) (refl, refl))
+    begins_so (inr told) = (known client, [], told-plays client.token.account.number (known client) (known client) act mine tells told refl)
 
 -- one that hasn't begun
 pub left-off-none : {B : Type 0} (client : Caller B) (call : Call) → HasLeftOff client call client
