@@ -186,4 +186,27 @@ pub enum Call {
     Close {
         name: NameRef,
     },
+    /// Plugs a display, or resizes it, in pixels: a call of the host. The label is what a script calls the act, whose number among the
+    /// host's calls whoever makes the call gives on.
+    Mode {
+        scanout: u32,
+        width: u32,
+        height: u32,
+        label: u32,
+    },
+    /// Unplugs a display: a call of the host.
+    Unplug {
+        scanout: u32,
+        label: u32,
+    },
+    /// Waits for the act of a mode or an unplug, whose number among the host's calls it is; with no number that is denied. The label is
+    /// what a script calls the act, whose number isn't known before the run.
+    Sync {
+        label: u32,
+        call: Option<u64>,
+    },
+    /// Asks whether a display was plugged, resized or unplugged since the event bit was last cleared.
+    Events,
+    /// Clears the event bit.
+    Ack,
 }
