@@ -40,7 +40,7 @@ WORDS += ["1920", "1921", "1080", "1081", "16384", "16385", "8294399", "8294400"
 WORDS += ["63", "64", "255", "32767", "32768", "-32768", "-32769", "5", "66", "69", "121", "134", "135", "0a", "0A", "0g", "abc", 8192 * "0", 8194 * "0"]
 WORDS += ["A", "K", "L1", "L2", "N0", "9A", "A_", "Abcdefghijklmno9", "Abcdefghijklmnop9", "K:0", "K:64", "K:x", ":0", "K:0:0", "K:", "9:0"]
 WORDS += ["control", "cursor", "plain", "pieces2", "pieces8", "pieces1", "pieces9", "loop", "range", "length", "edid", "uuid", "blob", "context", "virgl"]
-WORDS += [*script_faults.LINES, *script_faults.HEAD, "Info", "infos", "#"]
+WORDS += [*script_faults.FORMS, "Info", "infos", "#"]
 BYTES = bytes([0, 9, 10, 13, 31, 32, 35, 45, 48, 57, 58, 65, 97, 126, 127, 128, 255])
 
 
@@ -91,7 +91,7 @@ def edge_of(kind, word, some):
     if ".." in kind:
         least, most = map(int, kind.split(".."))
         return str(some.choice((least - 1, least, most, most + 1, f"0{word}", f"-{word}", 10 * most)))
-    if kind in ("new-token", "new-fence", "token", "fence"):
+    if kind.removeprefix("new-") in script_faults.GIVEN:
         return some.choice(("L1", "L2", "L3", "L9", word.lower(), word + "x", "A", word[:1] + 15 * "x", word[:1] + 16 * "x", "9"))
     if kind == "timeline":
         context, _, ring = word.partition(":")

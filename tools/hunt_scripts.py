@@ -18,6 +18,9 @@ NAMES = ("A", "B", "C", "Picture", "a9", "Zz0123456789abcd")
 OFTEN = {"info": 2, "edid": 2, "buffer": 6, "blob": 4, "store": 8, "load": 4, "send": 6, "flush": 6, "take": 4, "drop": 2, "hide": 1}
 OFTEN |= {"show": 5, "showblob": 5, "flip": 8, "cursor": 4, "move": 3, "context": 3, "endcontext": 1, "attach": 3, "detach": 2}
 OFTEN |= {"submit": 3, "uuid": 2, "export": 4, "import": 4, "close": 2, "begin": 8, "await": 4, "raw": 3}
+OFTEN |= {"sync": 3, "events": 1, "ack": 1}
+# How often the host says its words, where a script has one.
+HOST_OFTEN = {"mode": 5, "unplug": 2, "await": 1}
 
 
 class Client:
@@ -33,7 +36,8 @@ class Client:
 class Script:
     """A sound script, made line by line.
 
-    The clients' lines are made beside each other. Each waits for labels alone that were made before it, so none waits for itself.
+    The lines of the clients and of the host are made beside each other. Each waits for labels alone that were made before it, so none waits for
+    itself.
     """
 
     def __init__(self, some, clients=None, lines=None, often=OFTEN):
@@ -44,13 +48,18 @@ class Script:
         some.shuffle(self.without)
         count = some.choice((1, 1, 1, 2, 2, 3, 4, 32)) if clients is None else clients
         self.clients = [Client() for _ in range(count)]
-        self.tokens, self.fences, self.labels = [], [], 0
+        self.host = Client() if some.random() < 0.3 else None
+        self.tokens, self.fences, self.plugs, self.labels = [], [], [], 0
         for number, client in enumerate(self.clients):
             if some.random() < 0.7:
                 client.taken.append(number % len(self.displays))
                 client.lines.append(f"take {number % len(self.displays)}")
         for _ in range((some.choice((3, 10, 30, 60)) if lines is None else lines) * (1 if count < 16 else 3) if count else 0):
             self.line(some.choice(self.clients))
+            if self.host is not None and some.random() < 0.2:
+                self.line(self.host)
+        if self.host is not None and not count:
+            self.line(self.host)
 
     def head(self):
         yield from (f"display {width} {height}" for width, height in self.displays)
@@ -62,6 +71,8 @@ class Script:
         lines = list(self.head())
         for client in self.clients:
             lines += ["client", *client.lines]
+        if self.host is not None:
+            lines += ["host", *self.host.lines]
         if self.some.random() < 0.15:
             for _ in range(3):
                 lines.insert(self.some.randrange(len(lines) + 1), self.some.choice(("", "   ", "# a comment", "  #" + 20 * "~", "#")))
@@ -72,10 +83,11 @@ class Script:
     # Lines
 
     def line(self, client):
-        word = self.some.choices(list(self.often), self.often.values())[0]
+        often = HOST_OFTEN if client is self.host else self.often
+        word = self.some.choices(list(often), often.values())[0]
         args = getattr(self, word.replace("import", "imported"))(client)
         if args is None:  # what it needs isn't there yet
-            word, args = "buffer", self.buffer(client)
+            word, args = ("mode", self.mode(client)) if client is self.host else ("buffer", self.buffer(client))
         if args is not None:
             client.lines.append(f"{word} {args}".strip())
 
@@ -283,6 +295,28 @@ class Script:
 
     def await_(self, _client):
         return self.some.choice(self.fences) if self.fences else None
+
+    def sync(self, _client):
+        return self.some.choice(self.plugs) if self.plugs else None
+
+    def events(self, _client):
+        return ""
+
+    def ack(self, _client):
+        return ""
+
+    def new_plug(self):
+        label = self.new_label()
+        self.plugs.append(label)
+        return label
+
+    def mode(self, _client):
+        """Mostly a small one; at the edges too, and at the size that is there."""
+        width, height = self.some.choice((*SIDES, self.some.choice(self.displays), (1920, 1080), (1, 1080), (1920, 1)))
+        return f"{self.scanout()} {width} {height} {self.new_plug()}"
+
+    def unplug(self, _client):
+        return f"{self.scanout()} {self.new_plug()}"
 
     def raw(self, client):
         number = self.clients.index(client) + 1

@@ -11,9 +11,9 @@ sentence of the first fault, or None. The rules that it follows:
     fault is that of the first line that has one.
   - A text without a display has the fault `word` behind its last line.
   - A line of calls that waits for itself, by steps, has the fault `wait cycle`, which is looked for where there is no other; the first
-    such `await` or `import` line has it.
+    such `await`, `import` or `sync` line has it.
 
-A word of the script that comes later is a line more in `LINES`, or in `BODIES`.
+A word of the script that comes later is a line more in `LINES`, in `HOST_LINES` or in `BODIES`.
 """
 import collections
 import difflib
@@ -45,8 +45,8 @@ SHAPES = ["plain", "indirect", "mixed", *(f"pieces{n}" for n in range(2, 9))]
 SHAPES += ["index", "loop", "nested", "nextindirect", "tablelength", "order", "range"]
 
 # What stands behind each word of a client: what it is called, and its kind. A..B is a number in a range, `scanout` one below the number of
-# displays, `place` one that may be negative; `buffer` and `context` use a name, `new-` and `end-` define one and end it; `token` and `fence`
-# use a label, `new-` defines it.
+# displays, `place` one that may be negative; `buffer` and `context` use a name, `new-` and `end-` define one and end it; `token`, `fence` and
+# `plug` use a label, `new-` defines it.
 RECTANGLE = f"X={U32} Y={U32} WIDTH={U32} HEIGHT={U32}"
 SURFACE = f"SURFACEWIDTH={U32} SURFACEHEIGHT={U32} FORMAT={U32} STRIDE={U32} OFFSET={U32}"
 LINES = {
@@ -77,11 +77,29 @@ LINES = {
     "close": "NAME=end-buffer",
     "begin": "LABEL=new-fence TIMELINE=timeline BODY=body",  # and behind the body's word what that one has
     "await": "LABEL=fence",
+    "sync": "LABEL=plug",
+    "events": "",
+    "ack": "",
     "raw": "QUEUE=queue ROOM=0..8192 SHAPE=shape HEX=request",
 }
+# Likewise of the host.
+HOST_LINES = {
+    "mode": f"SCANOUT=scanout WIDTH=1..{MOST_WIDTH} HEIGHT=1..{MOST_HEIGHT} LABEL=new-plug",
+    "unplug": "SCANOUT=scanout LABEL=new-plug",
+    "await": LINES["await"],
+}
+CALLS = {**LINES, **HOST_LINES}
+# The words that define a label: what it is the label of, and which of the words behind the first it is.
+DEFINES = {"export": ("token", 2), "begin": ("fence", 1), "mode": ("plug", 4), "unplug": ("plug", 2)}
+# Of each kind of label the line that defines it, what is said where none does, and what is said of the word that takes it.
+GIVEN = {
+    "token": ("an export line", "no line exports", "import takes that of a line which exports"),
+    "fence": ("a begin line", "no line begins", "await takes that of a line which begins"),
+    "plug": ("a mode or unplug line", "no mode or unplug line defines", "sync takes that of a mode or unplug line"),
+}
 BODIES = ("info", "send", "flush", "submit")
-HEAD = {"display": "WIDTH HEIGHT", "memory": "PAGES", "without": "FEATURE", "client": ""}
-FORMS = {**HEAD, **LINES}
+HEAD = {"display": "WIDTH HEIGHT", "memory": "PAGES", "without": "FEATURE", "client": "", "host": ""}
+FORMS = {**HEAD, **CALLS}
 BEGINS = "a script begins with: display WIDTH HEIGHT"
 NEAR = 0.65  # how alike a word is that may be meant
 WELL_SPELLED = re.compile("[A-Za-z][A-Za-z0-9]{0,15}")
@@ -268,7 +286,7 @@ def words_of(line):
 
 def parts_of(word, args):
     """The kinds of a line's words, or None where there is no such line."""
-    if word not in LINES:
+    if word not in CALLS:
         return None
     if word == "begin" and (len(args) < 3 or args[2] not in BODIES or not is_timeline(args[1])):
         return None
@@ -285,9 +303,9 @@ class Labels:
     def __init__(self, lines):
         self.first = {}  # by labels the number of the line that defines it first, and what it is
         for number, words in enumerate(lines, 1):
-            if words and words[0] in ("export", "begin") and parts_of(words[0], words[1:]):
-                label, kind = (words[2], "token") if words[0] == "export" else (words[1], "fence")
-                self.first.setdefault(label, (number, kind))
+            if words and words[0] in DEFINES and parts_of(words[0], words[1:]):
+                kind, place = DEFINES[words[0]]
+                self.first.setdefault(words[place], (number, kind))
 
     def fault(self, kind, label, number):
         """What is wrong with a label in a line, or None."""
@@ -296,12 +314,11 @@ class Labels:
             return None if line == number else f"the label {label} is defined on line {line} already"
         if is_kind == kind:
             return None
-        giver, user = ("exports", "import") if kind == "token" else ("begins", "await")
+        _, none, taken = GIVEN[kind]
         if is_kind:
-            other = "a begin line" if is_kind == "fence" else "an export line"
-            return f"{label} is the label of {other}, line {line}, and {user} takes that of a line which {giver}"
+            return f"{label} is the label of {GIVEN[is_kind][0]}, line {line}, and {taken}"
         known = [name for name, (_, its) in self.first.items() if its == kind]
-        return f"no line {giver} {label}{meant(label, known)}"
+        return f"{none} {label}{meant(label, known)}"
 
 
 class Names:
@@ -352,7 +369,7 @@ class Names:
     def defined_below(self, name, number):
         """The line behind this one on which the same client defines the name, or None."""
         for below, words in enumerate(self.lines[number:], number + 1):
-            if words and words[0] == "client":
+            if words and words[0] in ("client", "host"):
                 return None
             kinds = parts_of(words[0], words[1:]) if words else None
             if kinds and any(kind in ("new-buffer", "new-context") and word == name for kind, word in zip(kinds, words[1:])):
@@ -381,10 +398,10 @@ class Reader:
     def __init__(self, lines):
         self.labels, self.names = Labels(lines), Names(lines)
         self.displays, self.features, self.memory = 0, {}, 0  # by features the line that leaves it out; the line of `memory`
-        self.clients = []  # of each the lines of calls: their numbers and words
-        self.first_client = 0  # its line
+        self.parts = []  # of each client, and of the host behind them, the lines of calls: their numbers and what they wait for
+        self.first_part, self.host = 0, 0  # the lines that begin the first part and the host's
         self.calls, self.contexts = 0, 0  # how many; those that this client has made
-        self.pages = 0  # that the lines of all clients ask for
+        self.pages = 0  # that the lines of all parts ask for
 
     def fault(self, number, words):
         """The fault of the least kind of a line of words, or None; the line counts then."""
@@ -395,8 +412,9 @@ class Reader:
             return Fault(WORD, why_unknown(word, self.displays > 0))
         if word in HEAD:
             return self.of_head(number, word, args)
-        if not self.clients:
-            return Fault(WORD, f"{word} is a client's, and stands behind a line: client" if self.displays else BEGINS)
+        place = self.of_standing(word)
+        if place:
+            return place
         kinds = parts_of(word, args)
         if kinds is None:
             return Fault(WORD, why_no_line(word, args))
@@ -406,6 +424,17 @@ class Reader:
         if fault is None:
             self.add(number, word, args, kinds)
         return fault
+
+    def of_standing(self, word):
+        """The fault of a word of calls that stands in no part, or in one of the wrong kind, or None."""
+        if self.displays == 0:
+            return Fault(WORD, BEGINS)
+        if self.host and word not in HOST_LINES:
+            return Fault(WORD, f"{word} is a client's, and the host, which begins on line {self.host}, has {listed(list(HOST_LINES), 'and')}")
+        if self.host or self.parts and word in LINES:
+            return None
+        its, behind = ("a client's", "client") if word in LINES else ("the host's", "host")
+        return Fault(WORD, f"{word} is {its}, and stands behind a line: {behind}")
 
     def of_head(self, number, word, args):
         if len(args) != len(names_of(HEAD[word])):
@@ -418,16 +447,25 @@ class Reader:
             return self.of_memory(number, args)
         if word == "without":
             return self.of_feature(number, args[0])
-        self.first_client = self.first_client or number
-        self.clients.append([])
+        return self.of_begin(number, word)
+
+    def of_begin(self, number, word):
+        """The fault of a line that begins a part, or None."""
+        if self.host:
+            return Fault(WORD, f"the host stands {'once, and' if word == 'host' else 'last, and'} begins on line {self.host}")
+        self.first_part = self.first_part or number
+        self.parts.append([])
+        if word == "host":
+            self.host = number
+            return None
         self.names.next_client()
         self.contexts = 0
-        return Fault(LIMIT, f"a script has at most {MOST_CLIENTS} clients") if len(self.clients) > MOST_CLIENTS else None
+        return Fault(LIMIT, f"a script has at most {MOST_CLIENTS} clients") if len(self.parts) > MOST_CLIENTS else None
 
     def of_display(self, args):
-        behind = self.memory or min(self.features.values(), default=0) or self.first_client
+        behind = self.memory or min(self.features.values(), default=0) or self.first_part
         if behind:
-            return Fault(WORD, f"displays stand before memory, without and client, and line {behind} is one of these")
+            return Fault(WORD, f"displays stand before memory, without, client and host, and line {behind} is one of these")
         self.displays += 1
         many = Fault(LIMIT, f"a script has at most {MOST_DISPLAYS} displays") if self.displays > MOST_DISPLAYS else None
         return least([of_number("WIDTH", args[0], 1, MOST_WIDTH), of_number("HEIGHT", args[1], 1, MOST_HEIGHT), many])
@@ -435,15 +473,15 @@ class Reader:
     def of_memory(self, number, args):
         if self.memory:
             return Fault(WORD, f"memory stands once, and does on line {self.memory}")
-        behind = min(self.features.values(), default=0) or self.first_client
+        behind = min(self.features.values(), default=0) or self.first_part
         if behind:
-            return Fault(WORD, f"memory stands before without and client, and line {behind} is one of these")
+            return Fault(WORD, f"memory stands before without, client and host, and line {behind} is one of these")
         self.memory = number
         return of_number("PAGES", args[0], 1, 16_384)
 
     def of_feature(self, number, feature):
-        if self.first_client:
-            return Fault(WORD, f"without stands before the clients, of whom the first begins on line {self.first_client}")
+        if self.first_part:
+            return Fault(WORD, f"without stands before client and host, and line {self.first_part} is one of these")
         again = self.features.setdefault(feature, number)
         unknown = of_choice("FEATURE", feature, FEATURES)
         return unknown or (Fault(LIMIT, f"{feature} is left out on line {again} already") if again != number else None)
@@ -484,7 +522,7 @@ class Reader:
             return None if word == "-" else self.of_name("buffer", word, number)
         if not is_name(word):
             return Fault(NAME, f"{short(word) or 'nothing'} spells no name, which is a letter and up to 15 letters or digits")
-        why = (self.labels if kind.removeprefix("new-") in ("token", "fence") else self.names).fault(kind, word, number)
+        why = (self.labels if kind.removeprefix("new-") in GIVEN else self.names).fault(kind, word, number)
         return Fault(NAME, why) if why else None
 
     def of_whole(self, word, args, fault):
@@ -509,8 +547,8 @@ class Reader:
         for kind, name in zip(kinds, args):
             if kind in ("new-buffer", "new-context", "end-buffer", "end-context"):
                 self.names.add(kind, name, number)
-        label = args[0] if word in ("await", "import") else None
-        self.clients[-1].append((number, label))
+        label = args[0] if word in ("await", "import", "sync") else None
+        self.parts[-1].append((number, label))
 
 
 # Lines that wait
@@ -572,17 +610,17 @@ def told_cycle(line, waits, labels):
     return told
 
 
-def cycle(clients, labels):
+def cycle(parts, labels):
     """The first line that waits for itself, and how it does, or None."""
-    if not any(label for lines in clients for _, label in lines):
+    if not any(label for lines in parts for _, label in lines):
         return None
     waits = {}
-    for lines in clients:
+    for lines in parts:
         for place, (number, label) in enumerate(lines):
             waits[number] = [lines[place - 1][0]] if place else []
             if label:
                 waits[number].append(labels.first[label][0])
-    waiting = {number: label for lines in clients for number, label in lines if label}
+    waiting = {number: label for lines in parts for number, label in lines if label}
     line = min(in_cycles(waits) & set(waiting), default=None)
     return None if line is None else First(line, KINDS[CYCLE], told_cycle(line, waits, waiting))
 
@@ -600,4 +638,4 @@ def first(text):
             return First(number, KINDS[fault.kind], fault.why)
     if reader.displays == 0:
         return First(len(lines) + 1, KINDS[WORD], f"there is no display; {BEGINS}")
-    return cycle(reader.clients, reader.labels)
+    return cycle(reader.parts, reader.labels)

@@ -1,6 +1,6 @@
--- The lines of a client, one row for each word: what has to hold of how its numbers are spelled, of the limits
--- and of the names, and which call it is. `displays` is how many displays there are, and `table` has the names
--- that are defined before the line. A word or a count of arguments that the grammar doesn't know has no row.
+-- The lines of a client and those of the host, one row for each word: what has to hold of how its numbers are spelled,
+-- of the limits and of the names, and which call it is. `displays` is how many displays there are, and `table` has the
+-- names that are defined before the line. A word or a count of arguments that the grammar doesn't know has no row.
 use Rattle.std.specs.Prelude.{ℕ, ◌*◌, ◌/◌, ◌+◌, ◌-◌, ◌&&◌, ◌||◌, not, nat_lt, nat_le, Bool, true, is_none, is_some, List, [], ◌∷◌, length, Option, Some, None, option_map, Result, Ok, Err, if◌then◌else◌, codes, bytes_eq}
 use Rattle.std.specs.Int.{is_in_range}
 use Rattle.vg_script_words.specs.declared.kind.Kind.{Kind}
@@ -13,7 +13,7 @@ use Rattle.vg_chain.specs.declared.shape.Shape.TheVariants.{Plain, Pieces, Indir
 use Rattle.vg_chain.specs.declared.chain.ChainFault.TheVariants.{Index, Loop, Nested, NextWithIndirect, TableLength, Order, Range}
 use Rattle.vg_chain.specs.Space.{most_room}
 use Rattle.vg_calls.specs.declared.call.Call.{Call}
-use Rattle.vg_calls.specs.declared.call.Call.TheVariants.{Info, Edid, Buffer, Blob, Store, Load, Send, Flush, Take, Drop, Hide, Show, ShowBlob, Flip, Cursor, Move, Context, EndContext, Attach, Detach, Submit, Uuid, Export, Import, Begin, Await, Close, Raw}
+use Rattle.vg_calls.specs.declared.call.Call.TheVariants.{Info, Edid, Buffer, Blob, Store, Load, Send, Flush, Take, Drop, Hide, Show, ShowBlob, Flip, Cursor, Move, Context, EndContext, Attach, Detach, Submit, Uuid, Export, Import, Begin, Await, Close, Raw, Mode, Unplug, Sync, Events, Ack}
 use Rattle.vg_calls.specs.declared.call.Body.{Body}
 use Rattle.vg_calls.specs.declared.call.Body.TheVariants as bodies
 use Rattle.vg_calls.specs.declared.call.ContextRef.{ContextRef}
@@ -306,6 +306,44 @@ await_row table label = Some (record {
   after = table;
 })
 
+-- sync X, where X is a label of a display that some line of the host plugs, resizes or unplugs; its call isn't known before the run
+unfoldable pub sync_row : NameTable → (label : List ℕ) → Option Row
+sync_row table label = Some (record {
+  numbers = true;
+  limits = true;
+  names = is_name label && is_label labels.Plug (table.labels label);
+  call = Sync (label_number (table.labels label)) None;
+  after = table;
+})
+
+-- events
+unfoldable pub events_row : NameTable → Option Row
+events_row table = Some (record { numbers = true; limits = true; names = true; call = Events; after = table })
+
+-- ack
+unfoldable pub ack_row : NameTable → Option Row
+ack_row table = Some (record { numbers = true; limits = true; names = true; call = Ack; after = table })
+
+-- mode S W H X, a line of the host, where X is a label that no line before has defined
+unfoldable pub mode_row : ℕ → NameTable → (scanout width height label : List ℕ) → Option Row
+mode_row displays table scanout width height label = Some (record {
+  numbers = is_number scanout && is_number width && is_number height;
+  limits = is_scanout displays scanout && is_within 1 version_2.width width && is_within 1 version_2.height height;
+  names = is_name label && is_next table label;
+  call = Mode (value scanout) (value width) (value height) (table.given + 1);
+  after = with_label table;
+})
+
+-- unplug S X, a line of the host, where X is a label that no line before has defined
+unfoldable pub unplug_row : ℕ → NameTable → (scanout label : List ℕ) → Option Row
+unplug_row displays table scanout label = Some (record {
+  numbers = is_number scanout;
+  limits = is_scanout displays scanout;
+  names = is_name label && is_next table label;
+  call = Unplug (value scanout) (table.given + 1);
+  after = with_label table;
+})
+
 -- close A
 unfoldable pub close_row : NameTable → (name : List ℕ) → Option Row
 close_row table name = Some (record {
@@ -365,12 +403,13 @@ request_row table queue shape room hex = None
 unfoldable pub raw_row : NameTable → (queue room shape hex : List ℕ) → Option Row
 raw_row table queue room shape hex = request_row table (queue_of queue) (shape_of shape) room hex
 
--- The row of a line, by its first word and the arguments behind it, in seven parts. Each part but the last goes on
+-- The row of a client's line, by its first word and the arguments behind it, in seven parts. Each part but the last goes on
 -- to the one that stands above it here, where the word is none of its own. The last part: what is begun, and what waits for it.
 unfoldable pub row_of_begun : List ℕ → NameTable → List (List ℕ) → Option Row
 row_of_begun word table args =
     if bytes_eq word (codes "begin") then begin_row table args
     else if bytes_eq word (codes "await") then one_arg (await_row table) args
+    else if bytes_eq word (codes "sync") then one_arg (sync_row table) args
     else None
 
 -- The sixth: what clients share.
@@ -422,12 +461,22 @@ row_of_buffers word displays table args =
     else if bytes_eq word (codes "flush") then five_args (flush_row table) args
     else row_of_scanouts word displays table args
 
--- The first, and so all: what asks the device.
+-- The first, and so all: what asks the device, and whether a display was plugged.
 unfoldable pub row_of : List ℕ → ℕ → NameTable → List (List ℕ) → Option Row
 row_of word displays table args =
     if bytes_eq word (codes "info") then no_args (info_row table) args
     else if bytes_eq word (codes "edid") then one_arg (edid_row table) args
+    else if bytes_eq word (codes "events") then no_args (events_row table) args
+    else if bytes_eq word (codes "ack") then no_args (ack_row table) args
     else row_of_buffers word displays table args
+
+-- The row of a line of the host. A client's words have none here, but for `await`, and the host's have none there.
+unfoldable pub host_row_of : List ℕ → ℕ → NameTable → List (List ℕ) → Option Row
+host_row_of word displays table args =
+    if bytes_eq word (codes "mode") then four_args (mode_row displays table) args
+    else if bytes_eq word (codes "unplug") then two_args (unplug_row displays table) args
+    else if bytes_eq word (codes "await") then one_arg (await_row table) args
+    else None
 
 -- A row's call and the names after it, or the least kind of its faults.
 abbrev pub judged : Row → Result (Call × NameTable) Kind

@@ -10,7 +10,7 @@ use Rattle.vg_call_lines.specs.declared.names.NameKind.{NameKind}
 use Rattle.vg_call_lines.specs.declared.names.NameKind.TheVariants.{Buffer, Context}
 use Rattle.vg_call_lines.specs.declared.names.Named.{Named}
 use Rattle.vg_call_lines.specs.declared.names.LabelKind.{LabelKind}
-use Rattle.vg_call_lines.specs.declared.names.LabelKind.TheVariants.{Fence, Token}
+use Rattle.vg_call_lines.specs.declared.names.LabelKind.TheVariants.{Fence, Token, Plug}
 use Rattle.vg_call_lines.specs.declared.names.Label.{Label}
 
 -- Which names of a client are defined, and how many of each kind its lines have defined so far, those that have ended among them;
@@ -92,6 +92,7 @@ label_number None = 0
 abbrev pub are_same_labels : LabelKind → LabelKind → Bool
 are_same_labels Fence Fence = true
 are_same_labels Token Token = true
+are_same_labels Plug Plug = true
 are_same_labels one other = false
 
 abbrev pub is_label : LabelKind → Option Label → Bool

@@ -1,9 +1,9 @@
-//! What a client begins and what it waits for, and the lines of their own that what it begins has too.
+//! What a client begins, what a client or the host waits for, and the lines of their own that what it begins has too.
 
 ghost use Rattle.std.specs.Prelude.{◌≡◌, ◌∷◌, map, option_map, OnErr};
 ghost use Rattle.vg_call_lines.specs.Bodies.{info_body, send_body, flush_body, submit_body, submit_body_on, timeline_part, is_timeline, timeline_words, on_timeline, is_on, body_of, is_body, begun_label, judged_part, judged_body};
 ghost use Rattle.vg_call_lines.specs.Args.{no_args, two_args, five_args};
-ghost use Rattle.vg_call_lines.specs.Rows.{judged_row, begin_row, await_row, call_of_body};
+ghost use Rattle.vg_call_lines.specs.Rows.{judged_row, begin_row, await_row, sync_row, call_of_body};
 ghost use Rattle.vg_call_lines.specs.Code.{table_of, Judges, Gives, lesser, lesser_stop, both_read};
 ghost use Rattle.vg_call_lines.specs.BegunWithin.{words_now, call_read};
 
@@ -284,6 +284,17 @@ pub(crate) fn wait(names: &Names, label: &[u8]) -> Result<Call, Stop>
 {
     match names.label(label, LabelKind::Fence) {
         Some(label) => Ok(Call::Await { label, fence: None }),
+        None => Err(Stop::Fault(Kind::Name)),
+    }
+}
+
+/// `sync X`
+#[tactic(auto, unfolding(crate::specs::Rows::sync_row))]
+pub(crate) fn sync(names: &Names, label: &[u8]) -> Result<Call, Stop>
+    ensures { Judges (table_of names.now) result (judged_row (sync_row (table_of names.now) label.now)) }
+{
+    match names.label(label, LabelKind::Plug) {
+        Some(label) => Ok(Call::Sync { label, call: None }),
         None => Err(Stop::Fault(Kind::Name)),
     }
 }

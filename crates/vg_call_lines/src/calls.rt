@@ -36,6 +36,12 @@ pub fn call_of<'a>(
     if is(word, b"edid") {
         return with_args!(args, [scanout] => rows::edid(names, scanout));
     }
+    if is(word, b"events") {
+        return with_args!(args, [] => rows::events(names));
+    }
+    if is(word, b"ack") {
+        return with_args!(args, [] => rows::ack(names));
+    }
     call_of_buffers(alloc, names, displays, word, args)
 }
 
@@ -192,7 +198,7 @@ fn call_of_shared<'a>(names: &mut Names<'a>, word: &[u8], args: &[&'a [u8]]) -> 
     call_of_begun(names, word, args)
 }
 
-/// The call of a line about what is begun and not waited for, or waits for it.
+/// The call of a line about what is begun and not waited for, or that waits.
 #[tactic(auto, unfolding(crate::specs::Rows::row_of_begun))]
 fn call_of_begun(names: &mut Names, word: &[u8], args: &[&[u8]]) -> Result<Call, Stop>
     ensures call { Judges (table_of names.new) result
@@ -205,6 +211,9 @@ fn call_of_begun(names: &mut Names, word: &[u8], args: &[&[u8]]) -> Result<Call,
     }
     if is(word, b"await") {
         return with_args!(args, [label] => begun::wait(names, label));
+    }
+    if is(word, b"sync") {
+        return with_args!(args, [label] => begun::sync(names, label));
     }
     Err(Stop::Fault(Kind::Word))
 }

@@ -28,6 +28,8 @@ pub enum LabelKind {
     Fence,
     /// A token by which other clients can hold a buffer.
     Token,
+    /// What the host does to a display: it plugs, resizes or unplugs it.
+    Plug,
 }
 
 /// What a text is that is a label: of what it is the label, as the first line says that defines it, and its number: that line's

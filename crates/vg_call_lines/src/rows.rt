@@ -6,7 +6,7 @@ ghost use Rattle.vg_call_lines.specs.declared.names.NameKind.TheVariants as kind
 ghost use Rattle.vg_script_words.specs.Words.{is_number, value, is_within};
 ghost use Rattle.vg_call_lines.specs.Tables.{is_kind, number_of, ref_to, context_ref_to};
 ghost use Rattle.vg_call_lines.specs.Bodies.{is_any, are_numbers, are_any, rect_of};
-ghost use Rattle.vg_call_lines.specs.Rows.{judged_row, queue_of, shape_of, bad_shape_of, info_row, edid_row, uuid_row, export_row, import_row, close_row, raw_row};
+ghost use Rattle.vg_call_lines.specs.Rows.{judged_row, queue_of, shape_of, bad_shape_of, info_row, edid_row, events_row, ack_row, uuid_row, export_row, import_row, close_row, raw_row};
 ghost use Rattle.vg_script_words.specs.Code.{Passes, Yields};
 ghost use Rattle.vg_call_lines.specs.Code.{table_of, Judges, Finds, Knows};
 
@@ -38,6 +38,24 @@ pub(crate) fn edid(names: &Names, scanout: &[u8]) -> Result<Call, Stop>
     spelled(scanout)?;
     let scanout = limited(scanout, 0, u32::MAX)?;
     Ok(Call::Edid { scanout })
+}
+
+/// `events`
+#[tactic(auto, unfolding(crate::specs::Rows::events_row))]
+pub(crate) fn events(names: &Names) -> Result<Call, Stop>
+    ensures { Judges (table_of names.now) result
+        (judged_row (events_row (table_of names.now))) }
+{
+    Ok(Call::Events)
+}
+
+/// `ack`
+#[tactic(auto, unfolding(crate::specs::Rows::ack_row))]
+pub(crate) fn ack(names: &Names) -> Result<Call, Stop>
+    ensures { Judges (table_of names.now) result
+        (judged_row (ack_row (table_of names.now))) }
+{
+    Ok(Call::Ack)
 }
 
 /// `uuid A`

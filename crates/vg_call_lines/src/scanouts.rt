@@ -216,7 +216,7 @@ fn positions(x: &[u8], y: &[u8]) -> Result<(i32, i32), Kind>
 }
 
 /// The number of a display.
-fn display(number: &[u8], displays: usize) -> Result<u32, Kind>
+pub(crate) fn display(number: &[u8], displays: usize) -> Result<u32, Kind>
     requires spelled { is_number number.now ≡ true }
     requires few { displays ≤ 16 }
     ensures { Yields (is_scanout displays number.now) (value number.now) Kind.Limit result }

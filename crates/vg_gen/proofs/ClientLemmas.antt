@@ -81,7 +81,7 @@ abbrev pub opening_marks : ℕ → List Mark
 opening_marks given = silent ∷ silent ∷ silent ∷ silent ∷ (Some (given + 1), None) ∷ (Some (given + 1 + 1), None) ∷ []
 
 own : IsOfClient (codes "buffer")
-own = (refl, refl, refl, refl, refl)
+own = (refl, refl, refl, refl, refl, refl)
 
 pub opens : (displays : ℕ) (before : List (List Line)) (most : ℕ) (seen : Seen) (known : List ℕ → Option Label) (given : ℕ) (scanout x f ring : List ℕ) (r : ℕ)
     → Stands displays before [] (fresh known given) most seen → most < 6900 → HasScanout displays scanout → CanOpen known given x f → IsSaid ring r
@@ -89,10 +89,10 @@ pub opens : (displays : ℕ) (before : List (List Line)) (most : ℕ) (seen : Se
 opens displays before most seen known given scanout x f ring r s few has can is =
     let a = goes_by s (omega (arith, few)) own (rows.buffer displays (fresh known given) (codes "A") (codes "48") refl refl refl refl) in
     let b = goes_by a.stands (omega (arith, few)) own (rows.buffer displays (with_a known given) (codes "B") (codes "48") refl refl refl refl) in
-    let c = goes_by b.stands (omega (arith, few)) (refl, refl, refl, refl, refl) (rows.take displays (with_b known given) scanout has.number has.there) in
-    let d = goes_by c.stands (omega (arith, few)) (refl, refl, refl, refl, refl) (rows.context displays (with_b known given) refl refl) in
-    let e = goes_by d.stands (omega (arith, few)) (refl, refl, refl, refl, refl) (rows.export displays (with_k known given) x refl can.x_name can.x_next) in
-    let g = goes_by e.stands (omega (arith, few)) (refl, refl, refl, refl, refl) (rows.begin_send displays (with_label (with_k known given)) f ring refl refl can.f_name can.f_next is.number is.within) in
+    let c = goes_by b.stands (omega (arith, few)) (refl, refl, refl, refl, refl, refl) (rows.take displays (with_b known given) scanout has.number has.there) in
+    let d = goes_by c.stands (omega (arith, few)) (refl, refl, refl, refl, refl, refl) (rows.context displays (with_b known given) refl refl) in
+    let e = goes_by d.stands (omega (arith, few)) (refl, refl, refl, refl, refl, refl) (rows.export displays (with_k known given) x refl can.x_name can.x_next) in
+    let g = goes_by e.stands (omega (arith, few)) (refl, refl, refl, refl, refl, refl) (rows.begin_send displays (with_label (with_k known given)) f ring refl refl can.f_name can.f_next is.number is.within) in
     as_many (goes_on a (goes_on b (goes_on c (goes_on d (goes_on e g))))) (omega arith)
 
 -- ---- it takes part in what the one before it shares
@@ -122,10 +122,10 @@ pub joins : (displays : ℕ) (before : List (List Line)) (most : ℕ) (seen : Se
     → Stands displays before (opening_marks given) (opened known given) most seen → most < 6900 → CanJoin known given x f g
     → Goes displays before (joining_marks given (label_number (known x)) (label_number (known f))) (joined known given) (most + 4) seen (joining_lines x f g)
 joins displays before most seen known given x f g s few can =
-    let a = goes_by s (omega (arith, few)) (refl, refl, refl, refl, refl) (rows.import displays (opened known given) x can.x_name can.x_known refl) in
-    let b = goes_by a.stands (omega (arith, few)) (refl, refl, refl, refl, refl) (rows.await displays (with_p known given) f can.f_name can.f_known) in
-    let c = goes_by b.stands (omega (arith, few)) (refl, refl, refl, refl, refl) (rows.load displays (with_p known given) refl) in
-    let d = goes_by c.stands (omega (arith, few)) (refl, refl, refl, refl, refl) (rows.begin_info displays (with_p known given) g can.g_name can.g_next) in
+    let a = goes_by s (omega (arith, few)) (refl, refl, refl, refl, refl, refl) (rows.import displays (opened known given) x can.x_name can.x_known refl) in
+    let b = goes_by a.stands (omega (arith, few)) (refl, refl, refl, refl, refl, refl) (rows.await displays (with_p known given) f can.f_name can.f_known) in
+    let c = goes_by b.stands (omega (arith, few)) (refl, refl, refl, refl, refl, refl) (rows.load displays (with_p known given) refl) in
+    let d = goes_by c.stands (omega (arith, few)) (refl, refl, refl, refl, refl, refl) (rows.begin_info displays (with_p known given) g can.g_name can.g_next) in
     as_many (goes_on a (goes_on b (goes_on c d))) (omega arith)
 
 -- ---- lines that neither give a label nor wait for one
@@ -192,8 +192,8 @@ shows_one : {displays : ℕ} {before : List (List Line)} {front : List Mark} {ta
 unfolding picture
 shows_one {displays} {before} {front} {table} {most} {seen} {lines} {count} number client n has buffers q few =
     let known = by_turns table (n % 2 == 1) buffers in
-    let a = quiet_line q (omega (arith, few)) (refl, refl, refl, refl, refl) (rows.store displays table (buffer_of n) (hex_of (draw number client (n + 1))) (codes "3072") known (pixel (draw number client (n + 1))) refl refl) in
-    let b = quiet_line a (omega (arith, few)) (refl, refl, refl, refl, refl) (rows.flip displays table (decimal (client - 1)) (buffer_of n) has.number has.there known) in
+    let a = quiet_line q (omega (arith, few)) (refl, refl, refl, refl, refl, refl) (rows.store displays table (buffer_of n) (hex_of (draw number client (n + 1))) (codes "3072") known (pixel (draw number client (n + 1))) refl refl) in
+    let b = quiet_line a (omega (arith, few)) (refl, refl, refl, refl, refl, refl) (rows.flip displays table (decimal (client - 1)) (buffer_of n) has.number has.there known) in
     as_lines b (two_more lines _ _) (omega arith) (omega arith)
 
 pub shows : {displays : ℕ} {before : List (List Line)} {front : List Mark} {table : NameTable} {most : ℕ} {seen : Seen} {lines : List Words} {count : ℕ} (number client n : ℕ)
@@ -214,9 +214,9 @@ unfolding cursor
 sets_cursor {displays} {before} {front} {table} {most} {seen} {lines} {count} number client has buffers q few =
     let after = with_name (codes "C") table in
     let a = quiet_line q (omega (arith, few)) own (rows.buffer displays table (codes "C") (codes "64") refl buffers.free refl refl) in
-    let b = quiet_line a (omega (arith, few)) (refl, refl, refl, refl, refl) (rows.store displays after (codes "C") (hex_of (draw number client 22)) (codes "4096") refl (pixel (draw number client 22)) refl refl) in
-    let c = quiet_line b (omega (arith, few)) (refl, refl, refl, refl, refl) (rows.send displays after refl) in
-    let d = quiet_line c (omega (arith, few)) (refl, refl, refl, refl, refl) (rows.cursor displays after (decimal (client - 1)) has.number has.there refl) in
+    let b = quiet_line a (omega (arith, few)) (refl, refl, refl, refl, refl, refl) (rows.store displays after (codes "C") (hex_of (draw number client 22)) (codes "4096") refl (pixel (draw number client 22)) refl refl) in
+    let c = quiet_line b (omega (arith, few)) (refl, refl, refl, refl, refl, refl) (rows.send displays after refl) in
+    let d = quiet_line c (omega (arith, few)) (refl, refl, refl, refl, refl, refl) (rows.cursor displays after (decimal (client - 1)) has.number has.there refl) in
     as_lines d (four_more lines _ _ _ _) (omega arith) (omega arith)
 
 small : (n : ℕ) → n % 64 < 64
@@ -229,7 +229,7 @@ unfolding move
 moves_once {displays} {before} {front} {table} number client n has q few =
     let x = draw number client (21 + 2 * n) % 64 in
     let y = draw number client (22 + 2 * n) % 64 in
-    quiet_line q (omega (arith, few)) (refl, refl, refl, refl, refl) (rows.move displays table (decimal (client - 1)) (decimal x) (decimal y) x y has.number has.there (said x (small _)) (said y (small _)))
+    quiet_line q (omega (arith, few)) (refl, refl, refl, refl, refl, refl) (rows.move displays table (decimal (client - 1)) (decimal x) (decimal y) x y has.number has.there (said x (small _)) (said y (small _)))
 
 pub moves_cursor : {displays : ℕ} {before : List (List Line)} {front : List Mark} {table : NameTable} {most : ℕ} {seen : Seen} {lines : List Words} {count : ℕ} (number client n : ℕ)
     → HasScanout displays (decimal (client - 1)) → Quietly displays before front table most seen lines count → most + n < 6900

@@ -12,6 +12,8 @@ use Rattle.vg_script.specs.declared.types.Script.{Script}
 use Rattle.vg_script.specs.Lines.{lines_of}
 use Rattle.vg_script.specs.Seen.{Seen, nothing_seen}
 use Rattle.vg_script.specs.Labels.{label_in, start_of}
+use Rattle.vg_script.specs.Waits.{HasNoCycle}
+use Rattle.vg_script.proofs.PartLists.{parts_whole}
 use Rattle.vg_script.specs.Grammar.{Parses, read_script, scan, script_of, one_more, form_of, worded_form, display_form, memory_form, client_form}
 use Rattle.vg_gen.specs.Draws.{draw}
 use Rattle.vg_gen.specs.Generated.{Words, text_of, opening, joining, picture, pictures, cursor, move, moves, closing, client_lines, all_lines, display, memory, generated_lines, generated}
@@ -175,11 +177,12 @@ generated_short number clients few =
 -- The displays, the clients so far, the labels of all and how many of them were given, and how many lines clients have at most.
 record Between (displays : ℕ) (known : List ℕ → Option Label) (n : ℕ) (seen : Seen) : Type 0 where
   displays_are : length seen.displays ≡ displays
-  count : length seen.clients ≡ n
-  shaped : AreShaped 0 seen.clients
+  count : length seen.parts ≡ n
+  shaped : AreShaped 0 seen.parts
+  no_host : seen.host ≡ false
   known_is : seen.table.labels ≡ known
   given_is : seen.table.given ≡ given_before n
-  few : sum_by length seen.clients ≤ 70 * n
+  few : sum_by length seen.parts ≤ 70 * n
   asks : seen.asked ≤ 2025 * (70 * n)
 
 record Passes (displays : ℕ) (known : List ℕ → Option Label) (n : ℕ) (seen : Seen) (lines : List Words) : Type 0 where
@@ -195,18 +198,18 @@ no_more (lines ∷ clients) =
 
 -- A client begins.
 begins : (displays : ℕ) (known : List ℕ → Option Label) (n : ℕ) (seen : Seen) → Between displays known n seen → n < 16 → 0 < displays
-    → Goes displays seen.clients [] (fresh known (given_before n)) (70 * n) seen ((codes "client" ∷ []) ∷ [])
+    → Goes displays seen.parts [] (fresh known (given_before n)) (70 * n) seen ((codes "client" ∷ []) ∷ [])
 unfolding form_of worded_form client_form
 begins displays known n seen b few some =
-    let next : Seen = record (one_more seen) { clients = seen.clients ++ [] ∷ []; table = fresh seen.table.labels seen.table.given } in
+    let next : Seen = record (one_more seen) { parts = seen.parts ++ [] ∷ []; table = fresh seen.table.labels seen.table.given } in
     let displays_are = b.displays_are in
     let count = b.count in
     let lines_few = b.few in
     let asked = b.asks in
-    let sum = no_more seen.clients in
+    let sum = no_more seen.parts in
     let there : (length seen.displays == 0) ≡ false = ne_eqb _ 0 (λ none. omega (arith, none, some, displays_are)) in
-    let room : nat_lt (length seen.clients) 32 ≡ true = lt-ltb _ 32 (omega (arith, count, few)) in
-    let is : step seen (codes "client" ∷ []) ≡ Ok next = rw (there, room) refl in
+    let room : nat_lt (length seen.parts) 32 ≡ true = lt-ltb _ 32 (omega (arith, count, few)) in
+    let is : step seen (codes "client" ∷ []) ≡ Ok next = rw (there, b.no_host, room) refl in
     record {
       next = next;
       runs = (next, is, refl);
@@ -214,6 +217,7 @@ begins displays known n seen b few some =
         displays_are = displays_are;
         lines = [];
         clients_are = refl;
+        no_host = b.no_host;
         marks_are = refl;
         table_is = λ i. fresh (b.known_is i) (b.given_is i);
         few = omega (arith, sum, lines_few);
@@ -269,6 +273,7 @@ closes {displays} {before} {known} {most} {seen} {lines} {table} n clients false
           displays_are = going.stands.displays_are;
           lines = going.stands.lines;
           clients_are = going.stands.clients_are;
+          no_host = going.stands.no_host;
           marks_are = going.stands.marks_are ∙ ap (λ ms. front n ++ ms) (sym (append-nil q.middle));
           table_is = going.stands.table_is;
           few = (let fewer = going.stands.few in omega (arith, fewer));
@@ -283,7 +288,7 @@ closes {displays} {before} {known} {most} {seen} {lines} {table} n clients true 
     let word = codes "G" ++ decimal (suc n + 1) in
     let same : codes "G" ++ decimal (suc (suc n)) ≡ word = ap (λ k. codes "G" ++ decimal k) (omega arith) in
     let is : is_label labels.Fence (table.labels word) ≡ true = ap (λ w. is_label labels.Fence (table.labels w)) (sym same) ∙ ap (λ ls. is_label labels.Fence (ls (codes "G" ++ decimal (suc (suc n))))) known_is ∙ next.0 in
-    let one = goes_by q.going.stands (omega (arith, few)) (refl, refl, refl, refl, refl) (rows.await displays table word named is) in
+    let one = goes_by q.going.stands (omega (arith, few)) (refl, refl, refl, refl, refl, refl) (rows.await displays table word named is) in
     let last : Mark = (None, Some (label_number (table.labels word))) in
     record {
       table = table;
@@ -305,7 +310,7 @@ scanout_of displays n within few =
 
 -- The first lines of the first client, and of another.
 begins_first : (displays : ℕ) (known : List ℕ → Option Label) (number : ℕ) (seen : Seen) → Between displays known 0 seen → 0 < displays → AreLabelled known 0
-    → Goes displays seen.clients (front 0) (opened known (given_before 0)) 6 seen (opening number 1 ++ [])
+    → Goes displays seen.parts (front 0) (opened known (given_before 0)) 6 seen (opening number 1 ++ [])
 unfolding opening
 begins_first displays known number seen b some labelled =
     let start = begins displays known 0 seen b (omega arith) some in
@@ -315,13 +320,13 @@ begins_first displays known number seen b some labelled =
     let can : CanOpen known (given_before 0) (codes "X" ++ decimal 1) (codes "F" ++ decimal 1) =
     record { x_name = names.x_name; x_next = eq-eqb _ _ x; f_name = names.f_name; f_next = eq-eqb _ _ f } in
     let r = draw number 1 1 % 64 in
-    let more = opens displays seen.clients (70 * 0) start.next known (given_before 0) (decimal (1 - 1)) (codes "X" ++ decimal 1) (codes "F" ++ decimal 1) (decimal r) r
+    let more = opens displays seen.parts (70 * 0) start.next known (given_before 0) (decimal (1 - 1)) (codes "X" ++ decimal 1) (codes "F" ++ decimal 1) (decimal r) r
     start.stands (omega arith) (scanout_of displays 0 some (omega arith)) can (said r (omega arith)) in
     as_many (goes_on start more) refl
 
 begins_other : (displays : ℕ) (known : List ℕ → Option Label) (number n : ℕ) (seen : Seen) → Between displays known (suc n) seen → suc n < displays → suc n < 16
     → AreLabelled known n → AreLabelled known (suc n)
-    → Goes displays seen.clients (front (suc n)) (joined known (given_before (suc n))) (70 * suc n + 10) seen (opening number (suc (suc n)) ++ joining (suc (suc n)))
+    → Goes displays seen.parts (front (suc n)) (joined known (given_before (suc n))) (70 * suc n + 10) seen (opening number (suc (suc n)) ++ joining (suc (suc n)))
 unfolding opening joining
 begins_other displays known number n seen b within few former labelled =
     let start = begins displays known (suc n) seen b few (omega (arith, within)) in
@@ -336,17 +341,17 @@ begins_other displays known number n seen b within few former labelled =
     let join : CanJoin known given (codes "X" ++ decimal (suc n)) (codes "F" ++ decimal (suc n)) (codes "G" ++ decimal (suc (suc n))) =
     record { x_name = others.x_name; x_known = former.x_is.0; f_name = others.f_name; f_known = former.f_is.0; g_name = names.g_name; g_next = eq-eqb _ _ g } in
     let r = draw number (suc (suc n)) 1 % 64 in
-    let one = opens displays seen.clients (70 * suc n) start.next known given (decimal (suc (suc n) - 1)) (codes "X" ++ decimal (suc (suc n))) (codes "F" ++ decimal (suc (suc n))) (decimal r) r
+    let one = opens displays seen.parts (70 * suc n) start.next known given (decimal (suc (suc n) - 1)) (codes "X" ++ decimal (suc (suc n))) (codes "F" ++ decimal (suc (suc n))) (decimal r) r
     start.stands (omega (arith, few)) (scanout_of displays (suc n) within few) can (said r (omega arith)) in
-    let two = joins displays seen.clients (70 * suc n + 6) one.next known given (codes "X" ++ decimal (suc n)) (codes "F" ++ decimal (suc n)) (codes "G" ++ decimal (suc (suc n)))
+    let two = joins displays seen.parts (70 * suc n + 6) one.next known given (codes "X" ++ decimal (suc n)) (codes "F" ++ decimal (suc n)) (codes "G" ++ decimal (suc (suc n)))
     one.stands (omega (arith, few)) join in
     let same : suc (suc n) - 1 ≡ suc n = omega arith in
     let lines : List Words = (codes "client" ∷ []) ∷ opening_lines (decimal (suc (suc n) - 1)) (codes "X" ++ decimal (suc (suc n))) (codes "F" ++ decimal (suc (suc n))) (decimal r) in
     let marks : joining_marks given (label_number (known (codes "X" ++ decimal (suc n)))) (label_number (known (codes "F" ++ decimal (suc n)))) ≡ front (suc n) =
     λ i. joining_marks given (former.x_is.1 i) (former.f_is.1 i) in
     let all = as_many (goes_on start (goes_on one two)) (omega arith) in
-    subst (λ ms. Goes displays seen.clients ms (joined known given) (70 * suc n + 10) seen (lines ++ joining_lines (codes "X" ++ decimal (suc (suc n) - 1)) (codes "F" ++ decimal (suc (suc n) - 1)) (codes "G" ++ decimal (suc (suc n))))) marks
-    (subst (λ k. Goes displays seen.clients (joining_marks given (label_number (known (codes "X" ++ decimal (suc n)))) (label_number (known (codes "F" ++ decimal (suc n))))) (joined known given) (70 * suc n + 10) seen
+    subst (λ ms. Goes displays seen.parts ms (joined known given) (70 * suc n + 10) seen (lines ++ joining_lines (codes "X" ++ decimal (suc (suc n) - 1)) (codes "F" ++ decimal (suc (suc n) - 1)) (codes "G" ++ decimal (suc (suc n))))) marks
+    (subst (λ k. Goes displays seen.parts (joining_marks given (label_number (known (codes "X" ++ decimal (suc n)))) (label_number (known (codes "F" ++ decimal (suc n))))) (joined known given) (70 * suc n + 10) seen
     (lines ++ joining_lines (codes "X" ++ decimal k) (codes "F" ++ decimal k) (codes "G" ++ decimal (suc (suc n))))) (sym same) all)
 
 has_opened : (known : List ℕ → Option Label) (given : ℕ) → HasBuffers (opened known given)
@@ -394,22 +399,23 @@ lines_other number clients n =
 
 -- What stands between two clients, behind a client's lines.
 between_after : {displays : ℕ} {known : List ℕ → Option Label} {n most : ℕ} {seen : Seen} {lines : List Words}
-    → Between displays known n seen → Ends displays seen.clients known n most seen lines → most ≤ 70 * suc n → Passes displays known (suc n) seen lines
+    → Between displays known n seen → Ends displays seen.parts known n most seen lines → most ≤ 70 * suc n → Passes displays known (suc n) seen lines
 between_after {displays} {known} {n} {most} {seen} {lines} b e few =
     let s = e.going.stands in
-    let size = length-append seen.clients (s.lines ∷ []) in
+    let size = length-append seen.parts (s.lines ∷ []) in
     let count = b.count in
     let lines_few = s.few in
     let asked = s.asks in
-    let length_is : length e.going.next.clients ≡ length (seen.clients ++ s.lines ∷ []) = ap (λ (cs : List (List Line)). length cs) s.clients_are in
+    let length_is : length e.going.next.parts ≡ length (seen.parts ++ s.lines ∷ []) = ap (λ (cs : List (List Line)). length cs) s.clients_are in
     record {
       next = e.going.next;
       runs = e.going.runs;
       between = record {
         displays_are = s.displays_are;
         count = omega (arith, size, count, length_is);
-        shaped = subst (AreShaped 0) (sym s.clients_are) (shaped_more 0 n seen.clients s.lines b.shaped count
+        shaped = subst (AreShaped 0) (sym s.clients_are) (shaped_more 0 n seen.parts s.lines b.shaped count
             (subst (λ k. IsShaped k s.lines) (omega arith) (record { middle = e.middle; behind = e.behind; marks = s.marks_are; quiet = e.quiet; long = e.long; ends = e.ends })));
+        no_host = s.no_host;
         known_is = ap (λ t. t.labels) s.table_is ∙ e.known_is;
         given_is = ap (λ t. t.given) s.table_is ∙ e.given_is;
         few = omega (arith, few, lines_few);
@@ -450,7 +456,8 @@ record Shows (known : List ℕ → Option Label) (displays : ℕ) (seen : Seen) 
   displays_are : length seen.displays ≡ displays
   pages_are : seen.pages ≡ None
   without_are : seen.without ≡ []
-  clients_are : seen.clients ≡ []
+  clients_are : seen.parts ≡ []
+  no_host : seen.host ≡ false
   table_is : seen.table ≡ fresh known 0
   asks_none : seen.asked ≡ 0
 
@@ -470,7 +477,7 @@ one_display known n seen s few =
     record {
       next = next;
       runs = (next, is, refl);
-      shows_so = record { displays_are = omega (arith, size, count); pages_are = s.pages_are; without_are = s.without_are; clients_are = s.clients_are; table_is = s.table_is; asks_none = s.asks_none };
+      shows_so = record { displays_are = omega (arith, size, count); pages_are = s.pages_are; without_are = s.without_are; clients_are = s.clients_are; no_host = s.no_host; table_is = s.table_is; asks_none = s.asks_none };
     }
 
 all_displays : (known : List ℕ → Option Label) (n m : ℕ) (seen : Seen) → Shows known n seen → n + m ≤ 16 → Displays known (n + m) seen (replicate m display)
@@ -498,9 +505,10 @@ its_memory known n seen s some =
         displays_are = s.displays_are;
         count = ap (λ (cs : List (List Line)). length cs) s.clients_are;
         shaped = subst (AreShaped 0) (sym s.clients_are) tt;
+        no_host = s.no_host;
         known_is = ap (λ t. t.labels) s.table_is;
         given_is = ap (λ t. t.given) s.table_is;
-        few = (let none : sum_by length seen.clients ≡ 0 = ap (λ (cs : List (List Line)). sum_by length cs) s.clients_are in omega (arith, none));
+        few = (let none : sum_by length seen.parts ≡ 0 = ap (λ (cs : List (List Line)). sum_by length cs) s.clients_are in omega (arith, none));
         asks = (let none = s.asks_none in omega (arith, none));
       };
     }
@@ -510,7 +518,7 @@ whole_pass : (number clients : ℕ) (known : List ℕ → Option Label) → 1 �
     → Passes clients known clients (nothing_seen known) (generated_lines number clients)
 unfolding generated_lines
 whole_pass number clients known some few labelled =
-    let start : Shows known 0 (nothing_seen known) = record { displays_are = refl; pages_are = refl; without_are = refl; clients_are = refl; table_is = refl; asks_none = refl } in
+    let start : Shows known 0 (nothing_seen known) = record { displays_are = refl; pages_are = refl; without_are = refl; clients_are = refl; no_host = refl; table_is = refl; asks_none = refl } in
     let shown = all_displays known 0 clients (nothing_seen known) start (omega (arith, few)) in
     let all = subst (λ k. Shows known k shown.next) (omega arith) shown.shows_so in
     let mem = its_memory known clients shown.next all some in
@@ -540,4 +548,4 @@ generated_parses number clients some few =
     scan_runs (nothing_seen known) whole.next lines fit whole.runs ∙ ends_well whole.next (omega (arith, displays_are, some)) in
     let is : scan (start_of (lines_of (text_of lines))) (lines_of (text_of lines)) ≡ Ok (script_of whole.next) =
     ap (λ ls. scan (start_of ls) ls) (lines_back lines fit) ∙ ap (λ s. scan s (map (join_with_byte 32) lines)) start ∙ reads in
-    (script_of whole.next, (is, no_cycle whole.next.clients whole.between.shaped))
+    (script_of whole.next, (is, subst HasNoCycle (sym (parts_whole whole.next.host whole.next.parts)) (no_cycle whole.next.parts whole.between.shaped)))

@@ -10,8 +10,8 @@ use Rattle.vg_call_lines.specs.Rows.{judged_row, row_of}
 use Rattle.vg_script.specs.declared.types.Line.{Line}
 use Rattle.vg_script.specs.Seen.{Seen, add_line}
 use Rattle.vg_script.specs.Waits.{gives, waits}
-use Rattle.vg_script.specs.Grammar.{one_more, form_of, worded_form, called_form, line_form, settled_form, after_line, scan}
-use Rattle.vg_script.proofs.ClientLists.{lines-add_line}
+use Rattle.vg_script.specs.Grammar.{row_in, one_more, form_of, worded_form, called_form, line_form, settled_form, after_line, scan}
+use Rattle.vg_script.proofs.PartLists.{lines-add_line}
 use Rattle.vg_script.specs.AskedWithin.{words_ask}
 use Rattle.vg_script.proofs.AskLemmas.{words_few}
 use Rattle.vg_script.proofs.CallForms.{goes_ok}
@@ -54,10 +54,11 @@ mark_of line = (gives line.call, waits line.call)
 pub record Stands (displays : ℕ) (before : List (List Line)) (marks : List Mark) (table : NameTable) (most : ℕ) (seen : Seen) : Type 0 where
   pub displays_are : length seen.displays ≡ displays
   pub lines : List Line
-  pub clients_are : seen.clients ≡ before ++ lines ∷ []
+  pub clients_are : seen.parts ≡ before ++ lines ∷ []
+  pub no_host : seen.host ≡ false
   pub marks_are : map mark_of lines ≡ marks
   pub table_is : seen.table ≡ table
-  pub few : sum_by length seen.clients ≤ most
+  pub few : sum_by length seen.parts ≤ most
   -- each line asks for at most 2,025 pages
   pub asks : seen.asked ≤ 2025 * most
 
@@ -83,11 +84,11 @@ some_clients before lines = let size = length-append before (lines ∷ []) in ne
 abbrev pub IsOfClient : List ℕ → Type 0
 IsOfClient word =
     ((slice_index word 0 == 35) ≡ false) × (bytes_eq word (codes "display") ≡ false) × (bytes_eq word (codes "memory") ≡ false)
-    × (bytes_eq word (codes "without") ≡ false) × (bytes_eq word (codes "client") ≡ false)
+    × (bytes_eq word (codes "without") ≡ false) × (bytes_eq word (codes "client") ≡ false) × (bytes_eq word (codes "host") ≡ false)
 
 form_is : (seen : Seen) (word : List ℕ) (args : Words) → IsOfClient word → form_of seen (word ∷ args) ≡ called_form seen word args
 unfolding form_of worded_form
-form_is seen word args (a, b, c, d, e) = rw (a, b, c, d, e) refl
+form_is seen word args (a, b, c, d, e, f) = rw (a, b, c, d, e, f) refl
 
 -- A client's line.
 pub goes : (displays : ℕ) (before : List (List Line)) (marks : List Mark) (table : NameTable) (most : ℕ) (seen : Seen) (word : List ℕ) (args : Words) (call : Call) (after : NameTable)
@@ -96,15 +97,17 @@ pub goes : (displays : ℕ) (before : List (List Line)) (marks : List Mark) (tab
 goes displays before marks table most seen word args call after s few of_client judged =
     let line : Line = record { number = seen.lines + 1; call = call } in
     let next : Seen = with_call (one_more seen) call (words_ask word args) after in
-    let some : (length seen.clients == 0) ≡ false = ap (λ cs. length cs == 0) s.clients_are ∙ some_clients before s.lines in
+    let some : (length seen.parts == 0) ≡ false = ap (λ cs. length cs == 0) s.clients_are ∙ some_clients before s.lines in
     let most_now = s.few in
     let asked = s.asks in
     let page_few = words_few word args in
     let row : judged_row (row_of word (length seen.displays) seen.table args) ≡ Ok (call, after) =
     ap (λ d. judged_row (row_of word d seen.table args)) s.displays_are ∙ ap (λ t. judged_row (row_of word displays t args)) s.table_is ∙ judged in
+    let in_part : judged_row (row_in seen.host word (length seen.displays) seen.table args) ≡ Ok (call, after) =
+    ap (λ host. judged_row (row_in host word (length seen.displays) seen.table args)) s.no_host ∙ row in
     let is : step seen (word ∷ args) ≡ Ok next =
-    ap settled_form (form_is (one_more seen) word args of_client) ∙ goes_ok (one_more seen) word args after call some (omega (arith, few, most_now)) (omega (arith, few, asked, page_few)) row in
-    let size = lines-add_line seen.clients line in
+    ap settled_form (form_is (one_more seen) word args of_client) ∙ goes_ok (one_more seen) word args after call some (omega (arith, few, most_now)) (omega (arith, few, asked, page_few)) in_part in
+    let size = lines-add_line seen.parts line in
     record {
       next = next;
       runs = (next, is, refl);
@@ -112,6 +115,7 @@ goes displays before marks table most seen word args call after s few of_client 
         displays_are = s.displays_are;
         lines = s.lines ++ line ∷ [];
         clients_are = ap (λ cs. add_line cs line) s.clients_are ∙ added before s.lines line;
+        no_host = s.no_host;
         marks_are = marks_more s.lines line ∙ ap (λ ms. ms ++ mark_of line ∷ []) s.marks_are;
         table_is = refl;
         few = omega (arith, size, most_now);

@@ -12,9 +12,10 @@ use Rattle.vg_script_words.specs.Words.{value}
 use Rattle.vg_call_lines.specs.Args.{no_args, one_arg, two_args, three_args, four_args, five_args, six_args, eleven_args}
 use Rattle.vg_call_lines.proofs.Counts.{no_args_give, one_arg_gives, two_args_give, three_args_give, four_args_give, five_args_give, six_args_give, eleven_args_give}
 use Rattle.vg_call_lines.specs.Tables.{NameTable}
-use Rattle.vg_call_lines.specs.Rows.{Row, info_row, edid_row, buffer_row, blob_row, store_row, load_row, send_row, flush_row, take_row, drop_row, hide_row, show_row, showblob_row, flip_row, cursor_row, move_row, uuid_row, close_row, raw_row, context_row, endcontext_row, attach_row, detach_row, submit_row, export_row, import_row, begun_row, begin_row, await_row, request_row, queue_of, shape_of, row_of, row_of_buffers, row_of_scanouts, row_of_others, row_of_contexts, row_of_shared, row_of_begun}
+use Rattle.vg_call_lines.specs.Rows.{Row, info_row, edid_row, buffer_row, blob_row, store_row, load_row, send_row, flush_row, take_row, drop_row, hide_row, show_row, showblob_row, flip_row, cursor_row, move_row, uuid_row, close_row, raw_row, context_row, endcontext_row, attach_row, detach_row, submit_row, export_row, import_row, begun_row, begin_row, await_row, sync_row, events_row, ack_row, mode_row, unplug_row, request_row, queue_of, shape_of, row_of, row_of_buffers, row_of_scanouts, row_of_others, row_of_contexts, row_of_shared, row_of_begun, host_row_of}
 use Rattle.vg_call_lines.specs.Bodies.{Part, info_body, send_body, flush_body, submit_body, begun_parts}
 use Rattle.vg_script.specs.Asked.{pages_of, pages_asked}
+use Rattle.vg_script.specs.Grammar.{row_in}
 use Rattle.vg_script.specs.AskedWithin.{buffer_asks, blob_asks, buffer_args_ask, blob_args_ask, words_ask}
 
 -- A row without a fault of its own numbers asks for so many pages.
@@ -82,10 +83,12 @@ request_none table (Some one) (Some shape) room hex = refl
 -- All other words.
 others_none : (word : List ℕ) (n : ℕ) (table : NameTable) (args : List (List ℕ)) → bytes_eq word (codes "buffer") ≡ false → bytes_eq word (codes "blob") ≡ false
     → AsksNone (row_of word n table args)
-unfolding row_of row_of_buffers row_of_scanouts row_of_others row_of_contexts row_of_shared row_of_begun info_row edid_row store_row load_row send_row flush_row take_row drop_row hide_row show_row showblob_row flip_row cursor_row move_row uuid_row close_row raw_row context_row endcontext_row attach_row detach_row submit_row export_row import_row await_row info_body send_body flush_body submit_body
+unfolding row_of row_of_buffers row_of_scanouts row_of_others row_of_contexts row_of_shared row_of_begun info_row edid_row store_row load_row send_row flush_row take_row drop_row hide_row show_row showblob_row flip_row cursor_row move_row uuid_row close_row raw_row context_row endcontext_row attach_row detach_row submit_row export_row import_row await_row sync_row events_row ack_row info_body send_body flush_body submit_body
 others_none word n table args buffer blob =
     either_none (bytes_eq word (codes "info")) (no_args (info_row table) args) _ (no_args_give AsksNone tt (info_row table) refl args)
     (either_none (bytes_eq word (codes "edid")) (one_arg (edid_row table) args) _ (one_arg_gives AsksNone tt (edid_row table) (λ a. refl) args)
+    (either_none (bytes_eq word (codes "events")) (no_args (events_row table) args) _ (no_args_give AsksNone tt (events_row table) refl args)
+    (either_none (bytes_eq word (codes "ack")) (no_args (ack_row table) args) _ (no_args_give AsksNone tt (ack_row table) refl args)
     (other_none (bytes_eq word (codes "buffer")) (four_args (buffer_row table) args) _ buffer
     (other_none (bytes_eq word (codes "blob")) (two_args (blob_row table) args) _ blob
     (either_none (bytes_eq word (codes "store")) (four_args (store_row table) args) _ (four_args_give AsksNone tt (store_row table) (λ a b c d. refl) args)
@@ -111,15 +114,38 @@ others_none word n table args buffer blob =
     (either_none (bytes_eq word (codes "export")) (two_args (export_row table) args) _ (two_args_give AsksNone tt (export_row table) (λ a b. refl) args)
     (either_none (bytes_eq word (codes "import")) (two_args (import_row table) args) _ (two_args_give AsksNone tt (import_row table) (λ a b. refl) args)
     (either_none (bytes_eq word (codes "begin")) (begin_row table args) _ (begin_none table args)
-    (either_none (bytes_eq word (codes "await")) (one_arg (await_row table) args) _ (one_arg_gives AsksNone tt (await_row table) (λ a. refl) args) tt)))))))))))))))))))))))))))
+    (either_none (bytes_eq word (codes "await")) (one_arg (await_row table) args) _ (one_arg_gives AsksNone tt (await_row table) (λ a. refl) args)
+    (either_none (bytes_eq word (codes "sync")) (one_arg (sync_row table) args) _ (one_arg_gives AsksNone tt (sync_row table) (λ a. refl) args) tt))))))))))))))))))))))))))))))
 
-pub asks : (word : List ℕ) (n : ℕ) (table : NameTable) (args : List (List ℕ)) → RowAsks (words_ask word args) (row_of word n table args)
+asks : (word : List ℕ) (n : ℕ) (table : NameTable) (args : List (List ℕ)) → RowAsks (words_ask word args) (row_of word n table args)
 asks word n table args = by_word (bytes_eq word (codes "buffer")) (bytes_eq word (codes "blob")) refl refl
   where
     by_word : (b c : Bool) → bytes_eq word (codes "buffer") ≡ b → bytes_eq word (codes "blob") ≡ c → RowAsks (words_ask word args) (row_of word n table args)
     by_word true c is other = subst (λ w. RowAsks (words_ask w args) (row_of w n table args)) (sym (same_bytes word (codes "buffer") is)) (buffer_asked n table args)
     by_word false true is other = subst (λ w. RowAsks (words_ask w args) (row_of w n table args)) (sym (same_bytes word (codes "blob") other)) (blob_asked n table args)
     by_word false false is other = none_asked (row_of word n table args) (words_ask word args) (words_ask_none word args is other) (others_none word n table args is other)
+
+-- The host's words ask for none.
+asked_as : (word one : List ℕ) (args : List (List ℕ)) → words_ask one args ≡ 0 → bytes_eq word one ≡ true → words_ask word args ≡ 0
+asked_as word one args none is = subst (λ w. words_ask w args ≡ 0) (sym (same_bytes word one is)) none
+
+either_asked : (asked : ℕ) (b : Bool) (x y : Option Row) → (b ≡ true → RowAsks asked x) → RowAsks asked y → RowAsks asked (if b then x else y)
+either_asked asked true x y p q = p refl
+either_asked asked false x y p q = q
+
+host_asks : (word : List ℕ) (n : ℕ) (table : NameTable) (args : List (List ℕ)) → RowAsks (words_ask word args) (host_row_of word n table args)
+unfolding host_row_of mode_row unplug_row await_row
+host_asks word n table args =
+    either_asked (words_ask word args) (bytes_eq word (codes "mode")) (four_args (mode_row n table) args) _
+    (λ is. none_asked (four_args (mode_row n table) args) (words_ask word args) (asked_as word (codes "mode") args refl is) (four_args_give AsksNone tt (mode_row n table) (λ a b c d. refl) args))
+    (either_asked (words_ask word args) (bytes_eq word (codes "unplug")) (two_args (unplug_row n table) args) _
+    (λ is. none_asked (two_args (unplug_row n table) args) (words_ask word args) (asked_as word (codes "unplug") args refl is) (two_args_give AsksNone tt (unplug_row n table) (λ a b. refl) args))
+    (either_asked (words_ask word args) (bytes_eq word (codes "await")) (one_arg (await_row table) args) None
+    (λ is. none_asked (one_arg (await_row table) args) (words_ask word args) (asked_as word (codes "await") args refl is) (one_arg_gives AsksNone tt (await_row table) (λ a. refl) args)) tt))
+
+pub asks_in : (host : Bool) (word : List ℕ) (n : ℕ) (table : NameTable) (args : List (List ℕ)) → RowAsks (words_ask word args) (row_in host word n table args)
+asks_in true word n table args = host_asks word n table args
+asks_in false word n table args = asks word n table args
 
 -- A line asks for at most 2,025 pages, which hold 8,294,400 bytes.
 few_if : (b : Bool) (n : ℕ) → (b ≡ true → n ≤ 2025) → (if b then n else 0) ≤ 2025

@@ -13,6 +13,8 @@ use Rattle.vg_script.specs.Labels.{start_of}
 use Rattle.vg_script.specs.Grammar.{Form, line_form, settled_form, after_line, fault_at, script_of, scan, read_script, Parses, Faulty}
 use Rattle.vg_script_words.specs.Kinds.{kind_code}
 use Rattle.vg_script.specs.Faults.{fails, has_fault, form_gives, given, seen_after, AreFaultless, HasFirstFault, IsScriptOf}
+use Rattle.vg_script.specs.Parts.{parts_of}
+use Rattle.vg_script.proofs.PartLists.{parts_whole}
 use Rattle.vg_script.proofs.Scans.{scan-ok, scan-err, one_line_more}
 
 -- The kinds, tried from the least.
@@ -199,9 +201,13 @@ unfolding scan
 good start [] script h = good_end start script (length start.displays == 0) refl h
 good start (text ∷ more) script h = good_line start text more script (good (given start text) more script) h (after_line start text) refl
 
--- The script at the end has the clients that were seen.
-pub end_clients : (seen : Seen) (script : Script) → scan seen [] ≡ Ok script → script.clients ≡ seen.clients
-end_clients seen script h = ap (λ (s : Script). s.clients) (good seen [] script h).same
+-- The script of what was seen has these parts.
+made_parts : (seen : Seen) → parts_of (script_of seen) ≡ seen.parts
+made_parts seen = parts_whole seen.host seen.parts
+
+-- The script at the end has the parts that were seen.
+pub end_parts : (seen : Seen) (script : Script) → scan seen [] ≡ Ok script → parts_of script ≡ seen.parts
+end_parts seen script h = ap parts_of (good seen [] script h).same ∙ made_parts seen
 
 -- What is read of a text that has no fault of the kinds 1 to 5.
 pub good_script : (bytes : List ℕ) (script : Script) → read_script bytes ≡ Ok script → Good (start_of (lines_of bytes)) (lines_of bytes) script
@@ -227,7 +233,7 @@ pub fault_to : (bytes : List ℕ) (line kind : ℕ) → Faulty bytes line kind �
 fault_to bytes line kind (inl h) = read_to bytes line kind h
 fault_to bytes line kind (inr h) =
     let g = good_script bytes h.1 h.2 in
-    inr (inr (record { code = h.0; before = g.before; some = g.some; first = subst (λ (s : Script). IsFirstInCycle s.clients line) g.same h.3 }))
+    inr (inr (record { code = h.0; before = g.before; some = g.some; first = subst (λ ls. IsFirstInCycle ls line) (ap parts_of g.same ∙ made_parts (seen_after (start_of (lines_of bytes)) (lines_of bytes))) h.3 }))
 
 pub fault_from : (bytes : List ℕ) (line kind : ℕ) → HasFirstFault (lines_of bytes) line kind → Faulty bytes line kind
 unfolding read_script
@@ -239,7 +245,7 @@ fault_from bytes line kind (inl f) =
 fault_from bytes line kind (inr (inl f)) =
     let over = passed (start_of (lines_of bytes)) (lines_of bytes) [] f.before in
     inl (ap (λ ls. scan (start_of (lines_of bytes)) ls) (sym (append-nil (lines_of bytes))) ∙ over.0 ∙ end_of _ f.none ∙ fault_is _ _ _ _ (omega (arith, f.number, over.1)) (sym f.code))
-fault_from bytes line kind (inr (inr f)) = inr (f.code, script_of (seen_after (start_of (lines_of bytes)) (lines_of bytes)), reads bytes f.before f.some, f.first)
+fault_from bytes line kind (inr (inr f)) = inr (f.code, script_of (seen_after (start_of (lines_of bytes)) (lines_of bytes)), reads bytes f.before f.some, subst (λ ls. IsFirstInCycle ls line) (sym (made_parts (seen_after (start_of (lines_of bytes)) (lines_of bytes)))) f.first)
 
 pub script_to : (bytes : List ℕ) (script : Script) → Parses bytes script → IsScriptOf (lines_of bytes) script
 script_to bytes script h = let g = good_script bytes script h.0 in record { before = g.before; some = g.some; same = g.same; apart = h.1 }

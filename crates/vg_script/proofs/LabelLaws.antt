@@ -21,12 +21,12 @@ use Rattle.vg_script.specs.Waits.{gives, waits, label_list, given_in, given_in_a
 use Rattle.vg_calls.specs.declared.call.Body.{Body}
 use Rattle.vg_calls.specs.declared.call.ContextRef.{ContextRef}
 use Rattle.vg_call_lines.specs.declared.names.LabelKind.{LabelKind}
-use Rattle.vg_call_lines.specs.declared.names.LabelKind.TheVariants.{Fence, Token}
+use Rattle.vg_call_lines.specs.declared.names.LabelKind.TheVariants.{Fence, Token, Plug}
 use Rattle.vg_call_lines.specs.declared.names.Label.{Label}
 use Rattle.vg_call_lines.specs.Tables.{NameTable, is_label, label_number}
 use Rattle.vg_call_lines.specs.Bodies.{Part, info_body, send_body, flush_body, submit_body, begun_parts}
-use Rattle.vg_call_lines.specs.Rows.{Row, info_row, edid_row, buffer_row, blob_row, store_row, load_row, send_row, flush_row, take_row, drop_row, hide_row, show_row, showblob_row, flip_row, cursor_row, move_row, uuid_row, close_row, raw_row, context_row, endcontext_row, attach_row, detach_row, submit_row, export_row, import_row, begun_row, begin_row, await_row, request_row, queue_of, shape_of, row_of, row_of_buffers, row_of_scanouts, row_of_others, row_of_contexts, row_of_shared, row_of_begun}
-use Rattle.vg_script.specs.Grammar.{Form, display_form, memory_form, feature_form, without_form, client_form, row_form, skipped_form, called_form, worded_form, form_of, line_form, one_more}
+use Rattle.vg_call_lines.specs.Rows.{Row, info_row, edid_row, buffer_row, blob_row, store_row, load_row, send_row, flush_row, take_row, drop_row, hide_row, show_row, showblob_row, flip_row, cursor_row, move_row, uuid_row, close_row, raw_row, context_row, endcontext_row, attach_row, detach_row, submit_row, export_row, import_row, begun_row, begin_row, await_row, sync_row, events_row, ack_row, mode_row, unplug_row, request_row, queue_of, shape_of, row_of, row_of_buffers, row_of_scanouts, row_of_others, row_of_contexts, row_of_shared, row_of_begun, host_row_of}
+use Rattle.vg_script.specs.Grammar.{Form, display_form, memory_form, feature_form, without_form, client_form, host_form, row_form, skipped_form, row_in, called_form, worded_form, form_of, line_form, one_more}
 use Rattle.vg_script.specs.Faults.{fails, given, form_gives, seen_after, AreFaultless, has_fault}
 use Rattle.vg_script.specs.Limits.{IsBetween}
 use Rattle.vg_script.proofs.NameLaws.{all_given}
@@ -135,6 +135,26 @@ await_labelled : (n : ℕ) (table : NameTable) (label : List ℕ) → RowLabels 
 unfolding await_row
 await_labelled n table label = (refl, (0, omega arith, refl), λ h. is_in table.labels label Fence (table.labels label) refl (grind arith))
 
+sync_labelled : (n : ℕ) (table : NameTable) (label : List ℕ) → RowLabels table (sync_row table label)
+unfolding sync_row
+sync_labelled n table label = (refl, (0, omega arith, refl), λ h. is_in table.labels label Plug (table.labels label) refl (grind arith))
+
+events_labelled : (n : ℕ) (table : NameTable) → RowLabels table (events_row table)
+unfolding events_row
+events_labelled n table = (refl, (0, omega arith, refl), λ h. tt)
+
+ack_labelled : (n : ℕ) (table : NameTable) → RowLabels table (ack_row table)
+unfolding ack_row
+ack_labelled n table = (refl, (0, omega arith, refl), λ h. tt)
+
+mode_labelled : (n : ℕ) (table : NameTable) (scanout width height label : List ℕ) → RowLabels table (mode_row n table scanout width height label)
+unfolding mode_row
+mode_labelled n table scanout width height label = (refl, (1, refl, refl), λ h. tt)
+
+unplug_labelled : (n : ℕ) (table : NameTable) (scanout label : List ℕ) → RowLabels table (unplug_row n table scanout label)
+unfolding unplug_row
+unplug_labelled n table scanout label = (refl, (1, refl, refl), λ h. tt)
+
 close_labelled : (n : ℕ) (table : NameTable) (name : List ℕ) → RowLabels table (close_row table name)
 unfolding close_row
 close_labelled n table name = (refl, (0, omega arith, refl), λ h. tt)
@@ -182,6 +202,8 @@ unfolding row_of row_of_buffers row_of_scanouts row_of_others row_of_contexts ro
 row_labelled word n table args =
     either_labelled table (bytes_eq word (codes "info")) (no_args (info_row table) args) _ (no_args_give (RowLabels table) tt (info_row table) (info_labelled n table) args)
     (either_labelled table (bytes_eq word (codes "edid")) (one_arg (edid_row table) args) _ (one_arg_gives (RowLabels table) tt (edid_row table) (edid_labelled n table) args)
+    (either_labelled table (bytes_eq word (codes "events")) (no_args (events_row table) args) _ (no_args_give (RowLabels table) tt (events_row table) (events_labelled n table) args)
+    (either_labelled table (bytes_eq word (codes "ack")) (no_args (ack_row table) args) _ (no_args_give (RowLabels table) tt (ack_row table) (ack_labelled n table) args)
     (either_labelled table (bytes_eq word (codes "buffer")) (four_args (buffer_row table) args) _ (four_args_give (RowLabels table) tt (buffer_row table) (buffer_labelled n table) args)
     (either_labelled table (bytes_eq word (codes "blob")) (two_args (blob_row table) args) _ (two_args_give (RowLabels table) tt (blob_row table) (blob_labelled n table) args)
     (either_labelled table (bytes_eq word (codes "store")) (four_args (store_row table) args) _ (four_args_give (RowLabels table) tt (store_row table) (store_labelled n table) args)
@@ -207,7 +229,19 @@ row_labelled word n table args =
     (either_labelled table (bytes_eq word (codes "export")) (two_args (export_row table) args) _ (two_args_give (RowLabels table) tt (export_row table) (export_labelled n table) args)
     (either_labelled table (bytes_eq word (codes "import")) (two_args (import_row table) args) _ (two_args_give (RowLabels table) tt (import_row table) (import_labelled n table) args)
     (either_labelled table (bytes_eq word (codes "begin")) (begin_row table args) _ (begin_labelled table args)
-    (either_labelled table (bytes_eq word (codes "await")) (one_arg (await_row table) args) _ (one_arg_gives (RowLabels table) tt (await_row table) (await_labelled n table) args) tt)))))))))))))))))))))))))))
+    (either_labelled table (bytes_eq word (codes "await")) (one_arg (await_row table) args) _ (one_arg_gives (RowLabels table) tt (await_row table) (await_labelled n table) args)
+    (either_labelled table (bytes_eq word (codes "sync")) (one_arg (sync_row table) args) _ (one_arg_gives (RowLabels table) tt (sync_row table) (sync_labelled n table) args) tt))))))))))))))))))))))))))))))
+
+host_row_labelled : (word : List ℕ) (n : ℕ) (table : NameTable) (args : List (List ℕ)) → RowLabels table (host_row_of word n table args)
+unfolding host_row_of
+host_row_labelled word n table args =
+    either_labelled table (bytes_eq word (codes "mode")) (four_args (mode_row n table) args) _ (four_args_give (RowLabels table) tt (mode_row n table) (mode_labelled n table) args)
+    (either_labelled table (bytes_eq word (codes "unplug")) (two_args (unplug_row n table) args) _ (two_args_give (RowLabels table) tt (unplug_row n table) (unplug_labelled n table) args)
+    (either_labelled table (bytes_eq word (codes "await")) (one_arg (await_row table) args) None (one_arg_gives (RowLabels table) tt (await_row table) (await_labelled n table) args) tt))
+
+row_in_labelled : (host : Bool) (word : List ℕ) (n : ℕ) (table : NameTable) (args : List (List ℕ)) → RowLabels table (row_in host word n table args)
+row_in_labelled true word n table args = host_row_labelled word n table args
+row_in_labelled false word n table args = row_labelled word n table args
 
 -- ---- the forms
 abbrev IsOfText : (List ℕ → Option Label) → Line → Type 0
@@ -215,8 +249,8 @@ IsOfText labels line = IfSome (waits line.call) (IsIn labels)
 
 record Labelled (labels : List ℕ → Option Label) (seen : Seen) : Type 0 where
   same : seen.table.labels ≡ labels
-  in_order : given_in_all seen.clients ≡ range_with_len 1 seen.table.given
-  known : All (All (IsOfText labels)) seen.clients
+  in_order : given_in_all seen.parts ≡ range_with_len 1 seen.table.given
+  known : All (All (IsOfText labels)) seen.parts
 
 abbrev FormLabels : (List ℕ → Option Label) → Option Form → Type 0
 FormLabels labels None = ⊤
@@ -236,22 +270,22 @@ pub given_in-snoc : (lines : List Line) (line : Line) → given_in (lines ++ lin
 given_in-snoc [] line = append-nil (label_list (gives line.call))
 given_in-snoc (first ∷ lines) line = ap (λ xs. label_list (gives first.call) ++ xs) (given_in-snoc lines line) ∙ sym (append_assoc (label_list (gives first.call)) (given_in lines) (label_list (gives line.call)))
 
-given_in_all-begun : (clients : List (List Line)) → given_in_all (clients ++ [] ∷ []) ≡ given_in_all clients
+given_in_all-begun : (parts : List (List Line)) → given_in_all (parts ++ [] ∷ []) ≡ given_in_all parts
 given_in_all-begun [] = refl
-given_in_all-begun (client ∷ more) = ap (λ xs. given_in client ++ xs) (given_in_all-begun more)
+given_in_all-begun (lines ∷ more) = ap (λ xs. given_in lines ++ xs) (given_in_all-begun more)
 
-given_in_all-add_line : (clients : List (List Line)) (line : Line) → (length clients == 0) ≡ false → given_in_all (add_line clients line) ≡ given_in_all clients ++ label_list (gives line.call)
+given_in_all-add_line : (parts : List (List Line)) (line : Line) → (length parts == 0) ≡ false → given_in_all (add_line parts line) ≡ given_in_all parts ++ label_list (gives line.call)
 given_in_all-add_line [] line some = absurd (cc some)
-given_in_all-add_line (client ∷ []) line some =
-    append-nil (given_in (client ++ line ∷ [])) ∙ given_in-snoc client line ∙ ap (λ xs. xs ++ label_list (gives line.call)) (sym (append-nil (given_in client)))
-given_in_all-add_line (client ∷ next ∷ more) line some =
+given_in_all-add_line (lines ∷ []) line some =
+    append-nil (given_in (lines ++ line ∷ [])) ∙ given_in-snoc lines line ∙ ap (λ xs. xs ++ label_list (gives line.call)) (sym (append-nil (given_in lines)))
+given_in_all-add_line (lines ∷ next ∷ more) line some =
     let next_some : (length (next ∷ more) == 0) ≡ false = grind (arith, nat_tests) in
-    ap (λ xs. given_in client ++ xs) (given_in_all-add_line (next ∷ more) line next_some) ∙ sym (append_assoc (given_in client) (given_in_all (next ∷ more)) (label_list (gives line.call)))
+    ap (λ xs. given_in lines ++ xs) (given_in_all-add_line (next ∷ more) line next_some) ∙ sym (append_assoc (given_in lines) (given_in_all (next ∷ more)) (label_list (gives line.call)))
 
-All-add_line : (P : Line → Type 0) (clients : List (List Line)) (line : Line) → P line → All (All P) clients → All (All P) (add_line clients line)
+All-add_line : (P : Line → Type 0) (parts : List (List Line)) (line : Line) → P line → All (All P) parts → All (All P) (add_line parts line)
 All-add_line P [] line fits calls = calls
-All-add_line P (client ∷ []) line fits calls = All-cons (All P) (client ++ line ∷ []) [] (All-push P client line (All-head (All P) client [] calls) fits) (All-nil (All P))
-All-add_line P (client ∷ next ∷ more) line fits calls = All-cons (All P) client _ (All-head (All P) client (next ∷ more) calls) (All-add_line P (next ∷ more) line fits (All-tail (All P) client (next ∷ more) calls))
+All-add_line P (lines ∷ []) line fits calls = All-cons (All P) (lines ++ line ∷ []) [] (All-push P lines line (All-head (All P) lines [] calls) fits) (All-nil (All P))
+All-add_line P (lines ∷ next ∷ more) line fits calls = All-cons (All P) lines _ (All-head (All P) lines (next ∷ more) calls) (All-add_line P (next ∷ more) line fits (All-tail (All P) lines (next ∷ more) calls))
 
 display_labelled : (labels : List ℕ → Option Label) (seen : Seen) → Labelled labels seen → (a b : List ℕ) → FormLabels labels (display_form seen a b)
 unfolding display_form
@@ -272,27 +306,31 @@ without_labelled labels seen w a = feature_labelled labels seen w (feature_of a)
 
 client_labelled : (labels : List ℕ → Option Label) (seen : Seen) → Labelled labels seen → FormLabels labels (client_form seen)
 unfolding client_form
-client_labelled labels seen w = λ place names. record { same = w.same; in_order = given_in_all-begun seen.clients ∙ w.in_order; known = All-push (All (IsOfText labels)) seen.clients [] w.known (All-nil (IsOfText labels)) }
+client_labelled labels seen w = λ place names. record { same = w.same; in_order = given_in_all-begun seen.parts ∙ w.in_order; known = All-push (All (IsOfText labels)) seen.parts [] w.known (All-nil (IsOfText labels)) }
+
+host_labelled : (labels : List ℕ → Option Label) (seen : Seen) → Labelled labels seen → FormLabels labels (host_form seen)
+unfolding host_form
+host_labelled labels seen w = λ place names. record { same = w.same; in_order = given_in_all-begun seen.parts ∙ w.in_order; known = All-push (All (IsOfText labels)) seen.parts [] w.known (All-nil (IsOfText labels)) }
 
 row_form_labelled : (labels : List ℕ → Option Label) (seen : Seen) → Labelled labels seen → (row : Option Row) → RowLabels seen.table row → FormLabels labels (option_map (row_form seen) row)
 unfolding row_form
 row_form_labelled labels seen w None r = tt
 row_form_labelled labels seen w (Some row) r = λ place names.
-    let begun : (length seen.clients == 0) ≡ false = grind arith in
+    let begun : (length seen.parts == 0) ≡ false = grind arith in
     let line : Line = record { number = seen.lines; call = row.call } in
     let counted = r.1 in
     let by_text : IsOfText labels line = subst (λ ls. IfSome (waits row.call) (IsIn ls)) w.same (r.2 names) in
     record {
       same = r.0 ∙ w.same;
-      in_order = given_in_all-add_line seen.clients line begun ∙ ap (λ xs. xs ++ label_list (gives row.call)) w.in_order
+      in_order = given_in_all-add_line seen.parts line begun ∙ ap (λ xs. xs ++ label_list (gives row.call)) w.in_order
           ∙ ap (λ xs. range_with_len 1 seen.table.given ++ xs) (counted.2 ∙ ap (λ k. range_with_len k counted.0) (omega arith))
           ∙ sym (range_more 1 seen.table.given counted.0) ∙ ap (λ k. range_with_len 1 k) (sym counted.1);
-      known = All-add_line (IsOfText labels) seen.clients line by_text w.known;
+      known = All-add_line (IsOfText labels) seen.parts line by_text w.known;
     }
 
 called_labelled : (labels : List ℕ → Option Label) (seen : Seen) → Labelled labels seen → (word : List ℕ) (args : List (List ℕ)) → FormLabels labels (called_form seen word args)
 unfolding called_form
-called_labelled labels seen w word args = row_form_labelled labels seen w (row_of word (length seen.displays) seen.table args) (row_labelled word (length seen.displays) seen.table args)
+called_labelled labels seen w word args = row_form_labelled labels seen w (row_in seen.host word (length seen.displays) seen.table args) (row_in_labelled seen.host word (length seen.displays) seen.table args)
 
 worded_labelled : (labels : List ℕ → Option Label) (seen : Seen) → Labelled labels seen → (word : List ℕ) (args : List (List ℕ)) → FormLabels labels (worded_form seen word args)
 unfolding worded_form
@@ -300,7 +338,8 @@ worded_labelled labels seen w word args =
     either_form labels (bytes_eq word (codes "display")) (two_args (display_form seen) args) _ (two_args_give (FormLabels labels) tt (display_form seen) (display_labelled labels seen w) args)
     (either_form labels (bytes_eq word (codes "memory")) (one_arg (memory_form seen) args) _ (one_arg_gives (FormLabels labels) tt (memory_form seen) (memory_labelled labels seen w) args)
     (either_form labels (bytes_eq word (codes "without")) (one_arg (without_form seen) args) _ (one_arg_gives (FormLabels labels) tt (without_form seen) (without_labelled labels seen w) args)
-    (either_form labels (bytes_eq word (codes "client")) (no_args (client_form seen) args) _ (no_args_give (FormLabels labels) tt (client_form seen) (client_labelled labels seen w) args) (called_labelled labels seen w word args))))
+    (either_form labels (bytes_eq word (codes "client")) (no_args (client_form seen) args) _ (no_args_give (FormLabels labels) tt (client_form seen) (client_labelled labels seen w) args)
+    (either_form labels (bytes_eq word (codes "host")) (no_args (host_form seen) args) _ (no_args_give (FormLabels labels) tt (host_form seen) (host_labelled labels seen w) args) (called_labelled labels seen w word args)))))
 
 form_labelled : (labels : List ℕ → Option Label) (seen : Seen) → Labelled labels seen → (words : List (List ℕ)) → FormLabels labels (form_of seen words)
 unfolding form_of skipped_form
@@ -342,17 +381,17 @@ known_in labels n e [] h = All-nil (λ line. IfSome (waits line.call) (IsBetween
 known_in labels n e (line ∷ more) h =
     All-cons (λ line. IfSome (waits line.call) (IsBetween 1 n)) line more (known_one labels n e (waits line.call) (All-head (IsOfText (label_in labels)) line more h)) (known_in labels n e more (All-tail (IsOfText (label_in labels)) line more h))
 
-known_in_all : (labels : List (LabelKind × List ℕ)) (n : ℕ) → n ≡ length labels → (clients : List (List Line)) → All (All (IsOfText (label_in labels))) clients → All (All (λ line. IfSome (waits line.call) (IsBetween 1 n))) clients
+known_in_all : (labels : List (LabelKind × List ℕ)) (n : ℕ) → n ≡ length labels → (parts : List (List Line)) → All (All (IsOfText (label_in labels))) parts → All (All (λ line. IfSome (waits line.call) (IsBetween 1 n))) parts
 known_in_all labels n e [] h = All-nil (All (λ line. IfSome (waits line.call) (IsBetween 1 n)))
 known_in_all labels n e (lines ∷ more) h =
     All-cons (All (λ line. IfSome (waits line.call) (IsBetween 1 n))) lines more (known_in labels n e lines (All-head (All (IsOfText (label_in labels))) lines more h)) (known_in_all labels n e more (All-tail (All (IsOfText (label_in labels))) lines more h))
 
 -- The labels of a text that has no fault.
 pub all_labelled : (lines : List (List ℕ)) → AreFaultless (start_of lines) lines
-    → (given_in_all (seen_after (start_of lines) lines).clients ≡ range_with_len 1 (seen_after (start_of lines) lines).table.given)
-    × All (All (λ line. IfSome (waits line.call) (IsBetween 1 (seen_after (start_of lines) lines).table.given))) (seen_after (start_of lines) lines).clients
+    → (given_in_all (seen_after (start_of lines) lines).parts ≡ range_with_len 1 (seen_after (start_of lines) lines).table.given)
+    × All (All (λ line. IfSome (waits line.call) (IsBetween 1 (seen_after (start_of lines) lines).table.given))) (seen_after (start_of lines) lines).parts
 all_labelled lines faultless =
     let labels = label_in (labels_of lines) in
     let w = lines_labelled labels (start_of lines) lines (record { same = refl; in_order = refl; known = All-nil (All (IsOfText labels)) }) faultless in
     let count = all_given (start_of lines) lines faultless in
-    (w.in_order, known_in_all (labels_of lines) (seen_after (start_of lines) lines).table.given (omega (arith, count)) (seen_after (start_of lines) lines).clients w.known)
+    (w.in_order, known_in_all (labels_of lines) (seen_after (start_of lines) lines).table.given (omega (arith, count)) (seen_after (start_of lines) lines).parts w.known)

@@ -77,13 +77,15 @@ pub one_label_more : (labels : List (LabelKind × List ℕ)) (label : LabelKind 
     → with_new (label_in labels) label.1 (record { kind = label.0; number = length labels + 1 }) ≡ label_in (labels ++ label ∷ [])
 one_label_more labels label = fun_ext (λ word. add_one labels label word (label_in labels label.1) refl)
 
--- A line whose words begin with neither defines no label.
+-- A line whose words begin with none of these defines no label.
 defines_none : (words : List (List ℕ)) → may_define words ≡ false → label_among words ≡ None
 defines_none [] h = refl
 defines_none (word ∷ args) h =
     let export : bytes_eq word (codes "export") ≡ false = grind arith in
     let begin : bytes_eq word (codes "begin") ≡ false = grind arith in
-    rw (export, begin) refl
+    let mode : bytes_eq word (codes "mode") ≡ false = grind arith in
+    let unplug : bytes_eq word (codes "unplug") ≡ false = grind arith in
+    rw (export, begin, mode, unplug) refl
 
 if_none : (b : Bool) (o : Option (LabelKind × List ℕ)) → o ≡ None → (if b then o else None) ≡ None
 if_none true o h = h

@@ -1,7 +1,7 @@
 pub mod Lines
 pub mod AskLemmas
 pub mod Forms
-pub mod ClientLists
+pub mod PartLists
 pub mod CallForms
 pub mod Scans
 pub mod FaultLaws

@@ -25,20 +25,21 @@ use Rattle.vg_call_lines.proofs.Counts.{no_args_give, one_arg_gives, two_args_gi
 use Rattle.vg_script.specs.Features.{feature_of, is_same}
 use Rattle.vg_script.specs.Labels.{start_of}
 use Rattle.vg_script.specs.Seen.{Seen, nothing_seen, add_line}
+use Rattle.vg_script.specs.Parts.{clients_in, host_in}
 use Rattle.vg_call_lines.specs.declared.names.Label.{Label}
-use Rattle.vg_call_lines.specs.Tables.{NameTable, context_ref_to}
-use Rattle.vg_call_lines.specs.Rows.{Row, info_row, edid_row, buffer_row, blob_row, store_row, load_row, send_row, flush_row, take_row, drop_row, hide_row, show_row, showblob_row, flip_row, cursor_row, move_row, uuid_row, close_row, raw_row, context_row, endcontext_row, attach_row, detach_row, submit_row, export_row, import_row, begun_row, begin_row, await_row, request_row, queue_of, shape_of, bad_shape_of, row_of, row_of_buffers, row_of_scanouts, row_of_others, row_of_contexts, row_of_shared, row_of_begun}
+use Rattle.vg_call_lines.specs.Tables.{NameTable, context_ref_to, without_names}
+use Rattle.vg_call_lines.specs.Rows.{Row, info_row, edid_row, buffer_row, blob_row, store_row, load_row, send_row, flush_row, take_row, drop_row, hide_row, show_row, showblob_row, flip_row, cursor_row, move_row, uuid_row, close_row, raw_row, context_row, endcontext_row, attach_row, detach_row, submit_row, export_row, import_row, begun_row, begin_row, await_row, sync_row, events_row, ack_row, mode_row, unplug_row, request_row, queue_of, shape_of, bad_shape_of, row_of, row_of_buffers, row_of_scanouts, row_of_others, row_of_contexts, row_of_shared, row_of_begun, host_row_of}
 use Rattle.vg_call_lines.specs.Bodies.{Part, info_body, send_body, flush_body, submit_body, submit_body_on, is_timeline, timeline_words, on_timeline, together, body_of, begun_parts}
-use Rattle.vg_script.specs.Grammar.{Form, display_form, memory_form, feature_form, without_form, client_form, row_form, skipped_form, called_form, worded_form, form_of, line_form, one_more, script_of, read_script}
+use Rattle.vg_script.specs.Grammar.{Form, display_form, memory_form, feature_form, without_form, client_form, host_form, row_form, skipped_form, row_in, called_form, worded_form, form_of, line_form, one_more, script_of, read_script}
 use Rattle.vg_script.specs.Faults.{fails, given, form_gives, seen_after, AreFaultless, has_fault}
-use Rattle.vg_script.specs.Limits.{IsBetween, IsPosition, ShapeInLimits, BodyInLimits, CallInLimits, ClientInLimits, DisplayInLimits, makes_context, contexts_in, ScriptInLimits}
+use Rattle.vg_script.specs.Limits.{IsBetween, IsPosition, ShapeInLimits, BodyInLimits, CallInLimits, ClientInLimits, HostCallInLimits, HostInLimits, DisplayInLimits, makes_context, contexts_in, ScriptInLimits}
 use Rattle.std.specs.List.{range_with_len}
 use Rattle.vg_laws.proofs.Lists.{same_bytes}
 use Rattle.vg_script.specs.Waits.{waits, given_in_all}
 use Rattle.vg_script.proofs.LabelLaws.{all_labelled}
 use Rattle.vg_script.proofs.FaultLaws.{good_script}
 use Rattle.vg_script.specs.Asked.{pages_asked, asked_by_all}
-use Rattle.vg_script.proofs.ClientLists.{length-add_line, lines-add_line, asked-begun, asked-add_line}
+use Rattle.vg_script.proofs.PartLists.{length-add_line, lines-add_line, asked-begun, asked-add_line, parts_whole, before_host, host_begun, clients_stay, host_fits_more}
 use Rattle.vg_limits.specs.Limits.{version_2}
 
 -- ---- the rows
@@ -160,6 +161,18 @@ import_fits n table label name = λ h. (refl, refl, λ few. few)
 await_fits : (n : ℕ) (table : NameTable) (label : List ℕ) → RowFits n table (await_row table label)
 unfolding await_row
 await_fits n table label = λ h. (refl, refl, λ few. few)
+
+sync_fits : (n : ℕ) (table : NameTable) (label : List ℕ) → RowFits n table (sync_row table label)
+unfolding sync_row
+sync_fits n table label = λ h. (refl, refl, λ few. few)
+
+events_fits : (n : ℕ) (table : NameTable) → RowFits n table (events_row table)
+unfolding events_row
+events_fits n table = λ h. (tt, refl, λ few. few)
+
+ack_fits : (n : ℕ) (table : NameTable) → RowFits n table (ack_row table)
+unfolding ack_row
+ack_fits n table = λ h. (tt, refl, λ few. few)
 
 -- A timeline's ring and what is begun on it.
 abbrev OnFits : Option (ContextRef × ℕ) → Type 0
@@ -319,6 +332,8 @@ unfolding row_of row_of_buffers row_of_scanouts row_of_others row_of_contexts ro
 row_fits word n table args =
     either_fits n table (bytes_eq word (codes "info")) (no_args (info_row table) args) _ (no_args_give (RowFits n table) tt (info_row table) (info_fits n table) args)
     (either_fits n table (bytes_eq word (codes "edid")) (one_arg (edid_row table) args) _ (one_arg_gives (RowFits n table) tt (edid_row table) (edid_fits n table) args)
+    (either_fits n table (bytes_eq word (codes "events")) (no_args (events_row table) args) _ (no_args_give (RowFits n table) tt (events_row table) (events_fits n table) args)
+    (either_fits n table (bytes_eq word (codes "ack")) (no_args (ack_row table) args) _ (no_args_give (RowFits n table) tt (ack_row table) (ack_fits n table) args)
     (either_fits n table (bytes_eq word (codes "buffer")) (four_args (buffer_row table) args) _ (four_args_give (RowFits n table) tt (buffer_row table) (buffer_fits n table) args)
     (either_fits n table (bytes_eq word (codes "blob")) (two_args (blob_row table) args) _ (two_args_give (RowFits n table) tt (blob_row table) (blob_fits n table) args)
     (either_fits n table (bytes_eq word (codes "store")) (four_args (store_row table) args) _ (four_args_give (RowFits n table) tt (store_row table) (store_fits n table) args)
@@ -344,7 +359,48 @@ row_fits word n table args =
     (either_fits n table (bytes_eq word (codes "export")) (two_args (export_row table) args) _ (two_args_give (RowFits n table) tt (export_row table) (export_fits n table) args)
     (either_fits n table (bytes_eq word (codes "import")) (two_args (import_row table) args) _ (two_args_give (RowFits n table) tt (import_row table) (import_fits n table) args)
     (either_fits n table (bytes_eq word (codes "begin")) (begin_row table args) _ (begin_fits n table args)
-    (either_fits n table (bytes_eq word (codes "await")) (one_arg (await_row table) args) _ (one_arg_gives (RowFits n table) tt (await_row table) (await_fits n table) args) tt)))))))))))))))))))))))))))
+    (either_fits n table (bytes_eq word (codes "await")) (one_arg (await_row table) args) _ (one_arg_gives (RowFits n table) tt (await_row table) (await_fits n table) args)
+    (either_fits n table (bytes_eq word (codes "sync")) (one_arg (sync_row table) args) _ (one_arg_gives (RowFits n table) tt (sync_row table) (sync_fits n table) args) tt))))))))))))))))))))))))))))))
+
+-- The rows of the host keep the limits of its calls, and make no context.
+abbrev HostRowFits : ℕ → NameTable → Option Row → Type 0
+HostRowFits displays table None = ⊤
+HostRowFits displays table (Some row) = row.limits ≡ true → HostCallInLimits displays row.call × (row.after.contexts ≡ table.contexts)
+
+either_host : (n : ℕ) (table : NameTable) (b : Bool) (x y : Option Row) → HostRowFits n table x → HostRowFits n table y → HostRowFits n table (if b then x else y)
+either_host n table true x y p q = p
+either_host n table false x y p q = q
+
+mode_fits : (n : ℕ) (table : NameTable) (scanout width height label : List ℕ) → HostRowFits n table (mode_row n table scanout width height label)
+unfolding mode_row
+mode_fits n table scanout width height label = λ h.
+    let s : value scanout < n = grind (arith, nat_tests) in
+    let w : IsBetween 1 version_2.width (value width) = grind (arith, nat_tests) in
+    let t : IsBetween 1 version_2.height (value height) = grind (arith, nat_tests) in
+    ((s, w, t), refl)
+
+unplug_fits : (n : ℕ) (table : NameTable) (scanout label : List ℕ) → HostRowFits n table (unplug_row n table scanout label)
+unfolding unplug_row
+unplug_fits n table scanout label = λ h. (grind (arith, nat_tests), refl)
+
+host_await_fits : (n : ℕ) (table : NameTable) (label : List ℕ) → HostRowFits n table (await_row table label)
+unfolding await_row
+host_await_fits n table label = λ h. (refl, refl)
+
+host_row_fits : (word : List ℕ) (n : ℕ) (table : NameTable) (args : List (List ℕ)) → HostRowFits n table (host_row_of word n table args)
+unfolding host_row_of
+host_row_fits word n table args =
+    either_host n table (bytes_eq word (codes "mode")) (four_args (mode_row n table) args) _ (four_args_give (HostRowFits n table) tt (mode_row n table) (mode_fits n table) args)
+    (either_host n table (bytes_eq word (codes "unplug")) (two_args (unplug_row n table) args) _ (two_args_give (HostRowFits n table) tt (unplug_row n table) (unplug_fits n table) args)
+    (either_host n table (bytes_eq word (codes "await")) (one_arg (await_row table) args) None (one_arg_gives (HostRowFits n table) tt (await_row table) (host_await_fits n table) args) tt))
+
+abbrev PartFits : (host : Bool) → ℕ → NameTable → Option Row → Type 0
+PartFits true displays table row = HostRowFits displays table row
+PartFits false displays table row = RowFits displays table row
+
+row_in_fits : (host : Bool) (word : List ℕ) (n : ℕ) (table : NameTable) (args : List (List ℕ)) → PartFits host n table (row_in host word n table args)
+row_in_fits true word n table args = host_row_fits word n table args
+row_in_fits false word n table args = row_fits word n table args
 
 -- ---- the forms
 
@@ -357,19 +413,23 @@ last_contexts [] = 0
 last_contexts (client ∷ []) = contexts_in client
 last_contexts (client ∷ next ∷ more) = last_contexts (next ∷ more)
 
--- What has been seen keeps the limits.
-record Within (seen : Seen) : Type 0 where
+-- What has been seen keeps the limits, where the last part is that of a host or isn't.
+record WithinAs (host : Bool) (seen : Seen) : Type 0 where
   few : length seen.displays ≤ 16
   sizes : All DisplayInLimits seen.displays
   pages : IfSome seen.pages (IsBetween 1 16384)
   features : (feature : Feature) → count_by (λ other. is_same other feature) seen.without ≤ 1
-  clients : length seen.clients ≤ version_2.clients
-  lines : sum_by length seen.clients ≤ 100000
-  calls : All (ClientInLimits (length seen.displays)) seen.clients
-  contexts : All FewContexts seen.clients
-  made : seen.table.contexts ≡ last_contexts seen.clients
+  clients : length (clients_in host seen.parts) ≤ version_2.clients
+  lines : sum_by length seen.parts ≤ 100000
+  calls : All (ClientInLimits (length seen.displays)) (clients_in host seen.parts)
+  plugs : IfSome (host_in host seen.parts) (HostInLimits (length seen.displays))
+  contexts : All FewContexts (clients_in host seen.parts)
+  made : seen.table.contexts ≡ last_contexts (clients_in host seen.parts)
   asked : seen.asked ≤ 15000000
-  asks : seen.asked ≡ asked_by_all seen.clients
+  asks : seen.asked ≡ asked_by_all seen.parts
+
+abbrev Within : Seen → Type 0
+Within seen = WithinAs seen.host seen
 
 abbrev FormFits : Option Form → Type 0
 FormFits None = ⊤
@@ -379,14 +439,20 @@ either_form : (b : Bool) (x y : Option Form) → FormFits x → FormFits y → F
 either_form true x y p q = p
 either_form false x y p q = q
 
-no_calls : (n : ℕ) (clients : List (List Line)) → (length clients == 0) ≡ true → All (ClientInLimits n) clients
-no_calls n [] h = All-nil (ClientInLimits n)
-no_calls n (client ∷ more) h = absurd (grind (arith, nat_tests))
+no_calls : (n : ℕ) (host : Bool) (parts : List (List Line)) → (length parts == 0) ≡ true → All (ClientInLimits n) (clients_in host parts)
+no_calls n true [] h = All-nil (ClientInLimits n)
+no_calls n false [] h = All-nil (ClientInLimits n)
+no_calls n host (lines ∷ more) h = absurd (grind (arith, nat_tests))
+
+no_plugs : (n : ℕ) (host : Bool) (parts : List (List Line)) → (length parts == 0) ≡ true → IfSome (host_in host parts) (HostInLimits n)
+no_plugs n true [] h = tt
+no_plugs n false [] h = tt
+no_plugs n host (lines ∷ more) h = absurd (grind (arith, nat_tests))
 
 display_fits : (seen : Seen) → Within seen → (a b : List ℕ) → FormFits (display_form seen a b)
 unfolding display_form
 display_fits seen w a b = λ place limits.
-    let none : (length seen.clients == 0) ≡ true = grind arith in
+    let none : (length seen.parts == 0) ≡ true = grind arith in
     let room : length seen.displays < 16 = grind (arith, nat_tests) in
     let size : DisplayInLimits (value a, value b) = grind (arith, nat_tests) in
     record {
@@ -396,7 +462,8 @@ display_fits seen w a b = λ place limits.
       features = w.features;
       clients = w.clients;
       lines = w.lines;
-      calls = no_calls _ seen.clients none;
+      calls = no_calls _ seen.host seen.parts none;
+      plugs = no_plugs _ seen.host seen.parts none;
       contexts = w.contexts;
       made = w.made;
       asked = w.asked;
@@ -407,7 +474,7 @@ memory_fits : (seen : Seen) → Within seen → (a : List ℕ) → FormFits (mem
 unfolding memory_form
 memory_fits seen w a = λ place limits.
     let size : IsBetween 1 16384 (value a) = grind (arith, nat_tests) in
-    record { few = w.few; sizes = w.sizes; pages = size; features = w.features; clients = w.clients; lines = w.lines; calls = w.calls; contexts = w.contexts; made = w.made; asked = w.asked; asks = w.asks }
+    record { few = w.few; sizes = w.sizes; pages = size; features = w.features; clients = w.clients; lines = w.lines; calls = w.calls; plugs = w.plugs; contexts = w.contexts; made = w.made; asked = w.asked; asks = w.asks }
 
 -- A feature that isn't among the others stands once behind them.
 same_feature : (a b : Feature) → is_same a b ≡ true → a ≡ b
@@ -454,7 +521,7 @@ unfolding feature_form
 feature_fits seen w None = tt
 feature_fits seen w (Some new) = λ place limits.
     let none : list_any (λ other. is_same other new) seen.without ≡ false = grind arith in
-    record { few = w.few; sizes = w.sizes; pages = w.pages; features = λ feature. once_more feature new seen.without (is_same new feature) refl (w.features feature) none; clients = w.clients; lines = w.lines; calls = w.calls; contexts = w.contexts; made = w.made; asked = w.asked; asks = w.asks }
+    record { few = w.few; sizes = w.sizes; pages = w.pages; features = λ feature. once_more feature new seen.without (is_same new feature) refl (w.features feature) none; clients = w.clients; lines = w.lines; calls = w.calls; plugs = w.plugs; contexts = w.contexts; made = w.made; asked = w.asked; asks = w.asks }
 
 without_fits : (seen : Seen) → Within seen → (a : List ℕ) → FormFits (without_form seen a)
 unfolding without_form
@@ -513,10 +580,68 @@ all_few (client ∷ next ∷ []) line few last = All-cons FewContexts client (ad
 all_few (client ∷ next ∷ after ∷ more) line few last =
     All-cons FewContexts client (add_line (next ∷ after ∷ more) line) (All-head FewContexts client (next ∷ after ∷ more) few) (all_few (next ∷ after ∷ more) line (All-tail FewContexts client (next ∷ after ∷ more) few) last)
 
+-- A client more, which no host stands before.
+client_begun : (seen : Seen) → WithinAs false seen → nat_lt (length seen.parts) version_2.clients ≡ true
+    → WithinAs false (record seen { parts = seen.parts ++ [] ∷ []; table = without_names seen.table })
+client_begun seen w limits =
+    let b = begun_within (length seen.displays) seen.parts limits w.lines w.calls in
+    record {
+      few = w.few;
+      sizes = w.sizes;
+      pages = w.pages;
+      features = w.features;
+      clients = b.0;
+      lines = b.1;
+      calls = b.2;
+      plugs = tt;
+      contexts = All-push FewContexts seen.parts [] w.contexts (lit≤ tt);
+      made = sym (contexts_begun seen.parts);
+      asked = w.asked;
+      asks = w.asks ∙ sym (asked-begun seen.parts);
+    }
+
 client_fits : (seen : Seen) → Within seen → FormFits (client_form seen)
 unfolding client_form
 client_fits seen w = λ place limits.
-    let b = begun_within (length seen.displays) seen.clients limits w.lines w.calls in
+    let alone : seen.host ≡ false = grind arith in
+    subst (λ host. WithinAs host (record seen { parts = seen.parts ++ [] ∷ []; table = without_names seen.table })) (sym alone)
+    (client_begun seen (subst (λ host. WithinAs host seen) alone w) limits)
+
+-- The host, behind the clients.
+begun_host : (seen : Seen) → WithinAs false seen → WithinAs true (record seen { parts = seen.parts ++ [] ∷ []; host = true })
+begun_host seen w =
+    let same = sym (before_host seen.parts) in
+    record {
+      few = w.few;
+      sizes = w.sizes;
+      pages = w.pages;
+      features = w.features;
+      clients = subst (λ ls. length ls ≤ version_2.clients) same w.clients;
+      lines = omega (arith, w.lines, sum_by-append length seen.parts ([] ∷ []));
+      calls = subst (All (ClientInLimits (length seen.displays))) same w.calls;
+      plugs = subst (λ o. IfSome o (HostInLimits (length seen.displays))) (sym (host_begun seen.parts)) (All-nil (λ line. HostCallInLimits (length seen.displays) line.call));
+      contexts = subst (All FewContexts) same w.contexts;
+      made = w.made ∙ ap last_contexts same;
+      asked = w.asked;
+      asks = w.asks ∙ sym (asked-begun seen.parts);
+    }
+
+host_fits : (seen : Seen) → Within seen → FormFits (host_form seen)
+unfolding host_form
+host_fits seen w = λ place limits.
+    let alone : seen.host ≡ false = grind arith in
+    begun_host seen (subst (λ host. WithinAs host seen) alone w)
+
+-- One line more of a client, and of the host.
+row_fits_in : (host : Bool) (seen : Seen) → WithinAs host seen → (row : Row) → PartFits host (length seen.displays) seen.table (Some row) → row.limits ≡ true → nat_lt (sum_by length seen.parts) 100000 ≡ true
+    → seen.asked + pages_asked row.call ≤ 15000000 → (length seen.parts == 0) ≡ false
+    → WithinAs host (record seen { parts = add_line seen.parts (record { number = seen.lines; call = row.call }); table = row.after; asked = seen.asked + pages_asked row.call })
+row_fits_in false seen w row fits own room pages begun =
+    let line : Line = record { number = seen.lines; call = row.call } in
+    let f = fits own in
+    let b = added_within (length seen.displays) seen.parts line w.clients room w.calls f.0 in
+    let made : row.after.contexts ≡ last_contexts (add_line seen.parts line) = f.1 ∙ ap (λ (n : ℕ). contexts_after row.call n) w.made ∙ sym (contexts_added seen.parts line begun) in
+    let few : row.after.contexts ≤ 255 = f.2 (subst (λ (n : ℕ). n ≤ 255) (sym w.made) (last_few seen.parts w.contexts)) in
     record {
       few = w.few;
       sizes = w.sizes;
@@ -525,42 +650,45 @@ client_fits seen w = λ place limits.
       clients = b.0;
       lines = b.1;
       calls = b.2;
-      contexts = All-push FewContexts seen.clients [] w.contexts (lit≤ tt);
-      made = sym (contexts_begun seen.clients);
-      asked = w.asked;
-      asks = w.asks ∙ sym (asked-begun seen.clients);
+      plugs = tt;
+      contexts = all_few seen.parts line w.contexts (subst (λ (n : ℕ). n ≤ 255) made few);
+      made = made;
+      asked = pages;
+      asks = ap (λ (n : ℕ). n + pages_asked row.call) w.asks ∙ sym (asked-add_line seen.parts line begun);
+    }
+row_fits_in true seen w row fits own room pages begun =
+    let line : Line = record { number = seen.lines; call = row.call } in
+    let f = fits own in
+    let same = sym (clients_stay seen.parts line) in
+    let left : sum_by length seen.parts < 100000 = grind (arith, nat_tests) in
+    record {
+      few = w.few;
+      sizes = w.sizes;
+      pages = w.pages;
+      features = w.features;
+      clients = subst (λ ls. length ls ≤ version_2.clients) same w.clients;
+      lines = omega (arith, left, lines-add_line seen.parts line);
+      calls = subst (All (ClientInLimits (length seen.displays))) same w.calls;
+      plugs = host_fits_more (λ l. HostCallInLimits (length seen.displays) l.call) seen.parts line f.0 w.plugs;
+      contexts = subst (All FewContexts) same w.contexts;
+      made = f.1 ∙ w.made ∙ ap last_contexts same;
+      asked = pages;
+      asks = ap (λ (n : ℕ). n + pages_asked row.call) w.asks ∙ sym (asked-add_line seen.parts line begun);
     }
 
-row_form_fits : (seen : Seen) → Within seen → (row : Option Row) → RowFits (length seen.displays) seen.table row → FormFits (option_map (row_form seen) row)
+row_form_fits : (seen : Seen) → Within seen → (row : Option Row) → PartFits seen.host (length seen.displays) seen.table row → FormFits (option_map (row_form seen) row)
 unfolding row_form
 row_form_fits seen w None fits = tt
 row_form_fits seen w (Some row) fits = λ place limits.
-    let room : nat_lt (sum_by length seen.clients) 100000 ≡ true = grind arith in
+    let room : nat_lt (sum_by length seen.parts) 100000 ≡ true = grind arith in
     let own : row.limits ≡ true = grind arith in
     let pages : seen.asked + pages_asked row.call ≤ 15000000 = grind (arith, nat_tests) in
-    let line : Line = record { number = seen.lines; call = row.call } in
-    let f = fits own in
-    let b = added_within (length seen.displays) seen.clients line w.clients room w.calls f.0 in
-    let begun : (length seen.clients == 0) ≡ false = grind arith in
-    let made : row.after.contexts ≡ last_contexts (add_line seen.clients line) = f.1 ∙ ap (λ (n : ℕ). contexts_after row.call n) w.made ∙ sym (contexts_added seen.clients line begun) in
-    let few : row.after.contexts ≤ 255 = f.2 (subst (λ (n : ℕ). n ≤ 255) (sym w.made) (last_few seen.clients w.contexts)) in
-    record {
-      few = w.few;
-      sizes = w.sizes;
-      pages = w.pages;
-      features = w.features;
-      clients = b.0;
-      lines = b.1;
-      calls = b.2;
-      contexts = all_few seen.clients line w.contexts (subst (λ (n : ℕ). n ≤ 255) made few);
-      made = made;
-      asked = pages;
-      asks = ap (λ (n : ℕ). n + pages_asked row.call) w.asks ∙ sym (asked-add_line seen.clients line begun);
-    }
+    let begun : (length seen.parts == 0) ≡ false = grind arith in
+    row_fits_in seen.host seen w row fits own room pages begun
 
 called_fits : (seen : Seen) → Within seen → (word : List ℕ) (args : List (List ℕ)) → FormFits (called_form seen word args)
 unfolding called_form
-called_fits seen w word args = row_form_fits seen w (row_of word (length seen.displays) seen.table args) (row_fits word (length seen.displays) seen.table args)
+called_fits seen w word args = row_form_fits seen w (row_in seen.host word (length seen.displays) seen.table args) (row_in_fits seen.host word (length seen.displays) seen.table args)
 
 worded_fits : (seen : Seen) → Within seen → (word : List ℕ) (args : List (List ℕ)) → FormFits (worded_form seen word args)
 unfolding worded_form
@@ -568,7 +696,8 @@ worded_fits seen w word args =
     either_form (bytes_eq word (codes "display")) (two_args (display_form seen) args) _ (two_args_give FormFits tt (display_form seen) (display_fits seen w) args)
     (either_form (bytes_eq word (codes "memory")) (one_arg (memory_form seen) args) _ (one_arg_gives FormFits tt (memory_form seen) (memory_fits seen w) args)
     (either_form (bytes_eq word (codes "without")) (one_arg (without_form seen) args) _ (one_arg_gives FormFits tt (without_form seen) (without_fits seen w) args)
-    (either_form (bytes_eq word (codes "client")) (no_args (client_form seen) args) _ (no_args_give FormFits tt (client_form seen) (client_fits seen w) args) (called_fits seen w word args))))
+    (either_form (bytes_eq word (codes "client")) (no_args (client_form seen) args) _ (no_args_give FormFits tt (client_form seen) (client_fits seen w) args)
+    (either_form (bytes_eq word (codes "host")) (no_args (host_form seen) args) _ (no_args_give FormFits tt (host_form seen) (host_fits seen w) args) (called_fits seen w word args)))))
 
 form_fits : (seen : Seen) → Within seen → (words : List (List ℕ)) → FormFits (form_of seen words)
 unfolding form_of skipped_form
@@ -581,7 +710,7 @@ form_given seen None place limits fits = absurd (cc)
 form_given seen (Some form) place limits fits = fits (grind arith) (grind arith)
 
 one_within : (seen : Seen) → Within seen → Within (one_more seen)
-one_within seen w = record { few = w.few; sizes = w.sizes; pages = w.pages; features = w.features; clients = w.clients; lines = w.lines; calls = w.calls; contexts = w.contexts; made = w.made; asked = w.asked; asks = w.asks }
+one_within seen w = record { few = w.few; sizes = w.sizes; pages = w.pages; features = w.features; clients = w.clients; lines = w.lines; calls = w.calls; plugs = w.plugs; contexts = w.contexts; made = w.made; asked = w.asked; asks = w.asks }
 
 line_within : (seen : Seen) (line : List ℕ) → Within seen → ((kind : Kind) → has_fault kind seen line ≡ false) → Within (given seen line)
 unfolding line_form
@@ -592,27 +721,30 @@ lines_within seen [] w none = w
 lines_within seen (line ∷ more) w none = lines_within (given seen line) more (line_within seen line w none.0) none.1
 
 nothing_within : (labels : List ℕ → Option Label) → Within (nothing_seen labels)
-nothing_within labels = record { few = lit≤ tt; sizes = All-nil DisplayInLimits; pages = tt; features = λ feature. lit≤ tt; clients = lit≤ tt; lines = lit≤ tt; calls = All-nil (ClientInLimits 0); contexts = All-nil FewContexts; made = refl; asked = lit≤ tt; asks = refl }
+nothing_within labels = record { few = lit≤ tt; sizes = All-nil DisplayInLimits; pages = tt; features = λ feature. lit≤ tt; clients = lit≤ tt; lines = lit≤ tt; calls = All-nil (ClientInLimits 0); plugs = tt; contexts = All-nil FewContexts; made = refl; asked = lit≤ tt; asks = refl }
 
 pages_within : (pages : Option ℕ) → IfSome pages (IsBetween 1 16384) → IsBetween 1 16384 (unwrap_or pages 4096)
 pages_within None w = (lit≤ tt, lit≤ tt)
 pages_within (Some n) w = w
 
-made_within : (seen : Seen) → Within seen → 0 < length seen.displays → given_in_all seen.clients ≡ range_with_len 1 seen.table.given
-    → All (λ lines. All (λ line. IfSome (waits line.call) (IsBetween 1 seen.table.given)) lines) seen.clients → ScriptInLimits (script_of seen)
-made_within seen w some labels known = record {
-  count = (omega arith, w.few);
-  sizes = w.sizes;
-  pages = pages_within seen.pages w.pages;
-  features = w.features;
-  clients = w.clients;
-  lines = w.lines;
-  asked = subst (λ (n : ℕ). n ≤ 15000000) w.asks w.asked;
-  calls = w.calls;
-  contexts = w.contexts;
-  labels = labels;
-  known = known;
-}
+made_within : (seen : Seen) → Within seen → 0 < length seen.displays → given_in_all seen.parts ≡ range_with_len 1 seen.table.given
+    → All (λ lines. All (λ line. IfSome (waits line.call) (IsBetween 1 seen.table.given)) lines) seen.parts → ScriptInLimits (script_of seen)
+made_within seen w some labels known =
+    let same = sym (parts_whole seen.host seen.parts) in
+    record {
+      count = (omega arith, w.few);
+      sizes = w.sizes;
+      pages = pages_within seen.pages w.pages;
+      features = w.features;
+      clients = w.clients;
+      lines = subst (λ ls. sum_by length ls ≤ 100000) same w.lines;
+      asked = subst (λ ls. asked_by_all ls ≤ 15000000) same (subst (λ (n : ℕ). n ≤ 15000000) w.asks w.asked);
+      calls = w.calls;
+      host = w.plugs;
+      contexts = w.contexts;
+      labels = subst (λ ls. given_in_all ls ≡ range_with_len 1 seen.table.given) same labels;
+      known = subst (All (λ lines. All (λ line. IfSome (waits line.call) (IsBetween 1 seen.table.given)) lines)) same known;
+    }
 
 pub script_within : (bytes : List ℕ) (script : Script) → read_script bytes ≡ Ok script → ScriptInLimits script
 script_within bytes script h =

@@ -27,9 +27,9 @@ use Rattle.vg_script.specs.declared.types.Feature.{Feature}
 use Rattle.vg_script.specs.Features.{feature_of}
 use Rattle.vg_script.specs.Seen.{Seen, nothing_seen}
 use Rattle.vg_call_lines.specs.Tables.{NameTable, no_names, with_name, with_context, without_name, without_names, with_label}
-use Rattle.vg_call_lines.specs.Rows.{Row, info_row, edid_row, buffer_row, blob_row, store_row, load_row, send_row, flush_row, take_row, drop_row, hide_row, show_row, showblob_row, flip_row, cursor_row, move_row, uuid_row, close_row, raw_row, context_row, endcontext_row, attach_row, detach_row, submit_row, export_row, import_row, begun_row, begin_row, await_row, request_row, queue_of, shape_of, row_of, row_of_buffers, row_of_scanouts, row_of_others, row_of_contexts, row_of_shared, row_of_begun}
+use Rattle.vg_call_lines.specs.Rows.{Row, info_row, edid_row, buffer_row, blob_row, store_row, load_row, send_row, flush_row, take_row, drop_row, hide_row, show_row, showblob_row, flip_row, cursor_row, move_row, uuid_row, close_row, raw_row, context_row, endcontext_row, attach_row, detach_row, submit_row, export_row, import_row, begun_row, begin_row, await_row, sync_row, events_row, ack_row, mode_row, unplug_row, request_row, queue_of, shape_of, row_of, row_of_buffers, row_of_scanouts, row_of_others, row_of_contexts, row_of_shared, row_of_begun, host_row_of}
 use Rattle.vg_call_lines.specs.Bodies.{Part, info_body, send_body, flush_body, submit_body, submit_body_on, is_timeline, timeline_words, on_timeline, together, body_of, is_body, begun_parts}
-use Rattle.vg_script.specs.Grammar.{Form, display_form, memory_form, feature_form, without_form, client_form, row_form, skipped_form, called_form, worded_form, form_of, line_form, one_more}
+use Rattle.vg_script.specs.Grammar.{Form, display_form, memory_form, feature_form, without_form, client_form, host_form, row_form, skipped_form, row_in, called_form, worded_form, form_of, line_form, one_more}
 use Rattle.vg_script.specs.Faults.{fails, given, form_gives, seen_after, AreFaultless, has_fault}
 use Rattle.vg_script.specs.Names.{begin_client, defined_by, ended_by, is_this, end_name, is_of, counted, names_in, IsDefinedBy}
 
@@ -64,7 +64,7 @@ apart word one other h d = rw (same_bytes word one h) d
 abbrev is_plain : List ℕ → Bool
 is_plain word =
     not (bytes_eq word (codes "client") || bytes_eq word (codes "buffer") || bytes_eq word (codes "blob") || bytes_eq word (codes "import") || bytes_eq word (codes "context")
-    || bytes_eq word (codes "close") || bytes_eq word (codes "endcontext") || bytes_eq word (codes "export") || bytes_eq word (codes "begin"))
+    || bytes_eq word (codes "close") || bytes_eq word (codes "endcontext") || bytes_eq word (codes "export") || bytes_eq word (codes "begin") || bytes_eq word (codes "mode") || bytes_eq word (codes "unplug"))
 
 -- The words begin with one that is this.
 as_one : (word one : List ℕ) (args : List (List ℕ)) (table after : NameTable) → bytes_eq word one ≡ true → after ≡ changed (one ∷ args) table → after ≡ changed (word ∷ args) table
@@ -85,15 +85,17 @@ unchanged word args table p =
     let endcontext : bytes_eq word (codes "endcontext") ≡ false = grind arith in
     let export : bytes_eq word (codes "export") ≡ false = grind arith in
     let begin : bytes_eq word (codes "begin") ≡ false = grind arith in
-    by_args args client buffer blob import context close endcontext export begin
+    let mode : bytes_eq word (codes "mode") ≡ false = grind arith in
+    let unplug : bytes_eq word (codes "unplug") ≡ false = grind arith in
+    by_args args client buffer blob import context close endcontext export begin mode unplug
   where
     by_args : (args : List (List ℕ)) → bytes_eq word (codes "client") ≡ false → bytes_eq word (codes "buffer") ≡ false → bytes_eq word (codes "blob") ≡ false → bytes_eq word (codes "import") ≡ false
         → bytes_eq word (codes "context") ≡ false → bytes_eq word (codes "close") ≡ false → bytes_eq word (codes "endcontext") ≡ false → bytes_eq word (codes "export") ≡ false → bytes_eq word (codes "begin") ≡ false
-        → table ≡ changed (word ∷ args) table
-    by_args [] client buffer blob import context close endcontext export begin = rw (client, export, begin) refl
-    by_args (second ∷ []) client buffer blob import context close endcontext export begin = rw (client, context, close, endcontext, export, begin) refl
-    by_args (second ∷ third ∷ []) client buffer blob import context close endcontext export begin = rw (client, buffer, blob, import, close, endcontext, export, begin) refl
-    by_args (second ∷ third ∷ fourth ∷ more) client buffer blob import context close endcontext export begin = rw (client, buffer, blob, import, close, endcontext, export, begin) refl
+        → bytes_eq word (codes "mode") ≡ false → bytes_eq word (codes "unplug") ≡ false → table ≡ changed (word ∷ args) table
+    by_args [] client buffer blob import context close endcontext export begin mode unplug = rw (client, export, begin, mode, unplug) refl
+    by_args (second ∷ []) client buffer blob import context close endcontext export begin mode unplug = rw (client, context, close, endcontext, export, begin, mode, unplug) refl
+    by_args (second ∷ third ∷ []) client buffer blob import context close endcontext export begin mode unplug = rw (client, buffer, blob, import, close, endcontext, export, begin, mode, unplug) refl
+    by_args (second ∷ third ∷ fourth ∷ more) client buffer blob import context close endcontext export begin mode unplug = rw (client, buffer, blob, import, close, endcontext, export, begin, mode, unplug) refl
 
 -- Words that define a name find it undefined.
 abbrev IsFresh : Option (NameKind × List ℕ) → NameTable → Type 0
@@ -236,6 +238,18 @@ await_keeps : (n : ℕ) (table : NameTable) (label : List ℕ) → KeepsNames ta
 unfolding await_row
 await_keeps n table label = refl
 
+sync_keeps : (n : ℕ) (table : NameTable) (label : List ℕ) → KeepsNames table (sync_row table label)
+unfolding sync_row
+sync_keeps n table label = refl
+
+events_keeps : (n : ℕ) (table : NameTable) → KeepsNames table (events_row table)
+unfolding events_row
+events_keeps n table = refl
+
+ack_keeps : (n : ℕ) (table : NameTable) → KeepsNames table (ack_row table)
+unfolding ack_row
+ack_keeps n table = refl
+
 buffer_names : (word : List ℕ) (table : NameTable) (args : List (List ℕ)) → bytes_eq word (codes "buffer") ≡ true → RowNames (word ∷ args) table (four_args (buffer_row table) args)
 unfolding buffer_row
 buffer_names word table [] h = tt
@@ -282,6 +296,24 @@ export_names word table (a ∷ []) h = tt
 export_names word table (a ∷ b ∷ []) h =
     (as_one word (codes "export") (a ∷ b ∷ []) table (with_label table) h refl, λ names. fresh_as word (codes "export") (a ∷ b ∷ []) table h tt)
 export_names word table (a ∷ b ∷ next ∷ more) h = tt
+
+mode_names : (word : List ℕ) (n : ℕ) (table : NameTable) (args : List (List ℕ)) → bytes_eq word (codes "mode") ≡ true → RowNames (word ∷ args) table (four_args (mode_row n table) args)
+unfolding mode_row
+mode_names word n table [] h = tt
+mode_names word n table (a ∷ []) h = tt
+mode_names word n table (a ∷ b ∷ []) h = tt
+mode_names word n table (a ∷ b ∷ c ∷ []) h = tt
+mode_names word n table (a ∷ b ∷ c ∷ d ∷ []) h =
+    (as_one word (codes "mode") (a ∷ b ∷ c ∷ d ∷ []) table (with_label table) h refl, λ names. fresh_as word (codes "mode") (a ∷ b ∷ c ∷ d ∷ []) table h tt)
+mode_names word n table (a ∷ b ∷ c ∷ d ∷ next ∷ more) h = tt
+
+unplug_names : (word : List ℕ) (n : ℕ) (table : NameTable) (args : List (List ℕ)) → bytes_eq word (codes "unplug") ≡ true → RowNames (word ∷ args) table (two_args (unplug_row n table) args)
+unfolding unplug_row
+unplug_names word n table [] h = tt
+unplug_names word n table (a ∷ []) h = tt
+unplug_names word n table (a ∷ b ∷ []) h =
+    (as_one word (codes "unplug") (a ∷ b ∷ []) table (with_label table) h refl, λ names. fresh_as word (codes "unplug") (a ∷ b ∷ []) table h tt)
+unplug_names word n table (a ∷ b ∷ next ∷ more) h = tt
 
 import_names : (word : List ℕ) (table : NameTable) (args : List (List ℕ)) → bytes_eq word (codes "import") ≡ true → RowNames (word ∷ args) table (two_args (import_row table) args)
 unfolding import_row
@@ -356,6 +388,8 @@ row_names word n table args =
     let words = word ∷ args in
     either_row words table (bytes_eq word (codes "info")) (no_args (info_row table) args) _ (kept_row word (codes "info") args table (no_args (info_row table) args) (no_args_give (KeepsNames table) tt (info_row table) (info_keeps n table) args) refl)
     (either_row words table (bytes_eq word (codes "edid")) (one_arg (edid_row table) args) _ (kept_row word (codes "edid") args table (one_arg (edid_row table) args) (one_arg_gives (KeepsNames table) tt (edid_row table) (edid_keeps n table) args) refl)
+    (either_row words table (bytes_eq word (codes "events")) (no_args (events_row table) args) _ (kept_row word (codes "events") args table (no_args (events_row table) args) (no_args_give (KeepsNames table) tt (events_row table) (events_keeps n table) args) refl)
+    (either_row words table (bytes_eq word (codes "ack")) (no_args (ack_row table) args) _ (kept_row word (codes "ack") args table (no_args (ack_row table) args) (no_args_give (KeepsNames table) tt (ack_row table) (ack_keeps n table) args) refl)
     (either_row words table (bytes_eq word (codes "buffer")) (four_args (buffer_row table) args) _ (buffer_names word table args)
     (either_row words table (bytes_eq word (codes "blob")) (two_args (blob_row table) args) _ (blob_names word table args)
     (either_row words table (bytes_eq word (codes "store")) (four_args (store_row table) args) _ (kept_row word (codes "store") args table (four_args (store_row table) args) (four_args_give (KeepsNames table) tt (store_row table) (store_keeps n table) args) refl)
@@ -381,7 +415,20 @@ row_names word n table args =
     (either_row words table (bytes_eq word (codes "export")) (two_args (export_row table) args) _ (export_names word table args)
     (either_row words table (bytes_eq word (codes "import")) (two_args (import_row table) args) _ (import_names word table args)
     (either_row words table (bytes_eq word (codes "begin")) (begin_row table args) _ (begin_names word table args)
-    (either_row words table (bytes_eq word (codes "await")) (one_arg (await_row table) args) _ (kept_row word (codes "await") args table (one_arg (await_row table) args) (one_arg_gives (KeepsNames table) tt (await_row table) (await_keeps n table) args) refl) tt)))))))))))))))))))))))))))
+    (either_row words table (bytes_eq word (codes "await")) (one_arg (await_row table) args) _ (kept_row word (codes "await") args table (one_arg (await_row table) args) (one_arg_gives (KeepsNames table) tt (await_row table) (await_keeps n table) args) refl)
+    (either_row words table (bytes_eq word (codes "sync")) (one_arg (sync_row table) args) _ (kept_row word (codes "sync") args table (one_arg (sync_row table) args) (one_arg_gives (KeepsNames table) tt (sync_row table) (sync_keeps n table) args) refl) tt))))))))))))))))))))))))))))))
+
+host_row_names : (word : List ℕ) (n : ℕ) (table : NameTable) (args : List (List ℕ)) → RowNames (word ∷ args) table (host_row_of word n table args)
+unfolding host_row_of
+host_row_names word n table args =
+    let words = word ∷ args in
+    either_row words table (bytes_eq word (codes "mode")) (four_args (mode_row n table) args) _ (mode_names word n table args)
+    (either_row words table (bytes_eq word (codes "unplug")) (two_args (unplug_row n table) args) _ (unplug_names word n table args)
+    (either_row words table (bytes_eq word (codes "await")) (one_arg (await_row table) args) None (kept_row word (codes "await") args table (one_arg (await_row table) args) (one_arg_gives (KeepsNames table) tt (await_row table) (await_keeps n table) args) refl) tt))
+
+row_in_names : (host : Bool) (word : List ℕ) (n : ℕ) (table : NameTable) (args : List (List ℕ)) → RowNames (word ∷ args) table (row_in host word n table args)
+row_in_names true word n table args = host_row_names word n table args
+row_in_names false word n table args = row_names word n table args
 
 -- ---- the forms
 
@@ -389,7 +436,7 @@ abbrev FormNames : List (List ℕ) → Seen → Option Form → Type 0
 FormNames words seen None = ⊤
 FormNames words seen (Some form) = (form.gives.table ≡ changed words seen.table) × (form.names ≡ true → Fresh words seen.table)
 
--- Words of the head but for `client`.
+-- Words that stand by no client: those of the head but for `client`, and `host`.
 head_names : (word one : List ℕ) (args : List (List ℕ)) (table : NameTable) (names : Bool) → is_plain one ≡ true → bytes_eq word one ≡ true
     → (table ≡ changed (word ∷ args) table) × (names ≡ true → Fresh (word ∷ args) table)
 head_names word one args table names p h = let q = plain_as word one h p in (unchanged word args table q, λ is. fresh word args table q)
@@ -421,6 +468,10 @@ client_names : (seen : Seen) (word : List ℕ) → bytes_eq word (codes "client"
 unfolding client_form
 client_names seen word h = (as_one word (codes "client") [] seen.table (without_names seen.table) h refl, λ names. tt)
 
+host_names : (seen : Seen) (word : List ℕ) → bytes_eq word (codes "host") ≡ true → FormNames (word ∷ []) seen (host_form seen)
+unfolding host_form
+host_names seen word h = head_names word (codes "host") [] seen.table true refl h
+
 -- The same of any arguments.
 display_line : (seen : Seen) (word : List ℕ) (args : List (List ℕ)) → bytes_eq word (codes "display") ≡ true → FormNames (word ∷ args) seen (two_args (display_form seen) args)
 display_line seen word [] h = tt
@@ -442,6 +493,10 @@ client_line : (seen : Seen) (word : List ℕ) (args : List (List ℕ)) → bytes
 client_line seen word [] h = client_names seen word h
 client_line seen word (a ∷ more) h = tt
 
+host_line : (seen : Seen) (word : List ℕ) (args : List (List ℕ)) → bytes_eq word (codes "host") ≡ true → FormNames (word ∷ args) seen (no_args (host_form seen) args)
+host_line seen word [] h = host_names seen word h
+host_line seen word (a ∷ more) h = tt
+
 row_form_names : (words : List (List ℕ)) (seen : Seen) (row : Option Row) → RowNames words seen.table row → FormNames words seen (option_map (row_form seen) row)
 unfolding row_form
 row_form_names words seen None h = tt
@@ -449,7 +504,7 @@ row_form_names words seen (Some row) h = h
 
 called_names : (seen : Seen) (word : List ℕ) (args : List (List ℕ)) → FormNames (word ∷ args) seen (called_form seen word args)
 unfolding called_form
-called_names seen word args = row_form_names (word ∷ args) seen (row_of word (length seen.displays) seen.table args) (row_names word (length seen.displays) seen.table args)
+called_names seen word args = row_form_names (word ∷ args) seen (row_in seen.host word (length seen.displays) seen.table args) (row_in_names seen.host word (length seen.displays) seen.table args)
 
 worded_names : (seen : Seen) (word : List ℕ) (args : List (List ℕ)) → FormNames (word ∷ args) seen (worded_form seen word args)
 unfolding worded_form
@@ -458,7 +513,8 @@ worded_names seen word args =
     either_form words seen (bytes_eq word (codes "display")) (two_args (display_form seen) args) _ (display_line seen word args)
     (either_form words seen (bytes_eq word (codes "memory")) (one_arg (memory_form seen) args) _ (memory_line seen word args)
     (either_form words seen (bytes_eq word (codes "without")) (one_arg (without_form seen) args) _ (without_line seen word args)
-    (either_form words seen (bytes_eq word (codes "client")) (no_args (client_form seen) args) _ (client_line seen word args) (called_names seen word args))))
+    (either_form words seen (bytes_eq word (codes "client")) (no_args (client_form seen) args) _ (client_line seen word args)
+    (either_form words seen (bytes_eq word (codes "host")) (no_args (host_form seen) args) _ (host_line seen word args) (called_names seen word args)))))
 
 -- A comment begins with no other word.
 no_comment : (word one : List ℕ) → (slice_index word 0 == 35) ≡ true → (slice_index one 0 == 35) ≡ false → (b : Bool) → bytes_eq word one ≡ b → bytes_eq word one ≡ false
@@ -476,7 +532,9 @@ comment_plain word h =
     let endcontext = no_comment word (codes "endcontext") h refl (bytes_eq word (codes "endcontext")) refl in
     let export = no_comment word (codes "export") h refl (bytes_eq word (codes "export")) refl in
     let begin = no_comment word (codes "begin") h refl (bytes_eq word (codes "begin")) refl in
-    rw (client, buffer, blob, import, context, close, endcontext, export, begin) refl
+    let mode = no_comment word (codes "mode") h refl (bytes_eq word (codes "mode")) refl in
+    let unplug = no_comment word (codes "unplug") h refl (bytes_eq word (codes "unplug")) refl in
+    rw (client, buffer, blob, import, context, close, endcontext, export, begin, mode, unplug) refl
 
 form_names : (words : List (List ℕ)) (seen : Seen) → FormNames words seen (form_of seen words)
 unfolding form_of skipped_form
@@ -550,17 +608,33 @@ gives_begin (a ∷ []) table = omega arith
 gives_begin (a ∷ b ∷ []) table = omega arith
 gives_begin (a ∷ b ∷ what ∷ args) table = given_if (is_timeline b && is_body what (length args)) a table
 
+gives_mode : (args : List (List ℕ)) (table : NameTable) → HasGiven (codes "mode" ∷ args) table
+gives_mode [] table = omega arith
+gives_mode (a ∷ []) table = omega arith
+gives_mode (a ∷ b ∷ []) table = omega arith
+gives_mode (a ∷ b ∷ c ∷ []) table = omega arith
+gives_mode (a ∷ b ∷ c ∷ d ∷ []) table = refl
+gives_mode (a ∷ b ∷ c ∷ d ∷ e ∷ more) table = omega arith
+
+gives_unplug : (args : List (List ℕ)) (table : NameTable) → HasGiven (codes "unplug" ∷ args) table
+gives_unplug [] table = omega arith
+gives_unplug (a ∷ []) table = omega arith
+gives_unplug (a ∷ b ∷ []) table = refl
+gives_unplug (a ∷ b ∷ c ∷ more) table = omega arith
+
 gives_more : (words : List (List ℕ)) (table : NameTable) → HasGiven words table
 gives_more [] table = omega arith
-gives_more (word ∷ args) table = by_test (bytes_eq word (codes "export")) (bytes_eq word (codes "begin")) refl refl
+gives_more (word ∷ args) table = by_test (bytes_eq word (codes "export")) (bytes_eq word (codes "begin")) (bytes_eq word (codes "mode")) (bytes_eq word (codes "unplug")) refl refl refl refl
   where
     words : List (List ℕ)
     words = word ∷ args
 
-    by_test : (b c : Bool) → bytes_eq word (codes "export") ≡ b → bytes_eq word (codes "begin") ≡ c → HasGiven words table
-    by_test true c e f = subst (λ w. HasGiven (w ∷ args) table) (sym (same_bytes word (codes "export") e)) (gives_export args table)
-    by_test false true e f = subst (λ w. HasGiven (w ∷ args) table) (sym (same_bytes word (codes "begin") f)) (gives_begin args table)
-    by_test false false e f = rw (e, f) (let g = gives_none (begin_client words) (defined_by words) (ended_by words) table in omega (arith, g))
+    by_test : (b c m u : Bool) → bytes_eq word (codes "export") ≡ b → bytes_eq word (codes "begin") ≡ c → bytes_eq word (codes "mode") ≡ m → bytes_eq word (codes "unplug") ≡ u → HasGiven words table
+    by_test true c m u e f g h = subst (λ w. HasGiven (w ∷ args) table) (sym (same_bytes word (codes "export") e)) (gives_export args table)
+    by_test false true m u e f g h = subst (λ w. HasGiven (w ∷ args) table) (sym (same_bytes word (codes "begin") f)) (gives_begin args table)
+    by_test false false true u e f g h = subst (λ w. HasGiven (w ∷ args) table) (sym (same_bytes word (codes "mode") g)) (gives_mode args table)
+    by_test false false false true e f g h = subst (λ w. HasGiven (w ∷ args) table) (sym (same_bytes word (codes "unplug") h)) (gives_unplug args table)
+    by_test false false false false e f g h = rw (e, f, g, h) (let g = gives_none (begin_client words) (defined_by words) (ended_by words) table in omega (arith, g))
 
 text_label : (line : List ℕ) → is_text line ≡ true → label_of line ≡ label_among (words_of line)
 text_label line h = rw h refl

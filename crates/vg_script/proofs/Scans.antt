@@ -12,8 +12,8 @@ use Rattle.vg_call_lines.specs.Args.{no_args, one_arg, two_args}
 use Rattle.vg_call_lines.proofs.Counts.{no_args_give, one_arg_gives, two_args_give}
 use Rattle.vg_script.specs.Seen.{Seen}
 use Rattle.vg_script.specs.Features.{feature_of}
-use Rattle.vg_call_lines.specs.Rows.{Row, row_of}
-use Rattle.vg_script.specs.Grammar.{Form, display_form, memory_form, feature_form, without_form, client_form, row_form, skipped_form, called_form, worded_form, form_of, line_form, one_more, settled, settled_form, after_line, fault_at, scan}
+use Rattle.vg_call_lines.specs.Rows.{Row}
+use Rattle.vg_script.specs.Grammar.{Form, display_form, memory_form, feature_form, without_form, client_form, host_form, row_form, skipped_form, row_in, called_form, worded_form, form_of, line_form, one_more, settled, settled_form, after_line, fault_at, scan}
 use Rattle.vg_script.proofs.Lines.{lines_of-first}
 
 -- What a form gives has as many lines.
@@ -32,7 +32,7 @@ row_has seen (Some row) = refl
 
 called_has : (seen : Seen) (word : List ℕ) (args : List (List ℕ)) → HasLines seen.lines (called_form seen word args)
 unfolding called_form
-called_has seen word args = row_has seen (row_of word (length seen.displays) seen.table args)
+called_has seen word args = row_has seen (row_in seen.host word (length seen.displays) seen.table args)
 
 display_has : (seen : Seen) (width height : List ℕ) → HasLines seen.lines (display_form seen width height)
 unfolding display_form
@@ -55,13 +55,18 @@ client_has : (seen : Seen) → HasLines seen.lines (client_form seen)
 unfolding client_form
 client_has seen = refl
 
+host_has : (seen : Seen) → HasLines seen.lines (host_form seen)
+unfolding host_form
+host_has seen = refl
+
 worded_has : (seen : Seen) (word : List ℕ) (args : List (List ℕ)) → HasLines seen.lines (worded_form seen word args)
 unfolding worded_form
 worded_has seen word args =
     either_has _ (bytes_eq word (codes "display")) (two_args (display_form seen) args) _ (two_args_give (HasLines seen.lines) tt (display_form seen) (display_has seen) args)
     (either_has _ (bytes_eq word (codes "memory")) (one_arg (memory_form seen) args) _ (one_arg_gives (HasLines seen.lines) tt (memory_form seen) (memory_has seen) args)
     (either_has _ (bytes_eq word (codes "without")) (one_arg (without_form seen) args) _ (one_arg_gives (HasLines seen.lines) tt (without_form seen) (without_has seen) args)
-    (either_has _ (bytes_eq word (codes "client")) (no_args (client_form seen) args) _ (no_args_give (HasLines seen.lines) tt (client_form seen) (client_has seen) args) (called_has seen word args))))
+    (either_has _ (bytes_eq word (codes "client")) (no_args (client_form seen) args) _ (no_args_give (HasLines seen.lines) tt (client_form seen) (client_has seen) args)
+    (either_has _ (bytes_eq word (codes "host")) (no_args (host_form seen) args) _ (no_args_give (HasLines seen.lines) tt (host_form seen) (host_has seen) args) (called_has seen word args)))))
 
 pub form_has : (seen : Seen) (words : List (List ℕ)) → HasLines seen.lines (form_of seen words)
 unfolding form_of skipped_form

@@ -14,9 +14,9 @@ pages_asked (Buffer width height format) = pages_of (4 * width * height)
 pages_asked (Blob size) = pages_of size
 pages_asked call = 0
 
--- What the lines of a client ask for, and those of all clients.
+-- What the lines of a part ask for, and those of all parts.
 abbrev pub asked_by : List Line → ℕ
 asked_by lines = sum_by (λ line. pages_asked line.call) lines
 
 abbrev pub asked_by_all : List (List Line) → ℕ
-asked_by_all clients = sum_by asked_by clients
+asked_by_all parts = sum_by asked_by parts

@@ -7,6 +7,7 @@ use Rattle.vg_script.specs.declared.types.Script.{Script}
 use Rattle.vg_script_words.specs.Words.{is_text}
 use Rattle.vg_script.specs.Seen.{Seen}
 use Rattle.vg_script.specs.Labels.{start_of}
+use Rattle.vg_script.specs.Parts.{parts_of}
 use Rattle.vg_script.specs.Waits.{HasNoCycle, IsFirstInCycle}
 use Rattle.vg_script.specs.Grammar.{Form, line_form, script_of}
 use Rattle.vg_script_words.specs.Kinds.{kind_code}
@@ -66,7 +67,7 @@ pub record WaitsInCycle (lines : List (List ℕ)) (line kind : ℕ) : Type 0 whe
   pub code : kind ≡ 6
   pub before : AreFaultless (start_of lines) lines
   pub some : 0 < length (seen_after (start_of lines) lines).displays
-  pub first : IsFirstInCycle (seen_after (start_of lines) lines).clients line
+  pub first : IsFirstInCycle (seen_after (start_of lines) lines).parts line
 
 abbrev pub HasFirstFault : List (List ℕ) → ℕ → ℕ → Type 0
 HasFirstFault lines line kind = IsFaultOfLine lines line kind ⊎ LacksDisplay lines line kind ⊎ WaitsInCycle lines line kind
@@ -76,4 +77,4 @@ pub record IsScriptOf (lines : List (List ℕ)) (script : Script) : Type 0 where
   pub before : AreFaultless (start_of lines) lines
   pub some : 0 < length (seen_after (start_of lines) lines).displays
   pub same : script ≡ script_of (seen_after (start_of lines) lines)
-  pub apart : HasNoCycle script.clients
+  pub apart : HasNoCycle (parts_of script)

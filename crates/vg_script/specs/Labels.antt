@@ -2,9 +2,9 @@
 use Rattle.std.specs.Prelude.{ℕ, ◌+◌, List, [], ◌∷◌, Option, Some, None, option_map, if◌then◌else◌, codes, bytes_eq}
 use Rattle.vg_script_words.specs.Words.{words_of, is_text}
 use Rattle.vg_call_lines.specs.declared.names.LabelKind.{LabelKind}
-use Rattle.vg_call_lines.specs.declared.names.LabelKind.TheVariants.{Fence, Token}
+use Rattle.vg_call_lines.specs.declared.names.LabelKind.TheVariants.{Fence, Token, Plug}
 use Rattle.vg_call_lines.specs.declared.names.Label.{Label}
-use Rattle.vg_call_lines.specs.Args.{two_args}
+use Rattle.vg_call_lines.specs.Args.{two_args, four_args}
 use Rattle.vg_call_lines.specs.Bodies.{begun_label}
 use Rattle.vg_script.specs.Seen.{Seen, nothing_seen}
 
@@ -12,15 +12,18 @@ use Rattle.vg_script.specs.Seen.{Seen, nothing_seen}
 abbrev pub as_kind : LabelKind → Option (List ℕ) → Option (LabelKind × List ℕ)
 as_kind kind label = option_map (λ text. (kind, text)) label
 
--- The label that words define, and of what it is the label: they are `export`, a name and the label, or `begin`, the label, T and BODY.
+-- The label that words define, and of what it is the label: they are `export`, a name and the label, or `begin`, the label,
+-- T and BODY, or `mode`, S, W, H and the label, or `unplug`, S and the label.
 abbrev pub label_among : List (List ℕ) → Option (LabelKind × List ℕ)
 label_among [] = None
 label_among (word ∷ args) =
     if bytes_eq word (codes "export") then as_kind Token (two_args (λ name label. Some label) args)
     else if bytes_eq word (codes "begin") then as_kind Fence (begun_label args)
+    else if bytes_eq word (codes "mode") then as_kind Plug (four_args (λ scanout width height label. Some label) args)
+    else if bytes_eq word (codes "unplug") then as_kind Plug (two_args (λ scanout label. Some label) args)
     else None
 
--- The label that a line defines, where the line is text, whatever faults of numbers, limits and names it has.
+-- The label that a line defines, where the line is text, wherever it stands and whatever faults of numbers, limits and names it has.
 abbrev pub label_of : List ℕ → Option (LabelKind × List ℕ)
 label_of line = if is_text line then label_among (words_of line) else None
 

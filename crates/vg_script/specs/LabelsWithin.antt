@@ -4,10 +4,10 @@ use denote.Ref.{Bor}
 use Rattle.vg_call_lines.specs.declared.names.LabelKind.{LabelKind}
 use Rattle.vg_call_lines.specs.declared.names.Label.{Label}
 
--- The words begin with `export` or `begin`.
+-- The words begin with `export`, `begin`, `mode` or `unplug`.
 abbrev pub may_define : List (List ℕ) → Bool
 may_define [] = false
-may_define (word ∷ more) = bytes_eq word (codes "export") || bytes_eq word (codes "begin")
+may_define (word ∷ more) = bytes_eq word (codes "export") || bytes_eq word (codes "begin") || bytes_eq word (codes "mode") || bytes_eq word (codes "unplug")
 
 -- A label as the code has it.
 abbrev pub label_now : Option (LabelKind × Bor (List ℕ)) → Option (LabelKind × List ℕ)

@@ -1,5 +1,6 @@
 pub mod Lines
 pub mod Features
+pub mod Parts
 pub mod Seen
 pub mod Labels
 pub mod LabelsWithin

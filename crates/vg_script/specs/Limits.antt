@@ -3,6 +3,7 @@ use Rattle.std.specs.Prelude.{◌≡◌, ℕ, ℤ, pos, negsuc, ◌*◌, ◌<◌
 use Rattle.std.specs.List.{range_with_len}
 use Rattle.vg_script.specs.Waits.{waits, given_in_all}
 use Rattle.std.specs.Bool.{⊤}
+use Rattle.vg_script.specs.Parts.{parts_of}
 use Rattle.vg_formats.specs.Formats.{format_of}
 use Rattle.vg_chain.specs.declared.shape.Shape.{Shape}
 use Rattle.vg_chain.specs.declared.shape.Shape.TheVariants.{Pieces}
@@ -16,7 +17,7 @@ use Rattle.vg_script.specs.declared.types.Line.{Line}
 use Rattle.vg_script.specs.declared.types.Script.{Script}
 use Rattle.vg_script.specs.Features.{is_same}
 use Rattle.vg_script.specs.Asked.{asked_by_all}
-use Rattle.vg_calls.specs.declared.call.Call.TheVariants.{Info, Edid, Buffer, Blob, Store, Load, Send, Flush, Take, Drop, Hide, Show, ShowBlob, Flip, Cursor, Move, Context, EndContext, Attach, Detach, Submit, Uuid, Export, Import, Begin, Await, Close, Raw}
+use Rattle.vg_calls.specs.declared.call.Call.TheVariants.{Info, Edid, Buffer, Blob, Store, Load, Send, Flush, Take, Drop, Hide, Show, ShowBlob, Flip, Cursor, Move, Context, EndContext, Attach, Detach, Submit, Uuid, Export, Import, Begin, Await, Close, Raw, Mode, Unplug, Sync, Events, Ack}
 use Rattle.vg_limits.specs.Limits.{version_2}
 
 abbrev pub IsBetween : ℕ → ℕ → ℕ → Type 0
@@ -43,7 +44,7 @@ BodyInLimits timeline (bodies.Send name rect) = ⊤
 BodyInLimits timeline (bodies.Flush name rect) = ⊤
 BodyInLimits timeline (bodies.Submit context ring) = timeline ≡ Some (context, ring)
 
--- The numbers of a call, where there are so many displays.
+-- The numbers of a client's call, where there are so many displays. What the host does is no client's.
 abbrev pub CallInLimits : ℕ → Call → Type 0
 CallInLimits displays Info = ⊤
 CallInLimits displays (Edid scanout) = IsBetween 0 4294967295 scanout
@@ -77,9 +78,24 @@ CallInLimits displays (Begin label timeline body) = IfSome timeline (λ on. IsBe
 CallInLimits displays (Await label fence) = fence ≡ None
 CallInLimits displays (Close name) = ⊤
 CallInLimits displays (Raw queue room shape bytes) = IsBetween 0 most_room room × ShapeInLimits shape × IsBetween 0 4096 (length bytes)
+CallInLimits displays (Mode scanout width height label) = ⊥
+CallInLimits displays (Unplug scanout label) = ⊥
+CallInLimits displays (Sync label call) = call ≡ None
+CallInLimits displays Events = ⊤
+CallInLimits displays Ack = ⊤
 
 abbrev pub ClientInLimits : ℕ → List Line → Type 0
 ClientInLimits displays lines = All (λ line. CallInLimits displays line.call) lines
+
+-- The same of the host's calls: it plugs, resizes and unplugs displays, waits for fences, and does nothing else.
+abbrev pub HostCallInLimits : ℕ → Call → Type 0
+HostCallInLimits displays (Mode scanout width height label) = (scanout < displays) × IsBetween 1 version_2.width width × IsBetween 1 version_2.height height
+HostCallInLimits displays (Unplug scanout label) = scanout < displays
+HostCallInLimits displays (Await label fence) = fence ≡ None
+HostCallInLimits displays call = ⊥
+
+abbrev pub HostInLimits : ℕ → List Line → Type 0
+HostInLimits displays lines = All (λ line. HostCallInLimits displays line.call) lines
 
 -- How many contexts lines make.
 abbrev pub makes_context : Call → Bool
@@ -98,11 +114,13 @@ pub record ScriptInLimits (script : Script) : Type 0 where
   pub pages : IsBetween 1 16384 script.pages
   pub features : (feature : Feature) → count_by (λ other. is_same other feature) script.without ≤ 1
   pub clients : length script.clients ≤ version_2.clients
-  pub lines : sum_by length script.clients ≤ 100000
+  -- the lines of all parts, those of the host among them
+  pub lines : sum_by length (parts_of script) ≤ 100000
   -- how many guest pages all `buffer` and `blob` lines ask for
-  pub asked : asked_by_all script.clients ≤ 15000000
+  pub asked : asked_by_all (parts_of script) ≤ 15000000
   pub calls : All (ClientInLimits (length script.displays)) script.clients
+  pub host : IfSome script.host (HostInLimits (length script.displays))
   pub contexts : All (λ lines. contexts_in lines ≤ 255) script.clients
   -- the labels that lines give are 1, 2, 3, in the order of the text, and each that a line waits for is one of them
-  pub labels : given_in_all script.clients ≡ range_with_len 1 script.labels
-  pub known : All (λ lines. All (λ line. IfSome (waits line.call) (IsBetween 1 script.labels)) lines) script.clients
+  pub labels : given_in_all (parts_of script) ≡ range_with_len 1 script.labels
+  pub known : All (λ lines. All (λ line. IfSome (waits line.call) (IsBetween 1 script.labels)) lines) (parts_of script)

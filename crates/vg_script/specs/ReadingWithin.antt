@@ -13,7 +13,7 @@ use Rattle.vg_script.specs.Seen.{Seen}
 use Rattle.vg_call_lines.specs.Code.{table_of}
 
 abbrev pub seen : Reader → Seen
-seen reader = record { lines = reader.lines; displays = reader.displays.items; pages = reader.pages; without = reader.without.items; clients = reader.clients.items; table = table_of reader.names; asked = reader.asked }
+seen reader = record { lines = reader.lines; displays = reader.displays.items; pages = reader.pages; without = reader.without.items; parts = reader.parts.items; host = reader.host; table = table_of reader.names; asked = reader.asked }
 
 -- The line may define a name: fewer were defined than there were lines, and these can be counted.
 abbrev pub MayDefine : Seen → Type 0

@@ -1,7 +1,7 @@
 //! The labels of a text, and their numbers.
 
 ghost use Rattle.std.specs.Prelude.{◌≡◌, ◌<◌, ◌-◌, ◌^◌, ◌||◌, bytes_eq, codes, length, map, option_map, IfOk, OnOk, Some};
-ghost use Rattle.vg_call_lines.specs.Args.{two_args};
+ghost use Rattle.vg_call_lines.specs.Args.{two_args, four_args};
 ghost use Rattle.vg_call_lines.specs.Tables.{labels_in};
 ghost use Rattle.vg_script_words.specs.Words.{words_of};
 ghost use Rattle.vg_script.specs.Lines.{lines_of};
@@ -61,6 +61,12 @@ fn label_among<'a>(words: &[&'a [u8]]) -> Option<(LabelKind, &'a [u8])>
     if is(word, b"begin") {
         return as_kind(LabelKind::Fence, begun_label(args));
     }
+    if is(word, b"mode") {
+        return as_kind(LabelKind::Plug, mode_label(args));
+    }
+    if is(word, b"unplug") {
+        return as_kind(LabelKind::Plug, unplug_label(args));
+    }
     None
 }
 
@@ -84,7 +90,27 @@ fn exported_label<'a>(args: &[&'a [u8]]) -> Option<&'a [u8]>
     }
 }
 
-/// Whether a line's first word is `export` or `begin`.
+/// The label of a line `mode S W H X`, by the arguments behind its first word.
+fn mode_label<'a>(args: &[&'a [u8]]) -> Option<&'a [u8]>
+    ensures { option_map (λ label. label.now) result ≡ four_args (λ scanout width height label. Some label) (map (λ arg. arg.now) args.now) }
+{
+    match args {
+        &[_, _, _, label] => Some(label),
+        _ => None,
+    }
+}
+
+/// The label of a line `unplug S X`, by the arguments behind its first word.
+fn unplug_label<'a>(args: &[&'a [u8]]) -> Option<&'a [u8]>
+    ensures { option_map (λ label. label.now) result ≡ two_args (λ scanout label. Some label) (map (λ arg. arg.now) args.now) }
+{
+    match args {
+        &[_, label] => Some(label),
+        _ => None,
+    }
+}
+
+/// Whether a line's first word is one that defines a label.
 fn may_define(line: &[u8]) -> bool
     ensures { result ≡ may_define (words_of line.now) }
 {
@@ -99,11 +125,11 @@ fn may_define(line: &[u8]) -> bool
     false
 }
 
-/// Whether a word is `export` or `begin`.
+/// Whether a word is `export`, `begin`, `mode` or `unplug`.
 fn is_defining(word: &[u8]) -> bool
-    ensures { result ≡ bytes_eq word.now (codes "export") || bytes_eq word.now (codes "begin") }
+    ensures { result ≡ (bytes_eq word.now (codes "export") || bytes_eq word.now (codes "begin") || bytes_eq word.now (codes "mode") || bytes_eq word.now (codes "unplug")) }
 {
-    is(word, b"export") || is(word, b"begin")
+    is(word, b"export") || is(word, b"begin") || is(word, b"mode") || is(word, b"unplug")
 }
 
 /// Adds a label, where it is none yet.

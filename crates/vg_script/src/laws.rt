@@ -11,6 +11,7 @@ ghost use Rattle.vg_call_lines.specs.declared.names.Named.{Named};
 ghost use Rattle.vg_script.specs.Waits.{AreKnown};
 ghost use Rattle.vg_script.specs.Seen.{nothing_seen};
 ghost use Rattle.vg_script.specs.Limits.{ScriptInLimits};
+ghost use Rattle.vg_script.specs.Parts.{parts_of};
 
 /// Any bytes are a script or have a first fault, and never both. There is one such script, and one such fault.
 pub fn script_or_fault()
@@ -24,7 +25,7 @@ pub fn script_or_fault()
 
 /// The fault of a text stands in its first line that has one, and is of the least kind that this line has. Where
 /// no line has one, the text lacks a display and the fault stands behind its last line, or some lines wait for
-/// themselves and the fault stands at the first `await` or `import` of these, or it is the script that its lines give.
+/// themselves and the fault stands at the first `await`, `import` or `sync` of these, or it is the script that its lines give.
 pub fn first_fault()
     ensures fault { (bytes : List ℕ) (line kind : ℕ)
         → (Faulty bytes line kind ↔ HasFirstFault (lines_of bytes) line kind) }
@@ -37,9 +38,9 @@ pub fn script_limits()
     ensures { (bytes : List ℕ) (script : Script) → Parses bytes script → ScriptInLimits script }
 {}
 
-/// Where a script has one client, each line that waits for a label stands behind the one that gives it.
+/// Where a script has one part, a client or a host, each line that waits for a label stands behind the one that gives it.
 pub fn labels_are_known()
-    ensures { (bytes : List ℕ) (script : Script) → Parses bytes script → length script.clients ≤ 1 → All (AreKnown []) script.clients }
+    ensures { (bytes : List ℕ) (script : Script) → Parses bytes script → length (parts_of script) ≤ 1 → All (AreKnown []) (parts_of script) }
 {}
 
 /// After lines without a fault a name is one of this kind of the last client, with this number, exactly where some line defines it

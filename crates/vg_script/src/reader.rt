@@ -1,21 +1,22 @@
 //! A text's lines, read one after the other.
 
-ghost use Rattle.std.specs.Prelude.{◌≡◌, ◌≤◌, length, sum_by};
+ghost use Rattle.std.specs.Prelude.{◌≡◌, ◌≤◌, ◌+◌, false, length, sum_by};
 ghost use Rattle.vg_limits.specs.Limits.{version_2};
 
 use crate::asked::words_ask;
-use crate::calls::{add_line, past_limit};
+use crate::calls::{add_line, call_in, past_limit};
 use crate::features::{feature_of, is_among};
+use crate::parts::split;
 use crate::types::{Feature, Line, Script, ScriptFault};
 use crate::waits::cycle;
 use std::alloc::{AllocError, Global};
 use std::collections::BTreeMap;
-use vg_call_lines::{Label, Names, call_of};
+use vg_call_lines::{Label, Names};
 use vg_limits::version_2::{MOST_ASKED, MOST_CLIENTS};
 use vg_list::Seq;
 use vg_script_words::{Kind, Stop, both_spelled, is, is_text, limited, put_words, size, spelled};
 
-/// How many lines all clients may have.
+/// How many lines all parts may have.
 const MOST_LINES: usize = 100_000;
 
 /// What the lines so far have given.
@@ -25,17 +26,21 @@ pub(crate) struct Reader<'a> {
     displays: Vec<(u32, u32)>,
     pages: Option<u32>,
     without: Vec<Feature>,
-    clients: Vec<Seq<Line>>,
-    /// How many lines all clients have.
+    /// The lines of each part: of the clients, and behind these of the host, where it has begun.
+    parts: Vec<Seq<Line>>,
+    /// Whether the host's part has begun.
+    host: bool,
+    /// How many lines all parts have.
     count: usize,
     /// The names of the last client.
     names: Names<'a>,
     /// How many guest pages the lines ask for.
     asked: u64,
     ghost few: { length displays.items ≤ 16 },
-    ghost counted: { count ≡ sum_by length clients.items },
+    ghost counted: { count ≡ sum_by length parts.items },
     ghost named: { names.count ≤ lines },
-    ghost clients_few: { length clients.items ≤ version_2.clients },
+    ghost parts_few: { length parts.items ≤ version_2.clients + 1 },
+    ghost clients_few: { host ≡ false → length parts.items ≤ version_2.clients },
     ghost lines_few: { count ≤ 100000 },
     ghost asked_few: { asked ≤ 15000000 },
 }
@@ -44,7 +49,7 @@ impl<'a> Reader<'a> {
     ghost use Rattle.std.specs.Prelude.{◌≡◌, ◌==◌, ◌&&◌, not, is_none, ◌+◌, ◌-◌, ◌<◌, ◌^◌, [], ◌∷◌, map, IfOk};
     ghost use Rattle.vg_call_lines.specs.Tables.{labels_in};
     ghost use Rattle.vg_script.specs.Seen.{Seen, nothing_seen};
-    ghost use Rattle.vg_script.specs.Grammar.{display_form, memory_form, without_form, client_form, called_form, worded_form, form_of, feature_form, settled, settled_form, after_line, scan};
+    ghost use Rattle.vg_script.specs.Grammar.{display_form, memory_form, without_form, client_form, host_form, called_form, worded_form, form_of, feature_form, settled, settled_form, after_line, scan};
     ghost use Rattle.vg_script.specs.ReadingWithin.{seen, Goes, MayDefine};
     ghost use Rattle.vg_script.specs.SearchWithin.{cycle_line};
 
@@ -57,7 +62,8 @@ impl<'a> Reader<'a> {
             displays: Vec::new(alloc),
             pages: None,
             without: Vec::new(alloc),
-            clients: Vec::new(alloc),
+            parts: Vec::new(alloc),
+            host: false,
             count: 0,
             names: Names::new(alloc, labels),
             asked: 0,
@@ -135,14 +141,20 @@ impl<'a> Reader<'a> {
                 _ => Err(Stop::Fault(Kind::Word)),
             };
         }
+        if is(word, b"host") {
+            return match args {
+                &[] => self.begin_host(alloc),
+                _ => Err(Stop::Fault(Kind::Word)),
+            };
+        }
         self.call(alloc, word, args)
     }
 
     /// Whether there was a line that no display may stand behind.
     fn is_past_displays(&self) -> bool
-        ensures { result ≡ not (is_none (seen self.now).pages && length (seen self.now).without == 0 && length (seen self.now).clients == 0) }
+        ensures { result ≡ not (is_none (seen self.now).pages && length (seen self.now).without == 0 && length (seen self.now).parts == 0) }
     {
-        self.pages.is_some() || !self.without.is_empty() || !self.clients.is_empty()
+        self.pages.is_some() || !self.without.is_empty() || !self.parts.is_empty()
     }
 
     #[tactic(auto, unfolding(crate::specs::Grammar::display_form))]
@@ -188,7 +200,7 @@ impl<'a> Reader<'a> {
     fn leave_out(&mut self, feature: Feature) -> Result<(), Stop>
         ensures { Goes (seen self.new) result (settled (feature_form (seen self.old) feature)) }
     {
-        if self.displays.is_empty() || !self.clients.is_empty() {
+        if self.displays.is_empty() || !self.parts.is_empty() {
             return Err(Stop::Fault(Kind::Word));
         }
         if is_among(self.without.as_slice(), feature) {
@@ -203,16 +215,32 @@ impl<'a> Reader<'a> {
         ensures { Goes (seen self.new) result
             (settled_form (client_form (seen self.old))) }
     {
-        if self.displays.is_empty() {
+        if self.displays.is_empty() || self.host {
             return Err(Stop::Fault(Kind::Word));
         }
-        if self.clients.len() >= MOST_CLIENTS as usize {
+        if self.parts.len() >= MOST_CLIENTS as usize {
             return Err(Stop::Fault(Kind::Limit));
         }
-        self.clients
+        self.parts
             .push(Seq::from_vec(Vec::new(alloc)))
             .map_err(AllocError::from)?;
         self.names.clear();
+        Ok(())
+    }
+
+    /// `host`. Its lines name nothing, so the names stay those of the last client.
+    #[tactic(auto, unfolding(crate::specs::Grammar::host_form))]
+    fn begin_host(&mut self, alloc: Global) -> Result<(), Stop>
+        ensures { Goes (seen self.new) result
+            (settled_form (host_form (seen self.old))) }
+    {
+        if self.displays.is_empty() || self.host {
+            return Err(Stop::Fault(Kind::Word));
+        }
+        self.host = true;
+        self.parts
+            .push(Seq::from_vec(Vec::new(alloc)))
+            .map_err(AllocError::from)?;
         Ok(())
     }
 
@@ -221,19 +249,19 @@ impl<'a> Reader<'a> {
         ensures { Goes (seen self.new) result
             (settled_form (called_form (seen self.old) word.now (map (λ arg. arg.now) args.now))) }
     {
-        if self.clients.is_empty() {
+        if self.parts.is_empty() {
             return Err(Stop::Fault(Kind::Word));
         }
         let displays = self.displays.len();
         let asked = self.asked + u64::from(words_ask(word, args));
-        let read = call_of(alloc, &mut self.names, displays, word, args);
+        let read = call_in(alloc, self.host, &mut self.names, displays, word, args);
         if self.count >= MOST_LINES || asked > u64::from(MOST_ASKED) {
             return Err(past_limit(read));
         }
         match read {
             Ok(call) => {
                 let number = self.lines;
-                add_line(&mut self.clients, Line { number, call })?;
+                add_line(&mut self.parts, Line { number, call })?;
                 self.count += 1;
                 self.asked = asked;
                 Ok(())
@@ -244,9 +272,9 @@ impl<'a> Reader<'a> {
 
     /// The number of the first line that waits for a label and, by steps, for itself, where there is one.
     pub(crate) fn cycle(&self, alloc: Global) -> Result<Option<u32>, AllocError>
-        ensures { IfOk result (λ line. line ≡ cycle_line (seen self.now).clients) }
+        ensures { IfOk result (λ line. line ≡ cycle_line (seen self.now).parts) }
     {
-        cycle(alloc, self.clients.as_slice(), self.count)
+        cycle(alloc, self.parts.as_slice(), self.count)
     }
 
     /// The script of the lines, if there was a display.
@@ -260,7 +288,8 @@ impl<'a> Reader<'a> {
             displays,
             pages,
             without,
-            clients,
+            parts,
+            host,
             count: _,
             names,
             asked: _,
@@ -271,11 +300,13 @@ impl<'a> Reader<'a> {
                 kind: Kind::Word.code(),
             });
         }
+        let (clients, host) = split(parts, host);
         Ok(Script {
             displays: Seq::from_vec(displays),
             pages: pages.unwrap_or(4_096),
             without: Seq::from_vec(without),
-            clients: Seq::from_vec(clients),
+            clients,
+            host,
             labels: names.given,
         })
     }

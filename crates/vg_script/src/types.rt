@@ -1,4 +1,4 @@
-//! What a script says: its displays, its pages, and the lines of its clients.
+//! What a script says: its displays, its pages, and the lines of its clients and its host.
 
 use vg_calls::Call;
 use vg_list::Seq;
@@ -14,6 +14,8 @@ pub struct Script {
     pub without: Seq<Feature>,
     /// The lines of each client, in the order of the text.
     pub clients: Seq<Seq<Line>>,
+    /// The lines of the host, where there is one. In the text they stand behind those of the clients.
+    pub host: Option<Seq<Line>>,
     /// How many labels the lines define. They are numbered from 1 on in the order of the text.
     pub labels: u32,
 }
@@ -31,7 +33,7 @@ pub enum Feature {
     Context,
 }
 
-/// A line of a client.
+/// A line of a client or of the host.
 #[derive(Drop)]
 pub struct Line {
     /// The line's number in the text, from 1 on.

@@ -11,14 +11,14 @@ use std::alloc::{AllocError, Global};
 use vg_calls::Call;
 use vg_list::Seq;
 
-/// The number of the first line that waits for a label and, by steps, for itself, where there is one. All clients have so many
+/// The number of the first line that waits for a label and, by steps, for itself, where there is one. All parts have so many
 /// lines.
 pub(crate) fn cycle(
     alloc: Global,
     clients: &[Seq<Line>],
     total: usize,
 ) -> Result<Option<u32>, AllocError>
-    requires few { length clients.now ≤ version_2.clients }
+    requires few { length clients.now ≤ version_2.clients + 1 }
     requires total { total ≡ sum_by length clients.now }
     requires lines { sum_by length clients.now ≤ 100000 }
     ensures { IfOk result (λ line. line ≡ cycle_line clients.now) }
@@ -47,7 +47,7 @@ fn number_of(clients: &[Seq<Line>], client: usize, place: usize) -> Option<u32>
 
 /// The places of the lines that give labels, in their order.
 fn places(alloc: Global, clients: &[Seq<Line>]) -> Result<Vec<(u32, u32)>, AllocError>
-    requires few { length clients.now ≤ version_2.clients }
+    requires few { length clients.now ≤ version_2.clients + 1 }
     requires lines { sum_by length clients.now ≤ 100000 }
     ensures { IfOk result (λ places. places.items ≡ places_from 0 clients.now) }
 {
@@ -90,6 +90,8 @@ fn gives(call: &Call) -> bool
     match call {
         Call::Export { .. } => true,
         Call::Begin { .. } => true,
+        Call::Mode { .. } => true,
+        Call::Unplug { .. } => true,
         _ => false,
     }
 }
@@ -101,6 +103,7 @@ fn waits(call: &Call) -> Option<u32>
     match call {
         Call::Import { label, .. } => Some(*label),
         Call::Await { label, .. } => Some(*label),
+        Call::Sync { label, .. } => Some(*label),
         _ => None,
     }
 }
