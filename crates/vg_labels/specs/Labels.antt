@@ -1,5 +1,5 @@
 -- What labels are given, and by which entries.
-use Rattle.std.specs.Prelude.{◌≡◌, ◌≤◌, ℕ, ◌-◌, List, [], length, map, Option, Some, None, slice_get, get_or}
+use Rattle.std.specs.Prelude.{◌≡◌, ◌≤◌, ℕ, ◌-◌, List, length, map, Option, Some, None, slice_get, get_or}
 use Rattle.std.specs.List.{AllByRecursion}
 use Rattle.std.specs.declared.sync.OnceToken.{OnceToken}
 use Rattle.vg_history.specs.declared.entry.Entry.TheVariants as entries

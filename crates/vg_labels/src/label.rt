@@ -82,7 +82,10 @@ fn are_one(one: Gift, other: Gift) -> bool
 {
     match one {
         Gift::Fence { lane, ordinal } => match other {
-            Gift::Fence { lane: its, ordinal: place } => lane == its && ordinal == place,
+            Gift::Fence {
+                lane: its,
+                ordinal: place,
+            } => lane == its && ordinal == place,
             _ => false,
         },
         Gift::Token { token } => match other {

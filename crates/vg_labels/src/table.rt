@@ -16,10 +16,7 @@ pub struct Told<'a> {
 }
 
 /// So many labels, which nobody has given.
-pub fn new_labels<B: Naming>(
-    alloc: Global,
-    count: u32,
-) -> Result<Vec<Label<B>>, AllocError>
+pub fn new_labels<B: Naming>(alloc: Global, count: u32) -> Result<Vec<Label<B>>, AllocError>
     ensures { IfOk result (λ labels. length labels.items ≡ count) }
 {
     let mut labels = Vec::new(alloc);
