@@ -269,10 +269,7 @@ is-told labels seen old new label call heard told told' outcome is hears called 
     let alone : ends.before ++ ends.entry ∷ [] ≡ entry ∷ [] = sym ends.mine_are ∙ one.1 in
     let its : ends.entry ≡ entry = only ends.before alone in
     let gift : gift_told outcome.last ≡ gift_in entry = ap gift_told ends.last_is ∙ last-gift ends.number ends.entry (subst GivesByReply (sym its) one.2) ∙ ap gift_in its in
-    let value : given_by new outcome.last ≡ value_of entry =
-    ap (λ (n : ℕ). record { client = n; call = new.caller.token.account.used; gift = gift_told outcome.last }) (sym last.owner)
-    ∙ ap (λ (n : ℕ). record { client = client_of entry; call = n; gift = gift_told outcome.last }) (sym last.call)
-    ∙ ap (λ (g : Gift). record { client = client_of entry; call = call_of entry; gift = g }) gift in
+    let value : given_by new outcome.last ≡ value_of entry = (λ i. record { client = sym last.owner i; call = sym last.call i; gift = gift i }) in
     record { entry = entry; alone = one.1; there = last.there; value = value }
   where
     only : (before : List Entry) {x y : Entry} → before ++ x ∷ [] ≡ y ∷ [] → x ≡ y
