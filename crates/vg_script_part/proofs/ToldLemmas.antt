@@ -1,5 +1,5 @@
 -- What a client hears and tells with a line, and what that makes of its entries.
-use Rattle.std.proofs.Common.{◌≡◌, ◌≢◌, ◌⊎◌, inl, inr, ◌+◌, ◌-◌, ◌≤◌, ◌∙◌, sym, ap, refl, subst, true≢false, arith, ℕ, Bool, true, false, cond, List, [], ◌∷◌, ◌++◌, length, map, not, ◌||◌, append_assoc, append-nil, Option, Some, None, Result, Ok, Err}
+use Rattle.std.proofs.Common.{◌≡◌, ◌≢◌, inl, inr, ◌+◌, ◌≤◌, ◌∙◌, sym, ap, refl, subst, true≢false, arith, ℕ, Bool, true, false, cond, List, [], ◌∷◌, ◌++◌, length, map, not, ◌||◌, append_assoc, append-nil, Option, Some, None, Result}
 use Rattle.std.specs.Prelude.{IfSome}
 use Rattle.std.proofs.lemmas.List.{map-append}
 use Rattle.std.specs.List.{AllByRecursion, range_with_len}
@@ -33,7 +33,7 @@ use Rattle.vg_names.specs.declared.names.Held.{Held}
 use Rattle.vg_names.specs.Names.{found}
 use Rattle.vg_script.specs.Waits.{gives, waits}
 use Rattle.vg_driver.specs.Asks.{request_for}
-use Rattle.vg_driver.specs.Tickets.{Account, Order, Token}
+use Rattle.vg_driver.specs.Tickets.{Account, Order}
 use Rattle.vg_tasks.specs.declared.task.Task.{Task}
 use Rattle.vg_tasks.specs.declared.task.Change.{Change}
 use Rattle.vg_tasks.specs.declared.task.Change.TheVariants as changes
@@ -56,8 +56,8 @@ use Rattle.vg_labels.specs.declared.label.Given.{Given}
 use Rattle.vg_labels.specs.declared.label.Gift.{Gift}
 use Rattle.vg_labels.specs.declared.label.Gift.TheVariants as gifts
 use Rattle.vg_labels.specs.declared.table.Told.{Told}
-use Rattle.vg_labels.specs.Labels.{AreTold, HasGiver, IsNotedBy, IsOf, Names, NamesBy, Values, gift_by, gift_in, gift_of, value_of}
-use Rattle.vg_script_part.specs.Values.{HasGiven, HasHeard, fence_in, fence_of, heard_call, token_in, token_of}
+use Rattle.vg_labels.specs.Labels.{AreTold, HasGiver, IsNotedBy, Names, NamesBy, Values, gift_by, gift_in, gift_of, value_of}
+use Rattle.vg_script_part.specs.Values.{HasGiven, HasHeard, fence_in, fence_of, heard_call, token_of}
 use Rattle.vg_script_part.specs.Follows.{IsLine, begun_after, begun_at, commands_in}
 use Rattle.vg_script_part.specs.Performing.{Made, Begun, Fills, HasDoneLine, HasKept, HasLast, HasLine, HasSeenMore, Hears, IsIn, IsThere, Slot, Tells, TellsOne, given_by, gift_told}
 use Rattle.vg_script_part.proofs.PlaceLemmas.{behind-more, placed-more}
