@@ -1,43 +1,78 @@
 -- What labels are given, and by which entries.
-use Rattle.std.specs.Prelude.{◌≡◌, ◌≤◌, ℕ, ◌-◌, List, [], length, map, Option, Some, None, slice_get, get_or}
+use Rattle.std.specs.Prelude.{◌≡◌, ◌≤◌, ℕ, ◌-◌, List, length, map, Option, Some, None, slice_get, get_or}
 use Rattle.std.specs.List.{AllByRecursion}
 use Rattle.std.specs.declared.sync.OnceToken.{OnceToken}
-use Rattle.vg_history.specs.declared.machine.Machine.{Ghosts}
-use Rattle.vg_history.specs.declared.entry.Entry.{Entry}
+use Rattle.vg_history.specs.declared.entry.Entry.TheVariants as entries
 use Rattle.vg_history.specs.History.{HasCommand}
+use Rattle.vg_history.specs.Lists.{Has}
 use Rattle.vg_book.specs.Tokens.{Noted}
+use Rattle.vg_client_holds.specs.declared.act.Act.{Act}
+use Rattle.vg_client_holds.specs.declared.act.Act.TheVariants as acts
+use Rattle.vg_client_holds.specs.declared.act.ActReply.{ActReply}
+use Rattle.vg_client_holds.specs.declared.act.ActReply.TheVariants as act_replies
+use Rattle.vg_client_holds.specs.declared.holds.Holds.{Holds}
+use Rattle.vg_device.specs.State.{State}
+use Rattle.vg_device.specs.declared.request.Reply.{Reply}
+use Rattle.vg_device.specs.declared.request.Request.{Request}
+use Rattle.vg_machine.specs.Entries.{Entry}
+use Rattle.vg_machine.specs.Jobs.{Job}
+use Rattle.vg_machine.specs.Lender.{Lender}
+use Rattle.vg_machine.specs.Order.{call_of, client_of}
+use Rattle.vg_machine.specs.Replay.{display}
 use Rattle.vg_labels.specs.declared.label.Gift.{Gift}
 use Rattle.vg_labels.specs.declared.label.Gift.TheVariants as gifts
-use Rattle.vg_book.specs.Places.{HasCall}
 use Rattle.vg_labels.specs.declared.label.Given.{Given}
 use Rattle.vg_labels.specs.declared.table.Told.{Told}
 
--- A note that was left: it has seen this call of this client.
-pub record PostedView (M S A R Q P H W : Type 0) : Type 0 where
-  pub client : ℕ
-  pub call : ℕ
-  pub seen : List (Entry M S A R Q P H W)
+-- What an act gives by its reply: the token that it made, if it made one.
+abbrev pub gift_by : ActReply → Gift
+gift_by (act_replies.Exported token) = gifts.Token token
+gift_by reply = gifts.Nothing
 
--- The entry with which this was given is there: that of a fence is its lane's command of its ordinal, any other the client's call.
-abbrev pub NamesBy : {M S A R Q P H W : Type 0} → Ghosts M S A R Q P H W → Gift → ℕ → ℕ → List (Entry M S A R Q P H W) → Type 0
-NamesBy g (gifts.Fence lane ordinal) client call es = HasCommand g lane ordinal es
-NamesBy g gift client call es = HasCall es client call
+-- What an act gives: that it plugged, resized or unplugged a display, if it did; else what its reply says.
+abbrev pub gift_of : Act → ActReply → Gift
+gift_of (acts.Mode scanout width height) reply = gifts.Plug
+gift_of (acts.Unplug scanout) reply = gifts.Plug
+gift_of act reply = gift_by reply
 
-abbrev pub Names : {M S A R Q P H W : Type 0} → Ghosts M S A R Q P H W → Given → List (Entry M S A R Q P H W) → Type 0
-Names g given es = NamesBy g given.gift given.client given.call es
+-- A command gives its fence, whatever it is answered.
+abbrev pub gift_in : Entry → Gift
+gift_in (entries.Act client call act reply) = gift_of act reply
+gift_in (entries.Command client call request reply) = gifts.Fence request.lane request.ordinal
 
--- There is a note that has seen this call.
-abbrev pub HasNote : {M S A R Q P H W : Type 0} → ℕ → ℕ → Option (Noted M S A R Q P H W) → Type 0
-HasNote client call (Some note) = HasCall note.seen client call
-HasNote client call None = ⊥
+-- What a line gives with this entry.
+abbrev pub value_of : Entry → Given
+value_of entry = record { client = client_of entry; call = call_of entry; gift = gift_in entry }
 
--- There is a note that has seen the entry with which this was given, where that is no fence.
-abbrev pub IsNotedBy : {M S A R Q P H W : Type 0} → Gift → ℕ → ℕ → Option (Noted M S A R Q P H W) → Type 0
-IsNotedBy (gifts.Fence lane ordinal) client call found = Unit {0}
-IsNotedBy gift client call found = HasNote client call found
+-- The entry with which this was given is among these.
+abbrev pub HasGiver : Given → List Entry → Type 0
+HasGiver given es = (entry : Entry) × Has es entry × (value_of entry ≡ given)
 
-abbrev pub IsNoted : {M S A R Q P H W : Type 0} → Given → Option (Noted M S A R Q P H W) → Type 0
-IsNoted given note = IsNotedBy given.gift given.client given.call note
+-- So it is; where it is that of a fence, its lane's command of its ordinal is.
+abbrev pub NamesBy : Gift → Given → List Entry → Type 0
+NamesBy (gifts.Fence lane ordinal) given es = HasCommand display lane ordinal es
+NamesBy gift given es = HasGiver given es
+
+abbrev pub Names : Given → List Entry → Type 0
+Names given es = NamesBy given.gift given es
+
+-- A note that was left: it has seen the entry with which this was given.
+pub record PostedView : Type 0 where
+  pub given : Given
+  pub seen : List Entry
+
+-- There is a note that has seen the entry with which this was given.
+abbrev pub HasNote : Given → Option (Noted Lender State Act ActReply Request Reply Holds Job) → Type 0
+HasNote given (Some note) = HasGiver given note.seen
+HasNote given None = ⊥
+
+-- There is one, unless it is that of a fence.
+abbrev pub IsNotedBy : Gift → Given → Option (Noted Lender State Act ActReply Request Reply Holds Job) → Type 0
+IsNotedBy (gifts.Fence lane ordinal) given found = Unit {0}
+IsNotedBy gift given found = HasNote given found
+
+abbrev pub IsNoted : Given → Option (Noted Lender State Act ActReply Request Reply Holds Job) → Type 0
+IsNoted given note = IsNotedBy given.gift given note
 
 -- What each label was given, by its number from 1.
 abbrev pub Values : Type 0

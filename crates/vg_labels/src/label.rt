@@ -1,14 +1,13 @@
 //! A label, which threads share: one of them gives it, once, and the others wait for it.
 
-ghost use Rattle.std.specs.Prelude.{◌≡◌, Some, IfSome};
-ghost use Rattle.vg_book.specs.Places.{HasCall};
+ghost use Rattle.std.specs.Prelude.{◌≡◌, true, Some, IfSome};
 ghost use Rattle.vg_labels.specs.declared.label.Gift.TheVariants as gifts;
-ghost use Rattle.vg_labels.specs.Labels.{IsNoted, Shows};
+ghost use Rattle.vg_labels.specs.Labels.{HasGiver, IsNoted, Shows};
 
 use std::marker::Model;
 use std::sync::{Mutex, OnceLock, OnceToken, Wait};
 use vg_book::{Book, Naming, Note};
-use vg_history::Machine;
+use vg_machine::Display;
 
 /// What a line gives.
 #[derive(Clone, Copy)]
@@ -17,6 +16,8 @@ pub enum Gift {
     Fence { lane: u32, ordinal: u64 },
     /// The token of a buffer.
     Token { token: u32 },
+    /// That a display was plugged, resized or unplugged, by the call with which this was given.
+    Plug,
     /// Nothing: what the line asked was denied, or refused where it begins no command.
     Nothing,
 }
@@ -32,37 +33,35 @@ pub struct Given {
 /// What shows what a label was given. It has no bytes.
 pub type Shown<'a> = OnceToken<'a, Option<Given>>;
 
-/// A note that has seen this call of this client.
+/// A note that has seen the entry with which this was given.
 #[derive(Drop)]
-struct Posted<M: Machine, B: Naming> {
-    client: u32,
-    call: u64,
-    note: Note<M, B>,
+struct Posted<B: Naming> {
+    given: Given,
+    note: Note<Display, B>,
 }
 
-impl<M: Machine, B: Naming> Model for Posted<M, B> {
-    ghost use Rattle.vg_book.specs.Places.{HasCall};
-    ghost use Rattle.vg_labels.specs.Labels.{PostedView};
+impl<B: Naming> Model for Posted<B> {
+    ghost use Rattle.vg_labels.specs.Labels.{HasGiver, PostedView};
 
-    ghost Value = { PostedView M M.State M.Act M.ActReply M.Request M.Reply M.Holds M.Job };
+    ghost Value = { PostedView };
 
-    ghost view = { λ p. record { client = p.client; call = p.call; seen = p.note.seen } };
+    ghost view = { λ p. record { given = p.given; seen = p.note.seen } };
 
-    ghost invariant = { λ p. HasCall p.note.seen p.client p.call };
+    ghost invariant = { λ p. HasGiver p.given p.note.seen };
 }
 
-impl<M: Machine, B: Naming> Posted<M, B> {
-    fn of(note: Note<M, B>, client: u32, call: u64) -> Posted<M, B>
-        requires { HasCall note.seen client call }
+impl<B: Naming> Posted<B> {
+    fn of(note: Note<Display, B>, given: Given) -> Posted<B>
+        requires { HasGiver given note.seen }
     {
-        Posted { client, call, note }
+        Posted { given, note }
     }
 
-    /// A note that has seen the same, if it is of this call.
-    fn note_of(&mut self, book: &Book<M, B>, client: u32, call: u64) -> Option<Note<M, B>>
-        ensures { IfSome result (λ note. HasCall note.seen client call) }
+    /// A note that has seen the same, if it is this that was given.
+    fn note_of(&mut self, book: &Book<Display, B>, given: Given) -> Option<Note<Display, B>>
+        ensures { IfSome result (λ note. HasGiver given note.seen) }
     {
-        if self.client == client && self.call == call {
+        if are_same(self.given, given) {
             Some(self.note.note(book))
         } else {
             None
@@ -70,15 +69,43 @@ impl<M: Machine, B: Naming> Posted<M, B> {
     }
 }
 
-/// A label: it is given once, or given up.
-#[derive(Drop)]
-pub struct Label<M: Machine, B: Naming> {
-    value: OnceLock<Option<Given>>,
-    /// Who gives the label leaves a note here first.
-    post: Mutex<Option<Posted<M, B>>>,
+/// Whether the same was given with one entry.
+fn are_same(one: Given, other: Given) -> bool
+    ensures { result ≡ true → one ≡ other }
+{
+    one.client == other.client && one.call == other.call && are_one(one.gift, other.gift)
 }
 
-impl<M: Machine, B: Naming> Model for Label<M, B> {
+/// Whether these are one gift.
+fn are_one(one: Gift, other: Gift) -> bool
+    ensures { result ≡ true → one ≡ other }
+{
+    match one {
+        Gift::Fence { lane, ordinal } => match other {
+            Gift::Fence {
+                lane: its,
+                ordinal: place,
+            } => lane == its && ordinal == place,
+            _ => false,
+        },
+        Gift::Token { token } => match other {
+            Gift::Token { token: its } => token == its,
+            _ => false,
+        },
+        Gift::Plug => matches!(other, Gift::Plug),
+        Gift::Nothing => matches!(other, Gift::Nothing),
+    }
+}
+
+/// A label: it is given once, or given up.
+#[derive(Drop)]
+pub struct Label<B: Naming> {
+    value: OnceLock<Option<Given>>,
+    /// Who gives the label leaves a note here first.
+    post: Mutex<Option<Posted<B>>>,
+}
+
+impl<B: Naming> Model for Label<B> {
     ghost use Rattle.std.specs.Prelude.{ℕ};
 
     // Which label it is.
@@ -87,9 +114,9 @@ impl<M: Machine, B: Naming> Model for Label<M, B> {
     ghost view = { λ l. l.value.id };
 }
 
-impl<M: Machine, B: Naming> Label<M, B> {
+impl<B: Naming> Label<B> {
     /// A label that nobody has given.
-    pub fn new() -> Label<M, B> {
+    pub fn new() -> Label<B> {
         Label {
             value: OnceLock::new(),
             post: Mutex::new(None),
@@ -97,11 +124,16 @@ impl<M: Machine, B: Naming> Label<M, B> {
     }
 
     /// Gives the label this, with a note that has seen the entry. Nothing where it was given or given up before.
-    pub fn give<'a, R: Wait>(&'a self, rt: &R, note: Note<M, B>, given: Given) -> Option<Shown<'a>>
-        requires { HasCall note.seen given.client given.call }
+    pub fn give<'a, R: Wait>(
+        &'a self,
+        rt: &R,
+        note: Note<Display, B>,
+        given: Given,
+    ) -> Option<Shown<'a>>
+        requires { HasGiver given note.seen }
         ensures { IfSome result (Shows self.now given) }
     {
-        *self.post.lock(rt) = Some(Posted::of(note, given.client, given.call));
+        *self.post.lock(rt) = Some(Posted::of(note, given));
         self.value.set(rt, Some(given)).ok()
     }
 
@@ -131,8 +163,8 @@ impl<M: Machine, B: Naming> Label<M, B> {
     pub fn wait<'a, R: Wait>(
         &'a self,
         rt: &R,
-        book: &Book<M, B>,
-    ) -> Option<(Given, Option<Note<M, B>>, Shown<'a>)>
+        book: &Book<Display, B>,
+    ) -> Option<(Given, Option<Note<Display, B>>, Shown<'a>)>
         ensures shown { IfSome result (λ r. Shows self.now r.0 r.2) }
         ensures seen { IfSome result (λ r. IsNoted r.0 r.1) }
     {
@@ -143,12 +175,17 @@ impl<M: Machine, B: Naming> Label<M, B> {
     }
 
     /// A note that has seen the entry with which this was given, where that is no fence.
-    fn note_for<R: Wait>(&self, rt: &R, book: &Book<M, B>, given: Given) -> Option<Note<M, B>>
+    fn note_for<R: Wait>(
+        &self,
+        rt: &R,
+        book: &Book<Display, B>,
+        given: Given,
+    ) -> Option<Note<Display, B>>
         ensures { IsNoted given result }
     {
         match given.gift {
             Gift::Fence { .. } => None,
-            _ => Some(self.wait_for_note(rt, book, given.client, given.call)),
+            _ => Some(self.wait_for_note(rt, book, given)),
         }
     }
 
@@ -164,19 +201,18 @@ impl<M: Machine, B: Naming> Label<M, B> {
         unreachable!()
     }
 
-    /// A note that has seen this call of this client, which was left before the label was given.
+    /// A note that has seen the entry with which this was given, which was left before the label was given.
     fn wait_for_note<R: Wait>(
         &self,
         rt: &R,
-        book: &Book<M, B>,
-        client: u32,
-        call: u64,
-    ) -> Note<M, B>
-        ensures { HasCall result.seen client call }
+        book: &Book<Display, B>,
+        given: Given,
+    ) -> Note<Display, B>
+        ensures { HasGiver given result.seen }
     {
         for _ in rt.forever() {
             if let Some(posted) = &mut *self.post.lock(rt) {
-                if let Some(note) = posted.note_of(book, client, call) {
+                if let Some(note) = posted.note_of(book, given) {
                     return note;
                 }
             }

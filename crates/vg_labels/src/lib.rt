@@ -2,7 +2,9 @@
 #![tactic(auto)]
 
 mod label;
+mod laws;
 mod table;
 
 pub use label::{Gift, Given, Label, Shown};
+pub use laws::plugs_are_named;
 pub use table::{Told, agree, all_shown, give_up_all, new_labels};

@@ -7,7 +7,6 @@ use crate::label::{Label, Shown};
 use std::alloc::{AllocError, Global};
 use std::sync::Wait;
 use vg_book::Naming;
-use vg_history::Machine;
 
 /// What somebody was told of a label, which has this number among its script's, from 1.
 #[derive(Drop)]
@@ -17,10 +16,7 @@ pub struct Told<'a> {
 }
 
 /// So many labels, which nobody has given.
-pub fn new_labels<M: Machine, B: Naming>(
-    alloc: Global,
-    count: u32,
-) -> Result<Vec<Label<M, B>>, AllocError>
+pub fn new_labels<B: Naming>(alloc: Global, count: u32) -> Result<Vec<Label<B>>, AllocError>
     ensures { IfOk result (λ labels. length labels.items ≡ count) }
 {
     let mut labels = Vec::new(alloc);
@@ -31,17 +27,17 @@ pub fn new_labels<M: Machine, B: Naming>(
 }
 
 /// Gives up each label that isn't given yet: nobody waits for one any more.
-pub fn give_up_all<M: Machine, B: Naming, R: Wait>(rt: &R, labels: &Vec<Label<M, B>>) {
+pub fn give_up_all<B: Naming, R: Wait>(rt: &R, labels: &Vec<Label<B>>) {
     for label in labels.iter() {
         label.give_up(rt);
     }
 }
 
 /// What shows what each label was given. Those that nobody has given are given up.
-pub fn all_shown<'a, M: Machine, B: Naming, R: Wait>(
+pub fn all_shown<'a, B: Naming, R: Wait>(
     rt: &R,
     alloc: Global,
-    labels: &'a Vec<Label<M, B>>,
+    labels: &'a Vec<Label<B>>,
 ) -> Result<Vec<Shown<'a>>, AllocError>
     ensures { IfOk result (λ all. AreShown labels.now.items all.items) }
 {

@@ -29,8 +29,8 @@ use Rattle.vg_tasks.specs.declared.task.Task.{Task}
 use Rattle.vg_script.specs.Waits.{AreKnown, label_list, waits}
 use Rattle.vg_script.specs.Waits as labels_of
 use Rattle.vg_labels.specs.declared.label.Given.{Given}
-use Rattle.vg_labels.specs.Labels.{Values}
-use Rattle.vg_script_part.specs.Values.{HasGiven, fence_of, heard_call, token_of, value_of}
+use Rattle.vg_labels.specs.Labels.{Values, value_of}
+use Rattle.vg_script_part.specs.Values.{HasGiven, fence_of, heard_call, token_of}
 use Rattle.vg_script_part.specs.Follows.{Follows, GivesAll, GivesCalls}
 use Rattle.vg_client.specs.Calls.{GivesTasks, IsAsked, IsDone, Plays, learned}
 use Rattle.vg_tasks.specs.Known.{Known, first_known}

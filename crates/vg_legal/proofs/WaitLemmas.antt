@@ -8,17 +8,19 @@ use Rattle.vg_history.specs.declared.entry.Entry.TheVariants as entries
 use Rattle.vg_history.proofs.ListLemmas.{has_prefix, times_append, upto_one}
 use Rattle.vg_book.specs.Places.{HasCall, StandsBehind}
 use Rattle.vg_client_holds.specs.declared.act.Act.{Act}
+use Rattle.vg_client_holds.specs.declared.act.Act.TheVariants as acts
 use Rattle.vg_client_holds.specs.declared.act.ActReply.{ActReply}
 use Rattle.vg_client_holds.specs.declared.act.ActReply.TheVariants as act_replies
 use Rattle.vg_labels.specs.declared.label.Given.{Given}
 use Rattle.vg_labels.specs.declared.label.Gift.{Gift}
-use Rattle.vg_labels.specs.Labels.{Names, NamesBy, Values}
+use Rattle.vg_labels.specs.declared.label.Gift.TheVariants as gifts
+use Rattle.vg_labels.specs.Labels.{HasGiver, Names, NamesBy, Values, gift_by, gift_of, value_of}
 use Rattle.vg_machine.specs.Entries.{Entry}
 use Rattle.vg_machine.specs.Order.{call_of, client_of}
 use Rattle.vg_machine.specs.Replay.{display}
 use Rattle.vg_device.specs.declared.request.Reply.{Reply}
 use Rattle.vg_device.specs.declared.request.Request.{Request}
-use Rattle.vg_script_part.specs.Values.{HasGiven, HasHeard, gift_in, gift_of, value_of}
+use Rattle.vg_script_part.specs.Values.{HasGiven, HasHeard}
 use Rattle.vg_legal.specs.Legal.{IsGivenBehind}
 
 -- the entry is a command of this lane with this ordinal
@@ -71,19 +73,19 @@ one-command H e f lane ordinal ordered has other at there =
     one-at lane ordinal H e f most has other at there
 
 -- a front that has the entry which a value names has that with which it was given
-act-named : (reply : ActReply) (client call : ℕ) (es : List Entry) → NamesBy display (gift_of reply) client call es → HasCall es client call
-act-named act_replies.Ok client call es named = named
-act-named (act_replies.Reserved key pages) client call es named = named
-act-named (act_replies.Bytes bytes) client call es named = named
-act-named (act_replies.Exported token) client call es named = named
-act-named (act_replies.Imported key geometry pages) client call es named = named
-act-named act_replies.Kept client call es named = named
-act-named act_replies.Last client call es named = named
-act-named (act_replies.Events set) client call es named = named
-act-named (act_replies.Refused refusal) client call es named = named
+reply-named : (reply : ActReply) (given : Given) (es : List Entry) → NamesBy (gift_by reply) given es → HasGiver given es
+reply-named (act_replies.Exported token) given es named = named
+reply-named reply given es named = named
 
-named-call : (H es : List Entry) (x : Entry) → Ordered display H → Has H x → IsPrefix es H → NamesBy display (gift_in x) (client_of x) (call_of x) es → HasCall es (client_of x) (call_of x)
-named-call H es (entries.Act client call act reply) ordered has begins named = act-named reply client call es named
+act-named : (act : Act) (reply : ActReply) (given : Given) (es : List Entry) → NamesBy (gift_of act reply) given es → HasGiver given es
+act-named (acts.Mode scanout width height) reply given es named = named
+act-named (acts.Unplug scanout) reply given es named = named
+act-named act reply given es named = reply-named reply given es named
+
+named-call : (H es : List Entry) (x : Entry) → Ordered display H → Has H x → IsPrefix es H → Names (value_of x) es → HasCall es (client_of x) (call_of x)
+named-call H es (entries.Act client call act reply) ordered has begins named =
+    let giver = act-named act reply (value_of (entries.Act client call act reply)) es named in
+    (giver.0, giver.1, ap (λ (g : Given). g.client) giver.2, ap (λ (g : Given). g.call) giver.2)
 named-call H es (entries.Command client call request reply) ordered has begins named =
     let c : ℕ = named.0 in
     let other : Entry = entries.Command named.0 named.1 named.2 named.3 in
@@ -92,14 +94,14 @@ named-call H es (entries.Command client call request reply) ordered has begins n
     (other, named.4, ap client_of same, ap call_of same)
 
 behind-each : (H : List Entry) (given : Given) (x : Entry) (client : ℕ) (front : List Entry) → Ordered display H → Has H x → given ≡ value_of x
-    → AllByRecursion (λ (e : Entry). StandsBehind H client (call_of e) (Names display given)) front → AllByRecursion (λ (e : Entry). StandsBehind H client (call_of e) (λ es. HasCall es (client_of x) (call_of x))) front
+    → AllByRecursion (λ (e : Entry). StandsBehind H client (call_of e) (Names given)) front → AllByRecursion (λ (e : Entry). StandsBehind H client (call_of e) (λ es. HasCall es (client_of x) (call_of x))) front
 behind-each H given x client [] ordered has is all = tt
 behind-each H given x client (e ∷ more) ordered has is all =
     let behind = all.0 in (
       record {
         front = behind.front;
         begins = behind.begins;
-        has = named-call H behind.front x ordered has behind.begins (subst (λ (g : Given). Names display g behind.front) is behind.has);
+        has = named-call H behind.front x ordered has behind.begins (subst (λ (g : Given). Names g behind.front) is behind.has);
         apart = behind.apart;
       },
       behind-each H given x client more ordered has is all.1,

@@ -5,7 +5,6 @@ use denote.Enum.Declared as enum
 use denote.Struct.Declared.{shape}
 use denote.Ref.{NamedLft}
 use Rattle.std.proofs.Crossing.{crosses}
-use Rattle.vg_list.specs.contracts.seq.Seq as seq
 use Rattle.vg_script.specs.contracts.types.Line as line
 use Rattle.vg_calls.specs.contracts.call.Body as body
 use Rattle.vg_calls.specs.contracts.call.Call as call
@@ -18,15 +17,6 @@ use Rattle.vg_machine.proofs.Sent.{act_reply_send, act_send, display_send, reply
 use Rattle.vg_worker.proofs.Sent.{book_shared, client_sent}
 use Rattle.vg_labels.proofs.Sent.{label_sync, told_send}
 use Rattle.vg_labels.specs.contracts.label.Label as label
-use Rattle.vg_machine.specs.contracts.display.Display as display
-use Rattle.vg_machine.specs.contracts.job.Job as job
-use Rattle.vg_device.specs.contracts.device.Device as device
-use Rattle.vg_machine.specs.contracts.machine.DisplayMachine.TheImpl as machine
-use Rattle.vg_client_holds.specs.contracts.act.Act as act
-use Rattle.vg_client_holds.specs.contracts.act.ActReply as act_reply
-use Rattle.vg_client_holds.specs.contracts.holds.Holds as holds
-use Rattle.vg_device.specs.contracts.request.Request as request
-use Rattle.vg_device.specs.contracts.request.Reply as reply
 use Rattle.vg_run_threads.specs.contracts.threads.Performing as performing
 use Rattle.vg_run_threads.specs.contracts.threads.Waiting as waiting
 use Rattle.vg_script_part.specs.contracts.performing.Performed as performed
@@ -46,8 +36,8 @@ line_send : IsSend line.the_row
 line_send = let T = line.the_type in recorded_send _ _ _ T.to_one (struct_send (shape T) (search sendable, (call_send, tt)))
 
 module _ (B : RattleType) (gb : Naming.Ghosts B.Denot) where
-  labels_shared : IsSync (label.the_row display.the_row B device.the_row act.the_row act_reply.the_row request.the_row reply.the_row holds.the_row job.the_row machine.ghosts gb)
-  labels_shared = label_sync display.the_row B device.the_row act.the_row act_reply.the_row request.the_row reply.the_row holds.the_row job.the_row display_send act_send act_reply_send request_send reply_send machine.ghosts gb
+  labels_shared : IsSync (label.the_row B gb)
+  labels_shared = label_sync B gb
 
   pub performed_sent : (κ : NamedLft) → IsSend (performed.the_row κ B gb)
   performed_sent κ = search (sendable, crosses, client_sent, told_send) depth 20

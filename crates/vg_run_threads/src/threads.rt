@@ -41,7 +41,7 @@ struct Performing<'a, B: Naming, N: Rings> {
     alloc: Global,
     book: &'a Book<Display, B>,
     driver: &'a Driver<B, N>,
-    labels: &'a Vec<Label<Display, B>>,
+    labels: &'a Vec<Label<B>>,
     lines: Vec<Line>,
     token: ClientToken<Display, B>,
 }
@@ -70,7 +70,7 @@ impl<'a, B: Naming, N: Rings> Job<Performed<'a, B>> for Performing<'a, B, N> {
 /// The labels that clients wait for.
 #[derive(Drop)]
 struct Waiting<'a, B: Naming> {
-    labels: &'a Vec<Label<Display, B>>,
+    labels: &'a Vec<Label<B>>,
 }
 
 impl<'a, B: Naming> Quit for Waiting<'a, B> {
@@ -126,7 +126,7 @@ fn performers<'a, B: Naming, N: Rings>(
     alloc: Global,
     book: &'a Book<Display, B>,
     driver: &'a Driver<B, N>,
-    labels: &'a Vec<Label<Display, B>>,
+    labels: &'a Vec<Label<B>>,
     root: &mut Root<Display, B>,
     setup: &Setup,
     script: Script,

@@ -1,5 +1,5 @@
 -- What stands in a history stands in every history that goes on from it.
-use Rattle.std.proofs.Common.{ℕ, List, [], ◌∷◌, ◌++◌, Option, Some, None}
+use Rattle.std.proofs.Common.{ℕ, List, [], ◌∷◌, Option, Some, None}
 use Rattle.std.specs.List.{AllByRecursion}
 use mathlib.Core.List.{IsPrefix}
 use Rattle.vg_history.proofs.ListLemmas.{prefix_trans}
@@ -8,7 +8,6 @@ use Rattle.vg_client_holds.specs.declared.setup.Setup.{Setup}
 use Rattle.vg_labels.specs.declared.label.Given.{Given}
 use Rattle.vg_labels.specs.Labels.{Names, Values}
 use Rattle.vg_machine.specs.Entries.{Entry}
-use Rattle.vg_machine.specs.Replay.{display}
 use Rattle.vg_machine.specs.Order.{call_of}
 use Rattle.vg_script.specs.declared.types.Line.{Line}
 use Rattle.vg_script.specs.Waits.{waits}
@@ -25,7 +24,7 @@ placed-more S H client begun [] p placed = tt
 placed-more S H client begun (e ∷ more) p placed = (λ i low high out. behind-more _ S H client (call_of e) p (placed.0 i low high out), placed-more S H client begun more p placed.1)
 
 behind-all : (given : Given) (S H : List Entry) (client : ℕ) (front : List Entry) → IsPrefix S H
-    → AllByRecursion (λ (e : Entry). StandsBehind S client (call_of e) (Names display given)) front → AllByRecursion (λ (e : Entry). StandsBehind H client (call_of e) (Names display given)) front
+    → AllByRecursion (λ (e : Entry). StandsBehind S client (call_of e) (Names given)) front → AllByRecursion (λ (e : Entry). StandsBehind H client (call_of e) (Names given)) front
 behind-all given S H client [] p all = tt
 behind-all given S H client (e ∷ more) p all = (behind-more _ S H client (call_of e) p all.0, behind-all given S H client more p all.1)
 

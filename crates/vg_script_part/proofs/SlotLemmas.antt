@@ -1,5 +1,5 @@
 -- What a client has of its calls: their entries, whatever is answered to what was begun.
-use Rattle.std.proofs.Common.{◌≡◌, ◌⊎◌, inl, inr, ⊎_elim, ◌+◌, ◌≤◌, ◌<◌, ◌∙◌, sym, ap, refl, subst, arith, ℕ, zero, suc, List, [], ◌∷◌, ◌++◌, length, map, append_assoc}
+use Rattle.std.proofs.Common.{◌≡◌, ◌⊎◌, inl, inr, ⊎_elim, ◌+◌, ◌≤◌, ◌<◌, ◌∙◌, sym, ap, refl, subst, arith, ℕ, zero, suc, List, [], ◌∷◌, ◌++◌, length, map}
 use Rattle.std.specs.List.{AllByRecursion, range_with_len}
 use Rattle.vg_history.specs.Entries.{EachOnce}
 use Rattle.vg_history.specs.Lists.{Has}

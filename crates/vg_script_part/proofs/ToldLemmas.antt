@@ -1,5 +1,5 @@
 -- What a client hears and tells with a line, and what that makes of its entries.
-use Rattle.std.proofs.Common.{◌≡◌, ◌≢◌, ◌⊎◌, inl, inr, ◌+◌, ◌-◌, ◌≤◌, ◌∙◌, sym, ap, refl, subst, true≢false, arith, ℕ, Bool, true, false, cond, List, [], ◌∷◌, ◌++◌, length, map, not, ◌||◌, append_assoc, append-nil, Option, Some, None, Result, Ok, Err}
+use Rattle.std.proofs.Common.{◌≡◌, ◌≢◌, inl, inr, ◌+◌, ◌≤◌, ◌∙◌, sym, ap, refl, subst, true≢false, arith, ℕ, Bool, true, false, cond, List, [], ◌∷◌, ◌++◌, length, map, not, ◌||◌, append_assoc, append-nil, Option, Some, None, Result}
 use Rattle.std.specs.Prelude.{IfSome}
 use Rattle.std.proofs.lemmas.List.{map-append}
 use Rattle.std.specs.List.{AllByRecursion, range_with_len}
@@ -33,7 +33,7 @@ use Rattle.vg_names.specs.declared.names.Held.{Held}
 use Rattle.vg_names.specs.Names.{found}
 use Rattle.vg_script.specs.Waits.{gives, waits}
 use Rattle.vg_driver.specs.Asks.{request_for}
-use Rattle.vg_driver.specs.Tickets.{Account, Order, Token}
+use Rattle.vg_driver.specs.Tickets.{Account, Order}
 use Rattle.vg_tasks.specs.declared.task.Task.{Task}
 use Rattle.vg_tasks.specs.declared.task.Change.{Change}
 use Rattle.vg_tasks.specs.declared.task.Change.TheVariants as changes
@@ -56,8 +56,8 @@ use Rattle.vg_labels.specs.declared.label.Given.{Given}
 use Rattle.vg_labels.specs.declared.label.Gift.{Gift}
 use Rattle.vg_labels.specs.declared.label.Gift.TheVariants as gifts
 use Rattle.vg_labels.specs.declared.table.Told.{Told}
-use Rattle.vg_labels.specs.Labels.{AreTold, IsNotedBy, IsOf, Names, NamesBy, Values}
-use Rattle.vg_script_part.specs.Values.{HasGiven, HasHeard, fence_in, fence_of, gift_in, heard_call, token_in, token_of, value_of}
+use Rattle.vg_labels.specs.Labels.{AreTold, HasGiver, IsNotedBy, Names, NamesBy, Values, gift_by, gift_in, gift_of, value_of}
+use Rattle.vg_script_part.specs.Values.{HasGiven, HasHeard, fence_in, fence_of, heard_call, token_of}
 use Rattle.vg_script_part.specs.Follows.{IsLine, begun_after, begun_at, commands_in}
 use Rattle.vg_script_part.specs.Performing.{Made, Begun, Fills, HasDoneLine, HasKept, HasLast, HasLine, HasSeenMore, Hears, IsIn, IsThere, Slot, Tells, TellsOne, given_by, gift_told}
 use Rattle.vg_script_part.proofs.PlaceLemmas.{behind-more, placed-more}
@@ -150,20 +150,20 @@ behind-command H client lane ordinal (e ∷ more) low all =
     (record { front = all.0.front; begins = all.0.begins; has = all.0.has ordinal low (omega arith); apart = all.0.apart }, behind-command H client lane ordinal more low all.1)
 
 heard-fence : (given : Given) (label : ℕ) (seen H : List Entry) (client : ℕ) (mine : List Entry) (gift : Gift) → given.gift ≡ gift → IsThere seen given gift → IfSome (fence_in gift) (λ f. 1 ≤ f.ordinal) → WaitsBehind H client mine (calls.Await label (fence_in gift)) → IsPrefix seen H
-    → AllByRecursion (λ (e : Entry). HasCall seen client (call_of e) → ⊥) mine → AllByRecursion (λ (e : Entry). StandsBehind H client (call_of e) (Names display given)) mine
+    → AllByRecursion (λ (e : Entry). HasCall seen client (call_of e) → ⊥) mine → AllByRecursion (λ (e : Entry). StandsBehind H client (call_of e) (Names given)) mine
 heard-fence given label seen H client mine (gifts.Fence lane ordinal) is there counts behind p apart =
-    subst (λ (g : Gift). AllByRecursion (λ (e : Entry). StandsBehind H client (call_of e) (NamesBy display g given.client given.call)) mine) (sym is) (behind-command H client lane ordinal mine counts behind)
+    subst (λ (g : Gift). AllByRecursion (λ (e : Entry). StandsBehind H client (call_of e) (NamesBy g given)) mine) (sym is) (behind-command H client lane ordinal mine counts behind)
 heard-fence given label seen H client mine (gifts.Token token) is there counts behind p apart =
-    subst (λ (g : Gift). AllByRecursion (λ (e : Entry). StandsBehind H client (call_of e) (NamesBy display g given.client given.call)) mine) (sym is)
-    (behind-seen (λ es. HasCall es given.client given.call) seen H client mine p there apart)
+    subst (λ (g : Gift). AllByRecursion (λ (e : Entry). StandsBehind H client (call_of e) (NamesBy g given)) mine) (sym is) (behind-seen (λ es. HasGiver given es) seen H client mine p there apart)
+heard-fence given label seen H client mine gifts.Plug is there counts behind p apart =
+    subst (λ (g : Gift). AllByRecursion (λ (e : Entry). StandsBehind H client (call_of e) (NamesBy g given)) mine) (sym is) (behind-seen (λ es. HasGiver given es) seen H client mine p there apart)
 heard-fence given label seen H client mine gifts.Nothing is there counts behind p apart =
-    subst (λ (g : Gift). AllByRecursion (λ (e : Entry). StandsBehind H client (call_of e) (NamesBy display g given.client given.call)) mine) (sym is)
-    (behind-seen (λ es. HasCall es given.client given.call) seen H client mine p there apart)
+    subst (λ (g : Gift). AllByRecursion (λ (e : Entry). StandsBehind H client (call_of e) (NamesBy g given)) mine) (sym is) (behind-seen (λ es. HasGiver given es) seen H client mine p there apart)
 
 has-heard : (values : Values) (labels : List ℕ) (seen H : List Entry) (client : ℕ) (mine : List Entry) (call : Call) (told told' : List Told) (heard : Call) → Hears labels seen call told told' heard → AreTold values told' → IsPrefix seen H
     → AllByRecursion (λ (e : Entry). HasCall seen client (call_of e) → ⊥) mine → WaitsBehind H client mine heard → HasHeard H values (waits call) client mine
 has-heard values labels seen H client mine (calls.Import label token) told told' heard hears all p apart behind =
-    (hears.given, tells-value values labels label hears.given told told' hears.tells all, behind-seen (Names display hears.given) seen H client mine p hears.there apart)
+    (hears.given, tells-value values labels label hears.given told told' hears.tells all, behind-seen (Names hears.given) seen H client mine p hears.there apart)
 has-heard values labels seen H client mine (calls.Await label fence) told told' heard hears all p apart behind =
     let given = hears.given in (
       given,
@@ -202,13 +202,13 @@ waits-behind setup client S H known known' mine (calls.Await label (Some fence))
     subst (λ (es : List Entry). AllByRecursion (λ (f : Entry). StandsBehind H client (call_of f) (HasFence display fence.lane fence.ordinal)) es) (sym one.1) (behind, tt)
 waits-behind setup client S H known known' mine call own there p given = tt
 
--- what a client gives is told by its entry, where that is an act
-abbrev IsAnAct : Entry → Type 0
-IsAnAct (entries.Act client call act reply) = Unit {0}
-IsAnAct (entries.Command client call request reply) = ⊥
+-- what a client gives is told by its entry's reply, where that is an act which gives what its reply says
+abbrev GivesByReply : Entry → Type 0
+GivesByReply (entries.Act client call act reply) = gift_of act reply ≡ gift_by reply
+GivesByReply (entries.Command client call request reply) = ⊥
 
-last-gift : (number : ℕ) (entry : Entry) → IsAnAct entry → gift_told (last_of number entry) ≡ gift_in entry
-last-gift number (entries.Act client call act reply) is = refl
+last-gift : (number : ℕ) (entry : Entry) → GivesByReply entry → gift_told (last_of number entry) ≡ gift_in entry
+last-gift number (entries.Act client call act reply) is = sym is
 last-gift number (entries.Command client call request reply) is = absurd is
 
 -- what a call that gives something is told by, and its entry
@@ -218,19 +218,19 @@ not-changed labels seen (calls.Await l fence) label told told' heard is hears = 
 not-changed labels seen call label told told' heard is hears = hears.0
 
 abbrev HasOneAct : List Entry → Type 0
-HasOneAct mine = (e : Entry) × (mine ≡ e ∷ []) × IsAnAct e
+HasOneAct mine = (e : Entry) × (mine ≡ e ∷ []) × GivesByReply e
 
 gives-one : (client : ℕ) (known known' : Known) (call : Call) (label : ℕ) (mine : List Entry) → gives call ≡ Some label → Gives client known call mine known' → (begins call ≡ true → (what : What) × IsDenial client what mine) → HasOneAct mine
 gives-one client known known' (calls.Export name l) label mine is given told = by_name (found name.number known.names) given
   where
     by_name : (held : Option Held) → GivesTasks client known (if_current held (λ h. export_task h.key ∷ [])) mine known' → HasOneAct mine
-    by_name None denied = (entries.Act client denied.0.0 (Denied Name) denied.0.1, denied.0.2, tt)
+    by_name None denied = (entries.Act client denied.0.0 (Denied Name) denied.0.1, denied.0.2, refl)
     by_name (Some held) plays =
         let one = one-played client known known' (export_task held.key) mine refl plays in
-        (one.0, one.1, subst IsAnAct (sym one.2.2) tt)
+        (one.0, one.1, subst GivesByReply (sym one.2.2) refl)
 gives-one client known known' (calls.Begin l timeline body) label mine is given told =
     let denied = told refl in
-    (entries.Act client denied.1.0 (Denied denied.0) denied.1.1, denied.1.2, tt)
+    (entries.Act client denied.1.0 (Denied denied.0) denied.1.1, denied.1.2, refl)
 gives-one client known known' call label mine is given told = absurd (cc is)
 
 -- the one entry of a call is its client's last
@@ -251,50 +251,58 @@ last-call old new mine entry on is =
     let known = on.ready.active.account_is.standing.current.known.mine entry at in
     record { owner = known.1; call = omega (arith, first, last, one); there = known.0 }
 
-called-last : {B : Type 0} (labels : List ℕ) (seen : List Entry) (old new : ClientState B) (label : Option ℕ) (call heard : Call) (told told' : List Told) (outcome : Outcome) → label ≡ gives call → Hears labels seen call told told' heard
-    → HasCalled old.caller heard outcome new.caller → (last : Last) → ((fence : FenceData) → last ≡ lasts.Begun fence → ⊥) → HasLast label last new
-called-last labels seen old new None call heard told told' outcome is hears called last apart = tt
-called-last labels seen old new (Some label) call heard told told' outcome is hears called last apart =
-    let same : heard ≡ call = not-changed labels seen call label told told' heard (sym is) hears in
-    let one = gives-one old.caller.token.account.number (known old.caller) (known new.caller) heard label called.mine (ap gives same ∙ sym is) called.gives called.told in
-    let at = last-call called.middle new.caller called.mine one.0 called.gone_on one.1 in
-    by_last last (one.0, at.there, at.owner, at.call) apart
+-- the one entry of a call that gives something: what its client tells is its value
+record IsTold {B : Type 0} (client : ClientState B) (mine : List Entry) (last : Last) : Type 0 where
+  entry : Entry
+  alone : mine ≡ entry ∷ []
+  there : Has client.caller.token.seen entry
+  value : given_by client last ≡ value_of entry
+
+is-told : {B : Type 0} (labels : List ℕ) (seen : List Entry) (old new : ClientState B) (label : ℕ) (call heard : Call) (told told' : List Told) (outcome : Outcome) → gives call ≡ Some label → Hears labels seen call told told' heard
+    → (called : HasCalled old.caller heard outcome new.caller) → IsTold new called.mine outcome.last
+is-told labels seen old new label call heard told told' outcome is hears called =
+    let same : heard ≡ call = not-changed labels seen call label told told' heard is hears in
+    let one = gives-one old.caller.token.account.number (known old.caller) (known new.caller) heard label called.mine (ap gives same ∙ is) called.gives called.told in
+    let entry : Entry = one.0 in
+    let last = last-call called.middle new.caller called.mine entry called.gone_on one.1 in
+    let ends = called.outcome_is.ends in
+    let alone : ends.before ++ ends.entry ∷ [] ≡ entry ∷ [] = sym ends.mine_are ∙ one.1 in
+    let its : ends.entry ≡ entry = only ends.before alone in
+    let gift : gift_told outcome.last ≡ gift_in entry = ap gift_told ends.last_is ∙ last-gift ends.number ends.entry (subst GivesByReply (sym its) one.2) ∙ ap gift_in its in
+    let value : given_by new outcome.last ≡ value_of entry = (λ i. record { client = sym last.owner i; call = sym last.call i; gift = gift i }) in
+    record { entry = entry; alone = one.1; there = last.there; value = value }
   where
-    by_last : (last : Last) → HasCall new.caller.token.seen new.caller.token.account.number new.caller.token.account.used → ((fence : FenceData) → last ≡ lasts.Begun fence → ⊥) → HasLast (Some label) last new
-    by_last (lasts.Act reply) has apart = has
-    by_last (lasts.Command answer) has apart = has
-    by_last (lasts.Begun fence) has apart = tt
+    only : (before : List Entry) {x y : Entry} → before ++ x ∷ [] ≡ y ∷ [] → x ≡ y
+    only [] e = cc e
+    only (z ∷ []) e = absurd (cc e)
+    only (z ∷ w ∷ more) e = absurd (cc e)
+
+called-last : {B : Type 0} (labels : List ℕ) (seen : List Entry) (old new : ClientState B) (label : Option ℕ) (call heard : Call) (told told' : List Told) (outcome : Outcome) → label ≡ gives call → Hears labels seen call told told' heard
+    → HasCalled old.caller heard outcome new.caller → (last : Last) → outcome.last ≡ last → HasLast label last new
+called-last labels seen old new None call heard told told' outcome is hears called last last_is = tt
+called-last labels seen old new (Some label) call heard told told' outcome is hears called last last_is =
+    let t = is-told labels seen old new label call heard told told' outcome (sym is) hears called in
+    by_last last (t.entry, t.there, sym t.value ∙ ap (λ (l : Last). given_by new l) last_is)
+  where
+    by_last : (last : Last) → HasGiver (given_by new last) new.caller.token.seen → HasLast (Some label) last new
+    by_last (lasts.Act reply) has = has
+    by_last (lasts.Command answer) has = has
+    by_last (lasts.Begun fence) has = tt
 
 pub has-last : {B : Type 0} (labels : List ℕ) (seen : List Entry) (old new : ClientState B) (label : Option ℕ) (call heard : Call) (told told' : List Told) (outcome : Outcome) → label ≡ gives call → Hears labels seen call told told' heard
-    → (last : Last) → HasGone last old.caller heard outcome new.caller → HasLast label last new
-has-last labels seen old new label call heard told told' outcome is hears (lasts.Act reply) gone = called-last labels seen old new label call heard told told' outcome is hears gone (lasts.Act reply) (λ fence same. absurd (cc same))
-has-last labels seen old new label call heard told told' outcome is hears (lasts.Command answer) gone = called-last labels seen old new label call heard told told' outcome is hears gone (lasts.Command answer) (λ fence same. absurd (cc same))
-has-last labels seen old new None call heard told told' outcome is hears (lasts.Begun fence) gone = tt
-has-last labels seen old new (Some label) call heard told told' outcome is hears (lasts.Begun fence) gone = tt
+    → (last : Last) → outcome.last ≡ last → HasGone last old.caller heard outcome new.caller → HasLast label last new
+has-last labels seen old new label call heard told told' outcome is hears (lasts.Act reply) last_is gone = called-last labels seen old new label call heard told told' outcome is hears gone (lasts.Act reply) last_is
+has-last labels seen old new label call heard told told' outcome is hears (lasts.Command answer) last_is gone = called-last labels seen old new label call heard told told' outcome is hears gone (lasts.Command answer) last_is
+has-last labels seen old new None call heard told told' outcome is hears (lasts.Begun fence) last_is gone = tt
+has-last labels seen old new (Some label) call heard told told' outcome is hears (lasts.Begun fence) last_is gone = tt
 
 -- what was told is the label's value
 has-given : {B : Type 0} (values : Values) (labels : List ℕ) (seen : List Entry) (old new : ClientState B) (label : Option ℕ) (call heard : Call) (told told1 told2 : List Told) (outcome : Outcome) → label ≡ gives call
     → Hears labels seen call told told1 heard → (called : HasCalled old.caller heard outcome new.caller) → Tells labels label (given_by new outcome.last) told1 told2 → AreTold values told2 → HasGiven values label called.mine
 has-given values labels seen old new None call heard told told1 told2 outcome is hears called tells all = tt
 has-given values labels seen old new (Some label) call heard told told1 told2 outcome is hears called tells all =
-    let same : heard ≡ call = not-changed labels seen call label told told1 heard (sym is) hears in
-    let one = gives-one old.caller.token.account.number (known old.caller) (known new.caller) heard label called.mine (ap gives same ∙ sym is) called.gives called.told in
-    let entry : Entry = one.0 in
-    let last = last-call called.middle new.caller called.mine entry called.gone_on one.1 in
-    let ends = called.outcome_is.ends in
-    let alone : ends.before ++ ends.entry ∷ [] ≡ entry ∷ [] = sym ends.mine_are ∙ one.1 in
-    let its : ends.entry ≡ entry = only ends.before alone in
-    let gift : gift_told outcome.last ≡ gift_in entry = ap gift_told ends.last_is ∙ last-gift ends.number ends.entry (subst IsAnAct (sym its) one.2) ∙ ap gift_in its in
-    let value : given_by new outcome.last ≡ value_of entry =
-    ap (λ (n : ℕ). record { client = n; call = new.caller.token.account.used; gift = gift_told outcome.last }) (sym last.owner)
-    ∙ ap (λ (n : ℕ). record { client = client_of entry; call = n; gift = gift_told outcome.last }) (sym last.call)
-    ∙ ap (λ (g : Gift). record { client = client_of entry; call = call_of entry; gift = g }) gift in
-    (entry, one.1, tells-value values labels label (given_by new outcome.last) told1 told2 tells all ∙ ap (λ (g : Given). Some g) value)
-  where
-    only : (before : List Entry) {x y : Entry} → before ++ x ∷ [] ≡ y ∷ [] → x ≡ y
-    only [] e = cc e
-    only (z ∷ []) e = absurd (cc e)
-    only (z ∷ w ∷ more) e = absurd (cc e)
+    let t = is-told labels seen old new label call heard told told1 outcome (sym is) hears called in
+    (t.entry, t.alone, tells-value values labels label (given_by new outcome.last) told1 told2 tells all ∙ ap (λ (g : Given). Some g) t.value)
 
 -- what a call heard doesn't change whether it begins or finishes something
 heard-begins : (labels : List ℕ) (seen : List Entry) (call : Call) (told told' : List Told) (heard : Call) → Hears labels seen call told told' heard → begins heard ≡ begins call
@@ -549,18 +557,15 @@ gone-few old new call outcome (lasts.Command answer) gone =
     let f = finished-is (finishes (known old.caller) call) old.caller gone.middle gone.finished in
     kept-few old new (length gone.mine) (gone.gone_on.added.number ∙ f.number) (gone.gone_on.used ∙ ap (λ (k : ℕ). k + length gone.mine) f.used) gone.few
 
--- what a note says of the entry with which a label was given
-abbrev IsHere : List Entry → Given → Gift → Type 0
-IsHere noted given (gifts.Fence lane ordinal) = Unit {0}
-IsHere noted given gift = HasCall noted given.client given.call
-
--- what a note has seen of the entry with which a label was given is there, once the client has seen that too
-pub noted-there : (given : Given) (gift : Gift) (noted seen : List Entry) → IsPrefix noted seen → IsHere noted given gift → IsThere seen given gift
+-- the entry with which a label was given, which a note has seen, is there once the client has seen what the note has
+pub noted-there : (given : Given) (gift : Gift) (noted seen : List Entry) → IsPrefix noted seen → IsThere noted given gift → IsThere seen given gift
 noted-there given (gifts.Fence lane ordinal) noted seen p here = tt
-noted-there given (gifts.Token token) noted seen p here = (here.0, has_prefix noted seen here.0 p here.1, here.2, here.3)
-noted-there given gifts.Nothing noted seen p here = (here.0, has_prefix noted seen here.0 p here.1, here.2, here.3)
+noted-there given (gifts.Token token) noted seen p here = (here.0, has_prefix noted seen here.0 p here.1, here.2)
+noted-there given gifts.Plug noted seen p here = (here.0, has_prefix noted seen here.0 p here.1, here.2)
+noted-there given gifts.Nothing noted seen p here = (here.0, has_prefix noted seen here.0 p here.1, here.2)
 
-pub noted-here : (given : Given) (gift : Gift) (note : Noted Lender State Act ActReply Request Reply Holds Job) → IsNotedBy gift given.client given.call (Some note) → IsHere note.seen given gift
+pub noted-here : (given : Given) (gift : Gift) (note : Noted Lender State Act ActReply Request Reply Holds Job) → IsNotedBy gift given (Some note) → IsThere note.seen given gift
 noted-here given (gifts.Fence lane ordinal) note noted = tt
 noted-here given (gifts.Token token) note noted = noted
+noted-here given gifts.Plug note noted = noted
 noted-here given gifts.Nothing note noted = noted

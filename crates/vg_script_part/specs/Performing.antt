@@ -3,7 +3,7 @@ use Rattle.std.specs.Prelude.{◌≡◌, ◌⊎◌, ◌≤◌, ◌+◌, ◌-◌,
 use Rattle.std.specs.List.{AllByRecursion, range_with_len}
 use mathlib.Core.List.{IsPrefix}
 use Rattle.vg_history.specs.Lists.{Has}
-use Rattle.vg_book.specs.Places.{HasCall, IsCurrent, begun_of}
+use Rattle.vg_book.specs.Places.{IsCurrent, begun_of}
 use Rattle.vg_book.specs.Views.{IsEntryOf}
 use Rattle.vg_driver.specs.Tickets.{Account, Order, Token}
 use Rattle.vg_client_holds.specs.declared.setup.Setup.{Setup}
@@ -25,12 +25,12 @@ use Rattle.vg_client.specs.Callers.{ClientState, IsReady, known}
 use Rattle.vg_tasks.specs.Known.{Known, first_known}
 use Rattle.vg_labels.specs.declared.label.Given.{Given}
 use Rattle.vg_labels.specs.declared.table.Told.{Told}
-use Rattle.vg_labels.specs.Labels.{AreTold, IsOf, Names, Values}
+use Rattle.vg_labels.specs.Labels.{AreTold, HasGiver, IsOf, Names, Values, gift_by}
 use Rattle.vg_labels.specs.declared.label.Gift.{Gift}
 use Rattle.vg_labels.specs.declared.label.Gift.TheVariants as gifts
 use Rattle.vg_client.specs.declared.outcome.Last.{Last}
 use Rattle.vg_client.specs.declared.outcome.Last.TheVariants as lasts
-use Rattle.vg_script_part.specs.Values.{fence_in, gift_of, token_in}
+use Rattle.vg_script_part.specs.Values.{fence_in, token_in}
 use Rattle.vg_script_part.specs.Follows.{GivesAll, IsLine, Kept, begun_after}
 
 -- The lines of a script's client, of which the first has number 1.
@@ -80,13 +80,13 @@ pub record TellsOne (labels : List ℕ) (label : ℕ) (given : Given) (told told
 -- The entry with which a label was given was seen, but that of a fence.
 abbrev pub IsThere : List Entry → Given → Gift → Type 0
 IsThere seen given (gifts.Fence lane ordinal) = Unit {0}
-IsThere seen given gift = HasCall seen given.client given.call
+IsThere seen given gift = HasGiver given seen
 
 -- What a call waits for was told and seen, and the call has it; or it waits for nothing, and is as it was.
 pub record HearsToken (labels : List ℕ) (seen : List Entry) (label : ℕ) (told told' : List Told) (heard : Call) : Type 0 where
   pub given : Given
   pub tells : TellsOne labels label given told told'
-  pub there : Names display given seen
+  pub there : Names given seen
   pub call_is : heard ≡ calls.Import label (token_in given.gift)
 
 pub record HearsFence (labels : List ℕ) (seen : List Entry) (label : ℕ) (told told' : List Told) (heard : Call) : Type 0 where
@@ -104,7 +104,7 @@ Hears labels seen call told told' heard = (heard ≡ call) × (told' ≡ told)
 
 -- What a call gave, by its last entry, or by what it began.
 abbrev pub gift_told : Last → Gift
-gift_told (lasts.Act reply) = gift_of reply
+gift_told (lasts.Act reply) = gift_by reply
 gift_told (lasts.Begun fence) = gifts.Fence fence.lane fence.ordinal
 gift_told (lasts.Command answer) = gifts.Nothing
 
@@ -112,11 +112,11 @@ gift_told (lasts.Command answer) = gifts.Nothing
 abbrev pub given_by : {B : Type 0} → ClientState B → Last → Given
 given_by client last = record { client = client.caller.token.account.number; call = client.caller.token.account.used; gift = gift_told last }
 
--- A client that is to give something has seen the entry of its last call, unless that is begun.
+-- A client that is to give something has seen the entry with which it gives that, unless that is begun.
 abbrev pub HasLast : {B : Type 0} → Option ℕ → Last → ClientState B → Type 0
 HasLast None last client = Unit {0}
 HasLast (Some label) (lasts.Begun fence) client = Unit {0}
-HasLast (Some label) last client = HasCall client.caller.token.seen client.caller.token.account.number client.caller.token.account.used
+HasLast (Some label) last client = HasGiver (given_by client last) client.caller.token.seen
 
 -- What a call gives was told; or it gives nothing, and nothing was told.
 abbrev pub Tells : List ℕ → Option ℕ → Given → List Told → List Told → Type 0

@@ -1,34 +1,16 @@
--- What the lines of a script give to their labels, and what lines that wait for labels make of it.
-use Rattle.std.specs.Prelude.{◌≡◌, ◌≤◌, ◌⊎◌, ℕ, ◌==◌, List, [], ◌∷◌, Option, Some, None}
+-- What lines that wait for labels make of what these were given, and what lines give to them.
+use Rattle.std.specs.Prelude.{◌≡◌, ℕ, List, [], ◌∷◌, Option, Some, None}
 use Rattle.std.specs.List.{AllByRecursion}
 use Rattle.vg_book.specs.Places.{StandsBehind}
 use Rattle.vg_calls.specs.declared.call.Call.{Call}
 use Rattle.vg_calls.specs.declared.call.Call.TheVariants as calls
-use Rattle.vg_client_holds.specs.declared.act.ActReply.{ActReply}
-use Rattle.vg_client_holds.specs.declared.act.ActReply.TheVariants as act_replies
-use Rattle.vg_history.specs.declared.entry.Entry.TheVariants as entries
 use Rattle.vg_history.specs.Fences.{FenceData}
 use Rattle.vg_machine.specs.Entries.{Entry}
-use Rattle.vg_machine.specs.Replay.{display}
-use Rattle.vg_machine.specs.Order.{call_of, client_of}
+use Rattle.vg_machine.specs.Order.{call_of}
 use Rattle.vg_labels.specs.declared.label.Gift.{Gift}
 use Rattle.vg_labels.specs.declared.label.Gift.TheVariants as gifts
 use Rattle.vg_labels.specs.declared.label.Given.{Given}
-use Rattle.vg_labels.specs.Labels.{Names, Values}
-
--- What an act gives: the token that it made, if it made one.
-abbrev pub gift_of : ActReply → Gift
-gift_of (act_replies.Exported token) = gifts.Token token
-gift_of reply = gifts.Nothing
-
--- A command gives its fence, whatever it is answered.
-abbrev pub gift_in : Entry → Gift
-gift_in (entries.Act client call act reply) = gift_of reply
-gift_in (entries.Command client call request reply) = gifts.Fence request.lane request.ordinal
-
--- What a line gives with this entry.
-abbrev pub value_of : Entry → Given
-value_of entry = record { client = client_of entry; call = call_of entry; gift = gift_in entry }
+use Rattle.vg_labels.specs.Labels.{Names, Values, value_of}
 
 abbrev pub token_in : Gift → Option ℕ
 token_in (gifts.Token token) = Some token
@@ -59,7 +41,7 @@ heard_call values call = call
 abbrev pub HasHeard : List Entry → Values → Option ℕ → ℕ → List Entry → Type 0
 HasHeard H values None client front = Unit {0}
 HasHeard H values (Some label) client front =
-    (given : Given) × (values label ≡ Some given) × AllByRecursion (λ e. StandsBehind H client (call_of e) (Names display given)) front
+    (given : Given) × (values label ≡ Some given) × AllByRecursion (λ e. StandsBehind H client (call_of e) (Names given)) front
 
 -- What a line gives is its label's value: it gives it with its one entry.
 abbrev pub HasGiven : Values → Option ℕ → List Entry → Type 0

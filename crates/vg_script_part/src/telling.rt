@@ -2,6 +2,7 @@
 
 ghost use Rattle.std.specs.Prelude.{◌≡◌, ◌≤◌, length, Some, None, IfOk, IfSome, OnOk};
 ghost use Rattle.vg_labels.specs.declared.label.Given.{Given as Givens};
+ghost use Rattle.vg_labels.specs.Labels as labelled;
 ghost use Rattle.vg_labels.specs.Labels.{AreOf, IsNoted, Shows};
 ghost use Rattle.vg_script.specs.Waits.{gives, waits};
 ghost use Rattle.vg_script_part.specs.Performing as performing;
@@ -34,7 +35,7 @@ pub(crate) fn given_label(call: &Call) -> Option<u32>
 pub(crate) fn hear<'a, B: Naming, R: Wait>(
     rt: &R,
     book: &Book<Display, B>,
-    labels: &'a Vec<Label<Display, B>>,
+    labels: &'a Vec<Label<B>>,
     client: &mut Client<B>,
     told: &mut Vec<Told<'a>>,
     call: Call,
@@ -65,7 +66,7 @@ pub(crate) fn hear<'a, B: Naming, R: Wait>(
 fn hear_label<'a, B: Naming, R: Wait>(
     rt: &R,
     book: &Book<Display, B>,
-    labels: &'a Vec<Label<Display, B>>,
+    labels: &'a Vec<Label<B>>,
     client: &mut Client<B>,
     told: &mut Vec<Told<'a>>,
     label: u32,
@@ -108,7 +109,7 @@ fn see<B: Naming>(
 pub(crate) fn tell<'a, B: Naming, R: Wait>(
     rt: &R,
     book: &Book<Display, B>,
-    labels: &'a Vec<Label<Display, B>>,
+    labels: &'a Vec<Label<B>>,
     client: &mut Client<B>,
     told: &mut Vec<Told<'a>>,
     gives: Option<u32>,
@@ -135,7 +136,7 @@ pub(crate) fn tell<'a, B: Naming, R: Wait>(
 fn give<'a, B: Naming, R: Wait>(
     rt: &R,
     book: &Book<Display, B>,
-    label: &'a Label<Display, B>,
+    label: &'a Label<B>,
     client: &mut Client<B>,
     last: &Last,
 ) -> Option<Shown<'a>>
@@ -150,7 +151,7 @@ fn give<'a, B: Naming, R: Wait>(
         }
         Last::Act { reply } => {
             let note = client.note(book);
-            label.give(rt, note, given_with(owner, call, gift_of(reply)))
+            label.give(rt, note, given_with(owner, call, gift_by(reply)))
         }
         Last::Command { .. } => {
             let note = client.note(book);
@@ -165,9 +166,9 @@ fn given_with(client: u32, call: u64, gift: Gift) -> Given
     Given { client, call, gift }
 }
 
-/// What an act gives: the token that it made, if it made one.
-fn gift_of(reply: &ActReply) -> Gift
-    ensures { result ≡ values.gift_of reply.now }
+/// What an act gives by its reply: the token that it made, if it made one.
+fn gift_by(reply: &ActReply) -> Gift
+    ensures { result ≡ labelled.gift_by reply.now }
 {
     match reply {
         ActReply::Exported { token } => Gift::Token { token: *token },
@@ -182,7 +183,7 @@ fn token_in<R: Wait>(rt: &R, gift: Gift) -> Option<u32>
 {
     match gift {
         Gift::Token { token } => Some(token),
-        Gift::Nothing => None,
+        Gift::Plug | Gift::Nothing => None,
         Gift::Fence { .. } => {
             for _ in rt.forever() {}
             unreachable!()

@@ -15,7 +15,7 @@ call-requires-clause-fit g c =
 pub tell-requires-clause-last : goal.tell-requires-clause-last
 tell-requires-clause-last g c =
     has-last c.args.labels.now.items c.hear.new.client.caller.token.seen c.hear.new.client c.call.new.self c.given_label-gives.result c.args.call c.in_ok-call.call c.args.told.now.items c.hear.new.told.items c.in_ok-outcome.outcome
-    c.given_label-gives.ensures c.in_ok-call.ensures.heard c.in_ok-outcome.outcome.last c.in_ok-outcome.ensures.done
+    c.given_label-gives.ensures c.in_ok-call.ensures.heard c.in_ok-outcome.outcome.last refl c.in_ok-outcome.ensures.done
 
 pub returns-clause-done : goal.returns-clause-done
 returns-clause-done g c =
