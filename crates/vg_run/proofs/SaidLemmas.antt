@@ -1,6 +1,6 @@
 -- What the sink took, by what is said of a journal and how the writing of that ended.
-use Rattle.std.proofs.Common.{◌≡◌, ◌∙◌, ◌+◌, ◌++◌, ℕ, List, Option, Some, None, append-nil, ap, drop, length, refl, subst, sym, take}
-use Rattle.std.specs.Prelude.{IfSome, min}
+use Rattle.std.proofs.Common.{◌≡◌, ◌∙◌, ◌+◌, ◌++◌, ℕ, List, Option, Some, None, Result, Ok, Err, append-nil, ap, drop, length, refl, subst, sym, take}
+use Rattle.std.specs.Prelude.{IfSome, OnErr, min}
 use Rattle.std.proofs.Math.Nat.{min-le_right}
 use Rattle.std.proofs.Math.Seq.{drop-length, take-append-add}
 use Rattle.std.proofs.lemmas.List.{take-append-le, take_min}
@@ -73,6 +73,10 @@ takes_some_of_first a b xs ys (n, takes) =
 
 pub takes_some_of_both : (a b c : Option (List ℕ)) (xs ys : List ℕ) → Takes a b xs → TakesSome b c ys → TakesSome a c (xs ++ ys)
 takes_some_of_both a b c xs ys first (n, second) = (length xs + n, subst (Takes a c) (sym (take-append-add xs ys n)) (takes_both a b c xs (take n ys) first second))
+
+pub failed_second : {T E : Type 0} (r : Result T E) (a b c : Option (List ℕ)) (xs ys : List ℕ) → Takes a b xs → OnErr r (TakesSome b c ys) → OnErr r (TakesSome a c (xs ++ ys))
+failed_second (Ok done) a b c xs ys first second = tt
+failed_second (Err failed) a b c xs ys first second = takes_some_of_both a b c xs ys first second
 
 pub rose_later : (a b c : ℕ) → b ≡ a → Rose b c → Rose a c
 rose_later a b c same rose = subst (λ n. Rose n c) same rose
