@@ -443,7 +443,7 @@ def of_kept(some):
 MOST_NUMBER = 2**64 - 1
 LISTS = ["run", "run --workers 2", "check", "origins", "upgrade", "gen --number 7 --clients 2", f"gen --number {MOST_NUMBER} --clients 1"]
 NEAR = ["", "''", "run", "Run", "runs", "check", "origins", "origin", "gen", "--workers", "--workers=2", "--number", "--clients", "--help", "-h", "-", "--", "0", "00", "1", "2", "8", "08", "9"]
-NEAR += ["16", "17", "-1", "+1", "1.0", "x", "2 ", "' 2'", "18446744073709551615", "18446744073709551616", 40 * "1", "\udcff", "run\n", "é"]
+NEAR += ["upgrade", "upgrades", "16", "17", "-1", "+1", "1.0", "x", "2 ", "' 2'", "18446744073709551615", "18446744073709551616", 40 * "1", "\udcff", "run\n", "é"]
 
 
 def of_words(some):

@@ -1,8 +1,9 @@
 """Runs a program on an input of tools/hunt, and says what of its answer isn't as the rules have it.
 
 The rules are read a second time: the words by `meant`, the faults of a script by tools/script_faults.py, histories by tools/check-history
-and journals by tools/check-journals, the clients of frames by tools/check-history too, the sums of a workload from docs/JOURNAL.md. Nothing is taken from what the program itself says,
-but that where a run writes the journal of several clients, which is one of many, that journal has to be legal, and `check` and `origins` to say so.
+and journals by tools/check-journals, the clients of frames by tools/check-history too, the text of a journal in version 2 by tools/journals.py,
+the sums of a workload from docs/JOURNAL.md. Nothing is taken from what the program itself says, but that where a run writes the journal of
+several clients, which is one of many, that journal has to be legal, `check` and `origins` to say so, and `upgrade` to write it as it is.
 """
 import contextlib
 import dataclasses
@@ -24,6 +25,7 @@ import toolbox
 
 histories = toolbox.module("check-history")
 judges = toolbox.module("check-journals")
+rows = toolbox.module("check-rows")
 TOP = pathlib.Path(__file__).resolve().parent.parent
 LAUNCH = TOP / "bench" / "launch.py"
 USAGE = "usage: vgpu run | run --workers N | check | gen --number N --clients C | origins | upgrade"
@@ -61,7 +63,10 @@ class Wanted:
         if self.text is None:
             yield "legal"
         elif self.text:
-            yield from ["output", *self.text.decode().splitlines()]
+            yield "output"
+            for line in rows.lines_written(self.text):
+                # The pixels of a frame are any bytes.
+                yield f"pixels {line.hex() or '0 x 00'}" if isinstance(line, rows.Pixels) else line.decode()
 
 
 @dataclasses.dataclass

@@ -1,7 +1,11 @@
 -- What the sink took, by what is said of a journal and how the writing of that ended.
-use Rattle.std.proofs.Common.{◌≡◌, ℕ, List, Option, Some, None, length, refl, subst}
-use Rattle.std.specs.Prelude.{IfSome}
-use Rattle.vg_io.specs.Streams.{IsAtEnd, Takes, TakesSome}
+use Rattle.std.proofs.Common.{◌≡◌, ◌∙◌, ◌+◌, ◌++◌, ℕ, List, Option, Some, None, Result, Ok, Err, append-nil, ap, drop, length, refl, subst, sym, take}
+use Rattle.std.specs.Prelude.{IfSome, OnErr, min}
+use Rattle.std.proofs.Math.Nat.{min-le_right}
+use Rattle.std.proofs.Math.Seq.{drop-length, take-append-add}
+use Rattle.std.proofs.lemmas.List.{take-append-le, take_min}
+use Rattle.vg_io.proofs.StreamLemmas.{takes_both}
+use Rattle.vg_io.specs.Streams.{IsAtEnd, Rose, Takes, TakesSome}
 use Rattle.vg_checking.specs.declared.checking.Checked.TheVariants as checkeds
 use Rattle.vg_tracing.specs.declared.found.Found.TheVariants as found
 use Rattle.vg_run.specs.declared.journals.Question.{Question}
@@ -53,6 +57,29 @@ says-wrong Origins entry bytes text held held' fits (found.Wrong other, (journal
     subst (λ n. WritesWrong n held held' bytes) this (journal, fits, is, wrong, subst (Takes held held') written takes)
 says-wrong Origins entry bytes text held held' fits (found.Drawn frames, found, same, written) takes = absurd (subst (wrong-with entry) same refl)
 says-wrong Upgrade entry bytes text held held' fits (is, same) takes = absurd (subst (wrong-with entry) same refl)
+
+-- nothing of a journal is written behind its end
+pub no_rest : (text all bytes : List ℕ) → text ≡ all → text ++ drop (length bytes) bytes ≡ all
+no_rest text all bytes is = ap (λ rest. text ++ rest) (drop-length bytes) ∙ append-nil text ∙ is
+
+-- what a sink takes of two texts
+pub takes_two : (a b c : Option (List ℕ)) (xs ys : List ℕ) → Takes a b xs → Takes b c ys → Takes a c (xs ++ ys)
+takes_two a b c xs ys first second = takes_both a b c xs ys first second
+
+pub takes_some_of_first : (a b : Option (List ℕ)) (xs ys : List ℕ) → TakesSome a b xs → TakesSome a b (xs ++ ys)
+takes_some_of_first a b xs ys (n, takes) =
+    let front : take n xs ≡ take (min n (length xs)) (xs ++ ys) = sym (take-append-le (min n (length xs)) xs ys (min-le_right n (length xs)) ∙ take_min n xs) in
+    (min n (length xs), subst (Takes a b) front takes)
+
+pub takes_some_of_both : (a b c : Option (List ℕ)) (xs ys : List ℕ) → Takes a b xs → TakesSome b c ys → TakesSome a c (xs ++ ys)
+takes_some_of_both a b c xs ys first (n, second) = (length xs + n, subst (Takes a c) (sym (take-append-add xs ys n)) (takes_both a b c xs (take n ys) first second))
+
+pub failed_second : {T E : Type 0} (r : Result T E) (a b c : Option (List ℕ)) (xs ys : List ℕ) → Takes a b xs → OnErr r (TakesSome b c ys) → OnErr r (TakesSome a c (xs ++ ys))
+failed_second (Ok done) a b c xs ys first second = tt
+failed_second (Err failed) a b c xs ys first second = takes_some_of_both a b c xs ys first second
+
+pub rose_later : (a b c : ℕ) → b ≡ a → Rose b c → Rose a c
+rose_later a b c same rose = subst (λ n. Rose n c) same rose
 
 pub told_done : (asked : Question) (left left' : Option (List ℕ)) (result end : Status) (text : List ℕ) (held held' : Option (List ℕ)) (faults faults' : ℕ) → IsAtEnd left'
     → IfSome left (λ bytes. IsCheckable bytes × Says asked bytes end text) → Told result end text held held' faults faults' → result ≡ Done → Answers asked left left' held held'

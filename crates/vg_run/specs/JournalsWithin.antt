@@ -1,5 +1,5 @@
 -- How the reading of a journal ended, and how the writing of what was found.
-use Rattle.std.specs.Prelude.{◌≡◌, ◌<◌, ℕ, length, List, Option, IfSome}
+use Rattle.std.specs.Prelude.{◌≡◌, ◌<◌, ◌++◌, ℕ, drop, length, List, Option, IfSome}
 use Rattle.vg_io.specs.Streams.{Rose, Takes, TakesSome}
 use Rattle.vg_journal_lines.specs.Refusals.{IsRefusedAt}
 use Rattle.vg_checking.specs.Checking.{IsFound}
@@ -38,6 +38,10 @@ status_of (checkeds.Wrong entry) = statuses.Wrong entry
 abbrev pub status_of_origins : Found → Status
 status_of_origins (found.Drawn frames) = Done
 status_of_origins (found.Wrong entry) = statuses.Wrong entry
+
+-- What is written: a text, and behind it the journal's own bytes from a place on.
+abbrev pub written : List ℕ → ℕ → List ℕ → List ℕ
+written text rest bytes = text ++ drop rest bytes
 
 -- What a command says of a journal: the text that it writes, and how it ends where all of that is written.
 abbrev pub Says : Question → List ℕ → Status → List ℕ → Type 0
