@@ -309,7 +309,7 @@ def of_faulty(some):
 
 def reader(some):
     """A word that reads a journal."""
-    return [some.choice(("check", "origins"))]
+    return [some.choice(("check", "origins", "upgrade"))]
 
 
 def journal_to_read(words, some):
@@ -441,9 +441,9 @@ def of_kept(some):
 
 
 MOST_NUMBER = 2**64 - 1
-LISTS = ["run", "run --workers 2", "check", "origins", "gen --number 7 --clients 2", f"gen --number {MOST_NUMBER} --clients 1"]
+LISTS = ["run", "run --workers 2", "check", "origins", "upgrade", "gen --number 7 --clients 2", f"gen --number {MOST_NUMBER} --clients 1"]
 NEAR = ["", "''", "run", "Run", "runs", "check", "origins", "origin", "gen", "--workers", "--workers=2", "--number", "--clients", "--help", "-h", "-", "--", "0", "00", "1", "2", "8", "08", "9"]
-NEAR += ["16", "17", "-1", "+1", "1.0", "x", "2 ", "' 2'", "18446744073709551615", "18446744073709551616", 40 * "1", "\udcff", "run\n", "é"]
+NEAR += ["upgrade", "upgrades", "16", "17", "-1", "+1", "1.0", "x", "2 ", "' 2'", "18446744073709551615", "18446744073709551616", 40 * "1", "\udcff", "run\n", "é"]
 
 
 def of_words(some):
@@ -462,7 +462,7 @@ def of_words(some):
             words[at], words[other] = words[other], words[at]
     if words[:1] == ["gen"] or some.random() < 0.3:
         return Input("words", words, b"", reads_fail=True)
-    return Input("words", words, journal_of(a_script(some), some) if {"check", "origins"} & set(words) else a_script(some))
+    return Input("words", words, journal_of(a_script(some), some) if {"check", "origins", "upgrade"} & set(words) else a_script(some))
 
 
 def of_gen(some):

@@ -1,8 +1,9 @@
 """Runs a program on an input of tools/hunt, and says what of its answer isn't as the rules have it.
 
 The rules are read a second time: the words by `meant`, the faults of a script by tools/script_faults.py, histories by tools/check-history
-and journals by tools/check-journals, the clients of frames by tools/check-history too, the sums of a workload from docs/JOURNAL.md. Nothing is taken from what the program itself says,
-but that where a run writes the journal of several clients, which is one of many, that journal has to be legal, and `check` and `origins` to say so.
+and journals by tools/check-journals, the clients of frames by tools/check-history too, the text of a journal in version 2 by tools/journals.py,
+the sums of a workload from docs/JOURNAL.md. Nothing is taken from what the program itself says, but that where a run writes the journal of
+several clients, which is one of many, that journal has to be legal, `check` and `origins` to say so, and `upgrade` to write it as it is.
 """
 import contextlib
 import dataclasses
@@ -24,9 +25,10 @@ import toolbox
 
 histories = toolbox.module("check-history")
 judges = toolbox.module("check-journals")
+rows = toolbox.module("check-rows")
 TOP = pathlib.Path(__file__).resolve().parent.parent
 LAUNCH = TOP / "bench" / "launch.py"
-USAGE = "usage: vgpu run | run --workers N | check | gen --number N --clients C | origins"
+USAGE = "usage: vgpu run | run --workers N | check | gen --number N --clients C | origins | upgrade"
 SAID = {4: "read fault", 5: "write fault", 6: "too long", 7: "out of memory"}
 MOST_PIXELS = 134_217_728
 MADE = re.compile(rb" 01010000[0-9a-f]{56}([0-9a-f]{16})")  # the sizes in a RESOURCE_CREATE_2D
@@ -61,7 +63,10 @@ class Wanted:
         if self.text is None:
             yield "legal"
         elif self.text:
-            yield from ["output", *self.text.decode().splitlines()]
+            yield "output"
+            for line in rows.lines_written(self.text):
+                # The pixels of a frame are any bytes.
+                yield f"pixels {line.hex() or '0 x 00'}" if isinstance(line, rows.Pixels) else line.decode()
 
 
 @dataclasses.dataclass
@@ -81,8 +86,8 @@ def is_number(word, least, most):
 
 
 def meant(words):
-    """What the words ask for: `run`, `check`, `origins`, `gen`, or nothing."""
-    if words in (["run"], ["check"], ["origins"]):
+    """What the words ask for: `run`, `check`, `origins`, `upgrade`, `gen`, or nothing."""
+    if words in (["run"], ["check"], ["origins"], ["upgrade"]):
         return words[0]
     if len(words) == 3 and words[:2] == ["run", "--workers"] and is_number(words[2], 1, 8):
         return "run"
@@ -109,6 +114,9 @@ def wanted_of(given):
         return Wanted(0, "", sums(int(given.words[4])))
     if given.reads_fail:
         return Wanted(4, SAID[4])
+    if word == "upgrade":
+        status, written, said = judges.upgraded(given.given)
+        return Wanted(status, said, written)
     if word in ("check", "origins"):
         status, written, said = judges.expected(given.given)
         if word == "origins" and status == 0:

@@ -81,6 +81,14 @@ Entry = collections.namedtuple("Entry", "number client call is_act words reply")
 Frame = collections.namedtuple("Frame", "number scanout width height entry start line")
 
 
+def upgraded(text):
+    """The text of a journal with the queues of version 2."""
+    if text.startswith(b"vgpu-journal 2\n"):
+        return text
+    behind = text.index(b"\n", text.index(b"\nmemory ") + 1) + 1
+    return b"vgpu-journal 2\n" + text[len(b"vgpu-journal 1\n") : behind] + b"queues 256 64\n" + text[behind:]
+
+
 class Broken(Exception):
     """The line that is being read is one with which no journal goes on here: what should stand there."""
 

@@ -175,7 +175,7 @@ def why_no_text(line):
 
 def why_unknown(word, is_begun):
     if word == "vgpu-journal":
-        return "this is a journal and no script: check and origins read it"
+        return "this is a journal and no script: check, origins and upgrade read it"
     if word.lower() in FORMS:
         return f"there is no word {word}: words have small letters, {word.lower()}"
     begins = "" if is_begun else f"; {BEGINS}"

@@ -9,7 +9,7 @@ use std::alloc::{AllocError, Global};
 use vg_client_holds::ActReply;
 use vg_line_words::{any_bytes, number32, numbers};
 use vg_script_words::is;
-use vg_share::{Geometry, ShareRefusal};
+use vg_share::{Geometry, PageList, ShareRefusal};
 
 /// The reply that some words are, if they are one.
 pub fn read_reply(alloc: Global, words: &[&[u8]]) -> Result<Option<ActReply>, AllocError>
@@ -157,6 +157,7 @@ fn reserved_of(
     let Some(pages) = numbers(alloc, pages, 1 << 32)? else {
         return Ok(None);
     };
+    let pages = PageList::from_vec(alloc, pages.into_vec())?;
     Ok(Some(ActReply::Reserved { key, pages }))
 }
 
@@ -185,6 +186,7 @@ fn imported_of(
     let Some(pages) = numbers(alloc, pages, 1 << 32)? else {
         return Ok(None);
     };
+    let pages = PageList::from_vec(alloc, pages.into_vec())?;
     Ok(Some(ActReply::Imported {
         key,
         geometry,

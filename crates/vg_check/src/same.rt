@@ -5,7 +5,7 @@ ghost use Rattle.vg_client_holds.specs.declared.act.ActReply.TheVariants.{Bytes,
 
 use vg_chain::ChainFault;
 use vg_list::Seq;
-use vg_machine::{ActReply, Geometry, Reply, ShareRefusal};
+use vg_machine::{ActReply, Geometry, PageList, Reply, ShareRefusal};
 
 /// Whether two replies to an act are the same.
 pub(crate) fn same_act_reply(one: &ActReply, other: &ActReply) -> bool
@@ -28,7 +28,7 @@ pub(crate) fn same_act_reply(one: &ActReply, other: &ActReply) -> bool
     }
 }
 
-fn is_reserved(key: u32, pages: &Seq<u32>, reply: &ActReply) -> bool
+fn is_reserved(key: u32, pages: &PageList, reply: &ActReply) -> bool
     ensures { IsTrue result ↔ (Reserved key pages.now ≡ reply.now) }
 {
     match reply {
@@ -58,7 +58,7 @@ fn is_exported(token: u32, reply: &ActReply) -> bool
     }
 }
 
-fn is_imported(key: u32, geometry: &Geometry, pages: &Seq<u32>, reply: &ActReply) -> bool
+fn is_imported(key: u32, geometry: &Geometry, pages: &PageList, reply: &ActReply) -> bool
     ensures { IsTrue result ↔ (Imported key geometry.now pages.now ≡ reply.now) }
 {
     match reply {
@@ -138,7 +138,7 @@ fn same_bytes(one: &Seq<u8>, other: &Seq<u8>) -> bool
     one.as_slice() == other.as_slice()
 }
 
-fn same_numbers(one: &Seq<u32>, other: &Seq<u32>) -> bool
+fn same_numbers(one: &PageList, other: &PageList) -> bool
     ensures { IsTrue result ↔ (one.now ≡ other.now) }
 {
     one.as_slice() == other.as_slice()

@@ -1,7 +1,7 @@
 //! What a client does on the shared guest state without a command.
 
 use vg_list::Seq;
-use vg_share::{Geometry, ShareRefusal};
+use vg_share::{Geometry, PageList, ShareRefusal};
 
 /// Something that a client named and that isn't allowed to it.
 #[derive(Clone, Copy)]
@@ -105,7 +105,7 @@ pub enum ActReply {
     /// The new buffer's key, and its guest pages, rising.
     Reserved {
         key: u32,
-        pages: Seq<u32>,
+        pages: PageList,
     },
     /// What was loaded.
     Bytes {
@@ -119,7 +119,7 @@ pub enum ActReply {
     Imported {
         key: u32,
         geometry: Geometry,
-        pages: Seq<u32>,
+        pages: PageList,
     },
     /// Others hold the buffer still.
     Kept,

@@ -10,12 +10,12 @@ ghost use Rattle.vg_share.specs.Lists.{without_first};
 use std::alloc::{AllocError, Global};
 use std::collections::VecDeque;
 use std::marker::Model;
-use vg_list::Seq;
+use vg_share::PageList;
 
 /// Keys and guest pages of buffers. A clause sees it as the list of these pairs, in the order in which they came.
 #[derive(Drop)]
 pub struct Buffers {
-    pairs: VecDeque<(u32, Seq<u32>)>,
+    pairs: VecDeque<(u32, PageList)>,
 }
 
 impl Model for Buffers {
@@ -37,7 +37,7 @@ impl Buffers {
     }
 
     /// Adds a buffer behind the others.
-    pub fn push(&mut self, key: u32, pages: Seq<u32>) -> Result<(), AllocError>
+    pub fn push(&mut self, key: u32, pages: PageList) -> Result<(), AllocError>
         ensures ok { OnOk result (self.new ≡ self.old ++ (key, pages) ∷ []) }
         ensures err { OnErr result (self.new ≡ self.old) }
     {
@@ -104,7 +104,7 @@ impl Buffers {
     }
 
     /// All of them, in two parts.
-    pub(crate) fn parts(&self) -> (&[(u32, Seq<u32>)], &[(u32, Seq<u32>)])
+    pub(crate) fn parts(&self) -> (&[(u32, PageList)], &[(u32, PageList)])
         ensures { result.0.now ++ result.1.now ≡ self.now }
     {
         self.pairs.as_slices()
@@ -112,7 +112,7 @@ impl Buffers {
 }
 
 /// Takes the buffer in this place away. Those on its shorter side move.
-fn remove_at(pairs: &mut VecDeque<(u32, Seq<u32>)>, index: usize)
+fn remove_at(pairs: &mut VecDeque<(u32, PageList)>, index: usize)
     requires { index < length pairs.old.items }
     ensures { pairs.new.items ≡ remove pairs.old.items index }
 {

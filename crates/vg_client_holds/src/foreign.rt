@@ -11,8 +11,8 @@ use crate::act::What;
 use crate::holds::Holds;
 use std::alloc::{AllocError, Global};
 use vg_formats::MemEntry;
-use vg_list::Seq;
 use vg_pages::page_address;
+use vg_share::PageList;
 
 /// The first page that entries name and that isn't one of the buffer of this key. It takes time in proportion to the
 /// number of entries and of all pages, however many pages the entries name.
@@ -89,7 +89,7 @@ fn own_pages(alloc: Global, holds: &Holds, key: u32) -> Result<Vec<bool>, AllocE
 }
 
 /// Marks the pages of each of these buffers that has this key.
-fn mark_pairs(own: &mut [bool], key: u32, pairs: &[(u32, Seq<u32>)])
+fn mark_pairs(own: &mut [bool], key: u32, pairs: &[(u32, PageList)])
     ensures { AreMarked own.old (λ page. list_any (has_page key page) pairs.now) own.new }
 {
     for pair in pairs {
@@ -98,7 +98,7 @@ fn mark_pairs(own: &mut [bool], key: u32, pairs: &[(u32, Seq<u32>)])
 }
 
 /// Marks the pages of a buffer, if it has this key.
-fn mark_pair(own: &mut [bool], key: u32, pair: &(u32, Seq<u32>))
+fn mark_pair(own: &mut [bool], key: u32, pair: &(u32, PageList))
     ensures { AreMarked own.old (λ page. has_page key page pair.now) own.new }
 {
     if pair.0 == key {

@@ -15,7 +15,9 @@ use std::alloc::{AllocError, Global};
 use vg_client_holds::{Act, ActReply, Holds};
 use vg_list::Seq;
 use vg_pages::Pages;
-use vg_share::{Geometry, Share, ShareRefusal, load, pages_of, remove_number, store_times};
+use vg_share::{
+    Geometry, PageList, Share, ShareRefusal, load, pages_of, remove_number, store_times,
+};
 
 impl Device {
     /// Does an act, and gives its reply twice. What the client holds changes with it.
@@ -130,7 +132,8 @@ impl Device {
             }));
         };
         let key = self.share.next_key();
-        let copy = list.as_slice().to_vec(alloc)?;
+        let list = PageList::from_vec(alloc, list)?;
+        let copy = list.share()?;
         reserve_held(
             alloc,
             &mut self.share,
@@ -138,7 +141,7 @@ impl Device {
             client,
             holds,
             &geometry,
-            list.as_slice(),
+            &list,
         )?;
         Ok((reserved(key, list), reserved(key, copy)))
     }
@@ -212,9 +215,9 @@ impl Device {
         ensures holds { IfOk result (λ twice. holds.new ≡ update holds.old (acts.Import token) twice.0) }
         ensures err { OnErr result ((self.new ≡ self.old) × (holds.new ≡ holds.old)) }
     {
-        let list = self.share.token_pages(token).to_vec(alloc)?;
-        let copy = list.as_slice().to_vec(alloc)?;
-        let own = Seq::from_vec(list.as_slice().to_vec(alloc)?);
+        let list = self.share.token_pages(alloc, token)?;
+        let copy = list.share()?;
+        let own = list.share()?;
         match import_held(&mut self.share, client, holds, token, own)? {
             Ok((key, geometry)) => {
                 Ok((imported(key, geometry, list), imported(key, geometry, copy)))
@@ -323,7 +326,7 @@ fn reserve_held(
     client: u32,
     holds: &mut Holds,
     geometry: &Geometry,
-    list: &[u32],
+    list: &PageList,
 ) -> Result<(), AllocError>
     requires share { SharesPages pages.old share.old }
     requires number { share.old.reserved < 2 ^ 32 - 1 }
@@ -335,8 +338,7 @@ fn reserve_held(
     ensures holds { OnOk result (holds.new ≡ record holds.old { buffers = holds.old.buffers ++ (share.old.reserved + 1, list.now) ∷ [] }) }
     ensures err { OnErr result ((share.new ≡ share.old) × (pages.new ≡ pages.old) × (holds.new ≡ holds.old)) }
 {
-    let own = list.to_vec(alloc)?;
-    holds.buffers.push(share.next_key(), Seq::from_vec(own))?;
+    holds.buffers.push(share.next_key(), list.share()?)?;
     let done = share.reserve(alloc, pages, client, geometry, list);
     if done.is_err() {
         holds.buffers.pop();
@@ -350,7 +352,7 @@ fn import_held(
     client: u32,
     holds: &mut Holds,
     token: u32,
-    pages: Seq<u32>,
+    pages: PageList,
 ) -> Result<Result<(u32, Geometry), ShareRefusal>, AllocError>
     ensures refused { IfOk result (λ done. IfErr done (λ refusal. import_refusal token share.old ≡ Some refusal)) }
     ensures kept { IfOk result (λ done. OnErr done ((share.new ≡ share.old) × (holds.new ≡ holds.old))) }
@@ -392,22 +394,19 @@ fn refused_twice(refusal: ShareRefusal) -> (ActReply, ActReply)
     (refused(refusal), refused(refusal))
 }
 
-fn reserved(key: u32, pages: Vec<u32>) -> ActReply
-    ensures { result ≡ act_replies.Reserved key pages.items }
+fn reserved(key: u32, pages: PageList) -> ActReply
+    ensures { result ≡ act_replies.Reserved key pages }
 {
-    ActReply::Reserved {
-        key,
-        pages: Seq::from_vec(pages),
-    }
+    ActReply::Reserved { key, pages }
 }
 
-fn imported(key: u32, geometry: Geometry, pages: Vec<u32>) -> ActReply
-    ensures { result ≡ act_replies.Imported key geometry pages.items }
+fn imported(key: u32, geometry: Geometry, pages: PageList) -> ActReply
+    ensures { result ≡ act_replies.Imported key geometry pages }
 {
     ActReply::Imported {
         key,
         geometry,
-        pages: Seq::from_vec(pages),
+        pages,
     }
 }
 

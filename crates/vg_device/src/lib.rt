@@ -22,4 +22,4 @@ pub use request::{Reply, Request};
 pub use vg_client_holds::{Act, ActReply, Buffers, Holds, Setup, What};
 pub use vg_resource::Resource;
 pub use vg_scanout::{Binding, Frame};
-pub use vg_share::{Geometry, ShareRefusal};
+pub use vg_share::{Geometry, PageList, ShareRefusal};

@@ -99,7 +99,7 @@ MemoryOf setup s = MemoryStands setup s.memory s.share
 memory_moves : (setup : Setup) → AllMoves (MemoryOf setup) (MemoryOf setup)
 memory_moves setup = record {
   count = λ s was. was;
-  commands = commands_leave (MemoryStands setup);
+  commands = commands_leave (λ memory share plugs. MemoryStands setup memory share);
   acts = record {
     stay = λ s was. was;
     reserve = λ s client geometry none was. stands-new setup s.memory s.share client geometry none was;

@@ -35,7 +35,7 @@ Stand s = ShareStands s.share
 pub moves_stand : AllMoves Stand Stand
 moves_stand = record {
   count = λ s was. was;
-  commands = commands_leave (λ memory share. ShareStands share);
+  commands = commands_leave (λ memory share plugs. ShareStands share);
   acts = record {
     stay = λ s was. was;
     reserve = λ s client geometry none was. stands-reserved client geometry (new_pages geometry.bytes s.memory) s.share was;
@@ -163,7 +163,7 @@ after-linked client holds s (entries.Act other call act reply) is stand linked =
     (λ apart. subst (λ (b : Bool). Linked client (cond b (update holds act reply) holds) now) (sym (ne_eqb other client apart))
     (linked-other client other holds (counted s) act apart stand linked))
 after-linked client holds s (entries.Command other call request reply) is stand linked =
-    request-kept (λ (state : State). Linked client holds state.share) (λ (state : State). Linked client holds state.share) Anything Anywhere (commands_leave (λ memory share. Linked client holds share)) s request (λ none. made_if _) linked
+    request-kept (λ (state : State). Linked client holds state.share) (λ (state : State). Linked client holds state.share) Anything Anywhere (commands_leave (λ memory share plugs. Linked client holds share)) s request (λ none. made_if _) linked
 
 linked-from : (client : ℕ) (holds : Holds) (s : State) (H : List Entry) → AgreesFrom s H → Stand s → Linked client holds s.share
     → Linked client (history.holds_after display client holds H) (replay_from s H).share

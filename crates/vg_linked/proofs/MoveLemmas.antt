@@ -290,8 +290,8 @@ pub replay-kept : (P Q : State → Type 0) → AllMoves P Q → (s : State) (H :
 replay-kept P Q moves s [] was = was
 replay-kept P Q moves s (entry ∷ rest) was = replay-kept P Q moves (after s entry) rest (after-kept P Q moves s entry was)
 
--- no command changes memory and the shares
-pub commands_leave : (P : Memory → ShareState → Type 0) → CommandMoves (λ s. P s.memory s.share) (λ s. P s.memory s.share) Anything Anywhere
+-- no command changes memory, the shares and what is plugged
+pub commands_leave : (P : Memory → ShareState → PlugState → Type 0) → CommandMoves (λ s. P s.memory s.share s.plugs) (λ s. P s.memory s.share s.plugs) Anything Anywhere
 commands_leave P = record {
   stay = λ s was. was;
   create = λ s id format width height known none made was. was;

@@ -13,7 +13,7 @@ use Rattle.vg_device.specs.State.{State, start}
 use Rattle.vg_device.specs.Step.{surface_of}
 use Rattle.vg_machine.specs.Entries.{Entry}
 use Rattle.vg_machine.specs.Replay.{replay}
-use Rattle.vg_linked.proofs.MoveLemmas.{AllMoves, acts_leave, replay-kept}
+use Rattle.vg_linked.proofs.MoveLemmas.{AllMoves, acts_leave, commands_leave, replay-kept}
 
 -- ---- the setup, screens and cursors
 
@@ -68,22 +68,7 @@ PlugsOf setup s = length s.plugs.modes ≡ length setup.displays
 plug_moves : (setup : Setup) → AllMoves (PlugsOf setup) (PlugsOf setup)
 plug_moves setup = record {
   count = λ s was. was;
-  commands = record {
-    stay = λ s was. was;
-    create = λ s id format width height known none made was. was;
-    unref = λ s id was. was;
-    bind = λ s rect scanout id resource none some is was. was;
-    bind_blob = λ s rect scanout id layout format none some is was. was;
-    unbind = λ s scanout was. was;
-    flush = λ s rect id was. was;
-    receive = λ s rect offset id resource none is was. was;
-    attach = λ s id ranges none made was. was;
-    detach = λ s id was. was;
-    assign = λ s id was. was;
-    create_blob = λ s id mem flags size ranges none made given was. was;
-    context = λ s now was. was;
-    point = λ s scanout change was. was;
-  };
+  commands = commands_leave (λ memory share plugs. length plugs.modes ≡ length setup.displays);
   acts = acts_leave (PlugsOf setup) (λ s memory share plugs many was. many ∙ was);
 }
 

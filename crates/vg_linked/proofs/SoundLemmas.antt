@@ -174,7 +174,7 @@ after-of setup before (entries.Command client call request reply) agrees may was
     let count = s.setup.pages in
     let holds = holds_of setup client before in
     let many : holds.pages ≡ count = (holds-of setup before client).2 ∙ ap (λ (now : Setup). now.pages) (sym (as-many setup before).setup_is) in
-    let same = request-kept (λ (state : State). state.share ≡ share) (λ (state : State). state.share ≡ share) Anything Anywhere (commands_leave (λ memory now. now ≡ share)) s request
+    let same = request-kept (λ (state : State). state.share ≡ share) (λ (state : State). state.share ≡ share) Anything Anywhere (commands_leave (λ memory now plugs. now ≡ share)) s request
     (λ none. made_if (command_of (header_of request.bytes).kind (drop 24 request.bytes))) refl
     in
     let large : (after s entry).setup.pages ≡ count =

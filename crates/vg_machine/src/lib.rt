@@ -22,4 +22,4 @@ pub use vg_client_holds::{
 pub use vg_device::{Device, Reply, Request};
 pub use vg_resource::Resource;
 pub use vg_scanout::{Binding, Frame};
-pub use vg_share::{Geometry, ShareRefusal};
+pub use vg_share::{Geometry, PageList, ShareRefusal};

@@ -3,3 +3,4 @@ pub mod SaidLemmas
 pub mod TextLemmas
 pub mod WordLemmas
 pub mod SumLemmas
+pub mod UpgradeLemmas

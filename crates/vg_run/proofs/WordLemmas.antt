@@ -12,7 +12,7 @@ use Rattle.vg_script_words.specs.Words.{is_number, value}
 use Rattle.vg_line_words.specs.Words.{number_of}
 use Rattle.vg_line_words.proofs.NumberLaws.{is_number-decimal, number_only}
 use Rattle.vg_run.specs.Headline.{IsRun}
-use Rattle.vg_run.specs.Checks.{IsCheck, IsOrigins}
+use Rattle.vg_run.specs.Checks.{IsCheck, IsOrigins, IsUpgrade}
 use Rattle.vg_run.specs.Generates.{IsGen, IsGenOfSome}
 
 -- a list of one, and of three
@@ -139,3 +139,6 @@ check-no-gen words n k e (small, low, high, same) = let both : 1 ≡ 5 = ap (λ 
 
 pub origins-no-gen : (words : List (List ℕ)) (n k : ℕ) → IsOrigins words → IsGen words n k → ⊥
 origins-no-gen words n k e (small, low, high, same) = let both : 1 ≡ 5 = ap (λ (ws : List (List ℕ)). length ws) (sym e ∙ same) in absurd (omega (arith, both))
+
+pub upgrade-no-gen : (words : List (List ℕ)) (n k : ℕ) → IsUpgrade words → IsGen words n k → ⊥
+upgrade-no-gen words n k e (small, low, high, same) = let both : 1 ≡ 5 = ap (λ (ws : List (List ℕ)). length ws) (sym e ∙ same) in absurd (omega (arith, both))

@@ -19,13 +19,21 @@ IsCheck words = words ≡ codes "check" ∷ []
 abbrev pub IsOrigins : List (List ℕ) → Type 0
 IsOrigins words = words ≡ codes "origins" ∷ []
 
+-- They are `upgrade`.
+abbrev pub IsUpgrade : List (List ℕ) → Type 0
+IsUpgrade words = words ≡ codes "upgrade" ∷ []
+
+-- They are those of a command that reads a journal and judges it.
+abbrev pub JudgesJournal : List (List ℕ) → Type 0
+JudgesJournal words = IsCheck words ⊎ IsOrigins words
+
 -- They are those of a command that reads a journal.
 abbrev pub ReadsJournal : List (List ℕ) → Type 0
-ReadsJournal words = IsCheck words ⊎ IsOrigins words
+ReadsJournal words = IsCheck words ⊎ IsOrigins words ⊎ IsUpgrade words
 
 -- They are those of a command.
 abbrev pub IsCommand : List (List ℕ) → Type 0
-IsCommand words = IsRun words ⊎ IsCheck words ⊎ IsGenOfSome words ⊎ IsOrigins words
+IsCommand words = IsRun words ⊎ IsCheck words ⊎ IsGenOfSome words ⊎ IsOrigins words ⊎ IsUpgrade words
 
 -- No more bytes than a journal may have that is read.
 abbrev pub IsCheckable : List ℕ → Type 0

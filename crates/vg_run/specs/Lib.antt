@@ -1,6 +1,7 @@
 pub mod Headline
 pub mod Checks
 pub mod Origins
+pub mod Upgrade
 pub mod Generates
 pub mod Status
 pub mod Asked

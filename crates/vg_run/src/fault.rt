@@ -9,7 +9,7 @@ use thiserror::Error;
 /// Why a call didn't end well.
 #[derive(Clone, Copy, Debug, PartialEq, Eq, Error)]
 pub enum Fault {
-    #[error("usage: vgpu run | run --workers N | check | gen --number N --clients C | origins")]
+    #[error("usage: vgpu run | run --workers N | check | gen --number N --clients C | origins | upgrade")]
     Usage,
     #[error("script line {line}: {kind}")]
     Script { line: u32, kind: Kind },

@@ -1,6 +1,6 @@
 //! The program's one call: a script is read, its clients run, and the journal is written; or a journal is read, and it is said
-//! whether it is that of a legal history, or whose bytes its frames have; or a workload is made and run, and it is said what came
-//! of it.
+//! whether it is that of a legal history, or whose bytes its frames have, or it is written with the queues of version 2; or a workload
+//! is made and run, and it is said what came of it.
 #![tactic(auto)]
 
 mod check_command;
@@ -10,6 +10,7 @@ mod journals;
 mod origins_command;
 mod run_command;
 mod top;
+mod upgrade_command;
 mod words;
 
 pub use fault::{Fault, Kind, code_of, fault_of};

@@ -1,11 +1,11 @@
 //! The command `origins`: whose bytes a journal's frames have.
 
-ghost use Rattle.std.specs.Prelude.{◌≡◌, IfOk, IfErr};
+ghost use Rattle.std.specs.Prelude.{◌≡◌, ◌≤◌, length, IfOk, IfErr};
 ghost use Rattle.vg_journal_lines.specs.Refusals.{IsRefusedAt};
 ghost use Rattle.vg_run.specs.declared.journals.Question.TheVariants.{Origins};
 ghost use Rattle.vg_run.specs.Checks.{IsCheckable};
 ghost use Rattle.vg_run.specs.Origins.{found_text};
-ghost use Rattle.vg_run.specs.JournalsWithin.{EndsFound, Says, status_of_origins};
+ghost use Rattle.vg_run.specs.JournalsWithin.{EndsFound, Says, written, status_of_origins};
 
 use crate::journals::{Said, wrong_line};
 use crate::top::Status;
@@ -13,17 +13,20 @@ use std::alloc::{AllocError, Global};
 use vg_tracing::{Found, origins, origins_text};
 
 /// What `origins` says of the journal that these bytes are, or the line at which they are none.
+#[tactic(auto, using(crate::proofs::SaidLemmas::no_rest))]
 pub(crate) fn say_origins(alloc: Global, bytes: &[u8]) -> Result<Result<Said, u32>, AllocError>
     requires { IsCheckable bytes.now }
-    ensures says { IfOk result (λ read. IfOk read (λ said. Says Origins bytes.now said.end said.text.items)) }
+    ensures says { IfOk result (λ read. IfOk read (λ said. Says Origins bytes.now said.end (written said.text.items said.rest bytes.now))) }
     ensures ends { IfOk result (λ read. IfOk read (λ said. EndsFound said.end)) }
+    ensures inside { IfOk result (λ read. IfOk read (λ said. said.rest ≤ length bytes.now)) }
     ensures refused { IfOk result (λ read. IfErr read (IsRefusedAt bytes.now)) }
 {
     match origins(alloc, bytes)? {
         Ok(found) => {
             let text = text_of(alloc, &found)?;
             let end = status_of(&found);
-            Ok(Ok(Said { text, end }))
+            let rest = bytes.len();
+            Ok(Ok(Said { text, rest, end }))
         }
         Err(line) => Ok(Err(line)),
     }

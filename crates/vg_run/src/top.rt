@@ -5,9 +5,10 @@ ghost use Rattle.vg_io.specs.Streams.{GivesUpTo, Rose};
 ghost use Rattle.vg_script.specs.Grammar.{Faulty};
 ghost use Rattle.vg_journal_lines.specs.Refusals.{IsRefusedAt};
 ghost use Rattle.vg_run.specs.Headline.{IsRun, IsWithin, Runs, RunsNotToItsEnd, RunsPartly};
-ghost use Rattle.vg_run.specs.Checks.{Checks, ChecksPartly, ChecksWrong, IsCheck, IsCheckable, IsCommand, IsOrigins, ReadsJournal};
+ghost use Rattle.vg_run.specs.Checks.{Checks, ChecksPartly, ChecksWrong, IsCheck, IsCheckable, IsCommand, IsOrigins, IsUpgrade, JudgesJournal, ReadsJournal};
 ghost use Rattle.vg_run.specs.Generates.{IsGen, IsGenOfSome, Sums, SumsPartly};
 ghost use Rattle.vg_run.specs.Origins.{Tells, TellsPartly};
+ghost use Rattle.vg_run.specs.Upgrade.{Upgrades, UpgradesPartly};
 ghost use Rattle.vg_run.specs.Status.{EndsGen, IsFaultless};
 ghost use Rattle.vg_limits.specs.Limits.{version_2};
 
@@ -25,7 +26,8 @@ use vg_worker::Gate;
 /// How a call of the program ended.
 #[derive(Clone, Copy, Debug, PartialEq, Eq)]
 pub enum Status {
-    /// The journal is written, or that it is one of a legal history, or whose bytes its frames have, or the sums of a workload.
+    /// The journal is written, of a run or with the queues of version 2, or that it is one of a legal history, or whose bytes its frames
+    /// have, or the sums of a workload.
     Done,
     /// The journal isn't that of a legal history: this entry, counted from 1, is the first that isn't right, or with 0 something
     /// behind the entries. That is written.
@@ -50,7 +52,8 @@ pub enum Status {
 /// two workers of the device, or as many as `--workers` says, and writes the journal to `sink`. Workers pass the gate with each
 /// command that they take. `check` reads a journal from `source`, and writes to `sink` whether it is that of a legal history. `gen`
 /// makes a workload (vg_gen), runs it beside two workers, and writes its summary to `sink`: six lines, of a name and a number each.
-/// `origins` reads a journal, and where it is that of a legal history writes which clients stored the bytes of each frame.
+/// `origins` reads a journal, and where it is that of a legal history writes which clients stored the bytes of each frame. `upgrade`
+/// reads a journal of either version, and writes the same with the queues of version 2; it doesn't judge it.
 ///
 /// At most one byte past the longest script, or journal, is taken from the source. After want of memory nothing, or
 /// a front of the journal that isn't all of it, is written.
@@ -76,7 +79,14 @@ pub fn vgpu<R: Threads + Wait + Sync, S: Source, K: Sink, G: Gate>(
     // the lines that say for each frame which clients stored the bytes that it shows.
     ensures done_origins { IsOrigins (map string_bytes words.now) → result ≡ Status.Done
         → Tells (S.left source.old) (S.left source.new) (K.held sink.old) (K.held sink.new) }
-    ensures wrong { (entry : ℕ) → result ≡ Status.Wrong entry → ReadsJournal (map string_bytes words.now)
+
+    // The source was read to its end; its bytes are a journal, within the limit; and what the sink took is the text of the same journal
+    // with the queues of version 2.
+    ensures done_upgrade { IsUpgrade (map string_bytes words.now) → result ≡ Status.Done
+        → Upgrades (S.left source.old) (S.left source.new) (K.held sink.old) (K.held sink.new) }
+
+    // Only the commands that judge a journal have this answer, and `upgrade` never has it.
+    ensures wrong { (entry : ℕ) → result ≡ Status.Wrong entry → JudgesJournal (map string_bytes words.now)
         × ChecksWrong entry (S.left source.old) (S.left source.new) (K.held sink.old) (K.held sink.new) }
 
     // What the sink took is the summary of one history that is legal for the workload's script, with the numbers that the words say.
@@ -105,6 +115,8 @@ pub fn vgpu<R: Threads + Wait + Sync, S: Source, K: Sink, G: Gate>(
         × ChecksPartly (S.left source.old) (S.left source.new) (K.held sink.old) (K.held sink.new) }
     ensures write_fault_origins { IsOrigins (map string_bytes words.now) → result ≡ Status.WriteFault → Rose (K.faults sink.old) (K.faults sink.new)
         × TellsPartly (S.left source.old) (S.left source.new) (K.held sink.old) (K.held sink.new) }
+    ensures write_fault_upgrade { IsUpgrade (map string_bytes words.now) → result ≡ Status.WriteFault → Rose (K.faults sink.old) (K.faults sink.new)
+        × UpgradesPartly (S.left source.old) (S.left source.new) (K.held sink.old) (K.held sink.new) }
     ensures write_fault_gen { (number clients : ℕ) → IsGen (map string_bytes words.now) number clients → result ≡ Status.WriteFault
         → Rose (K.faults sink.old) (K.faults sink.new) × SumsPartly number clients (K.held sink.old) (K.held sink.new) }
     ensures no_memory { IsRun (map string_bytes words.now) → result ≡ Status.NoMemory → (sink.new ≡ sink.old)
@@ -131,6 +143,7 @@ pub fn vgpu<R: Threads + Wait + Sync, S: Source, K: Sink, G: Gate>(
         Some(Command::Run { workers }) => run_from(rt, alloc, workers, source, sink, gate),
         Some(Command::Check) => answer_from(alloc, Question::Check, source, sink),
         Some(Command::Origins) => answer_from(alloc, Question::Origins, source, sink),
+        Some(Command::Upgrade) => answer_from(alloc, Question::Upgrade, source, sink),
         Some(Command::Gen { number, clients }) => gen_from(rt, alloc, number, clients, sink, gate),
         None => Status::Usage,
     }

@@ -3,7 +3,7 @@
 ghost use Rattle.std.specs.Prelude.{◌≡◌, ◌≤◌, ◌<◌, ◌+◌, ◌^◌, ◌↔◌, ℕ, [], ◌∷◌, map, string_bytes, decimal, IsTrue, MatchOption};
 ghost use Rattle.vg_run.specs.Asked.{IsAsked};
 ghost use Rattle.vg_run.specs.Headline.{IsRun};
-ghost use Rattle.vg_run.specs.Checks.{IsCheck, IsCommand, IsOrigins};
+ghost use Rattle.vg_run.specs.Checks.{IsCheck, IsCommand, IsOrigins, IsUpgrade};
 ghost use Rattle.vg_run.specs.Generates.{IsGen, IsGenOfSome};
 
 use vg_script_words::is_number;
@@ -19,11 +19,13 @@ pub enum Command {
     Gen { number: u64, clients: u32 },
     /// To say of a journal whose bytes its frames have.
     Origins,
+    /// To write a journal with the queues of version 2.
+    Upgrade,
 }
 
 /// What the words after the program's name ask for: `run`, `run --workers N` (2 where the words don't say), `check`,
-/// `gen --number N --clients C`, in this order, or `origins`. Numbers are decimal digits without a sign and without a leading zero. None where the
-/// words are others.
+/// `gen --number N --clients C`, in this order, `origins`, or `upgrade`. Numbers are decimal digits without a sign and without a leading
+/// zero. None where the words are others.
 pub fn command_of(words: &[String]) -> Option<Command>
     ensures { MatchOption result (¬ IsCommand (map string_bytes words.now)) (IsAsked (map string_bytes words.now)) }
 {
@@ -32,6 +34,9 @@ pub fn command_of(words: &[String]) -> Option<Command>
     }
     if is_origins(words) {
         return Some(Command::Origins);
+    }
+    if is_upgrade(words) {
+        return Some(Command::Upgrade);
     }
     if let Some((number, clients)) = numbers_of(words) {
         return Some(Command::Gen { number, clients });
@@ -146,6 +151,22 @@ fn is_origins_word(word: &str) -> bool
     ensures { IsTrue result ↔ IsOrigins (word.now ∷ []) }
 {
     word == "origins"
+}
+
+/// Whether the words are `upgrade` alone.
+fn is_upgrade(words: &[String]) -> bool
+    ensures { IsTrue result ↔ IsUpgrade (map string_bytes words.now) }
+{
+    match words {
+        [word] => is_upgrade_word(word.as_str()),
+        _ => false,
+    }
+}
+
+fn is_upgrade_word(word: &str) -> bool
+    ensures { IsTrue result ↔ IsUpgrade (word.now ∷ []) }
+{
+    word == "upgrade"
 }
 
 /// How many workers the words ask for, which are `run` or `run --workers N`: N, from 1 to 8, and 2 where it is absent. None where

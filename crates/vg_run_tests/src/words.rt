@@ -16,7 +16,7 @@ static CLIENTS: [&str; 16] = [
 /// Some of the numbers that there may be, with the least and the greatest.
 static NUMBERS: [u64; 6] = [0, 7, 10, 4_294_967_296, 9_223_372_036_854_775_808, u64::MAX];
 
-/// The four commands, as clap is told of them.
+/// The five commands, as clap is told of them.
 fn commands<'a>(alloc: Global) -> Result<Command<'a>, AllocError> {
     let workers = Arg::new(alloc, "workers")
         .long("workers")
@@ -35,7 +35,8 @@ fn commands<'a>(alloc: Global) -> Result<Command<'a>, AllocError> {
         .subcommand(Command::new(alloc, "run").arg(workers)?)?
         .subcommand(Command::new(alloc, "check"))?
         .subcommand(Command::new(alloc, "gen").arg(number)?.arg(clients)?)?
-        .subcommand(Command::new(alloc, "origins"))
+        .subcommand(Command::new(alloc, "origins"))?
+        .subcommand(Command::new(alloc, "upgrade"))
 }
 
 /// What clap makes of the words. None where it refuses them.
@@ -52,6 +53,7 @@ fn asked(matches: &ArgMatches<'_>) -> Option<Asked> {
     match name {
         "check" => Some(Asked::Check),
         "origins" => Some(Asked::Origins),
+        "upgrade" => Some(Asked::Upgrade),
         "run" => Some(Asked::Run {
             workers: found.get_one("workers").unwrap_or(2),
         }),
@@ -85,8 +87,10 @@ fn words_of_run_and_of_what_reads_journals(rt: HostRuntime) -> Result<(), Fail> 
     let check = Some(Asked::Check);
     let two = Some(Asked::Run { workers: 2 });
     let origins = Some(Asked::Origins);
+    let upgrade = Some(Asked::Upgrade);
     assert_eq!(rt; by_both(rt.alloc(), &["check"])?, (check, check));
     assert_eq!(rt; by_both(rt.alloc(), &["origins"])?, (origins, origins));
+    assert_eq!(rt; by_both(rt.alloc(), &["upgrade"])?, (upgrade, upgrade));
     assert_eq!(rt; by_both(rt.alloc(), &["run"])?, (two, two));
     for (at, said) in WORKERS.iter().enumerate() {
         let workers = Some(Asked::Run {
@@ -171,10 +175,11 @@ fn words_that_clap_alone_reads(rt: HostRuntime) -> Result<(), Fail> {
 }
 
 /// Words that both read.
-static FORMS: [&[&str]; 5] = [
+static FORMS: [&[&str]; 6] = [
     &["run"],
     &["check"],
     &["origins"],
+    &["upgrade"],
     &["run", "--workers", "3"],
     &["gen", "--number", "7", "--clients", "3"],
 ];

@@ -47,7 +47,7 @@ pub record IsLineCall (displays count : ℕ) (call : Call) : Type 0 where
   pub gives_one : IsLabel count (gives call)
   pub waits_one : IsLabel count (waits call)
 
--- A client has at most so many lines, each within its limits.
+-- A client has at most so many lines, each within its limits, and there is no host beside it.
 abbrev pub AreInLimits : Setup → ℕ → List Line → Type 0
 AreInLimits setup count lines = (length setup.displays ≤ 16) × (length lines ≤ 100000) × All (λ line. IsLineCall (length setup.displays) count line.call) lines
     × (setup.host ≡ false)

@@ -5,8 +5,10 @@
 mod cells;
 mod holders;
 mod lists;
+mod page_list;
 mod share;
 
 pub use cells::{load, pages_of, store_times};
 pub use lists::remove_number;
+pub use page_list::PageList;
 pub use share::{Buffer, Geometry, Share, ShareRefusal};

@@ -10,6 +10,7 @@ ghost use Rattle.vg_share.specs.Cells.{pages_of};
 ghost use Rattle.vg_share.specs.Share.{SharesPages, buffer_at, drop_refusal, ended, entered, export_refusal, exported, exported_key, free_refusal, freed, geometry_at, geometry_in, given_back, has_entered, has_holder, holds_once, import_refusal, imported, imported_buffer, imported_entries, some_hold, is_holder, is_leased, leased, new_buffer, pages_at, place_refusal, release_refusal, released, released_buffer, released_entries, some_holder, take_refusal, token_key, unleased, with_buffer};
 
 use crate::holders::{add_hold, holds_in, some_hold, take_hold};
+use crate::page_list::PageList;
 use std::alloc::{AllocError, Global};
 use std::collections::BTreeMap;
 use std::marker::Model;
@@ -50,7 +51,7 @@ pub struct Geometry {
 pub struct Buffer {
     pub geometry: Geometry,
     /// Its guest pages, rising.
-    pub pages: Seq<u32>,
+    pub pages: PageList,
     /// The clients that hold it, each with how many holds it has, which are none where it has given up all.
     pub holders: Seq<(u32, u64)>,
     /// The client that takes it down.
@@ -109,7 +110,7 @@ impl Share {
         pages: &mut Pages,
         client: u32,
         geometry: &Geometry,
-        list: &[u32],
+        list: &PageList,
     ) -> Result<(), AllocError>
         requires share { SharesPages pages.old self.old }
         requires number { self.old.reserved < 2 ^ 32 - 1 }
@@ -124,7 +125,7 @@ impl Share {
         let buffer = new_buffer(alloc, client, geometry, list)?;
         self.buffers.insert(key, buffer)?;
         self.reserved = key;
-        pages.take_these(list);
+        pages.take_these(list.as_slice());
         Ok(())
     }
 
@@ -213,13 +214,13 @@ impl Share {
         }
     }
 
-    /// The pages of a token's buffer, rising; none where there is no such buffer.
-    pub fn token_pages(&self, token: u32) -> &[u32]
-        ensures { result.now ≡ pages_at (token_key token self.now) self.now }
+    /// The pages of a token's buffer, rising, in the buffer's own list; none where there is no such buffer.
+    pub fn token_pages(&self, alloc: Global, token: u32) -> Result<PageList, AllocError>
+        ensures { IfOk result (λ list. list ≡ pages_at (token_key token self.now) self.now) }
     {
         match self.buffers.get(&self.token_key(token)) {
-            Some(buffer) => buffer.pages.as_slice(),
-            None => &[],
+            Some(buffer) => buffer.pages.share(),
+            None => PageList::from_vec(alloc, Vec::new(alloc)),
         }
     }
 
@@ -466,11 +467,11 @@ fn new_buffer(
     alloc: Global,
     client: u32,
     geometry: &Geometry,
-    pages: &[u32],
+    list: &PageList,
 ) -> Result<Buffer, AllocError>
-    ensures { IfOk result (λ buffer. buffer ≡ new_buffer client geometry.now pages.now) }
+    ensures { IfOk result (λ buffer. buffer ≡ new_buffer client geometry.now list.now) }
 {
-    let pages = Seq::from_vec(pages.to_vec(alloc)?);
+    let pages = list.share()?;
     let holders = Seq::from_vec(vec![in alloc; (client, 1)]?);
     Ok(Buffer {
         geometry: *geometry,

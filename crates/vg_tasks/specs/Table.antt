@@ -89,7 +89,7 @@ load_task key offset n = act_task (acts.Load key offset n)
 abbrev pub offset_of : ℕ → ℕ → ℕ → ℕ
 offset_of width x y = min (4 * (width * y + x)) (2 ^ 64 - 1)
 
--- A transfer takes each pixel from its own place in the buffer.
+-- A transfer takes each pixel from its own place in the buffer; a blob has a width of 0.
 abbrev pub send_on : Way → Held → Rect → Task
 send_on way held rect = command_task way (TwoD (commands.Transfer rect (offset_of held.width rect.x rect.y) held.key)) Nothing
 

@@ -18,7 +18,7 @@ use Rattle.vg_tasks.specs.declared.task.Task.{Task}
 use Rattle.vg_tasks.specs.Known.{Known}
 use Rattle.vg_names.specs.Names.{NamesState, found, has_one_name}
 use Rattle.vg_names.specs.Contexts.{ContextsState, is_current}
-use Rattle.vg_tasks.specs.Table.{attach_context_task, begun_way, clear_task, cursor_task, detach_context_task, drop_task, edid_task, end_context_task, export_task, flush_on, flush_task, hide_cursor_task, hide_task, import_task, info_on, info_task, load_task, make_context_task, move_task, no_import_task, no_rect, raw_task, release_task, reserve_blob_task, reserve_task, send_on, send_task, show_blob_task, show_task, store_task, submit_task, take_task, uuid_task, wait_task}
+use Rattle.vg_tasks.specs.Table.{attach_context_task, begun_way, clear_task, cursor_task, detach_context_task, drop_task, edid_task, end_context_task, export_task, flush_on, flush_task, hide_cursor_task, hide_task, import_task, info_on, info_task, load_task, make_context_task, move_task, no_import_task, raw_task, release_task, reserve_blob_task, reserve_task, send_on, send_task, show_blob_task, show_task, store_task, submit_task, take_task, uuid_task, wait_task}
 
 -- The tasks of a call on a name: where the name isn't current the call is denied for it.
 abbrev pub if_current : Option Held → (Held → List Task) → Result (List Task) What
@@ -32,15 +32,7 @@ with_held names name tasks = if_current (found name.number names) tasks
 abbrev pub with_context : ContextsState → ContextRef → Result (List Task) What → Result (List Task) What
 with_context contexts context tasks = if is_current context.number contexts then tasks else Err Name
 
--- A blob has no pixels: its name has no width and no height.
-abbrev pub is_blob : Held → Bool
-is_blob held = held.width == 0 && held.height == 0
-
--- The rectangle that is sent of a buffer: of a blob one without pixels.
-abbrev pub sent_of : Held → Rect → Rect
-sent_of held rect = if is_blob held then no_rect else rect
-
--- The whole of a buffer.
+-- The whole of a buffer: of a blob, which has no width and no height, a rectangle without pixels.
 abbrev pub whole_of : Held → Rect
 whole_of held = record { x = 0; y = 0; width = held.width; height = held.height }
 
@@ -89,7 +81,7 @@ on_timeline contexts timeline tasks = if is_timeline contexts timeline then task
 -- What a begun command is: one task, which goes this way.
 abbrev pub body_tasks : Known → Way → Body → Result (List Task) What
 body_tasks known way bodies.Info = Ok (info_on way ∷ [])
-body_tasks known way (bodies.Send name rect) = with_held known.names name (λ held. send_on way held (sent_of held rect) ∷ [])
+body_tasks known way (bodies.Send name rect) = with_held known.names name (λ held. send_on way held rect ∷ [])
 body_tasks known way (bodies.Flush name rect) = with_held known.names name (λ held. flush_on way held.key rect ∷ [])
 body_tasks known way (bodies.Submit context ring) = with_context known.contexts context (Ok (submit_task known.holds.client context.number ring ∷ []))
 
@@ -107,7 +99,7 @@ tasks_of known (calls.Buffer width height format) = Ok (reserve_task width heigh
 tasks_of known (calls.Blob size) = Ok (reserve_blob_task size ∷ [])
 tasks_of known (calls.Store name offset bytes times) = with_held known.names name (λ held. store_task held.key offset bytes times ∷ [])
 tasks_of known (calls.Load name offset n) = with_held known.names name (λ held. load_task held.key offset n ∷ [])
-tasks_of known (calls.Send name rect) = with_held known.names name (λ held. send_task held (sent_of held rect) ∷ [])
+tasks_of known (calls.Send name rect) = with_held known.names name (λ held. send_task held rect ∷ [])
 tasks_of known (calls.Flush name rect) = with_held known.names name (λ held. flush_task held.key rect ∷ [])
 tasks_of known (calls.Take scanout) = Ok (take_task scanout ∷ [])
 tasks_of known (calls.Drop scanout) = drop_tasks known.holds scanout

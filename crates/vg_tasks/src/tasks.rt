@@ -85,7 +85,7 @@ pub fn tasks_of(
             length,
         } => with_held!(names, name, held => one(alloc, load_task(held.key, offset, length))),
         Call::Send { name, rect } => {
-            with_held!(names, name, held => one(alloc, send_task(held, sent_of(held, rect))))
+            with_held!(names, name, held => one(alloc, send_task(held, rect)))
         }
         Call::Flush { name, rect } => {
             with_held!(names, name, held => one(alloc, flush_task(held.key, rect)))
@@ -196,7 +196,7 @@ fn begun_tasks(
         Body::Info => one(alloc, info_on(way)),
         Body::Send { name, rect } => with_held!(names, name, held => one(
             alloc,
-            send_on(way, held, sent_of(held, rect)),
+            send_on(way, held, rect),
         )),
         Body::Flush { name, rect } => {
             with_held!(names, name, held => one(alloc, flush_on(way, held.key, rect)))
@@ -277,22 +277,6 @@ fn three(
     tasks.push(second)?;
     tasks.push(third)?;
     Ok(Ok(tasks))
-}
-
-/// The rectangle that is sent of a buffer: of a blob one without pixels.
-fn sent_of(held: Held, rect: Rect) -> Rect
-    ensures { result ≡ plan.sent_of held rect }
-{
-    if held.width == 0 && held.height == 0 {
-        Rect {
-            x: 0,
-            y: 0,
-            width: 0,
-            height: 0,
-        }
-    } else {
-        rect
-    }
 }
 
 /// The whole of a buffer.

@@ -7,7 +7,7 @@ ghost use Rattle.vg_share.specs.Share.{SharesPages};
 use std::alloc::Global;
 use std::test::Fail;
 use vg_pages::Pages;
-use vg_share::{Geometry, Share, ShareRefusal};
+use vg_share::{Geometry, PageList, Share, ShareRefusal};
 
 /// Memory of three pages and two scanouts, and buffer 1 of one page, which client 1 holds.
 fn one_buffer(alloc: Global) -> Result<(Pages, Share), Fail>
@@ -23,7 +23,8 @@ fn one_buffer(alloc: Global) -> Result<(Pages, Share), Fail>
         bytes: 4,
     };
     let list = pages.lowest(alloc, 1)?.ok_or("no page is free")?;
-    share.reserve(alloc, &mut pages, 1, &geometry, list.as_slice())?;
+    let list = PageList::from_vec(alloc, list)?;
+    share.reserve(alloc, &mut pages, 1, &geometry, &list)?;
     Ok((pages, share))
 }
 

@@ -1,6 +1,6 @@
 use Rattle.std.proofs.Common.{rules, inl, inr, map, string_bytes, subst}
 use Rattle.vg_run.specs.Headline.{IsRun}
-use Rattle.vg_run.specs.Checks.{IsCheck, IsOrigins}
+use Rattle.vg_run.specs.Checks.{IsCheck, IsOrigins, IsUpgrade}
 use Rattle.vg_run.specs.Generates.{IsGen, Sums, SumsPartly}
 use Rattle.vg_run.proofs.WordLemmas.{gen-once}
 use Rattle.vg_run.proofs.top.vgpu.Goals as goal
@@ -31,7 +31,16 @@ pub returns-in-Some-Origins-clause-journal : goal.returns-in-Some-Origins-clause
 returns-in-Some-Origins-clause-journal g c = λ line is.
     let asked : IsOrigins (map string_bytes c.args.words.now) = search rules in
     let told = c.answer_from-in-Some-Origins.ensures.journal line is in
-    (inr asked, told.0, told.1)
+    (inr (inl asked), told.0, told.1)
+
+pub returns-in-Some-Upgrade-clause-wrong : goal.returns-in-Some-Upgrade-clause-wrong
+returns-in-Some-Upgrade-clause-wrong g c = λ entry is. absurd (c.answer_from-in-Some-Upgrade.ensures.judges entry is)
+
+pub returns-in-Some-Upgrade-clause-journal : goal.returns-in-Some-Upgrade-clause-journal
+returns-in-Some-Upgrade-clause-journal g c = λ line is.
+    let asked : IsUpgrade (map string_bytes c.args.words.now) = search rules in
+    let told = c.answer_from-in-Some-Upgrade.ensures.journal line is in
+    (inr (inr asked), told.0, told.1)
 
 pub returns-in-Some-Gen-clause-done_gen : goal.returns-in-Some-Gen-clause-done_gen
 returns-in-Some-Gen-clause-done_gen g c = λ number clients is done.
