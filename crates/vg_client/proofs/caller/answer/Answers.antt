@@ -1,4 +1,4 @@
-use Rattle.std.proofs.Common.{◌≡◌, Some, refl, subst, sym}
+use Rattle.std.proofs.Common.{◌≡◌, refl, subst, sym}
 use Rattle.vg_laws.proofs.Results.{err_then}
 use Rattle.vg_calls.specs.declared.call.Call.{Call}
 use Rattle.vg_calls.specs.declared.call.Call.TheVariants as calls
@@ -8,34 +8,6 @@ use Rattle.vg_client.specs.Steps.{HasAnswered}
 use Rattle.vg_client.proofs.PlayLemmas.{map_ok}
 use Rattle.vg_client.proofs.StepLemmas.{told-answers, told-left-off}
 use Rattle.vg_client.proofs.caller.answer.Goals as goal
-
-pub returns-in-Await-default-Some-clause-done : goal.returns-in-Await-default-Some-clause-done
-returns-in-Await-default-Some-clause-done g c =
-    let is : c.args.call ≡ calls.Await c.in-Await-default-Some.label (Some c.in-Await-default-Some.fence) = c.in-Await-default-Some.is in
-    map_ok c.tell_fence.result
-    (λ played told. subst (λ (k : Call). HasAnswered k c.args.client.now played c.tell_fence.new.client) (sym is) (told-answers c.args.client.now (calls.Await c.in-Await-default-Some.label (Some c.in-Await-default-Some.fence)) (acts.Await c.in-Await-default-Some.fence.lane c.in-Await-default-Some.fence.ordinal) played c.tell_fence.new.client refl refl refl tt told))
-    c.tell_fence.ensures.done
-
-pub returns-in-Await-default-Some-clause-begun : goal.returns-in-Await-default-Some-clause-begun
-returns-in-Await-default-Some-clause-begun g c =
-    let is : c.args.call ≡ calls.Await c.in-Await-default-Some.label (Some c.in-Await-default-Some.fence) = c.in-Await-default-Some.is in
-    err_then _
-    (λ stood. subst (λ (k : Call). HasLeftOff c.args.client.now k c.tell_fence.new.client) (sym is) (told-left-off c.args.client.now (calls.Await c.in-Await-default-Some.label (Some c.in-Await-default-Some.fence)) (acts.Await c.in-Await-default-Some.fence.lane c.in-Await-default-Some.fence.ordinal) c.tell_fence.new.client c.requires.ready c.requires.out tt refl stood))
-    c.tell_fence.ensures.begun
-
-pub returns-in-Sync-default-Some-clause-done : goal.returns-in-Sync-default-Some-clause-done
-returns-in-Sync-default-Some-clause-done g c =
-    let is : c.args.call ≡ calls.Sync c.in-Sync-default-Some.label (Some c.in-Sync-default-Some.number) = c.in-Sync-default-Some.is in
-    map_ok c.tell.result
-    (λ played told. subst (λ (k : Call). HasAnswered k c.args.client.now played c.tell.new.client) (sym is) (told-answers c.args.client.now (calls.Sync c.in-Sync-default-Some.label (Some c.in-Sync-default-Some.number)) (acts.Sync c.in-Sync-default-Some.number) played c.tell.new.client refl refl refl tt told))
-    c.tell.ensures.done
-
-pub returns-in-Sync-default-Some-clause-begun : goal.returns-in-Sync-default-Some-clause-begun
-returns-in-Sync-default-Some-clause-begun g c =
-    let is : c.args.call ≡ calls.Sync c.in-Sync-default-Some.label (Some c.in-Sync-default-Some.number) = c.in-Sync-default-Some.is in
-    err_then _
-    (λ stood. subst (λ (k : Call). HasLeftOff c.args.client.now k c.tell.new.client) (sym is) (told-left-off c.args.client.now (calls.Sync c.in-Sync-default-Some.label (Some c.in-Sync-default-Some.number)) (acts.Sync c.in-Sync-default-Some.number) c.tell.new.client c.requires.ready c.requires.out tt refl stood))
-    c.tell.ensures.begun
 
 pub returns-in-Mode-clause-done : goal.returns-in-Mode-clause-done
 returns-in-Mode-clause-done g c =
