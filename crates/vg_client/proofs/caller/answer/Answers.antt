@@ -12,16 +12,16 @@ use Rattle.vg_client.proofs.caller.answer.Goals as goal
 pub returns-in-Mode-clause-done : goal.returns-in-Mode-clause-done
 returns-in-Mode-clause-done g c =
     let is : c.args.call ≡ calls.Mode c.in-Mode.scanout c.in-Mode.width c.in-Mode.height c.in-Mode.label = c.in-Mode.is in
-    map_ok c.tell-in-Mode.result
-    (λ played told. subst (λ (k : Call). HasAnswered k c.args.client.now played c.tell-in-Mode.new.client) (sym is) (told-answers c.args.client.now (calls.Mode c.in-Mode.scanout c.in-Mode.width c.in-Mode.height c.in-Mode.label) (acts.Mode c.in-Mode.scanout c.in-Mode.width c.in-Mode.height) played c.tell-in-Mode.new.client refl refl refl tt told))
-    c.tell-in-Mode.ensures.done
+    map_ok c.tell.result
+    (λ played told. subst (λ (k : Call). HasAnswered k c.args.client.now played c.tell.new.client) (sym is) (told-answers c.args.client.now (calls.Mode c.in-Mode.scanout c.in-Mode.width c.in-Mode.height c.in-Mode.label) (acts.Mode c.in-Mode.scanout c.in-Mode.width c.in-Mode.height) played c.tell.new.client refl refl refl tt told))
+    c.tell.ensures.done
 
 pub returns-in-Mode-clause-begun : goal.returns-in-Mode-clause-begun
 returns-in-Mode-clause-begun g c =
     let is : c.args.call ≡ calls.Mode c.in-Mode.scanout c.in-Mode.width c.in-Mode.height c.in-Mode.label = c.in-Mode.is in
     err_then _
-    (λ stood. subst (λ (k : Call). HasLeftOff c.args.client.now k c.tell-in-Mode.new.client) (sym is) (told-left-off c.args.client.now (calls.Mode c.in-Mode.scanout c.in-Mode.width c.in-Mode.height c.in-Mode.label) (acts.Mode c.in-Mode.scanout c.in-Mode.width c.in-Mode.height) c.tell-in-Mode.new.client c.requires.ready c.requires.out tt refl stood))
-    c.tell-in-Mode.ensures.begun
+    (λ stood. subst (λ (k : Call). HasLeftOff c.args.client.now k c.tell.new.client) (sym is) (told-left-off c.args.client.now (calls.Mode c.in-Mode.scanout c.in-Mode.width c.in-Mode.height c.in-Mode.label) (acts.Mode c.in-Mode.scanout c.in-Mode.width c.in-Mode.height) c.tell.new.client c.requires.ready c.requires.out tt refl stood))
+    c.tell.ensures.begun
 
 pub returns-in-Unplug-clause-done : goal.returns-in-Unplug-clause-done
 returns-in-Unplug-clause-done g c =
