@@ -3,6 +3,7 @@
 ghost use Rattle.std.specs.Prelude.{◌≡◌, ◌<◌, ◌≤◌, ◌-◌, ◌+◌, ◌^◌, ◌&&◌, ◌++◌, ◌∷◌, [], true, false, length, replicate, None, Ok, IfOk, IsSome, MatchResult, OnOk, OnErr};
 ghost use Rattle.std.specs.List.{AllByRecursion};
 ghost use Rattle.vg_history.specs.declared.entry.Entry.TheVariants as entries;
+ghost use Rattle.vg_calls.specs.declared.call.Call.TheVariants as calls;
 ghost use Rattle.vg_client_holds.specs.declared.act.Act.TheVariants as acts;
 ghost use Rattle.vg_client_holds.specs.declared.act.ActReply.TheVariants as act_replies;
 ghost use Rattle.vg_client_holds.specs.declared.setup.Setup.{Setup as Setups};
@@ -24,6 +25,7 @@ use std::sync::Wait;
 use vg_book::{Book, Naming};
 use vg_calls::{Call, ContextRef, NameRef};
 use vg_driver::Driver;
+use vg_history::Fence;
 use vg_machine::{Act, Display, What};
 use vg_names::{Contexts, Names};
 use vg_ring::Rings;
@@ -130,14 +132,8 @@ fn answer<B: Naming, N: Rings, R: Wait>(
     ensures out { HasTickets client.new }
 {
     match call {
-        Call::Await {
-            fence: Some(fence),
-            ..
-        } => tell_fence(rt, alloc, book, driver, client, fence),
-        Call::Sync {
-            call: Some(number),
-            ..
-        } => tell(rt, alloc, book, client, Act::Sync { call: number }),
+        Call::Await { label, fence } => await_fence(rt, alloc, book, driver, client, label, fence),
+        Call::Sync { label, call } => sync_with(rt, alloc, book, driver, client, label, call),
         Call::Mode {
             scanout,
             width,
@@ -156,6 +152,70 @@ fn answer<B: Naming, N: Rings, R: Wait>(
         ),
         Call::Unplug { scanout, .. } => tell(rt, alloc, book, client, Act::Unplug { scanout }),
         call => do_planned(rt, alloc, book, driver, client, call),
+    }
+}
+
+/// Waits for a fence and tells so, or tells that there is none.
+fn await_fence<B: Naming, N: Rings, R: Wait>(
+    rt: &R,
+    alloc: Global,
+    book: &Book<Display, B>,
+    driver: &Driver<B, N>,
+    client: &mut Caller<B>,
+    label: u32,
+    fence: Option<Fence>,
+) -> Result<Played, AllocError>
+    requires ready { IsReady client.old }
+    requires out { HasTickets client.old }
+    requires room { client.old.token.account.used + 20 < 2 ^ 31 - 1 }
+    ensures done { IfOk result (λ played. HasAnswered (calls.Await label fence) client.old played client.new) }
+    ensures some { IfOk result (λ played. IsSome played.last) }
+    ensures begun { OnErr result (HasLeftOff client.old (calls.Await label fence) client.new) }
+    ensures out { HasTickets client.new }
+{
+    match fence {
+        Some(fence) => tell_fence(rt, alloc, book, driver, client, fence),
+        None => do_planned(
+            rt,
+            alloc,
+            book,
+            driver,
+            client,
+            Call::Await { label, fence: None },
+        ),
+    }
+}
+
+/// Tells that the host's act of this number has been waited for, or that there is none.
+fn sync_with<B: Naming, N: Rings, R: Wait>(
+    rt: &R,
+    alloc: Global,
+    book: &Book<Display, B>,
+    driver: &Driver<B, N>,
+    client: &mut Caller<B>,
+    label: u32,
+    call: Option<u64>,
+) -> Result<Played, AllocError>
+    requires ready { IsReady client.old }
+    requires out { HasTickets client.old }
+    requires guest { client.old.token.account.holds.host ≡ false }
+    requires met { IsMet client.old.token.seen (calls.Sync label call) }
+    requires room { client.old.token.account.used + 20 < 2 ^ 31 - 1 }
+    ensures done { IfOk result (λ played. HasAnswered (calls.Sync label call) client.old played client.new) }
+    ensures some { IfOk result (λ played. IsSome played.last) }
+    ensures begun { OnErr result (HasLeftOff client.old (calls.Sync label call) client.new) }
+    ensures out { HasTickets client.new }
+{
+    match call {
+        Some(call) => tell(rt, alloc, book, client, Act::Sync { call }),
+        None => do_planned(
+            rt,
+            alloc,
+            book,
+            driver,
+            client,
+            Call::Sync { label, call: None },
+        ),
     }
 }
 
