@@ -1,5 +1,5 @@
 -- The journal of what a run leaves.
-use Rattle.std.proofs.Common.{◌≡◌, ◌≤◌, ◌∙◌, ap, refl, subst, arith, ℕ, List, [], ◌∷◌, count_by, length}
+use Rattle.std.proofs.Common.{◌≡◌, ◌∙◌, ap, refl, subst, arith, ℕ, List, [], ◌∷◌, count_by, length}
 use Rattle.std.specs.List.{AllByRecursion}
 use Rattle.vg_client_holds.specs.declared.setup.Setup.{Setup}
 use Rattle.vg_scanout.specs.declared.scanout.Frame.{Frame}

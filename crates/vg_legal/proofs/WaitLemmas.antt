@@ -1,9 +1,9 @@
 -- What waits for a label stands behind the entry with which the label was given.
-use Rattle.std.proofs.Common.{◌≡◌, ◌⊎◌, inl, inr, ◌+◌, ◌≤◌, ◌==◌, ◌∙◌, sym, ap, refl, subst, arith, eq-eqb, ℕ, Bool, true, false, cond, List, [], ◌∷◌, ◌++◌, Option, Some, None}
+use Rattle.std.proofs.Common.{◌≡◌, inl, inr, ◌+◌, ◌≤◌, ◌==◌, ◌∙◌, sym, ap, refl, subst, arith, eq-eqb, ℕ, Bool, true, cond, List, [], ◌∷◌, Some}
 use Rattle.std.specs.List.{AllByRecursion}
 use mathlib.Core.List.{IsPrefix}
-use Rattle.vg_history.specs.Lists.{Has, bit, times, upto}
-use Rattle.vg_history.specs.History.{HasCommand, Ordered, ordinal_in, ordinals}
+use Rattle.vg_history.specs.Lists.{Has, bit, times}
+use Rattle.vg_history.specs.History.{Ordered, ordinal_in, ordinals}
 use Rattle.vg_history.specs.declared.entry.Entry.TheVariants as entries
 use Rattle.vg_history.proofs.ListLemmas.{has_prefix, times_append, upto_one}
 use Rattle.vg_book.specs.Places.{HasCall, StandsBehind}
@@ -12,14 +12,10 @@ use Rattle.vg_client_holds.specs.declared.act.Act.TheVariants as acts
 use Rattle.vg_client_holds.specs.declared.act.ActReply.{ActReply}
 use Rattle.vg_client_holds.specs.declared.act.ActReply.TheVariants as act_replies
 use Rattle.vg_labels.specs.declared.label.Given.{Given}
-use Rattle.vg_labels.specs.declared.label.Gift.{Gift}
-use Rattle.vg_labels.specs.declared.label.Gift.TheVariants as gifts
 use Rattle.vg_labels.specs.Labels.{HasGiver, Names, NamesBy, Values, gift_by, gift_of, value_of}
 use Rattle.vg_machine.specs.Entries.{Entry}
 use Rattle.vg_machine.specs.Order.{call_of, client_of}
 use Rattle.vg_machine.specs.Replay.{display}
-use Rattle.vg_device.specs.declared.request.Reply.{Reply}
-use Rattle.vg_device.specs.declared.request.Request.{Request}
 use Rattle.vg_script_part.specs.Values.{HasGiven, HasHeard}
 use Rattle.vg_legal.specs.Legal.{IsGivenBehind}
 
