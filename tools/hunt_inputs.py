@@ -242,7 +242,7 @@ class Order:
         self.lanes[lane] += 1
         request = task.request(self.lanes[lane])
         if begun:
-            client.labels[begun.label] = (lane, self.lanes[lane])
+            client.labels[begun.label] = f"{lane} {self.lanes[lane]}"
         if task.shape in histories.FAULTS:
             self.history.machine.made = []
             reply = f"fault {task.shape}"
@@ -257,10 +257,11 @@ class Order:
         lines += [b"display %d %d %d" % (number, *size) for number, size in enumerate(script.displays)]
         lines += [b"memory %d" % script.pages, b"queues 256 64"]
         lines += [f"without {feature}".encode() for feature in histories.FEATURES if feature in script.without]
-        return b"".join(line + b"\n" for line in [*lines, b"clients %d" % len(script.clients)])
+        lines += [b"clients %d" % len(script.clients), *([] if script.host is None else [b"host"])]
+        return b"".join(line + b"\n" for line in lines)
 
     def text(self):
-        """The journal; where nothing decides, of one client that begins no command, there is one order alone."""
+        """The journal; where nothing decides, of one client that begins no command and no host, there is one order alone."""
         while turns := list(self.turns()):
             self.entry(*(turns[0] if self.some is None else self.some.choice(turns)))
         lines = [*self.entries, b"rings %d %d" % (sum(self.lanes[:65]), self.lanes[65]), b"frames %d" % len(self.frames)]

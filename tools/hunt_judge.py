@@ -3,7 +3,7 @@
 The rules are read a second time: the words by `meant`, the faults of a script by tools/script_faults.py, histories by tools/check-history
 and journals by tools/check-journals, the clients of frames by tools/check-history too, the text of a journal in version 2 by tools/journals.py,
 the sums of a workload from docs/JOURNAL.md. Nothing is taken from what the program itself says, but that where a run writes the journal of
-several clients, which is one of many, that journal has to be legal, `check` and `origins` to say so, and `upgrade` to write it as it is.
+several clients, or of one and a host, which is one of many, that journal has to be legal, `check` and `origins` to say so, and `upgrade` to write it as it is.
 """
 import contextlib
 import dataclasses
@@ -138,10 +138,11 @@ class Front(histories.History):
 def why_no_front(script, text):
     """Why a text is no front of a journal of a script, or None. The last line may be a part of one."""
     read = histories.read_script(script)
-    if len(read.clients) < 2 and not any(line.call is histories.begin for lines in read.clients for line in lines):
+    parts = len(read.clients) + (read.host is not None)
+    if parts < 2 and not any(line.call is histories.begin for lines in read.clients for line in lines):
         whole = hunt_inputs.journal_of(script, None)
         return None if whole.startswith(text) and len(text) < len(whole) else "what is written is no front of the journal"
-    empty = histories.Script(read.displays, read.pages, read.without, [[] for _ in read.clients])
+    empty = read._replace(clients=[[] for _ in read.clients], host=None if read.host is None else [])
     head = hunt_inputs.Order(empty, None).head()
     if not text.startswith(head):
         return None if head.startswith(text) else "what is written has another head"
@@ -150,7 +151,7 @@ def why_no_front(script, text):
         if line.startswith(b"rings "):
             return None
         try:
-            history.entry(journals.read_entry(line.split(b" "), number, len(read.clients)))
+            history.entry(journals.read_entry(line.split(b" "), number, parts))
         except (journals.Broken, histories.Wrong) as wrong:
             return f"what is written is no front: entry {number}: {wrong}"
     return None
