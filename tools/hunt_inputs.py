@@ -316,7 +316,7 @@ def reader(some):
 def journal_to_read(words, some):
     """A journal for this word. In few of the scripts anything is drawn that is shown, so for `origins` mostly pictures are made.
 
-    Some have a host, for which no script asks, and some are told in version 1, which no run writes.
+    Some get a host for which the script doesn't ask, or more that clients do beside it, and some are told in version 1, which no run writes.
     """
     is_picture = words == ["origins"] and some.random() < 0.7
     text = journal_of(clients.random_pictures(some.randrange(2**32)) if is_picture else a_script(some), some)
