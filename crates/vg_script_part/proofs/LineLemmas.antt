@@ -14,13 +14,14 @@ use Rattle.vg_history.proofs.ListLemmas.{has_append, has_left, has_right, prefix
 use Rattle.vg_book.specs.Places.{begun_of}
 use Rattle.vg_book.specs.Views.{order_call}
 use Rattle.vg_client_holds.specs.declared.setup.Setup.{Setup}
+use Rattle.vg_client_holds.specs.declared.holds.Holds.{Holds}
 use Rattle.vg_client_holds.specs.declared.act.Act.TheVariants.{Enter, Leave}
 use Rattle.vg_client_holds.specs.declared.act.ActReply.TheVariants as act_replies
 use Rattle.vg_machine.specs.Entries.{Entry}
-use Rattle.vg_machine.specs.Order.{by_call, call_of, of_client, placed}
+use Rattle.vg_machine.specs.Order.{HasPlug, by_call, call_of, of_client, placed}
 use Rattle.vg_device.specs.State.{State, start}
 use Rattle.vg_script.specs.declared.types.Line.{Line}
-use Rattle.vg_script.specs.Limits.{BodyInLimits, CallInLimits, IsBetween, ShapeInLimits}
+use Rattle.vg_script.specs.Limits.{BodyInLimits, CallInLimits, HostCallInLimits, IsBetween, ShapeInLimits}
 use Rattle.vg_chain.specs.declared.shape.Shape.{Shape}
 use Rattle.vg_chain.specs.declared.shape.Shape.TheVariants as shapes
 use Rattle.vg_chain.specs.Made.{IsCount}
@@ -31,14 +32,18 @@ use Rattle.vg_calls.specs.declared.call.Call.{Call}
 use Rattle.vg_calls.specs.declared.call.Call.TheVariants as calls
 use Rattle.vg_driver.specs.Tickets.{Account, Order, Token}
 use Rattle.vg_client.specs.Accounts.{IsAccount, IsNew, mine_of}
-use Rattle.vg_client.specs.Callers.{ClientState, HasEnded, HasEntered, known}
+use Rattle.vg_client.specs.Callers.{ClientState, HasEnded, HasEntered, IsMet, known}
 use Rattle.vg_client.specs.Own.{OwnStand}
 use Rattle.vg_tasks.specs.Known.{Known, first_known}
-use Rattle.vg_tasks.specs.Plans.{IsBodyFit, IsCallFit}
+use Rattle.vg_tasks.specs.Plans.{HasFitNumbers, IsBodyFit, IsCallFit}
 use Rattle.vg_labels.specs.declared.table.Told.{Told}
-use Rattle.vg_labels.specs.Labels.{AreTold, Values}
+use Rattle.vg_labels.specs.declared.label.Gift.{Gift}
+use Rattle.vg_labels.specs.declared.label.Gift.TheVariants as gifts
+use Rattle.vg_labels.specs.declared.label.Given.{Given}
+use Rattle.vg_labels.specs.Labels.{AreTold, Names, Values}
+use Rattle.vg_script_part.specs.Values.{plug_by, plug_in}
 use Rattle.vg_script_part.specs.Follows.{GivesAll, GivesCalls}
-use Rattle.vg_script_part.specs.Performing.{AreInLimits, GivesRest, HasDoneLine, HasKept, HasPerformed, HasSeenMore, Hears, IsFollowing, IsIn, IsLineCall, Slot, slot_call}
+use Rattle.vg_script_part.specs.Performing.{AreInLimits, GivesRest, HasDoneLine, HasKept, HasPerformed, HasSeenMore, Hears, IsFollowing, IsIn, IsLineCall, PartCallInLimits, Slot, is_host, slot_call}
 use Rattle.vg_script_part.proofs.SlotLemmas.{all-come, filled-apart, filled-calls, made-calls, made-filled, made-in, made-slots, ranges-join, slots-append, slots-map, sorted-whole}
 
 pub following-first : {B : Type 0} (setup : Setup) (lines : List Line) (token : Token) (client : ClientState B) → IsNew setup token → HasEntered token client.caller → client.stopped ≡ false → IsFollowing setup [] lines 0 client
@@ -54,6 +59,7 @@ following-first setup lines token client new entered goes_on =
     record {
       begun = entered.start ∙ new.begun;
       displays = ap (λ (k : Known). k.holds.displays) first;
+      host = ap (λ (k : Known). k.holds.host) first;
       few = omega (arith, used);
       goes_on = goes_on;
       ready = entered.ready;
@@ -98,6 +104,7 @@ following-more setup told told' lines i client client' line following here done 
     record {
       begun = done.start ∙ following.begun;
       displays = done.displays ∙ following.displays;
+      host = done.host ∙ following.host ∙ ap (is_host setup) (sym done.number);
       few = omega (arith, few, used, following.few);
       goes_on = done.goes_on;
       ready = done.ready;
@@ -128,14 +135,29 @@ ring-fits : (timeline : Option (ContextRef × ℕ)) → IfSome timeline (λ t. I
 ring-fits None within = tt
 ring-fits (Some t) within = let high = within.1 in omega (arith, high)
 
-pub call-fits : (displays : ℕ) (call : Call) → CallInLimits displays call → IsCallFit displays call
-call-fits displays (calls.Buffer width height format) within = (within.0.1, within.1.1)
-call-fits displays (calls.Blob size) within = within.1
-call-fits displays (calls.Drop scanout) within = within
-call-fits displays (calls.Submit context ring) within = let few = within.1 in omega (arith, few)
-call-fits displays (calls.Begin label timeline body) within = (ring-fits timeline within.0, body-fits timeline body within.0 within.1)
-call-fits displays (calls.Raw queue room shape bytes) within = let few = within.2.1 in (omega (arith, few), within.0.1, shape-fits shape within.1)
-call-fits displays call within = tt
+numbers-fit : (displays : ℕ) (call : Call) → CallInLimits displays call → HasFitNumbers displays call
+numbers-fit displays (calls.Buffer width height format) within = (within.0.1, within.1.1)
+numbers-fit displays (calls.Blob size) within = within.1
+numbers-fit displays (calls.Drop scanout) within = within
+numbers-fit displays (calls.Submit context ring) within = let few = within.1 in omega (arith, few)
+numbers-fit displays (calls.Begin label timeline body) within = (ring-fits timeline within.0, body-fits timeline body within.0 within.1)
+numbers-fit displays (calls.Raw queue room shape bytes) within = let few = within.2.1 in (omega (arith, few), within.0.1, shape-fits shape within.1)
+numbers-fit displays call within = tt
+
+call-fits : (holds : Holds) (host : Bool) (call : Call) → holds.host ≡ host → PartCallInLimits host holds.displays call → IsCallFit holds call
+call-fits holds false (calls.Mode scanout width height label) is within = absurd within
+call-fits holds false (calls.Unplug scanout label) is within = absurd within
+call-fits holds false (calls.Await label fence) is within = tt
+call-fits holds false call is within = (is, numbers-fit holds.displays call within)
+call-fits holds true (calls.Mode scanout width height label) is within = (is, within.0, within.1.0, within.1.1, within.2.0, within.2.1)
+call-fits holds true (calls.Unplug scanout label) is within = (is, within)
+call-fits holds true (calls.Await label fence) is within = tt
+call-fits holds true call is within = absurd within
+
+-- a call that the host doesn't make is that of a client
+no-host : (holds : Holds) (host : Bool) (call : Call) → holds.host ≡ host → (HostCallInLimits holds.displays call → ⊥) → PartCallInLimits host holds.displays call → holds.host ≡ false
+no-host holds false call is none within = is
+no-host holds true call is none within = absurd (none within)
 
 -- the line at a place, and those behind it
 pub next-line : (i : ℕ) (lines rest : List Line) (line : Line) → drop i lines ≡ line ∷ rest → (get_or lines i line ≡ line) × (drop (i + 1) lines ≡ rest)
@@ -153,11 +175,11 @@ turned left rest line is = ap (λ (ls : List Line). reverse ls) is ∙ reverse-a
 -- a client is on its way with its lines: those that are left stand with the first one last
 abbrev pub IsRunning : {B : Type 0} → ℕ → List Line → List Line → ClientState B → List Told → ClientState B → Type 0
 IsRunning count lines left old told client =
-    (setup : Setup) × (old.caller.token.start ≡ Some (start setup)) × AreInLimits setup count lines
+    (setup : Setup) × (old.caller.token.start ≡ Some (start setup)) × AreInLimits setup (is_host setup old.caller.token.account.number) count lines
     × ((i : ℕ) × (drop i lines ≡ reverse left) × (i + length left ≡ length lines) × IsFollowing setup told lines i client)
     × (client.caller.token.account.number ≡ old.caller.token.account.number)
 
-pub running-first : {B : Type 0} (setup : Setup) (count : ℕ) (lines left : List Line) (told : List Told) (client : ClientState B) → AreInLimits setup count lines → IsFollowing setup told lines 0 client → left ≡ reverse lines → IsRunning count lines left client told client
+pub running-first : {B : Type 0} (setup : Setup) (count : ℕ) (lines left : List Line) (told : List Told) (client : ClientState B) → AreInLimits setup (is_host setup client.caller.token.account.number) count lines → IsFollowing setup told lines 0 client → left ≡ reverse lines → IsRunning count lines left client told client
 running-first setup count lines left told client limits following is =
     let again : lines ≡ reverse left = sym (ap (λ (ls : List Line). reverse ls) is ∙ reverse-reverse lines) in
     let long : length left ≡ length lines = ap (λ (ls : List Line). length ls) is ∙ length-reverse lines in
@@ -181,13 +203,18 @@ running-more count lines left rest old client client' told told' line running is
 
 -- the next line is within its limits, and the client is ready for it
 pub line-fits : {B : Type 0} (count : ℕ) (lines left rest : List Line) (old client : ClientState B) (told : List Told) (line : Line) → IsRunning count lines left old told client → left ≡ rest ++ line ∷ []
-    → IsLineCall client.caller.token.account.holds.displays count line.call
+    → IsLineCall client.caller.token.account.holds.host client.caller.token.account.holds.displays count line.call
 line-fits count lines left rest old client told line running is =
     let at = running.3 in
     let next = next-line at.0 lines (reverse rest) line (at.1 ∙ turned left rest line is) in
     let shorter : length left ≡ length rest + 1 = ap (λ (ls : List Line). length ls) is ∙ length-append rest (line ∷ []) in
-    let fits : IsLineCall (length running.0.displays) count (get_or lines at.0 line).call = running.2.2 at.0 line (omega (arith, shorter, at.2)) in
-    subst (λ (n : ℕ). IsLineCall n count line.call) (sym at.3.displays) (subst (λ (l : Line). IsLineCall (length running.0.displays) count l.call) next.0 fits)
+    let setup : Setup = running.0 in
+    let host : Bool = is_host setup old.caller.token.account.number in
+    let fits : IsLineCall host (length setup.displays) count (get_or lines at.0 line).call = running.2.2 at.0 line (omega (arith, shorter, at.2)) in
+    let one : IsLineCall host (length setup.displays) count line.call = subst (λ (l : Line). IsLineCall host (length setup.displays) count l.call) next.0 fits in
+    let many : IsLineCall host client.caller.token.account.holds.displays count line.call = subst (λ (n : ℕ). IsLineCall host n count line.call) (sym at.3.displays) one in
+    let part : client.caller.token.account.holds.host ≡ host = at.3.host ∙ ap (is_host setup) running.4 in
+    subst (λ (b : Bool). IsLineCall b client.caller.token.account.holds.displays count line.call) (sym part) many
 
 -- once no line is left
 pub running-done : {B : Type 0} (count : ℕ) (lines left : List Line) (old client : ClientState B) (told : List Told) → IsRunning count lines left old told client → length left ≡ 0
@@ -313,7 +340,20 @@ ok_more (Ok x) p f = f p
 ok_more (Err e) p f = tt
 
 -- so is the call with what it heard
-pub heard-fits : (displays : ℕ) (labels : List ℕ) (seen : List Entry) (call heard : Call) (told told' : List Told) → CallInLimits displays call → Hears labels seen call told told' heard → IsCallFit displays heard
-heard-fits displays labels seen (calls.Import label token) heard told told' within hears = subst (λ (c : Call). IsCallFit displays c) (sym hears.call_is) tt
-heard-fits displays labels seen (calls.Await label fence) heard told told' within hears = subst (λ (c : Call). IsCallFit displays c) (sym hears.call_is) tt
-heard-fits displays labels seen call heard told told' within hears = subst (λ (c : Call). IsCallFit displays c) (sym hears.0) (call-fits displays call within)
+pub heard-fits : (holds : Holds) (labels : List ℕ) (seen : List Entry) (call heard : Call) (told told' : List Told) → PartCallInLimits holds.host holds.displays call → Hears labels seen call told told' heard → IsCallFit holds heard
+heard-fits holds labels seen (calls.Import label token) heard told told' within hears =
+    subst (λ (c : Call). IsCallFit holds c) (sym hears.call_is) (no-host holds holds.host (calls.Import label token) refl (λ none. none) within, tt)
+heard-fits holds labels seen (calls.Await label fence) heard told told' within hears = subst (λ (c : Call). IsCallFit holds c) (sym hears.call_is) tt
+heard-fits holds labels seen (calls.Sync label call) heard told told' within hears =
+    subst (λ (c : Call). IsCallFit holds c) (sym hears.call_is) (no-host holds holds.host (calls.Sync label call) refl (λ none. none) within, tt)
+heard-fits holds labels seen call heard told told' within hears = subst (λ (c : Call). IsCallFit holds c) (sym hears.0) (call-fits holds holds.host call refl within)
+
+-- the act of the host for which a call waits has been seen
+pub heard-met : (labels : List ℕ) (seen : List Entry) (call heard : Call) (told told' : List Told) → ((given : Given) (es : List Entry) → Names given es → given.gift ≡ gifts.Plug → HasPlug given.call es) → Hears labels seen call told told' heard → IsMet seen heard
+heard-met labels seen (calls.Import label token) heard told told' law hears = subst (IsMet seen) (sym hears.call_is) tt
+heard-met labels seen (calls.Await label fence) heard told told' law hears = subst (IsMet seen) (sym hears.call_is) tt
+heard-met labels seen (calls.Sync label call) heard told told' law hears =
+    let given = hears.given in
+    let number : plug_in given ≡ Some given.call = ap (λ (g : Gift). plug_by g given.call) hears.plug in
+    subst (IsMet seen) (sym (hears.call_is ∙ ap (calls.Sync label) number)) (law given seen hears.there hears.plug)
+heard-met labels seen call heard told told' law hears = subst (IsMet seen) (sym hears.0) tt

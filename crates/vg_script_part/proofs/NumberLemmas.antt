@@ -22,11 +22,13 @@ EachCounted count test = (client : ℕ) (known known' : Known) (call : Call) (mi
 heard-defines : (values : Values) (call : Call) → defines (heard_call values call) ≡ defines call
 heard-defines values (calls.Import label token) = refl
 heard-defines values (calls.Await label fence) = refl
+heard-defines values (calls.Sync label call) = refl
 heard-defines values call = refl
 
 heard-makes : (values : Values) (call : Call) → makes_context (heard_call values call) ≡ makes_context call
 heard-makes values (calls.Import label token) = refl
 heard-makes values (calls.Await label fence) = refl
+heard-makes values (calls.Sync label call) = refl
 heard-makes values call = refl
 
 all-counted : (count : Known → ℕ) (test : Call → Bool) → EachCounted count test → ((values : Values) (call : Call) → test (heard_call values call) ≡ test call)

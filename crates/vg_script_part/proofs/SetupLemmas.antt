@@ -1,5 +1,5 @@
 -- A script within its limits gives a setup.
-use Rattle.std.proofs.Common.{refl, inr, ℕ, List, [], ◌∷◌}
+use Rattle.std.proofs.Common.{◌≡◌, ap, arith, refl, inr, ℕ, List, [], ◌∷◌}
 use Rattle.std.specs.List.{AllByRecursion, list_any}
 use Rattle.std.proofs.lemmas.List.Elements.{recursion_from_All}
 use Rattle.vg_limits.specs.Limits.{version_2}
@@ -28,5 +28,5 @@ displays-in script limits = record {
   };
   clients = limits.clients;
   queues = inr refl;
-  host = λ other. refl;
+  host = λ other. let first : 256 ≡ 64 = ap (λ (sizes : ℕ × ℕ). sizes.0) other in absurd (omega (arith, first));
 }

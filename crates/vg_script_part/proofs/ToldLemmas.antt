@@ -14,7 +14,7 @@ use Rattle.vg_book.specs.Views.{IsEntryOf, order_call, ordered_of}
 use Rattle.vg_calls.specs.declared.call.Call.{Call}
 use Rattle.vg_calls.specs.declared.call.Call.TheVariants as calls
 use Rattle.vg_client_holds.specs.declared.act.Act.{Act}
-use Rattle.vg_client_holds.specs.declared.act.Act.TheVariants.{Await, Denied}
+use Rattle.vg_client_holds.specs.declared.act.Act.TheVariants.{Await, Denied, Mode, Unplug}
 use Rattle.vg_client_holds.specs.declared.act.ActReply.{ActReply}
 use Rattle.vg_client_holds.specs.declared.act.What.{What}
 use Rattle.vg_client_holds.specs.declared.act.What.TheVariants.{Name}
@@ -39,7 +39,7 @@ use Rattle.vg_tasks.specs.declared.task.Change.{Change}
 use Rattle.vg_tasks.specs.declared.task.Change.TheVariants as changes
 use Rattle.vg_tasks.specs.declared.task.Deed.TheVariants as deeds
 use Rattle.vg_tasks.specs.Known.{Known}
-use Rattle.vg_tasks.specs.Table.{export_task, wait_task}
+use Rattle.vg_tasks.specs.Table.{act_task, export_task, wait_task}
 use Rattle.vg_tasks.specs.Tasks.{begins, finishes, if_current}
 use Rattle.vg_client.specs.Accounts.{mine_of}
 use Rattle.vg_client.specs.Callers.{ClientState, FinishesFirst, HasBegun, HasCalled, HasGone, HasGoneOn, known}
@@ -57,9 +57,9 @@ use Rattle.vg_labels.specs.declared.label.Gift.{Gift}
 use Rattle.vg_labels.specs.declared.label.Gift.TheVariants as gifts
 use Rattle.vg_labels.specs.declared.table.Told.{Told}
 use Rattle.vg_labels.specs.Labels.{AreTold, HasGiver, IsNotedBy, Names, NamesBy, Values, gift_by, gift_in, gift_of, value_of}
-use Rattle.vg_script_part.specs.Values.{HasGiven, HasHeard, fence_in, fence_of, heard_call, token_of}
+use Rattle.vg_script_part.specs.Values.{HasGiven, HasHeard, fence_in, fence_of, heard_call, plug_of, token_of}
 use Rattle.vg_script_part.specs.Follows.{IsLine, begun_after, begun_at, commands_in}
-use Rattle.vg_script_part.specs.Performing.{Made, Begun, Fills, HasDoneLine, HasKept, HasLast, HasLine, HasSeenMore, Hears, IsIn, IsThere, Slot, Tells, TellsOne, given_by, gift_told}
+use Rattle.vg_script_part.specs.Performing.{Made, Begun, Fills, HasDoneLine, HasKept, HasLast, HasLine, HasSeenMore, Hears, IsIn, IsThere, Slot, Tells, TellsOne, given_by, gift_told, is_plug}
 use Rattle.vg_script_part.proofs.PlaceLemmas.{behind-more, placed-more}
 use Rattle.vg_script_part.proofs.SlotLemmas.{came-has, kept-few, made-calls, made-filled, made-in, made-length, made-slots}
 
@@ -92,6 +92,7 @@ tells-before values labels (Some label) given told told' tells all = tells-front
 hears-before : (values : Values) (labels : List ℕ) (seen : List Entry) (call : Call) (told told' : List Told) (heard : Call) → Hears labels seen call told told' heard → AreTold values told' → AreTold values told
 hears-before values labels seen (calls.Import label token) told told' heard hears all = tells-front (λ (t : Told). values t.label ≡ t.shown.value) labels label hears.given told told' hears.tells all
 hears-before values labels seen (calls.Await label fence) told told' heard hears all = tells-front (λ (t : Told). values t.label ≡ t.shown.value) labels label hears.given told told' hears.tells all
+hears-before values labels seen (calls.Sync label call) told told' heard hears all = tells-front (λ (t : Told). values t.label ≡ t.shown.value) labels label hears.given told told' hears.tells all
 hears-before values labels seen call told told' heard hears all = subst (AreTold values) hears.1 all
 
 -- the call with what was heard
@@ -100,6 +101,8 @@ hears-call values labels seen (calls.Import label token) told told' heard hears 
     ap (λ (v : Option Given). calls.Import label (token_of v)) (tells-value values labels label hears.given told told' hears.tells all) ∙ sym hears.call_is
 hears-call values labels seen (calls.Await label fence) told told' heard hears all =
     ap (λ (v : Option Given). calls.Await label (fence_of v)) (tells-value values labels label hears.given told told' hears.tells all) ∙ sym hears.call_is
+hears-call values labels seen (calls.Sync label call) told told' heard hears all =
+    ap (λ (v : Option Given). calls.Sync label (plug_of v)) (tells-value values labels label hears.given told told' hears.tells all) ∙ sym hears.call_is
 hears-call values labels seen call told told' heard hears all = sym hears.0
 
 -- each of these stands behind what its client had seen
@@ -170,6 +173,8 @@ has-heard values labels seen H client mine (calls.Await label fence) told told' 
       tells-value values labels label given told told' hears.tells all,
       heard-fence given label seen H client mine given.gift refl hears.there hears.counts (subst (λ (c : Call). WaitsBehind H client mine c) hears.call_is behind) p apart,
     )
+has-heard values labels seen H client mine (calls.Sync label call) told told' heard hears all p apart behind =
+    (hears.given, tells-value values labels label hears.given told told' hears.tells all, behind-seen (Names hears.given) seen H client mine p hears.there apart)
 has-heard values labels seen H client mine call told told' heard hears all p apart behind = tt
 
 -- a call of one task that changes nothing has one entry, which is that of its task
@@ -202,35 +207,42 @@ waits-behind setup client S H known known' mine (calls.Await label (Some fence))
     subst (λ (es : List Entry). AllByRecursion (λ (f : Entry). StandsBehind H client (call_of f) (HasFence display fence.lane fence.ordinal)) es) (sym one.1) (behind, tt)
 waits-behind setup client S H known known' mine call own there p given = tt
 
--- what a client gives is told by its entry's reply, where that is an act which gives what its reply says
-abbrev GivesByReply : Entry → Type 0
-GivesByReply (entries.Act client call act reply) = gift_of act reply ≡ gift_by reply
-GivesByReply (entries.Command client call request reply) = ⊥
+-- what a client gives is told by its entry's reply, where that is an act which gives what its reply says, and by the act, where it plugs
+abbrev GivesByReply : (plugs : Bool) → Entry → Type 0
+GivesByReply plugs (entries.Act client call act reply) = gift_of act reply ≡ cond plugs gifts.Plug (gift_by reply)
+GivesByReply plugs (entries.Command client call request reply) = ⊥
 
-last-gift : (number : ℕ) (entry : Entry) → GivesByReply entry → gift_told (last_of number entry) ≡ gift_in entry
-last-gift number (entries.Act client call act reply) is = sym is
-last-gift number (entries.Command client call request reply) is = absurd is
+last-gift : (plugs : Bool) (number : ℕ) (entry : Entry) → GivesByReply plugs entry → gift_told plugs (last_of number entry) ≡ gift_in entry
+last-gift plugs number (entries.Act client call act reply) is = sym is
+last-gift plugs number (entries.Command client call request reply) is = absurd is
 
 -- what a call that gives something is told by, and its entry
 not-changed : (labels : List ℕ) (seen : List Entry) (call : Call) (label : ℕ) (told told' : List Told) (heard : Call) → gives call ≡ Some label → Hears labels seen call told told' heard → heard ≡ call
 not-changed labels seen (calls.Import l token) label told told' heard is hears = absurd (cc is)
 not-changed labels seen (calls.Await l fence) label told told' heard is hears = absurd (cc is)
+not-changed labels seen (calls.Sync l call) label told told' heard is hears = absurd (cc is)
 not-changed labels seen call label told told' heard is hears = hears.0
 
-abbrev HasOneAct : List Entry → Type 0
-HasOneAct mine = (e : Entry) × (mine ≡ e ∷ []) × GivesByReply e
+abbrev HasOneAct : (plugs : Bool) → List Entry → Type 0
+HasOneAct plugs mine = (e : Entry) × (mine ≡ e ∷ []) × GivesByReply plugs e
 
-gives-one : (client : ℕ) (known known' : Known) (call : Call) (label : ℕ) (mine : List Entry) → gives call ≡ Some label → Gives client known call mine known' → (begins call ≡ true → (what : What) × IsDenial client what mine) → HasOneAct mine
+gives-one : (client : ℕ) (known known' : Known) (call : Call) (label : ℕ) (mine : List Entry) → gives call ≡ Some label → Gives client known call mine known' → (begins call ≡ true → (what : What) × IsDenial client what mine) → HasOneAct (is_plug call) mine
 gives-one client known known' (calls.Export name l) label mine is given told = by_name (found name.number known.names) given
   where
-    by_name : (held : Option Held) → GivesTasks client known (if_current held (λ h. export_task h.key ∷ [])) mine known' → HasOneAct mine
+    by_name : (held : Option Held) → GivesTasks client known (if_current held (λ h. export_task h.key ∷ [])) mine known' → HasOneAct false mine
     by_name None denied = (entries.Act client denied.0.0 (Denied Name) denied.0.1, denied.0.2, refl)
     by_name (Some held) plays =
         let one = one-played client known known' (export_task held.key) mine refl plays in
-        (one.0, one.1, subst GivesByReply (sym one.2.2) refl)
+        (one.0, one.1, subst (GivesByReply false) (sym one.2.2) refl)
 gives-one client known known' (calls.Begin l timeline body) label mine is given told =
     let denied = told refl in
     (entries.Act client denied.1.0 (Denied denied.0) denied.1.1, denied.1.2, refl)
+gives-one client known known' (calls.Mode scanout width height l) label mine is given told =
+    let one = one-played client known known' (act_task (Mode scanout width height)) mine refl given in
+    (one.0, one.1, subst (GivesByReply true) (sym one.2.2) refl)
+gives-one client known known' (calls.Unplug scanout l) label mine is given told =
+    let one = one-played client known known' (act_task (Unplug scanout)) mine refl given in
+    (one.0, one.1, subst (GivesByReply true) (sym one.2.2) refl)
 gives-one client known known' call label mine is given told = absurd (cc is)
 
 -- the one entry of a call is its client's last
@@ -252,24 +264,26 @@ last-call old new mine entry on is =
     record { owner = known.1; call = omega (arith, first, last, one); there = known.0 }
 
 -- the one entry of a call that gives something: what its client tells is its value
-record IsTold {B : Type 0} (client : ClientState B) (mine : List Entry) (last : Last) : Type 0 where
+record IsTold {B : Type 0} (plugs : Bool) (client : ClientState B) (mine : List Entry) (last : Last) : Type 0 where
   entry : Entry
   alone : mine ≡ entry ∷ []
   there : Has client.caller.token.seen entry
-  value : given_by client last ≡ value_of entry
+  value : given_by plugs client last ≡ value_of entry
 
 is-told : {B : Type 0} (labels : List ℕ) (seen : List Entry) (old new : ClientState B) (label : ℕ) (call heard : Call) (told told' : List Told) (outcome : Outcome) → gives call ≡ Some label → Hears labels seen call told told' heard
-    → (called : HasCalled old.caller heard outcome new.caller) → IsTold new called.mine outcome.last
+    → (called : HasCalled old.caller heard outcome new.caller) → IsTold (is_plug call) new called.mine outcome.last
 is-told labels seen old new label call heard told told' outcome is hears called =
     let same : heard ≡ call = not-changed labels seen call label told told' heard is hears in
-    let one = gives-one old.caller.token.account.number (known old.caller) (known new.caller) heard label called.mine (ap gives same ∙ is) called.gives called.told in
+    let plugs : Bool = is_plug call in
+    let one : HasOneAct plugs called.mine = subst (λ (b : Bool). HasOneAct b called.mine) (ap is_plug same)
+    (gives-one old.caller.token.account.number (known old.caller) (known new.caller) heard label called.mine (ap gives same ∙ is) called.gives called.told) in
     let entry : Entry = one.0 in
     let last = last-call called.middle new.caller called.mine entry called.gone_on one.1 in
     let ends = called.outcome_is.ends in
     let alone : ends.before ++ ends.entry ∷ [] ≡ entry ∷ [] = sym ends.mine_are ∙ one.1 in
     let its : ends.entry ≡ entry = only ends.before alone in
-    let gift : gift_told outcome.last ≡ gift_in entry = ap gift_told ends.last_is ∙ last-gift ends.number ends.entry (subst GivesByReply (sym its) one.2) ∙ ap gift_in its in
-    let value : given_by new outcome.last ≡ value_of entry = (λ i. record { client = sym last.owner i; call = sym last.call i; gift = gift i }) in
+    let gift : gift_told plugs outcome.last ≡ gift_in entry = ap (gift_told plugs) ends.last_is ∙ last-gift plugs ends.number ends.entry (subst (GivesByReply plugs) (sym its) one.2) ∙ ap gift_in its in
+    let value : given_by plugs new outcome.last ≡ value_of entry = (λ i. record { client = sym last.owner i; call = sym last.call i; gift = gift i }) in
     record { entry = entry; alone = one.1; there = last.there; value = value }
   where
     only : (before : List Entry) {x y : Entry} → before ++ x ∷ [] ≡ y ∷ [] → x ≡ y
@@ -278,19 +292,19 @@ is-told labels seen old new label call heard told told' outcome is hears called 
     only (z ∷ w ∷ more) e = absurd (cc e)
 
 called-last : {B : Type 0} (labels : List ℕ) (seen : List Entry) (old new : ClientState B) (label : Option ℕ) (call heard : Call) (told told' : List Told) (outcome : Outcome) → label ≡ gives call → Hears labels seen call told told' heard
-    → HasCalled old.caller heard outcome new.caller → (last : Last) → outcome.last ≡ last → HasLast label last new
+    → HasCalled old.caller heard outcome new.caller → (last : Last) → outcome.last ≡ last → HasLast label (is_plug call) last new
 called-last labels seen old new None call heard told told' outcome is hears called last last_is = tt
 called-last labels seen old new (Some label) call heard told told' outcome is hears called last last_is =
     let t = is-told labels seen old new label call heard told told' outcome (sym is) hears called in
-    by_last last (t.entry, t.there, sym t.value ∙ ap (λ (l : Last). given_by new l) last_is)
+    by_last last (t.entry, t.there, sym t.value ∙ ap (λ (l : Last). given_by (is_plug call) new l) last_is)
   where
-    by_last : (last : Last) → HasGiver (given_by new last) new.caller.token.seen → HasLast (Some label) last new
+    by_last : (last : Last) → HasGiver (given_by (is_plug call) new last) new.caller.token.seen → HasLast (Some label) (is_plug call) last new
     by_last (lasts.Act reply) has = has
     by_last (lasts.Command answer) has = has
     by_last (lasts.Begun fence) has = tt
 
 pub has-last : {B : Type 0} (labels : List ℕ) (seen : List Entry) (old new : ClientState B) (label : Option ℕ) (call heard : Call) (told told' : List Told) (outcome : Outcome) → label ≡ gives call → Hears labels seen call told told' heard
-    → (last : Last) → outcome.last ≡ last → HasGone last old.caller heard outcome new.caller → HasLast label last new
+    → (last : Last) → outcome.last ≡ last → HasGone last old.caller heard outcome new.caller → HasLast label (is_plug call) last new
 has-last labels seen old new label call heard told told' outcome is hears (lasts.Act reply) last_is gone = called-last labels seen old new label call heard told told' outcome is hears gone (lasts.Act reply) last_is
 has-last labels seen old new label call heard told told' outcome is hears (lasts.Command answer) last_is gone = called-last labels seen old new label call heard told told' outcome is hears gone (lasts.Command answer) last_is
 has-last labels seen old new None call heard told told' outcome is hears (lasts.Begun fence) last_is gone = tt
@@ -298,21 +312,23 @@ has-last labels seen old new (Some label) call heard told told' outcome is hears
 
 -- what was told is the label's value
 has-given : {B : Type 0} (values : Values) (labels : List ℕ) (seen : List Entry) (old new : ClientState B) (label : Option ℕ) (call heard : Call) (told told1 told2 : List Told) (outcome : Outcome) → label ≡ gives call
-    → Hears labels seen call told told1 heard → (called : HasCalled old.caller heard outcome new.caller) → Tells labels label (given_by new outcome.last) told1 told2 → AreTold values told2 → HasGiven values label called.mine
+    → Hears labels seen call told told1 heard → (called : HasCalled old.caller heard outcome new.caller) → Tells labels label (given_by (is_plug call) new outcome.last) told1 told2 → AreTold values told2 → HasGiven values label called.mine
 has-given values labels seen old new None call heard told told1 told2 outcome is hears called tells all = tt
 has-given values labels seen old new (Some label) call heard told told1 told2 outcome is hears called tells all =
     let t = is-told labels seen old new label call heard told told1 outcome (sym is) hears called in
-    (t.entry, t.alone, tells-value values labels label (given_by new outcome.last) told1 told2 tells all ∙ ap (λ (g : Given). Some g) t.value)
+    (t.entry, t.alone, tells-value values labels label (given_by (is_plug call) new outcome.last) told1 told2 tells all ∙ ap (λ (g : Given). Some g) t.value)
 
 -- what a call heard doesn't change whether it begins or finishes something
 heard-begins : (labels : List ℕ) (seen : List Entry) (call : Call) (told told' : List Told) (heard : Call) → Hears labels seen call told told' heard → begins heard ≡ begins call
 heard-begins labels seen (calls.Import label token) told told' heard hears = ap begins hears.call_is
 heard-begins labels seen (calls.Await label fence) told told' heard hears = ap begins hears.call_is
+heard-begins labels seen (calls.Sync label call) told told' heard hears = ap begins hears.call_is
 heard-begins labels seen call told told' heard hears = ap begins hears.0
 
 heard-finishes : (known : Known) (labels : List ℕ) (seen : List Entry) (call : Call) (told told' : List Told) (heard : Call) → Hears labels seen call told told' heard → finishes known heard ≡ finishes known call
 heard-finishes known labels seen (calls.Import label token) told told' heard hears = ap (finishes known) hears.call_is
 heard-finishes known labels seen (calls.Await label fence) told told' heard hears = ap (finishes known) hears.call_is
+heard-finishes known labels seen (calls.Sync label call) told told' heard hears = ap (finishes known) hears.call_is
 heard-finishes known labels seen call told told' heard hears = ap (finishes known) hears.0
 
 -- a call that begins a command finishes nothing, and waits for nothing
@@ -330,6 +346,7 @@ record IsFinished {B : Type 0} (client client' : Caller B) : Type 0 where
   number : client'.token.account.number ≡ client.token.account.number
   start : client'.token.start ≡ client.token.start
   displays : client'.token.account.holds.displays ≡ client.token.account.holds.displays
+  host : client'.token.account.holds.host ≡ client.token.account.holds.host
   more : IsPrefix client.token.seen client'.token.seen
   kept : (slot : Slot) → IsIn client.token.account slot → IsIn client'.token.account slot
 
@@ -341,6 +358,7 @@ finished-is true client client' finished =
       number = idle.number;
       start = idle.start;
       displays = ap (λ (h : Holds). h.displays) idle.holds;
+      host = ap (λ (h : Holds). h.host) idle.holds;
       more = idle.more;
       kept = kept;
     }
@@ -356,7 +374,7 @@ finished-is true client client' finished =
     kept (Begun o) (inr t) = inr (t.0, idle_of t.0 t.1, t.2)
 finished-is false client client' same =
     let Is : Caller _ → Type 0 = λ c. IsFinished client c in
-    subst Is (sym same) (record { used = refl; number = refl; start = refl; displays = refl; more = prefix_self client.token.seen; kept = λ slot h. h })
+    subst Is (sym same) (record { used = refl; number = refl; start = refl; displays = refl; host = refl; more = prefix_self client.token.seen; kept = λ slot h. h })
 
 -- a denial is no command
 denial-none : (client : ℕ) (what : What) (mine : List Entry) → IsDenial client what mine → commands_in mine ≡ []
@@ -381,7 +399,7 @@ slot-kept old mid slot same has = subst (λ (a : Account). IsIn a slot) (sym sam
 
 -- a line was done whose entries are there
 pub line-called : {B : Type 0} (labels : List ℕ) (old mid new : ClientState B) (label : Option ℕ) (call heard : Call) (told told1 told2 : List Told) (outcome : Outcome) → label ≡ gives call
-    → HasSeenMore old mid → Hears labels mid.caller.token.seen call told told1 heard → HasCalled mid.caller heard outcome new.caller → new.stopped ≡ false → Tells labels label (given_by new outcome.last) told1 told2 → HasDoneLine told told2 old new call
+    → HasSeenMore old mid → Hears labels mid.caller.token.seen call told told1 heard → HasCalled mid.caller heard outcome new.caller → new.stopped ≡ false → Tells labels label (given_by (is_plug call) new outcome.last) told1 told2 → HasDoneLine told told2 old new call
 line-called labels old mid new label call heard told told1 told2 outcome is seen hears called goes_on tells =
     let n : ℕ = mid.caller.token.account.number in
     let seen1 : List Entry = mid.caller.token.seen in
@@ -411,7 +429,7 @@ line-called labels old mid new label call heard told told1 told2 outcome is seen
     let Line : ℕ → List ℕ → Known → Type 0 = λ k b known0. HasLine seen2 told2 k b known0 call (made-slots mine) (begun_of new.caller.token.account) (known new.caller) in
     let line : Line n begun knew = λ H values front begins_so all fills.
     let same : front ≡ mine = made-filled mine front fills in
-    let all1 : AreTold values told1 = tells-before values labels label (given_by new outcome.last) told1 told2 tells all in
+    let all1 : AreTold values told1 = tells-before values labels label (given_by (is_plug call) new outcome.last) told1 told2 tells all in
     let one : IsLine H values n begun knew call mine (known new.caller) = record {
       given = subst (λ (c : Call). Gives n knew c mine (known new.caller)) (sym (hears-call values labels seen1 call told told1 heard hears all1)) called.gives;
       placed = placed-more seen2 H n (begun_at knew call begun) mine begins_so placed;
@@ -427,7 +445,7 @@ line-called labels old mid new label call heard told told1 told2 outcome is seen
       slots = made-slots mine;
       line = subst (λ (k : ℕ). Line k (begun_of old.caller.token.account) (known old.caller)) number
           (subst (λ (b : List ℕ). Line n b (known old.caller)) (ap (λ (a : Account). begun_of a) seen.account) (subst (Line n begun) seen.known_is line));
-      told_more = λ values all. hears-before values labels seen1 call told told1 heard hears (tells-before values labels label (given_by new outcome.last) told1 told2 tells all);
+      told_more = λ values all. hears-before values labels seen1 call told told1 heard hears (tells-before values labels label (given_by (is_plug call) new outcome.last) told1 told2 tells all);
       few = let few = called.few in omega (arith, few, long);
       start = on.added.start ∙ f.start ∙ seen.start;
       number = same_number ∙ number;
@@ -437,6 +455,7 @@ line-called labels old mid new label call heard told told1 told2 outcome is seen
       kept = λ slot has. kept-on called.middle new.caller mine on slot (f.kept slot (slot-kept old.caller.token.account mid.caller.token.account slot seen.account has));
       more = prefix_trans old.caller.token.seen seen1 seen2 seen.more more;
       displays = on.displays ∙ f.displays ∙ ap (λ (a : Account). a.holds.displays) seen.account;
+      host = on.host ∙ f.host ∙ ap (λ (a : Account). a.holds.host) seen.account;
       ready = on.ready;
       goes_on = goes_on;
     }
@@ -457,7 +476,7 @@ begun-value client call fence order e is owner number lane ordinal =
 
 -- a line was done whose command is begun
 pub line-begun : {B : Type 0} (labels : List ℕ) (old mid new : ClientState B) (label : Option ℕ) (call heard : Call) (fence : FenceData) (told told1 told2 : List Told) (outcome : Outcome) → label ≡ gives call
-    → HasSeenMore old mid → Hears labels mid.caller.token.seen call told told1 heard → HasBegun mid.caller heard fence outcome new.caller → new.stopped ≡ false → Tells labels label (given_by new (lasts.Begun fence)) told1 told2 → HasDoneLine told told2 old new call
+    → HasSeenMore old mid → Hears labels mid.caller.token.seen call told told1 heard → HasBegun mid.caller heard fence outcome new.caller → new.stopped ≡ false → Tells labels label (given_by (is_plug call) new (lasts.Begun fence)) told1 told2 → HasDoneLine told told2 old new call
 line-begun labels old mid new label call heard fence told told1 told2 outcome is seen hears gone goes_on tells =
     let account : Account = mid.caller.token.account in
     let n : ℕ = account.number in
@@ -484,7 +503,7 @@ line-begun labels old mid new label call heard fence told told1 told2 outcome is
     let one = one-filled order front fills in
     let e : Entry = one.0 in
     let number_of : call_of e ≡ account.used + 1 = ap call_of one.2.1 in
-    let all1 : AreTold values told1 = tells-before values labels label (given_by new (lasts.Begun fence)) told1 told2 tells all in
+    let all1 : AreTold values told1 = tells-before values labels label (given_by (is_plug call) new (lasts.Begun fence)) told1 told2 tells all in
     let knows : learned knew (record { deed = deeds.Ask gone.ask; change = changes.Nothing }) e ≡ knew =
     ap (λ (x : Entry). learned knew (record { deed = deeds.Ask gone.ask; change = changes.Nothing }) x) one.2.1 in
     let done : IsDone n knew.holds (deeds.Ask gone.ask) e =
@@ -511,7 +530,7 @@ line-begun labels old mid new label call heard fence told told1 told2 outcome is
       slots = slots;
       line = subst (λ (k : ℕ). Line k (begun_of old.caller.token.account) (known old.caller)) number
           (subst (λ (b : List ℕ). Line n b (known old.caller)) (ap (λ (a : Account). begun_of a) seen.account) (subst (Line n begun) seen.known_is line));
-      told_more = λ values all. hears-before values labels seen1 call told told1 heard hears (tells-before values labels label (given_by new (lasts.Begun fence)) told1 told2 tells all);
+      told_more = λ values all. hears-before values labels seen1 call told told1 heard hears (tells-before values labels label (given_by (is_plug call) new (lasts.Begun fence)) told1 told2 tells all);
       few = omega arith;
       start = drawn_is.start ∙ seen.start;
       number = number_is ∙ number;
@@ -521,13 +540,14 @@ line-begun labels old mid new label call heard fence told told1 told2 outcome is
       kept = λ slot has. begun-kept account new.caller.token.account order slot out_is mine_is (slot-kept old.caller.token.account account slot seen.account has);
       more = prefix_trans old.caller.token.seen seen1 seen2 seen.more more;
       displays = ap (λ (a : Account). a.holds.displays) drawn_is.account ∙ ap (λ (a : Account). a.holds.displays) seen.account;
+      host = ap (λ (a : Account). a.holds.host) drawn_is.account ∙ ap (λ (a : Account). a.holds.host) seen.account;
       ready = gone.ready;
       goes_on = goes_on;
     }
   where
-    begun-given : (values : Values) (label : Option ℕ) → Tells labels label (given_by new (lasts.Begun fence)) told1 told2 → AreTold values told2 → (e : Entry) → given_by new (lasts.Begun fence) ≡ value_of e → HasGiven values label (e ∷ [])
+    begun-given : (values : Values) (label : Option ℕ) → Tells labels label (given_by (is_plug call) new (lasts.Begun fence)) told1 told2 → AreTold values told2 → (e : Entry) → given_by (is_plug call) new (lasts.Begun fence) ≡ value_of e → HasGiven values label (e ∷ [])
     begun-given values None tells all e value = tt
-    begun-given values (Some label) tells all e value = (e, refl, tells-value values labels label (given_by new (lasts.Begun fence)) told1 told2 tells all ∙ ap (λ (g : Given). Some g) value)
+    begun-given values (Some label) tells all e value = (e, refl, tells-value values labels label (given_by (is_plug call) new (lasts.Begun fence)) told1 told2 tells all ∙ ap (λ (g : Given). Some g) value)
 
     begun-kept : (account account' : Account) (order : Order) (slot : Slot) → account'.out ≡ account.out ++ order ∷ [] → account'.mine ≡ account.mine → IsIn account slot → IsIn account' slot
     begun-kept account account' order (Made e) out mine has = subst (λ (es : List Entry). Has es e) (sym mine) has
@@ -536,9 +556,9 @@ line-begun labels old mid new label call heard fence told told1 told2 outcome is
 
 -- a line was done
 pub line-done : {B : Type 0} (labels : List ℕ) (old mid new : ClientState B) (label : Option ℕ) (call heard : Call) (told told1 told2 : List Told) (outcome : Outcome) (last : Last) → outcome.last ≡ last → label ≡ gives call
-    → HasSeenMore old mid → Hears labels mid.caller.token.seen call told told1 heard → HasGone last mid.caller heard outcome new.caller → new.stopped ≡ false → Tells labels label (given_by new outcome.last) told1 told2 → HasDoneLine told told2 old new call
+    → HasSeenMore old mid → Hears labels mid.caller.token.seen call told told1 heard → HasGone last mid.caller heard outcome new.caller → new.stopped ≡ false → Tells labels label (given_by (is_plug call) new outcome.last) told1 told2 → HasDoneLine told told2 old new call
 line-done labels old mid new label call heard told told1 told2 outcome (lasts.Begun fence) last_is is seen hears gone goes_on tells =
-    line-begun labels old mid new label call heard fence told told1 told2 outcome is seen hears gone goes_on (subst (λ (l : Last). Tells labels label (given_by new l) told1 told2) last_is tells)
+    line-begun labels old mid new label call heard fence told told1 told2 outcome is seen hears gone goes_on (subst (λ (l : Last). Tells labels label (given_by (is_plug call) new l) told1 told2) last_is tells)
 line-done labels old mid new label call heard told told1 told2 outcome (lasts.Act reply) last_is is seen hears gone goes_on tells = line-called labels old mid new label call heard told told1 told2 outcome is seen hears gone goes_on tells
 line-done labels old mid new label call heard told told1 told2 outcome (lasts.Command answer) last_is is seen hears gone goes_on tells = line-called labels old mid new label call heard told told1 told2 outcome is seen hears gone goes_on tells
 

@@ -3,14 +3,18 @@ use Rattle.vg_laws.proofs.Results.{on_err}
 use Rattle.vg_script_part.specs.Performing.{HasDoneLine, HasKept}
 use Rattle.vg_driver.specs.Tickets.{Account}
 use Rattle.vg_tasks.specs.Plans.{IsCallFit}
-use Rattle.vg_script_part.proofs.LineLemmas.{heard-fits, kept-behind, ok_more}
+use Rattle.vg_script_part.proofs.LineLemmas.{heard-fits, heard-met, kept-behind, ok_more}
 use Rattle.vg_script_part.proofs.ToldLemmas.{gone-few, has-last, line-done}
 use Rattle.vg_script_part.proofs.performing.run_line.Goals as goal
 
 pub call-requires-clause-fit : goal.call-requires-clause-fit
 call-requires-clause-fit g c =
     let seen = c.hear.ensures.more in
-    subst (λ (a : Account). IsCallFit a.holds.displays c.in_ok-call.call) (sym seen.account) (heard-fits c.args.client.now.caller.token.account.holds.displays c.args.labels.now.items c.hear.new.client.caller.token.seen c.args.call c.in_ok-call.call c.args.told.now.items c.hear.new.told.items c.requires.call.limits c.in_ok-call.ensures.heard)
+    subst (λ (a : Account). IsCallFit a.holds c.in_ok-call.call) (sym seen.account) (heard-fits c.args.client.now.caller.token.account.holds c.args.labels.now.items c.hear.new.client.caller.token.seen c.args.call c.in_ok-call.call c.args.told.now.items c.hear.new.told.items c.requires.call.limits c.in_ok-call.ensures.heard)
+
+pub call-requires-clause-met : goal.call-requires-clause-met
+call-requires-clause-met g c =
+    heard-met c.args.labels.now.items c.hear.new.client.caller.token.seen c.args.call c.in_ok-call.call c.args.told.now.items c.hear.new.told.items c.plugs_are_named.ensures c.in_ok-call.ensures.heard
 
 pub tell-requires-clause-last : goal.tell-requires-clause-last
 tell-requires-clause-last g c =

@@ -7,8 +7,6 @@ returns-clause-heard g c =
     let low = c.requires.label.0 in
     let high = c.requires.label.1 in
     let is : c.in-Some.shown.of ≡ get_or c.args.labels.now.items (c.args.label - 1) 0 = c.in-Some.ensures.shown.0 ∙ c.index.ensures ∙ get_or_default_zero c.args.labels.now.items (c.args.label - 1) c.index.result.now (omega (arith, low, high)) in (
-      c.in-Some.given,
-      refl,
       record {
         one = record { label = c.args.label; shown = c.in-Some.shown };
         more = c.in_ok-push.ensures.items;
