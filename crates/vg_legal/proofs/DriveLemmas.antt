@@ -26,6 +26,7 @@ use Rattle.vg_machine.specs.Lender.{Lender}
 use Rattle.vg_scanout.specs.declared.scanout.Frame.{Frame}
 use Rattle.vg_script.specs.declared.types.Line.{Line}
 use Rattle.vg_script.specs.declared.types.Script.{Script}
+use Rattle.vg_script.specs.Parts.{parts_of}
 use Rattle.vg_driver.specs.Tickets.{Token}
 use Rattle.vg_worker.proofs.LaneLemmas.{lanes_are_new, lanes_long}
 use Rattle.vg_run_threads.specs.Session.{HasJoined, HaveAllJoined, IsEnd, Lane, Root}
@@ -78,18 +79,18 @@ kept-from setup values H first (lines ∷ more) all =
           subst (λ (k : ℕ). HasKeptTo setup values k (get_or more i []) H) next (all (suc i) (omega (arith, within)))),
     )
 
-pub is-run : (script : Script) (root : Root) (H : List Entry) (frames : List Frame) → Closed → OneHistory → HaveAllJoined script root → IsEnd root H frames → IsRunOf (setup_of script) script.clients H frames
+pub is-run : (script : Script) (root : Root) (H : List Entry) (frames : List Frame) → Closed → OneHistory → HaveAllJoined script root → IsEnd root H frames → IsRunOf (setup_of script) (parts_of script) H frames
 is-run script root H frames law one joined end =
     let setup : Setup = setup_of script in
     let begun : end.last.start ≡ Some (start setup) = end.start ∙ joined.start in
     let agrees : Agrees setup H = end.closed.history.agrees (start setup) begun in
-    let count : end.last.given ≡ length script.clients = end.given ∙ joined.given in
-    let owned : AllByRecursion (IsOwned (length script.clients)) H = all_owned (length script.clients) H (λ entry at. let w = end.closed.clients entry at in (w.0, omega (arith, w.1, count))) in
-    let kept : KeptAll setup joined.values 1 script.clients H = kept-from setup joined.values H 1 script.clients (λ i within.
+    let count : end.last.given ≡ length (parts_of script) = end.given ∙ joined.given in
+    let owned : AllByRecursion (IsOwned (length (parts_of script))) H = all_owned (length (parts_of script)) H (λ entry at. let w = end.closed.clients entry at in (w.0, omega (arith, w.1, count))) in
+    let kept : KeptAll setup joined.values 1 (parts_of script) H = kept-from setup joined.values H 1 (parts_of script) (λ i within.
     let place : (1 + i) - 1 ≡ i = omega arith in
     let whole = kept-to script joined.values root H frames (1 + i) law (joined.clients (1 + i) (omega arith) (omega (arith, within))) end in
-    subst (λ (k : ℕ). HasKeptTo setup joined.values (1 + i) (get_or script.clients k []) H) place whole) in
-    let result = one setup joined.values script.clients H agrees end.closed.history.ordered owned kept in
+    subst (λ (k : ℕ). HasKeptTo setup joined.values (1 + i) (get_or (parts_of script) k []) H) place whole) in
+    let result = one setup joined.values (parts_of script) H agrees end.closed.history.ordered owned kept in
     record {
       sound = result.0;
       values = joined.values;
@@ -99,10 +100,10 @@ is-run script root H frames law one joined end =
     }
 
 -- the journal of it
-pub legal-run : (script : Script) (journal : Journal) (setup : Setup) (H : List Entry) (frames : List Frame) → setup ≡ setup_of script → IsRunOf (setup_of script) script.clients H frames
+pub legal-run : (script : Script) (journal : Journal) (setup : Setup) (H : List Entry) (frames : List Frame) → setup ≡ setup_of script → IsRunOf (setup_of script) (parts_of script) H frames
     → (journal.setup ≡ setup) × (journal.entries ≡ H) × (journal.frames ≡ frames) → journal.control ≡ count_by is_on_control H → journal.cursor ≡ count_by is_on_cursor H → IsLegalJournal script journal
 legal-run script journal setup H frames is run parts control cursor =
     let settled : journal.setup ≡ setup_of script = parts.0 ∙ is in
-    legal-journal script journal.setup script.clients H journal.entries frames journal.frames journal.control journal.cursor settled refl
-    (subst (λ (s : Setup). IsRunOf s script.clients H frames) (sym settled) run)
+    legal-journal script journal.setup (parts_of script) H journal.entries frames journal.frames journal.control journal.cursor settled refl
+    (subst (λ (s : Setup). IsRunOf s (parts_of script) H frames) (sym settled) run)
     parts.1 parts.2 (control ∙ ap (λ (es : List Entry). count_by is_on_control es) (sym parts.1)) (cursor ∙ ap (λ (es : List Entry). count_by is_on_cursor es) (sym parts.1))

@@ -8,7 +8,7 @@ use Rattle.vg_calls.specs.declared.call.Call.{Call}
 use Rattle.vg_calls.specs.declared.call.Call.TheVariants as calls
 use Rattle.vg_client_holds.specs.declared.setup.Setup.{Setup}
 use Rattle.vg_client_holds.specs.declared.act.Act.{Act}
-use Rattle.vg_client_holds.specs.declared.act.Act.TheVariants.{Enter, Await, Leave, Denied}
+use Rattle.vg_client_holds.specs.declared.act.Act.TheVariants.{Enter, Leave, Denied}
 use Rattle.vg_client_holds.specs.declared.act.ActReply.{ActReply}
 use Rattle.vg_client_holds.specs.declared.act.ActReply.TheVariants as act_replies
 use Rattle.vg_client_holds.specs.declared.act.What.{What}
@@ -30,7 +30,7 @@ use Rattle.vg_script.specs.Waits.{AreKnown, label_list, waits}
 use Rattle.vg_script.specs.Waits as labels_of
 use Rattle.vg_labels.specs.declared.label.Given.{Given}
 use Rattle.vg_labels.specs.Labels.{Values, value_of}
-use Rattle.vg_script_part.specs.Values.{HasGiven, fence_of, heard_call, token_of}
+use Rattle.vg_script_part.specs.Values.{HasGiven, fence_of, heard_call, plug_of, token_of}
 use Rattle.vg_script_part.specs.Follows.{Follows, GivesAll, GivesCalls}
 use Rattle.vg_client.specs.Calls.{GivesTasks, IsAsked, IsDone, Plays, learned}
 use Rattle.vg_tasks.specs.Known.{Known, first_known}
@@ -120,7 +120,6 @@ same_asked state before k client None request e e' by is is' one other = command
 same_done : (state : State) (before : List Entry) (k client : ℕ) (holds : Holds) (deed : Deed) (e e' : Entry) → IsDone client holds deed e → IsDone client holds deed e'
     → Stood state before k e → Stood state before k e' → e ≡ e'
 same_done state before k client holds (deeds.Act act) e e' is is' one other = acts_same state before k client act is.0 is'.0 is.1 is'.1 e e' is.2 is'.2 one other
-same_done state before k client holds (deeds.Wait fence) e e' is is' one other = acts_same state before k client (Await fence.lane fence.ordinal) is.0 is'.0 is.1 is'.1 e e' is.2 is'.2 one other
 same_done state before k client holds (deeds.Ask (asks.Command way command)) e e' is is' one other =
     same_asked state before k client (denied_by holds way command) (request_by way command) e e' (record { lane = λ m n. refl; ordinal = λ n. refl }) is is' one other
 same_done state before k client holds (deeds.Ask (asks.Raw queue room shape bytes)) e e' is is' one other =
@@ -195,6 +194,7 @@ Agree labels V V' = (l : ℕ) → IsTrue (list_any (λ other. other == l) labels
 heard-same : (labels : List ℕ) (V V' : Values) (call : Call) → Agree labels V V' → IfSome (waits call) (λ l. IsTrue (list_any (λ other. other == l) labels)) → heard_call V call ≡ heard_call V' call
 heard-same labels V V' (calls.Import label token) agree known = ap (λ (v : Option Given). calls.Import label (token_of v)) (agree label known)
 heard-same labels V V' (calls.Await label fence) agree known = ap (λ (v : Option Given). calls.Await label (fence_of v)) (agree label known)
+heard-same labels V V' (calls.Sync label call) agree known = ap (λ (v : Option Given). calls.Sync label (plug_of v)) (agree label known)
 heard-same labels V V' call agree known = refl
 
 -- what a line gives is one where its entry is

@@ -7,13 +7,14 @@ use Rattle.vg_machine.specs.Entries.{Entry}
 use Rattle.vg_machine.specs.Order.{Sound}
 use Rattle.vg_machine.specs.Replay.{replay}
 use Rattle.vg_script.specs.declared.types.Script.{Script}
+use Rattle.vg_script.specs.Parts.{parts_of}
 use Rattle.vg_script.specs.declared.types.Line.{Line}
 use Rattle.vg_legal.specs.Legal.{FollowAll, IsLegalJournal, IsOfClients, Legal, is_on_control, is_on_cursor, journal_of}
 use Rattle.vg_journal.specs.declared.journal.Journal.{Journal}
 use Rattle.vg_legal.specs.Run.{IsOwned, IsRunOf}
 use Rattle.vg_script_part.specs.Setup.{setup_of}
 
-pub legal-journal : (script : Script) (setup : Setup) (clients : List (List Line)) (H entries : List Entry) (frames frames' : List Frame) (control cursor : ℕ) → setup ≡ setup_of script → clients ≡ script.clients → IsRunOf setup clients H frames
+pub legal-journal : (script : Script) (setup : Setup) (clients : List (List Line)) (H entries : List Entry) (frames frames' : List Frame) (control cursor : ℕ) → setup ≡ setup_of script → clients ≡ parts_of script → IsRunOf setup clients H frames
     → entries ≡ H → frames' ≡ frames → control ≡ count_by is_on_control entries → cursor ≡ count_by is_on_cursor entries
     → IsLegalJournal script (record { setup = setup; entries = entries; control = control; cursor = cursor; frames = frames' })
 legal-journal script setup clients H entries frames frames' control cursor is_setup are_clients run is_history is_frames is_control is_cursor =
@@ -36,14 +37,14 @@ legal-journal script setup clients H entries frames frames' control cursor is_se
     )
 
 -- where there are no clients, no entry is of one
-pub no-entries : (script : Script) (H : List Entry) → script.clients ≡ [] → AllByRecursion (IsOfClients script) H → H ≡ []
+pub no-entries : (script : Script) (H : List Entry) → parts_of script ≡ [] → AllByRecursion (IsOfClients script) H → H ≡ []
 no-entries script [] none owned = refl
 no-entries script (entry ∷ more) none owned =
     let first = owned.0 in
-    let none' : length script.clients ≡ 0 = ap length none in
+    let none' : length (parts_of script) ≡ 0 = ap length none in
     absurd (omega (arith, first, none'))
 
-pub empty-journal : (script : Script) (journal : Journal) → script.clients ≡ [] → IsLegalJournal script journal
+pub empty-journal : (script : Script) (journal : Journal) → parts_of script ≡ [] → IsLegalJournal script journal
     → journal ≡ record { setup = setup_of script; entries = []; control = 0; cursor = 0; frames = [] }
 empty-journal script journal none legal =
     let (H, is_legal, is_journal) = legal in

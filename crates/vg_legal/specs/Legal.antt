@@ -7,6 +7,7 @@ use Rattle.vg_machine.specs.Replay.{display, replay}
 use Rattle.vg_machine.specs.Order.{Sound, call_of, client_of}
 use Rattle.vg_script.specs.declared.types.Line.{Line}
 use Rattle.vg_script.specs.declared.types.Script.{Script}
+use Rattle.vg_script.specs.Parts.{parts_of}
 use Rattle.vg_journal.specs.declared.journal.Journal.{Journal}
 use Rattle.vg_client_holds.specs.declared.setup.Setup.{Setup}
 use Rattle.vg_labels.specs.Labels.{Values}
@@ -23,15 +24,15 @@ abbrev pub FollowAll : Setup → Values → ℕ → List (List Line) → List En
 FollowAll setup values client [] H = Unit {0}
 FollowAll setup values client (lines ∷ more) H = Follows setup values lines H client × FollowAll setup values (client + 1) more H
 
--- The entry belongs to a client of the script.
+-- The entry belongs to a client of the script, or to its host, which is the client behind them.
 abbrev pub IsOfClients : Script → Entry → Type 0
-IsOfClients script entry = (1 ≤ client_of entry) × (client_of entry ≤ length script.clients)
+IsOfClients script entry = (1 ≤ client_of entry) × (client_of entry ≤ length (parts_of script))
 
--- A history that the clients of the script can have with the display, and what each label of the script was given in it.
+-- A history that the clients of the script, and its host, can have with the display, and what each label of the script was given in it.
 pub record Legal (script : Script) (H : List Entry) : Type 0 where
   pub sound : Sound (setup_of script) H
   pub values : Values
-  pub follows : FollowAll (setup_of script) values 1 script.clients H
+  pub follows : FollowAll (setup_of script) values 1 (parts_of script) H
   pub clients : AllByRecursion (IsOfClients script) H
 
 -- A command on the control queue, which is the first of the display's queues, and on the cursor queue.

@@ -6,6 +6,7 @@ ghost use Rattle.vg_history.specs.History.{Ordered};
 ghost use Rattle.vg_history.specs.Lists.{Has};
 ghost use Rattle.vg_script.specs.declared.types.Line.{Line as Lines};
 ghost use Rattle.vg_script.specs.declared.types.Script.{Script as Scripts};
+ghost use Rattle.vg_script.specs.Parts.{parts_of};
 ghost use Rattle.vg_script.specs.Waits.{AreKnown};
 ghost use Rattle.vg_labels.specs.Labels.{Values};
 ghost use Rattle.vg_client_holds.specs.declared.setup.Setup.{Setup as Setups};
@@ -19,16 +20,16 @@ ghost use Rattle.vg_legal.specs.Run.{IsOwned};
 ghost use Rattle.vg_script_part.specs.Setup.{setup_of};
 ghost use Rattle.vg_script_part.specs.Values.{HasGiven, HasHeard};
 
-/// A script of at most one client, none of whose commands is left unfinished, and each of whose lines that waits for a label stands
+/// A script of at most one part, a client or a host, none of whose commands is left unfinished, and each of whose lines that waits for a label stands
 /// behind the one that gives it, as in each that is read, has at most one legal history. So what is written is a function of the
 /// script.
 pub fn at_most_one_history()
-    ensures { (script : Scripts) (G H : List Entries) → length script.clients ≤ 1 → AreFinished script.clients → All (AreKnown []) script.clients → Legal script G → Legal script H → G ≡ H }
+    ensures { (script : Scripts) (G H : List Entries) → length (parts_of script) ≤ 1 → AreFinished (parts_of script) → All (AreKnown []) (parts_of script) → Legal script G → Legal script H → G ≡ H }
 {}
 
-/// A law, and no work: the journal of a script without clients has no entries, nothing on either ring, and no frames.
+/// A law, and no work: the journal of a script without clients and without a host has no entries, nothing on either ring, and no frames.
 pub fn nothing_without_clients()
-    ensures { (script : Scripts) (journal : Journals) → script.clients ≡ [] → IsLegalJournal script journal
+    ensures { (script : Scripts) (journal : Journals) → parts_of script ≡ [] → IsLegalJournal script journal
         → journal ≡ record { setup = setup_of script; entries = []; control = 0; cursor = 0; frames = [] } }
 {}
 

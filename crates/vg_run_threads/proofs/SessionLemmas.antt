@@ -1,6 +1,6 @@
 -- Clients on threads, and what they leave.
-use Rattle.std.proofs.Common.{◌≡◌, inl, inr, ⊎_elim, ◌+◌, ◌-◌, ◌<◌, ◌≤◌, ◌∙◌, sym, ap, refl, subst, subst₂, arith, append_assoc, append-nil, ℕ, zero, suc, true, false, List, [], ◌∷◌, ◌++◌, length, map, get_or, take, Option, Some, None}
-use Rattle.std.specs.Prelude.{All, sum_by}
+use Rattle.std.proofs.Common.{◌≡◌, inl, inr, ⊎_elim, ◌+◌, ◌-◌, ◌<◌, ◌≤◌, ◌==◌, ◌&&◌, ◌∙◌, sym, ap, refl, subst, subst₂, arith, append_assoc, append-nil, ℕ, zero, suc, Bool, true, false, List, [], ◌∷◌, ◌++◌, length, length-append, map, get_or, take, Option, Some, None}
+use Rattle.std.specs.Prelude.{All, IfSome, is_some, option_to_list, sum_by}
 use Rattle.std.specs.List.{fold, range_with_len}
 use Rattle.std.proofs.lemmas.List.{map-append}
 use Rattle.std.proofs.lemmas.List.Elements.{All-append, All-nil}
@@ -30,7 +30,8 @@ use Rattle.vg_machine.specs.Lender.{Lender}
 use Rattle.vg_scanout.specs.declared.scanout.Frame.{Frame}
 use Rattle.vg_script.specs.declared.types.Line.{Line}
 use Rattle.vg_script.specs.declared.types.Script.{Script}
-use Rattle.vg_script.specs.Limits.{ScriptInLimits}
+use Rattle.vg_script.specs.Limits.{ClientInLimits, HostInLimits, ScriptInLimits}
+use Rattle.vg_script.specs.Parts.{parts_of}
 use Rattle.vg_script.specs.Waits.{given_in, given_in_all, gives, label_list}
 use Rattle.vg_labels.specs.Labels.{AreOf, AreTold, Values}
 use Rattle.vg_driver.specs.Halves.{HasHeard}
@@ -39,7 +40,7 @@ use Rattle.vg_client.specs.Accounts.{IsNew, mine_of}
 use Rattle.vg_script_part.specs.declared.performing.Performed.{Performed}
 use Rattle.vg_run_threads.specs.Session.{AreAllTold, AreAsked, AreNew, HasCompleted, HasJoined, HasTakenAll, HasTakenLanes, HaveAllJoined, HaveCompleted, IsEnd, IsReady, IsRootWith, Lane, Performs, Root, counted_of, number_of}
 use Rattle.vg_script_part.specs.Follows.{Kept}
-use Rattle.vg_script_part.specs.Performing.{AreInLimits, HasPerformed, IsLabel, lines_of}
+use Rattle.vg_script_part.specs.Performing.{AreInLimits, HasPerformed, IsLabel, PartCallInLimits, is_host, lines_of}
 use Rattle.vg_script_part.specs.Setup.{setup_of}
 use Rattle.vg_run_threads.proofs.RangeLemmas.{upto-range}
 use Rattle.vg_run_threads.proofs.CrossingLemmas.{all-asked-more, completed-lane}
@@ -93,21 +94,61 @@ given-in-all (lines ∷ more) (suc k) n at = has_right (given_in lines) (given_i
 gives-label : (s : Script) (number i : ℕ) (d : Line) → ScriptInLimits s → i < length (lines_of s number) → (label : Option ℕ) → gives (get_or (lines_of s number) i d).call ≡ label → IsLabel s.labels label
 gives-label s number i d limits within None is = tt
 gives-label s number i d limits within (Some n) is =
-    let w = range-within 1 s.labels n (given_in_all s.clients) limits.labels (given-in-all s.clients (number - 1) n (given-at (lines_of s number) i n d within is)) in
+    let w = range-within 1 s.labels n (given_in_all (parts_of s)) limits.labels (given-in-all (parts_of s) (number - 1) n (given-at (lines_of s number) i n d within is)) in
     let high = w.1 in
     (w.0, omega (arith, high))
 
-lines-in : (s : Script) (number : ℕ) → ScriptInLimits s → 1 ≤ number → number ≤ length s.clients → AreInLimits (setup_of s) s.labels (lines_of s number)
+-- a script has few parts
+pub few-parts : (s : Script) → ScriptInLimits s → length (parts_of s) ≤ 33
+few-parts s limits =
+    let both : length (parts_of s) ≡ length s.clients + length (option_to_list s.host) = length-append s.clients (option_to_list s.host) in
+    omega (arith, both, one-host s.host, limits.clients)
+  where
+    one-host : (host : Option (List Line)) → length (option_to_list host) ≤ 1
+    one-host None = omega arith
+    one-host (Some lines) = omega arith
+
+-- each call of a part is within the limits of its part: of the host behind the clients, or of a client
+abbrev AreOfPart : (host : Bool) → ℕ → List Line → Type 0
+AreOfPart host displays lines = All (λ line. PartCallInLimits host displays line.call) lines
+
+of-clients : (displays k : ℕ) (clients : List (List Line)) → k < length (clients ++ []) → All (ClientInLimits displays) clients → AreOfPart false displays (get_or (clients ++ []) k [])
+of-clients displays k [] within all = absurd (omega (arith, within))
+of-clients displays zero (lines ∷ more) within all = all 0 [] (omega arith)
+of-clients displays (suc k) (lines ∷ more) within all = of-clients displays k more (omega (arith, within)) (λ i d l. all (suc i) d (omega (arith, l)))
+
+with-host : (displays k : ℕ) (clients : List (List Line)) (host : List Line) → k < length (clients ++ host ∷ []) → All (ClientInLimits displays) clients → HostInLimits displays host
+    → AreOfPart (k == length clients) displays (get_or (clients ++ host ∷ []) k [])
+with-host displays zero [] host within all limits = limits
+with-host displays (suc k) [] host within all limits = absurd (omega (arith, within))
+with-host displays zero (lines ∷ more) host within all limits = all 0 [] (omega arith)
+with-host displays (suc k) (lines ∷ more) host within all limits = with-host displays k more host (omega (arith, within)) (λ i d l. all (suc i) d (omega (arith, l))) limits
+
+of-part : (displays k : ℕ) (clients : List (List Line)) (host : Option (List Line)) → k < length (clients ++ option_to_list host) → All (ClientInLimits displays) clients → IfSome host (HostInLimits displays)
+    → AreOfPart (is_some host && k == length clients) displays (get_or (clients ++ option_to_list host) k [])
+of-part displays k clients None within all limits = of-clients displays k clients within all
+of-part displays k clients (Some host) within all limits = with-host displays k clients host within all limits
+
+-- the host has the number behind the clients
+host-number : (s : Script) (number : ℕ) → 1 ≤ number → (is_some s.host && number - 1 == length s.clients) ≡ is_host (setup_of s) number
+host-number s zero low = absurd (omega (arith, low))
+host-number s (suc k) low =
+    let next : length s.clients + 1 ≡ suc (length s.clients) = omega arith in
+    ap (λ (n : ℕ). is_some s.host && suc k == n) (sym next)
+
+lines-in : (s : Script) (number : ℕ) → ScriptInLimits s → 1 ≤ number → number ≤ length (parts_of s) → AreInLimits (setup_of s) (is_host (setup_of s) number) s.labels (lines_of s number)
 lines-in s number limits low high =
-    let at : number - 1 < length s.clients = omega (arith, low, high) in (
+    let at : number - 1 < length (parts_of s) = omega (arith, low, high) in
+    let displays : ℕ = length s.displays in
+    let part : AreOfPart (is_host (setup_of s) number) displays (lines_of s number) =
+    subst (λ (b : Bool). AreOfPart b displays (lines_of s number)) (host-number s number low) (of-part displays (number - 1) s.clients s.host at limits.calls limits.host) in (
       limits.count.1,
-      omega (arith, limits.lines, few-of s.clients (number - 1)),
+      omega (arith, limits.lines, few-of (parts_of s) (number - 1)),
       λ i d within. record {
-        limits = limits.calls (number - 1) [] at i d within;
+        limits = part i d within;
         gives_one = gives-label s number i d limits within _ refl;
         waits_one = limits.known (number - 1) [] at i d within;
       },
-      refl,
     )
 
 module _ {X : Type 0} (token : X → Token) (lines : X → List Line) (labels : X → List ℕ) where
@@ -126,13 +167,13 @@ module _ {X : Type 0} (token : X → Token) (lines : X → List Line) (labels : 
   made-none setup s ls root jobs is none = subst (λ (xs : List X). IsMade setup s ls 0 root xs) (sym none) (is, record { numbers = refl; new = λ t at. absurd at }, All-nil _, All-nil _)
 
   pub made-more : (setup : Setup) (s : Script) (ls : List ℕ) (n : ℕ) (root root' : Root) (holds : Holds) (made : Token) (jobs jobs' : List X) (job : X) → IsMade setup s ls n root jobs → MakesClient display root holds root' made → IsCurrent display made
-      → holds ≡ first_holds setup (n + 1) → token job ≡ made → lines job ≡ get_or s.clients n [] → labels job ≡ ls → jobs' ≡ jobs ++ job ∷ [] → IsMade setup s ls (n + 1) root' jobs'
+      → holds ≡ first_holds setup (n + 1) → token job ≡ made → lines job ≡ get_or (parts_of s) n [] → labels job ≡ ls → jobs' ≡ jobs ++ job ∷ [] → IsMade setup s ls (n + 1) root' jobs'
   made-more setup s ls n root root' holds made jobs jobs' job h makes current first is of by more =
       let fresh = new-client setup n root root' holds made h.0 makes current first in
       let number : made.account.number ≡ n + 1 = ap (λ (t : Token). t.account.number) makes.client ∙ ap (λ (k : ℕ). k + 1) h.0.given in
       let numbered : number_of (token job) ≡ n + 1 = ap number_of is ∙ number in
       let at : n ≡ number_of (token job) - 1 = omega (arith, numbered) in
-      let has : HasLines s job = of ∙ ap (λ (k : ℕ). get_or s.clients k []) at in
+      let has : HasLines s job = of ∙ ap (λ (k : ℕ). get_or (parts_of s) k []) at in
       let split : map token (jobs ++ job ∷ []) ≡ map token jobs ++ made ∷ [] = map-append token jobs (job ∷ []) ∙ ap (λ (t : Token). map token jobs ++ t ∷ []) is in
       let numbers : map number_of (map token jobs ++ made ∷ []) ≡ upto (n + 1) =
       map-append number_of (map token jobs) (made ∷ []) ∙ ap (λ (ns : List ℕ). ns ++ made.account.number ∷ []) h.1.numbers ∙ ap (λ (k : ℕ). upto n ++ k ∷ []) number ∙ upto_more n in
@@ -155,23 +196,24 @@ module _ {X : Type 0} (token : X → Token) (lines : X → List Line) (labels : 
       )
 
   -- each job may begin
-  is-ready : (s : Script) (ls : List ℕ) (job : X) → ScriptInLimits s → length ls ≡ s.labels → HasLines s job → HasLabels ls job → IsNew (setup_of s) (token job) → 1 ≤ number_of (token job) → number_of (token job) ≤ length s.clients
+  is-ready : (s : Script) (ls : List ℕ) (job : X) → ScriptInLimits s → length ls ≡ s.labels → HasLines s job → HasLabels ls job → IsNew (setup_of s) (token job) → 1 ≤ number_of (token job) → number_of (token job) ≤ length (parts_of s)
       → IsReady (length (labels job)) (lines job) (token job)
   is-ready s ls job limits count is by new low high =
       let many : s.labels ≡ length (labels job) = sym count ∙ ap (λ (xs : List ℕ). length xs) (sym by) in
-      let within : AreInLimits (setup_of s) s.labels (lines job) = subst (λ (xs : List Line). AreInLimits (setup_of s) s.labels xs) (sym is) (lines-in s (number_of (token job)) limits low high) in
-      (setup_of s, (new, subst (λ (k : ℕ). AreInLimits (setup_of s) k (lines job)) many within))
+      let host : Bool = is_host (setup_of s) (number_of (token job)) in
+      let within : AreInLimits (setup_of s) host s.labels (lines job) = subst (λ (xs : List Line). AreInLimits (setup_of s) host s.labels xs) (sym is) (lines-in s (number_of (token job)) limits low high) in
+      (setup_of s, (new, subst (λ (k : ℕ). AreInLimits (setup_of s) host k (lines job)) many within))
 
-  pub all-ready : (setup : Setup) (s : Script) (ls : List ℕ) (jobs : List X) → setup ≡ setup_of s → ScriptInLimits s → length ls ≡ s.labels → AreNew setup (length s.clients) (map token jobs) → All (HasLines s) jobs → All (HasLabels ls) jobs
+  pub all-ready : (setup : Setup) (s : Script) (ls : List ℕ) (jobs : List X) → setup ≡ setup_of s → ScriptInLimits s → length ls ≡ s.labels → AreNew setup (length (parts_of s)) (map token jobs) → All (HasLines s) jobs → All (HasLabels ls) jobs
       → All (λ job. IsReady (length (labels job)) (lines job) (token job)) jobs
   all-ready setup s ls jobs is limits count new has by = each jobs (λ t at. subst (λ (x : Setup). IsNew x t) is (new.new t at))
-      (λ t at. upto-has (length s.clients) (number_of t) (subst (λ (ns : List ℕ). Has ns (number_of t)) new.numbers (has_map number_of (map token jobs) t at))) has by
+      (λ t at. upto-has (length (parts_of s)) (number_of t) (subst (λ (ns : List ℕ). Has ns (number_of t)) new.numbers (has_map number_of (map token jobs) t at))) has by
     where
       upto-has : (n k : ℕ) → Has (upto n) k → (1 ≤ k) × (k ≤ n)
       upto-has zero k at = absurd at
       upto-has (suc n) k at = ⊎_elim (λ there. let r = upto-has n k there in (r.0, omega (arith, r.1))) (λ same. (omega (arith, same), omega (arith, same))) (has_snoc (upto n) (suc n) k at)
 
-      each : (js : List X) → ((t : Token) → Has (map token js) t → IsNew (setup_of s) t) → ((t : Token) → Has (map token js) t → (1 ≤ number_of t) × (number_of t ≤ length s.clients)) → All (HasLines s) js → All (HasLabels ls) js
+      each : (js : List X) → ((t : Token) → Has (map token js) t → IsNew (setup_of s) t) → ((t : Token) → Has (map token js) t → (1 ≤ number_of t) × (number_of t ≤ length (parts_of s))) → All (HasLines s) js → All (HasLabels ls) js
           → All (λ job. IsReady (length (labels job)) (lines job) (token job)) js
       each [] fresh within of its k d lt = absurd (omega (arith, lt))
       each (j ∷ js) fresh within of its zero d lt = let w = within (token j) (inl refl) in is-ready s ls j limits count (of 0 j (omega arith)) (its 0 j (omega arith)) (fresh (token j) (inl refl)) w.0 w.1
@@ -214,10 +256,10 @@ module _ {X : Type 0} (token : X → Token) (lines : X → List Line) (labels : 
     giver s (j ∷ js) (x ∷ ps) h of p (inl e) = (j, of 0 j (omega arith), inl refl, subst (λ (y : Performed B). Gives j y) e h.0)
     giver s (j ∷ js) (x ∷ ps) h of p (inr at) = let by = giver s js ps h.1 (λ i e l. of (suc i) e (omega (arith, l))) p at in (by.0, by.1, inr by.2, by.3)
 
-    has-joined : (s : Script) (values : Values) (old new : Root) (jobs : List X) (ps : List (Performed B)) → AreNew (setup_of s) (length s.clients) (map token jobs) → All (HasLines s) jobs → AllGive Gives jobs ps → AreAllTold values ps
-        → HasTakenAll old ps new → old.accounts ≡ [] → (number : ℕ) → 1 ≤ number → number ≤ length s.clients → HasJoined s values new number
+    has-joined : (s : Script) (values : Values) (old new : Root) (jobs : List X) (ps : List (Performed B)) → AreNew (setup_of s) (length (parts_of s)) (map token jobs) → All (HasLines s) jobs → AllGive Gives jobs ps → AreAllTold values ps
+        → HasTakenAll old ps new → old.accounts ≡ [] → (number : ℕ) → 1 ≤ number → number ≤ length (parts_of s) → HasJoined s values new number
     has-joined s values old new jobs ps fresh of h told taken none number low high =
-        let found = map_has number-of ps number (subst (λ (ns : List ℕ). Has ns number) (sym (same-numbers jobs ps h ∙ fresh.numbers)) (has_upto (length s.clients) number low high)) in
+        let found = map_has number-of ps number (subst (λ (ns : List ℕ). Has ns number) (sym (same-numbers jobs ps h ∙ fresh.numbers)) (has_upto (length (parts_of s)) number low high)) in
         let p : Performed B = found.0 in
         let by = giver s jobs ps h of p found.1 in
         let took = taken.each p found.1 in
@@ -236,7 +278,7 @@ module _ {X : Type 0} (token : X → Token) (lines : X → List Line) (labels : 
           kept = subst (λ (ls : List Line). Kept (setup_of s) values number ls p.token.seen) its (subst (λ (k : ℕ). Kept (setup_of s) values k (lines by.0) p.token.seen) found.2 kept);
         }
 
-    pub all-joined : (setup : Setup) (s : Script) (values : Values) (old new : Root) (jobs : List X) (ps : List (Performed B)) → setup ≡ setup_of s → IsRootWith setup (length s.clients) old → AreNew setup (length s.clients) (map token jobs)
+    pub all-joined : (setup : Setup) (s : Script) (values : Values) (old new : Root) (jobs : List X) (ps : List (Performed B)) → setup ≡ setup_of s → IsRootWith setup (length (parts_of s)) old → AreNew setup (length (parts_of s)) (map token jobs)
         → All (HasLines s) jobs → AllGive Gives jobs ps → AreAllTold values ps → HasTakenAll old ps new → HaveAllJoined s new
     all-joined setup s values old new jobs ps is root fresh of h told taken = record {
       given = taken.given ∙ root.given;
@@ -244,7 +286,7 @@ module _ {X : Type 0} (token : X → Token) (lines : X → List Line) (labels : 
       lanes_made = taken.lanes_made ∙ root.lanes_made;
       start = taken.start ∙ root.start ∙ ap (λ (x : Setup). Some (start x)) is;
       values = values;
-      clients = has-joined s values old new jobs ps (subst (λ (x : Setup). AreNew x (length s.clients) (map token jobs)) is fresh) of h told taken root.accounts;
+      clients = has-joined s values old new jobs ps (subst (λ (x : Setup). AreNew x (length (parts_of s)) (map token jobs)) is fresh) of h told taken root.accounts;
     }
 
 -- one client more that was told so

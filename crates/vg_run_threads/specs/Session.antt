@@ -30,6 +30,7 @@ use Rattle.vg_machine.specs.Lender.{Lender}
 use Rattle.vg_scanout.specs.declared.scanout.Frame.{Frame}
 use Rattle.vg_script.specs.declared.types.Line.{Line}
 use Rattle.vg_script.specs.declared.types.Script.{Script}
+use Rattle.vg_script.specs.Parts.{parts_of}
 use Rattle.vg_driver.specs.Halves.{HasAsked}
 use Rattle.vg_driver.specs.Tickets.{Account, Order, Token}
 use Rattle.vg_client.specs.Accounts.{IsNew}
@@ -144,15 +145,15 @@ pub record HasJoined (script : Script) (values : Values) (root : Root) (number :
   pub current : IsCurrent display token
   pub kept : Kept (setup_of script) values number (lines_of script number) token.seen
 
--- All clients of the script have performed their parts, by values of labels that are the same for all, and joined the root; its
--- lanes are outside.
+-- All clients of the script, and its host, have performed their parts, by values of labels that are the same for all, and joined the
+-- root; its lanes are outside.
 pub record HaveAllJoined (script : Script) (root : Root) : Type 0 where
-  pub given : root.given ≡ length script.clients
+  pub given : root.given ≡ length (parts_of script)
   pub lanes : root.lanes ≡ []
   pub lanes_made : root.lanes_made ≡ 66
   pub start : root.start ≡ Some (start (setup_of script))
   pub values : Values
-  pub clients : (number : ℕ) → 1 ≤ number → number ≤ length script.clients → HasJoined script values root number
+  pub clients : (number : ℕ) → 1 ≤ number → number ≤ length (parts_of script) → HasJoined script values root number
 
 -- Nothing waits in the front, and nobody works on a lane.
 abbrev pub IsStill : {P T : Type 0} → FrontData P T → Type 0

@@ -1,9 +1,10 @@
-//! A script's clients and a device's workers on threads.
+//! A script's clients, its host, and a device's workers on threads.
 
 ghost use Rattle.std.specs.Prelude.{◌≡◌, ◌≤◌, [], ℕ, List, length, map, max, min, if◌then◌else◌, All, IfOk, OnOk};
 ghost use Rattle.vg_labels.specs.Labels.{AreOf, AreShown, values_of};
 ghost use Rattle.vg_script.specs.declared.types.Line.{Line as Lines};
 ghost use Rattle.vg_script.specs.Limits.{ScriptInLimits};
+ghost use Rattle.vg_script.specs.Parts.{parts_of};
 ghost use Rattle.vg_script_part.specs.Performing as parts;
 ghost use Rattle.vg_script_part.specs.Setup as setups;
 ghost use Rattle.vg_run_threads.specs.Session.{AreAllTold, AreNew, HasTakenAll, HaveAllJoined, IsRootWith, IsStill, begins_any, begins_one};
@@ -21,7 +22,7 @@ use vg_jobs::{Job, Quit, all};
 use vg_labels::{Label, Shown, agree, all_shown, give_up_all, new_labels};
 use vg_machine::{Display, Holds, Setup};
 use vg_ring::Rings;
-use vg_script::{Line, Script};
+use vg_script::{Line, Script, into_parts};
 use vg_script_part::{Performed, perform};
 use vg_tasks::begins;
 use vg_worker::{Gate, Worker};
@@ -79,7 +80,7 @@ impl<'a, B: Naming> Quit for Waiting<'a, B> {
     }
 }
 
-/// Runs the clients of a script and so many workers on threads. The clients have performed and joined the root then, and what
+/// Runs the clients of a script, its host, and so many workers on threads. The clients and the host have performed and joined the root then, and what
 /// was left in the front is served.
 pub fn run_threads<
     B: Naming + Send + Sync,
@@ -121,7 +122,7 @@ pub fn run_threads<
     Ok(settle(rt, alloc, front.into_inner(), book, gate))
 }
 
-/// A job for each client of the script.
+/// A job for each client of the script, and for its host behind them, where there is one.
 fn performers<'a, B: Naming, N: Rings>(
     alloc: Global,
     book: &'a Book<Display, B>,
@@ -134,16 +135,17 @@ fn performers<'a, B: Naming, N: Rings>(
     requires limits { ScriptInLimits script }
     requires setup { setup.now ≡ setups.setup_of script }
     requires root { IsRootWith setup.now 0 root.old }
-    ensures root { OnOk result (IsRootWith setup.now (length script.clients) root.new) }
-    ensures clients { IfOk result (λ jobs. AreNew setup.now (length script.clients) (map (λ job. job.token) jobs.items)) }
+    ensures root { OnOk result (IsRootWith setup.now (length (parts_of script)) root.new) }
+    ensures clients { IfOk result (λ jobs. AreNew setup.now (length (parts_of script)) (map (λ job. job.token) jobs.items)) }
     ensures lines { IfOk result (λ jobs. All (λ job. job.lines.items ≡ parts.lines_of script job.token.account.number) jobs.items) }
     ensures labels { IfOk result (λ jobs. All (λ job. job.labels.now.items ≡ labels.now.items) jobs.items) }
 {
     // A law, and no work: a new client knows its own calls, of which there are none.
     calls_stand_behind::<Display>();
     let mut jobs = Vec::new(alloc);
+    let parts = into_parts(script.clients, script.host)?;
     let mut number = 0;
-    for lines in script.clients.into_vec() {
+    for lines in parts {
         number += 1;
         let token = root.client(book, Holds::new(alloc, setup, number));
         jobs.push(Performing {

@@ -1,5 +1,5 @@
 -- One client's part of a script, from its entry to its end.
-use Rattle.std.specs.Prelude.{◌≡◌, ◌⊎◌, ◌≤◌, ◌+◌, ◌-◌, ◌*◌, ℕ, true, false, List, [], ◌∷◌, ◌++◌, length, map, drop, get_or, Option, Some, None, All, IfSome}
+use Rattle.std.specs.Prelude.{◌≡◌, ◌⊎◌, ◌≤◌, ◌+◌, ◌-◌, ◌*◌, ℕ, Bool, true, false, if◌then◌else◌, List, [], ◌∷◌, ◌++◌, length, map, drop, get_or, Option, Some, None, All, IfSome}
 use Rattle.std.specs.List.{AllByRecursion, range_with_len}
 use mathlib.Core.List.{IsPrefix}
 use Rattle.vg_history.specs.Lists.{Has}
@@ -8,6 +8,7 @@ use Rattle.vg_book.specs.Views.{IsEntryOf}
 use Rattle.vg_driver.specs.Tickets.{Account, Order, Token}
 use Rattle.vg_client_holds.specs.declared.setup.Setup.{Setup}
 use Rattle.vg_client_holds.specs.declared.act.Act.TheVariants.{Enter}
+use Rattle.vg_client_holds.specs.Holds.{first_holds}
 use Rattle.vg_client_holds.specs.declared.act.ActReply.TheVariants as act_replies
 use Rattle.vg_machine.specs.Entries.{Entry}
 use Rattle.vg_machine.specs.Order.{call_of}
@@ -18,7 +19,8 @@ use Rattle.vg_calls.specs.declared.call.Call.{Call}
 use Rattle.vg_calls.specs.declared.call.Call.TheVariants as calls
 use Rattle.vg_script.specs.declared.types.Line.{Line}
 use Rattle.vg_script.specs.declared.types.Script.{Script}
-use Rattle.vg_script.specs.Limits.{CallInLimits, IsBetween}
+use Rattle.vg_script.specs.Limits.{CallInLimits, HostCallInLimits, IsBetween}
+use Rattle.vg_script.specs.Parts.{parts_of}
 use Rattle.vg_script.specs.Waits.{gives, waits}
 use Rattle.vg_client.specs.Accounts.{IsNew}
 use Rattle.vg_client.specs.Callers.{ClientState, IsReady, known}
@@ -30,31 +32,40 @@ use Rattle.vg_labels.specs.declared.label.Gift.{Gift}
 use Rattle.vg_labels.specs.declared.label.Gift.TheVariants as gifts
 use Rattle.vg_client.specs.declared.outcome.Last.{Last}
 use Rattle.vg_client.specs.declared.outcome.Last.TheVariants as lasts
-use Rattle.vg_script_part.specs.Values.{fence_in, token_in}
+use Rattle.vg_script_part.specs.Values.{fence_in, plug_in, token_in}
 use Rattle.vg_script_part.specs.Follows.{GivesAll, IsLine, Kept, begun_after}
 
--- The lines of a script's client, of which the first has number 1.
+-- The lines of a script's client, of which the first has number 1; behind the clients comes the host, where there is one.
 abbrev pub lines_of : Script → ℕ → List Line
-lines_of script client = get_or script.clients (client - 1) []
+lines_of script client = get_or (parts_of script) (client - 1) []
+
+-- Whether the client of this number is the host.
+abbrev pub is_host : Setup → ℕ → Bool
+is_host setup client = (first_holds setup client).host
 
 -- It is the number of one of so many labels, if it is one.
 abbrev pub IsLabel : ℕ → Option ℕ → Type 0
 IsLabel count label = IfSome label (IsBetween 1 count)
 
--- A call is within its limits, and speaks of no labels but so many.
-pub record IsLineCall (displays count : ℕ) (call : Call) : Type 0 where
-  pub limits : CallInLimits displays call
+-- A call of the host, or of a client that isn't the host, is within its limits.
+abbrev pub PartCallInLimits : (host : Bool) → ℕ → Call → Type 0
+PartCallInLimits true displays call = HostCallInLimits displays call
+PartCallInLimits false displays call = CallInLimits displays call
+
+-- So it is, and speaks of no labels but so many.
+pub record IsLineCall (host : Bool) (displays count : ℕ) (call : Call) : Type 0 where
+  pub limits : PartCallInLimits host displays call
   pub gives_one : IsLabel count (gives call)
   pub waits_one : IsLabel count (waits call)
 
--- A client has at most so many lines, each within its limits, and there is no host beside it.
-abbrev pub AreInLimits : Setup → ℕ → List Line → Type 0
-AreInLimits setup count lines = (length setup.displays ≤ 16) × (length lines ≤ 100000) × All (λ line. IsLineCall (length setup.displays) count line.call) lines
-    × (setup.host ≡ false)
+-- A client, or the host, has at most so many lines, each within its limits.
+abbrev pub AreInLimits : Setup → (host : Bool) → ℕ → List Line → Type 0
+AreInLimits setup host count lines =
+    (length setup.displays ≤ 16) × (length lines ≤ 100000) × All (λ line. IsLineCall host (length setup.displays) count line.call) lines
 
 -- The client of this token, which is new in a display of this setup, may perform these lines.
 abbrev pub MayPerform : Setup → ℕ → List Line → Token → Type 0
-MayPerform setup count lines token = IsNew setup token × AreInLimits setup count lines
+MayPerform setup count lines token = IsNew setup token × AreInLimits setup (is_host setup token.account.number) count lines
 
 -- What is left of a client where memory lacked: it is who it was, and has stopped, or has drawn few numbers more.
 pub record HasKept {B : Type 0} (old new : ClientState B) : Type 0 where
@@ -97,26 +108,41 @@ pub record HearsFence (labels : List ℕ) (seen : List Entry) (label : ℕ) (tol
   pub counts : IfSome (fence_in given.gift) (λ fence. 1 ≤ fence.ordinal)
   pub call_is : heard ≡ calls.Await label (fence_in given.gift)
 
+pub record HearsPlug (labels : List ℕ) (seen : List Entry) (label : ℕ) (told told' : List Told) (heard : Call) : Type 0 where
+  pub given : Given
+  pub tells : TellsOne labels label given told told'
+  pub there : Names given seen
+  pub plug : given.gift ≡ gifts.Plug
+  pub call_is : heard ≡ calls.Sync label (plug_in given)
+
 abbrev pub Hears : List ℕ → List Entry → Call → List Told → List Told → Call → Type 0
 Hears labels seen (calls.Import label token) told told' heard = HearsToken labels seen label told told' heard
 Hears labels seen (calls.Await label fence) told told' heard = HearsFence labels seen label told told' heard
+Hears labels seen (calls.Sync label call) told told' heard = HearsPlug labels seen label told told' heard
 Hears labels seen call told told' heard = (heard ≡ call) × (told' ≡ told)
 
--- What a call gave, by its last entry, or by what it began.
-abbrev pub gift_told : Last → Gift
-gift_told (lasts.Act reply) = gift_by reply
-gift_told (lasts.Begun fence) = gifts.Fence fence.lane fence.ordinal
-gift_told (lasts.Command answer) = gifts.Nothing
+-- A call that plugs, resizes or unplugs a display.
+abbrev pub is_plug : Call → Bool
+is_plug (calls.Mode scanout width height label) = true
+is_plug (calls.Unplug scanout label) = true
+is_plug call = false
+
+-- What a call gave: that it plugged, resized or unplugged a display, if it did; else by its last entry, or by what it began.
+abbrev pub gift_told : (plugs : Bool) → Last → Gift
+gift_told plugs (lasts.Act reply) = if plugs then gifts.Plug else gift_by reply
+gift_told plugs (lasts.Begun fence) = gifts.Fence fence.lane fence.ordinal
+gift_told plugs (lasts.Command answer) = gifts.Nothing
 
 -- What a client gives with the entry of its last call.
-abbrev pub given_by : {B : Type 0} → ClientState B → Last → Given
-given_by client last = record { client = client.caller.token.account.number; call = client.caller.token.account.used; gift = gift_told last }
+abbrev pub given_by : {B : Type 0} → (plugs : Bool) → ClientState B → Last → Given
+given_by plugs client last =
+    record { client = client.caller.token.account.number; call = client.caller.token.account.used; gift = gift_told plugs last }
 
 -- A client that is to give something has seen the entry with which it gives that, unless that is begun.
-abbrev pub HasLast : {B : Type 0} → Option ℕ → Last → ClientState B → Type 0
-HasLast None last client = Unit {0}
-HasLast (Some label) (lasts.Begun fence) client = Unit {0}
-HasLast (Some label) last client = HasGiver (given_by client last) client.caller.token.seen
+abbrev pub HasLast : {B : Type 0} → Option ℕ → (plugs : Bool) → Last → ClientState B → Type 0
+HasLast None plugs last client = Unit {0}
+HasLast (Some label) plugs (lasts.Begun fence) client = Unit {0}
+HasLast (Some label) plugs last client = HasGiver (given_by plugs client last) client.caller.token.seen
 
 -- What a call gives was told; or it gives nothing, and nothing was told.
 abbrev pub Tells : List ℕ → Option ℕ → Given → List Told → List Told → Type 0
@@ -165,6 +191,7 @@ pub record HasDoneLine {B : Type 0} (told told' : List Told) (old new : ClientSt
   pub kept : (slot : Slot) → IsIn old.caller.token.account slot → IsIn new.caller.token.account slot
   pub more : IsPrefix old.caller.token.seen new.caller.token.seen
   pub displays : new.caller.token.account.holds.displays ≡ old.caller.token.account.holds.displays
+  pub host : new.caller.token.account.holds.host ≡ old.caller.token.account.holds.host
   pub ready : IsReady new.caller
   pub goes_on : new.stopped ≡ false
 
@@ -180,6 +207,7 @@ GivesRest setup seen told client lines left begun known slots = (filled : List E
 pub record IsFollowing {B : Type 0} (setup : Setup) (told : List Told) (lines : List Line) (i : ℕ) (client : ClientState B) : Type 0 where
   pub begun : client.caller.token.start ≡ Some (start setup)
   pub displays : client.caller.token.account.holds.displays ≡ length setup.displays
+  pub host : client.caller.token.account.holds.host ≡ is_host setup client.caller.token.account.number
   pub few : client.caller.token.account.used ≤ 1 + 19 * i
   pub goes_on : client.stopped ≡ false
   pub ready : IsReady client.caller

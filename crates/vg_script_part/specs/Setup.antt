@@ -1,4 +1,4 @@
-use Rattle.std.specs.Prelude.{ℕ, Bool, true, false, List, length}
+use Rattle.std.specs.Prelude.{ℕ, Bool, true, false, is_some, List, length}
 use Rattle.std.specs.List.{list_any}
 use Rattle.vg_client_holds.specs.declared.setup.Setup.{Setup}
 use Rattle.vg_client_holds.specs.Setup.{features_without}
@@ -35,5 +35,5 @@ setup_of script = record {
   accepted = accepted_of script.without;
   clients = length script.clients;
   queues = (256, 64);
-  host = false;
+  host = is_some script.host;
 }

@@ -30,10 +30,24 @@ abbrev pub fence_of : Option Given → Option FenceData
 fence_of (Some given) = fence_in given.gift
 fence_of None = None
 
+abbrev pub plug_by : Gift → ℕ → Option ℕ
+plug_by gifts.Plug call = Some call
+plug_by gift call = None
+
+-- The number of the host's act that was given, if one was.
+abbrev pub plug_in : Given → Option ℕ
+plug_in given = plug_by given.gift given.call
+
+-- That which a label was given, if it was given one.
+abbrev pub plug_of : Option Given → Option ℕ
+plug_of (Some given) = plug_in given
+plug_of None = None
+
 -- The call of a line, with what its label was given.
 abbrev pub heard_call : Values → Call → Call
 heard_call values (calls.Import label token) = calls.Import label (token_of (values label))
 heard_call values (calls.Await label fence) = calls.Await label (fence_of (values label))
+heard_call values (calls.Sync label call) = calls.Sync label (plug_of (values label))
 heard_call values call = call
 
 -- What a line waits for is there: its label was given something, and each of these entries of the line stands behind the one with

@@ -6,15 +6,15 @@ ghost use Rattle.vg_device.specs.State.{start};
 ghost use Rattle.vg_client.specs.Accounts.{IsNew};
 ghost use Rattle.vg_client.specs.Callers.{IsReady};
 ghost use Rattle.vg_labels.specs.Labels.{AreOf};
-ghost use Rattle.vg_script_part.specs.Performing.{AreInLimits, HasDoneLine, HasKept, HasPerformed, IsFollowing, IsLineCall, MayPerform};
+ghost use Rattle.vg_script_part.specs.Performing.{AreInLimits, HasDoneLine, HasKept, HasPerformed, IsFollowing, IsLineCall, MayPerform, is_host};
 
-use crate::telling::{given_label, hear, tell};
+use crate::telling::{given_label, hear, is_plug, tell};
 use std::alloc::{AllocError, Global};
 use std::sync::Wait;
 use vg_book::{Book, ClientToken, Naming};
 use vg_client::{Call, Client};
 use vg_driver::Driver;
-use vg_labels::{Label, Told, give_up_all};
+use vg_labels::{Label, Told, give_up_all, plugs_are_named};
 use vg_machine::Display;
 use vg_ring::Rings;
 use vg_script::Line;
@@ -70,7 +70,8 @@ fn follow<'a, B: Naming, N: Rings, R: Wait>(
     lines: Vec<Line>,
     client: Client<B>,
 ) -> Performed<'a, B>
-    requires { (setup : Setup) × AreInLimits setup (length labels.now.items) lines.items × IsFollowing setup [] lines.items 0 client }
+    requires { (setup : Setup) × AreInLimits setup (is_host setup client.caller.token.account.number) (length labels.now.items) lines.items
+        × IsFollowing setup [] lines.items 0 client }
     ensures number { result.token.account.number ≡ client.caller.token.account.number }
     ensures idle { result.token.account.out ≡ [] }
     ensures told { AreOf labels.now.items result.told.items }
@@ -117,7 +118,8 @@ fn run_lines<'a, B: Naming, N: Rings, R: Wait>(
     client: &mut Client<B>,
     told: &mut Vec<Told<'a>>,
 ) -> bool
-    requires following { (setup : Setup) × AreInLimits setup (length labels.now.items) lines.items × IsFollowing setup told.old.items lines.items 0 client.old }
+    requires following { (setup : Setup) × AreInLimits setup (is_host setup client.old.caller.token.account.number) (length labels.now.items) lines.items
+        × IsFollowing setup told.old.items lines.items 0 client.old }
     requires told { AreOf labels.now.items told.old.items }
     ensures number { client.new.caller.token.account.number ≡ client.old.caller.token.account.number }
     ensures few { (client.new.stopped ≡ true) ⊎ (client.new.caller.token.account.used < 2 ^ 24) }
@@ -149,17 +151,20 @@ fn run_line<'a, B: Naming, N: Rings, R: Wait>(
     call: Call,
 ) -> Result<(), AllocError>
     requires ready { IsReady client.old.caller }
-    requires call { IsLineCall client.old.caller.token.account.holds.displays (length labels.now.items) call }
+    requires call { IsLineCall client.old.caller.token.account.holds.host client.old.caller.token.account.holds.displays (length labels.now.items) call }
     requires room { client.old.caller.token.account.used + 20 < 2 ^ 31 - 1 }
     requires told { AreOf labels.now.items told.old.items }
     ensures done { OnOk result (HasDoneLine told.old.items told.new.items client.old client.new call) }
     ensures told { AreOf labels.now.items told.new.items }
     ensures err { OnErr result (HasKept client.old client.new) }
 {
+    // A law, and no work: who has seen the entry with which the host gave a label has seen its act.
+    plugs_are_named();
     let gives = given_label(&call);
+    let plugs = is_plug(&call);
     let call = hear(rt, book, labels, client, told, call)?;
     let outcome = client.call(rt, alloc, book, driver, call)?;
-    tell(rt, book, labels, client, told, gives, &outcome.last)
+    tell(rt, book, labels, client, told, gives, plugs, &outcome.last)
 }
 
 /// Gives back the memory behind the lines that are left, now and then.

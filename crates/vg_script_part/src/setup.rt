@@ -22,7 +22,7 @@ pub fn setup_of(alloc: Global, script: &Script) -> Result<Setup, AllocError>
         accepted: accepted_of(script.without.as_slice()),
         clients: script.clients.len() as u32,
         queues: (256, 64),
-        host: false,
+        host: script.host.is_some(),
     })
 }
 

@@ -1,7 +1,7 @@
 //! What a client hears of labels, and what it tells.
 
-ghost use Rattle.std.specs.Prelude.{◌≡◌, ◌≤◌, length, Some, None, IfOk, IfSome, OnOk};
-ghost use Rattle.vg_labels.specs.declared.label.Given.{Given as Givens};
+ghost use Rattle.std.specs.Prelude.{◌≡◌, ◌≤◌, if◌then◌else◌, length, Some, None, IfOk, IfSome, OnOk};
+ghost use Rattle.vg_labels.specs.declared.label.Gift.TheVariants as gifts;
 ghost use Rattle.vg_labels.specs.Labels as labelled;
 ghost use Rattle.vg_labels.specs.Labels.{AreOf, IsNoted, Shows};
 ghost use Rattle.vg_script.specs.Waits.{gives, waits};
@@ -26,12 +26,20 @@ pub(crate) fn given_label(call: &Call) -> Option<u32>
 {
     match call {
         Call::Begin { label, .. } | Call::Export { label, .. } => Some(*label),
+        Call::Mode { label, .. } | Call::Unplug { label, .. } => Some(*label),
         _ => None,
     }
 }
 
+/// Whether a call plugs, resizes or unplugs a display.
+pub(crate) fn is_plug(call: &Call) -> bool
+    ensures { result ≡ performing.is_plug call.now }
+{
+    matches!(call, Call::Mode { .. } | Call::Unplug { .. })
+}
+
 /// Waits for what a call waits for: then the client has seen the entry with which its label was given, unless that is a fence's, and the
-/// call has the token or the fence, if it was one. A label that was given up is answered as want of memory.
+/// call has the token or the fence, if it was one, or the number of the host's act. A label that was given up is answered as want of memory.
 pub(crate) fn hear<'a, B: Naming, R: Wait>(
     rt: &R,
     book: &Book<Display, B>,
@@ -48,14 +56,19 @@ pub(crate) fn hear<'a, B: Naming, R: Wait>(
 {
     match call {
         Call::Import { label, .. } => {
-            let gift = hear_label(rt, book, labels, client, told, label)?;
-            let token = token_in(rt, gift);
+            let given = hear_label(rt, book, labels, client, told, label)?;
+            let token = token_in(rt, given.gift);
             Ok(Call::Import { label, token })
         }
         Call::Await { label, .. } => {
-            let gift = hear_label(rt, book, labels, client, told, label)?;
-            let fence = fence_in(rt, gift);
+            let given = hear_label(rt, book, labels, client, told, label)?;
+            let fence = fence_in(rt, given.gift);
             Ok(Call::Await { label, fence })
+        }
+        Call::Sync { label, .. } => {
+            let given = hear_label(rt, book, labels, client, told, label)?;
+            let call = plug_in(rt, given);
+            Ok(Call::Sync { label, call })
         }
         call => Ok(call),
     }
@@ -70,14 +83,12 @@ fn hear_label<'a, B: Naming, R: Wait>(
     client: &mut Client<B>,
     told: &mut Vec<Told<'a>>,
     label: u32,
-) -> Result<Gift, AllocError>
+) -> Result<Given, AllocError>
     requires label { (1 ≤ label) × (label ≤ length labels.now.items) }
     requires told { AreOf labels.now.items told.old.items }
     ensures more { HasSeenMore client.old client.new }
     ensures told { AreOf labels.now.items told.new.items }
-    ensures heard { IfOk result (λ gift. (given : Givens)
-        × (gift ≡ given.gift)
-        × TellsOne labels.now.items label given told.old.items told.new.items
+    ensures heard { IfOk result (λ given. TellsOne labels.now.items label given told.old.items told.new.items
         × IsThere client.new.caller.token.seen given given.gift) }
 {
     let Some((given, note, shown)) = labels[label as usize - 1].wait(rt, book) else {
@@ -85,7 +96,7 @@ fn hear_label<'a, B: Naming, R: Wait>(
     };
     see(book, client, given, note);
     told.push(Told { label, shown })?;
-    Ok(given.gift)
+    Ok(given)
 }
 
 /// Sees what the note has seen, if there is one: the entry with which this was given, unless that is a fence's.
@@ -104,7 +115,8 @@ fn see<B: Naming>(
     }
 }
 
-/// Tells what the client's last call gave to the label of this number, if it gives one. A label that was given up is answered as want
+/// Tells what the client's last call gave to the label of this number, if it gives one: that it plugged, resized or unplugged a display,
+/// if it did. A label that was given up is answered as want
 /// of memory.
 pub(crate) fn tell<'a, B: Naming, R: Wait>(
     rt: &R,
@@ -113,19 +125,20 @@ pub(crate) fn tell<'a, B: Naming, R: Wait>(
     client: &mut Client<B>,
     told: &mut Vec<Told<'a>>,
     gives: Option<u32>,
+    plugs: bool,
     last: &Last,
 ) -> Result<(), AllocError>
     requires label { IsLabel (length labels.now.items) gives }
-    requires last { HasLast gives last.now client.old }
+    requires last { HasLast gives plugs last.now client.old }
     requires told { AreOf labels.now.items told.old.items }
     ensures same { client.new ≡ client.old }
     ensures told { AreOf labels.now.items told.new.items }
-    ensures tells { OnOk result (Tells labels.now.items gives (given_by client.old last.now) told.old.items told.new.items) }
+    ensures tells { OnOk result (Tells labels.now.items gives (given_by plugs client.old last.now) told.old.items told.new.items) }
 {
     let Some(label) = gives else {
         return Ok(());
     };
-    let Some(shown) = give(rt, book, &labels[label as usize - 1], client, last) else {
+    let Some(shown) = give(rt, book, &labels[label as usize - 1], client, plugs, last) else {
         return Err(AllocError);
     };
     told.push(Told { label, shown })?;
@@ -138,11 +151,12 @@ fn give<'a, B: Naming, R: Wait>(
     book: &Book<Display, B>,
     label: &'a Label<B>,
     client: &mut Client<B>,
+    plugs: bool,
     last: &Last,
 ) -> Option<Shown<'a>>
-    requires { HasLast (Some label.now) last.now client.old }
+    requires { HasLast (Some label.now) plugs last.now client.old }
     ensures same { client.new ≡ client.old }
-    ensures shown { IfSome result (Shows label.now (given_by client.old last.now)) }
+    ensures shown { IfSome result (Shows label.now (given_by plugs client.old last.now)) }
 {
     let (owner, call) = (client.number(), client.calls());
     match last {
@@ -151,7 +165,7 @@ fn give<'a, B: Naming, R: Wait>(
         }
         Last::Act { reply } => {
             let note = client.note(book);
-            label.give(rt, note, given_with(owner, call, gift_by(reply)))
+            label.give(rt, note, given_with(owner, call, gift_of(plugs, reply)))
         }
         Last::Command { .. } => {
             let note = client.note(book);
@@ -164,6 +178,13 @@ fn given_with(client: u32, call: u64, gift: Gift) -> Given
     ensures { result ≡ record { client = client; call = call; gift = gift } }
 {
     Given { client, call, gift }
+}
+
+/// What an act gives: that it plugged, resized or unplugged a display, if it did; else what its reply says.
+fn gift_of(plugs: bool, reply: &ActReply) -> Gift
+    ensures { result ≡ (if plugs then gifts.Plug else labelled.gift_by reply.now) }
+{
+    if plugs { Gift::Plug } else { gift_by(reply) }
 }
 
 /// What an act gives by its reply: the token that it made, if it made one.
@@ -185,6 +206,21 @@ fn token_in<R: Wait>(rt: &R, gift: Gift) -> Option<u32>
         Gift::Token { token } => Some(token),
         Gift::Plug | Gift::Nothing => None,
         Gift::Fence { .. } => {
+            for _ in rt.forever() {}
+            unreachable!()
+        }
+    }
+}
+
+/// The number of the host's act that was given. What a sync waits for was given by a mode or an unplug, which gives no other: for any other
+/// this waits without end.
+fn plug_in<R: Wait>(rt: &R, given: Given) -> Option<u64>
+    ensures call { result ≡ values.plug_in given }
+    ensures plug { given.gift ≡ gifts.Plug }
+{
+    match given.gift {
+        Gift::Plug => Some(given.call),
+        _ => {
             for _ in rt.forever() {}
             unreachable!()
         }

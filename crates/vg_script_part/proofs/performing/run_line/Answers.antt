@@ -1,6 +1,6 @@
-use Rattle.std.proofs.Common.{refl, subst, sym}
+use Rattle.std.proofs.Common.{Bool, refl, subst, sym}
 use Rattle.vg_laws.proofs.Results.{on_err}
-use Rattle.vg_script_part.specs.Performing.{HasDoneLine, HasKept}
+use Rattle.vg_script_part.specs.Performing.{HasDoneLine, HasKept, HasLast, Tells, given_by}
 use Rattle.vg_driver.specs.Tickets.{Account}
 use Rattle.vg_tasks.specs.Plans.{IsCallFit}
 use Rattle.vg_script_part.proofs.LineLemmas.{heard-fits, heard-met, kept-behind, ok_more}
@@ -18,15 +18,17 @@ call-requires-clause-met g c =
 
 pub tell-requires-clause-last : goal.tell-requires-clause-last
 tell-requires-clause-last g c =
-    has-last c.args.labels.now.items c.hear.new.client.caller.token.seen c.hear.new.client c.call.new.self c.given_label-gives.result c.args.call c.in_ok-call.call c.args.told.now.items c.hear.new.told.items c.in_ok-outcome.outcome
-    c.given_label-gives.ensures c.in_ok-call.ensures.heard c.in_ok-outcome.outcome.last refl c.in_ok-outcome.ensures.done
+    subst (λ plugs. HasLast c.given_label-gives.result plugs c.in_ok-outcome.outcome.last c.call.new.self) (sym c.is_plug-plugs.ensures)
+    (has-last c.args.labels.now.items c.hear.new.client.caller.token.seen c.hear.new.client c.call.new.self c.given_label-gives.result c.args.call c.in_ok-call.call c.args.told.now.items c.hear.new.told.items c.in_ok-outcome.outcome
+    c.given_label-gives.ensures c.in_ok-call.ensures.heard c.in_ok-outcome.outcome.last refl c.in_ok-outcome.ensures.done)
 
 pub returns-clause-done : goal.returns-clause-done
 returns-clause-done g c =
+    let Told : Bool → Type 0 = λ plugs. Tells c.args.labels.now.items c.given_label-gives.result (given_by plugs c.call.new.self c.in_ok-outcome.outcome.last) c.hear.new.told.items c.tell.new.told.items in
     ok_more c.tell.result c.tell.ensures.tells (λ tells.
     subst (λ new. HasDoneLine c.args.told.now.items c.tell.new.told.items c.args.client.now new c.args.call) (sym c.tell.ensures.same)
     (line-done c.args.labels.now.items c.args.client.now c.hear.new.client c.call.new.self c.given_label-gives.result c.args.call c.in_ok-call.call c.args.told.now.items c.hear.new.told.items c.tell.new.told.items c.in_ok-outcome.outcome
-    c.in_ok-outcome.outcome.last refl c.given_label-gives.ensures c.hear.ensures.more c.in_ok-call.ensures.heard c.in_ok-outcome.ensures.done c.in_ok-outcome.ensures.goes_on.1 tells))
+    c.in_ok-outcome.outcome.last refl c.given_label-gives.ensures c.hear.ensures.more c.in_ok-call.ensures.heard c.in_ok-outcome.ensures.done c.in_ok-outcome.ensures.goes_on.1 (subst Told c.is_plug-plugs.ensures tells)))
 
 pub returns-clause-err : goal.returns-clause-err
 returns-clause-err g c =
